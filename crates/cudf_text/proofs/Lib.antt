@@ -1,0 +1,8 @@
+mod Examples
+mod JoinedLemmas
+mod LawLemmas
+mod LineLemmas
+mod ReadLemmas
+mod RunLemmas
+mod StepLemmas
+mod ValueLemmas

@@ -1,0 +1,10 @@
+pub mod Lines
+pub mod LineFaults
+pub mod Stanzas
+pub mod Views
+pub mod Joined
+pub mod Faults
+pub mod LineView
+pub mod Steps
+pub mod Marks
+pub mod Laws

@@ -1,0 +1,10 @@
+-- What the cut looks for in a line: own.
+use Rattle.std.specs.Prelude.{ℕ, Bool, List}
+use Rattle.cudf_text.specs.declared.joined.Mark.{Mark}
+use Rattle.cudf_text.specs.declared.joined.Mark.TheVariants.{Request, Blank}
+use Rattle.cudf_text.specs.Joined.{begins_request}
+use Rattle.cudf_text.specs.Lines.{is_blank_text}
+
+abbrev pub marks : Mark → List ℕ → Bool
+marks Request = begins_request
+marks Blank = is_blank_text

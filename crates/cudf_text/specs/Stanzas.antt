@@ -1,0 +1,83 @@
+-- Properties and stanzas: CUDF 2.0, syntax of stanzas and properties.
+-- Own: how the lines of a value are joined, and where reading ends.
+use Rattle.std.specs.Prelude.{ℕ, Bool, true, false, not, ◌==◌, nat_lt, List, [], ◌∷◌, length, filter, filter_map, Option, Some, None}
+use Rattle.std.specs.List.{join_with_byte, slice_split}
+use Rattle.cudf_text.specs.declared.fault.Fault.{Fault}
+use Rattle.cudf_text.specs.Lines.{blank, continuation, named, NumberedLine, lines}
+use Rattle.cudf_text.specs.LineFaults.{first_fault, read_lines}
+
+-- ---- what a text says, wherever it lies in memory
+
+-- a value, and whether it is a text of its own and no part of the source
+pub record PlainValue : Type 0 where
+  pub bytes : List ℕ
+  pub owned : Bool
+
+-- a name and its value, with the number of the name line
+pub record PlainProperty : Type 0 where
+  pub line : ℕ
+  pub name : List ℕ
+  pub value : PlainValue
+
+-- properties with no blank line between, with the number of the first one's line and of the last line
+pub record PlainStanza : Type 0 where
+  pub line : ℕ
+  pub last : ℕ
+  pub properties : List PlainProperty
+
+-- the stanzas of a text, its first faulty line, and how many lines it has
+pub record PlainText : Type 0 where
+  pub stanzas : List PlainStanza
+  pub fault : Option Fault
+  pub lines : ℕ
+
+-- ---- properties
+
+-- the texts of the continuations in front
+abbrev pub continuations : List NumberedLine → List (List ℕ)
+continuations [] = []
+continuations ((n, continuation text) ∷ ls) = text ∷ continuations ls
+continuations (l ∷ ls) = []
+
+-- the texts that aren't empty
+abbrev pub some_texts : List (List ℕ) → List (List ℕ)
+some_texts texts = filter (λ text. not (length text == 0)) texts
+
+-- the texts that aren't empty, with one space between each two; where there are two it is a text of its own
+abbrev pub joined : List (List ℕ) → PlainValue
+joined texts = record { bytes = join_with_byte 32 (some_texts texts); owned = nat_lt 1 (length (some_texts texts)) }
+
+-- each name line, with the continuations that directly follow it
+abbrev pub properties : List NumberedLine → List PlainProperty
+properties [] = []
+properties ((n, named name text) ∷ ls) = record { line = n; name = name; value = joined (text ∷ continuations ls) } ∷ properties ls
+properties (l ∷ ls) = properties ls
+
+-- ---- stanzas
+
+-- the number of the last line
+abbrev pub last_number : List NumberedLine → ℕ
+last_number [] = 0
+last_number ((n, c) ∷ []) = n
+last_number (l ∷ m ∷ ls) = last_number (m ∷ ls)
+
+-- the stanza of these properties that ends at this line, if there is a property
+abbrev pub stanza_with : ℕ → List PlainProperty → Option PlainStanza
+stanza_with last [] = None
+stanza_with last (p ∷ ps) = Some (record { line = p.line; last = last; properties = p ∷ ps })
+
+-- the stanza on lines of which none is blank, if they have a property
+abbrev pub stanza_of : List NumberedLine → Option PlainStanza
+stanza_of ls = stanza_with (last_number ls) (properties ls)
+
+abbrev pub is_blank_line : NumberedLine → Bool
+is_blank_line (n, blank) = true
+is_blank_line (n, _) = false
+
+-- the lines are split at the blank ones, and each part is a stanza, if it has a property
+abbrev pub stanzas_of : List NumberedLine → List PlainStanza
+stanzas_of ls = filter_map stanza_of (slice_split is_blank_line ls)
+
+-- what a text says, as far as its first faulty line, with the number of all its lines
+unfoldable pub plain_text : List ℕ → PlainText
+plain_text text = record { stanzas = stanzas_of (read_lines text); fault = first_fault text; lines = length (lines text) }

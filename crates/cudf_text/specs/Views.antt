@@ -1,0 +1,40 @@
+-- What contracts see of a `Text`: own.
+use Rattle.std.specs.Prelude.{◌≡◌, ℕ, ◌+◌, Bool, true, false, List, map, take, count_by}
+use Rattle.std.specs.Str.Lossy.{utf8_valid_len}
+use Rattle.std.specs.Cow.{cow_str_bytes}
+use Rattle.std.specs.declared.alloc.Global.{Global}
+use Rattle.std.specs.declared.borrow.CowStr.{CowStr}
+use Rattle.std.specs.declared.borrow.CowStr.TheVariants as value
+use Rattle.cudf_text.specs.declared.fault.Fault.{Fault}
+use Rattle.cudf_text.specs.declared.fault.Kind.TheVariants.{E1}
+use Rattle.cudf_text.specs.declared.text.Property.{Property}
+use Rattle.cudf_text.specs.declared.text.Stanza.{Stanza}
+use Rattle.cudf_text.specs.declared.text.Text.{Text}
+use Rattle.cudf_text.specs.Lines.{is_lf}
+use Rattle.cudf_text.specs.Stanzas.{PlainValue, PlainProperty, PlainStanza, PlainText, plain_text}
+
+abbrev pub is_owned : CowStr Global → Bool
+is_owned (value.Borrowed r) = false
+is_owned (value.Owned s) = true
+
+-- a value by its bytes
+abbrev pub value_view : CowStr Global → PlainValue
+value_view v = record { bytes = cow_str_bytes v; owned = is_owned v }
+
+abbrev pub property_view : Property → PlainProperty
+property_view p = record { line = p.line; name = p.name.now; value = value_view p.value }
+
+abbrev pub stanza_view : Stanza → PlainStanza
+stanza_view s = record { line = s.line; last = s.last; properties = map property_view s.properties.items }
+
+-- a text by its lists and bytes
+abbrev pub text_view : Text → PlainText
+text_view t = record { stanzas = map stanza_view t.stanzas.items; fault = t.fault; lines = t.lines }
+
+-- t says what its source says
+abbrev pub IsText : Text → Type 0
+IsText t = text_view t ≡ plain_text t.source.now
+
+-- the fault of bytes that aren't UTF-8, on the line at which their longest UTF-8 prefix ends
+abbrev pub utf8_fault : List ℕ → Fault
+utf8_fault bytes = record { line = 1 + count_by is_lf (take (utf8_valid_len bytes) bytes); kind = E1 }

@@ -1,0 +1,28 @@
+ghost use Rattle.std.specs.Prelude.{◌≡◌};
+ghost use Rattle.cudf_text.specs.Joined.{is_fail, says_something};
+
+use crate::lines::first_line;
+use crate::trim::{is_blank_text, trim};
+
+/// Whether a solution says `FAIL` (own): its first line that is neither blank nor a comment is
+/// that word, between blanks. What follows doesn't matter. Takes no memory.
+#[tactic(auto, unfolding(crate::specs::Joined::is_fail))]
+pub fn is_fail(text: &str) -> bool
+    ensures { result ≡ is_fail text.now }
+{
+    let mut rest = text;
+    while let Some((line, after)) = first_line(rest) {
+        if says_something(line) {
+            return trim(line) == "FAIL";
+        }
+        rest = after;
+    }
+    false
+}
+
+fn says_something(line: &str) -> bool
+    ensures { result ≡ says_something line.now }
+{
+    let bytes = line.as_bytes();
+    !(is_blank_text(bytes) || bytes.first().copied().unwrap_or(0) == b'#')
+}

@@ -1,0 +1,58 @@
+ghost use Rattle.std.specs.Prelude.{◌≡◌, ◌++◌, ◌-◌, ◌≤◌, length, drop, codes, nat_eq};
+ghost use Rattle.std.specs.List.{starts_with};
+ghost use Rattle.cudf_text.specs.Joined.{begins_request, len_through, problem_part, solution_part};
+ghost use Rattle.cudf_text.specs.Lines.{lines, raw_lines};
+ghost use Rattle.cudf_text.specs.Marks.{marks};
+
+use crate::lines::line_end;
+use crate::trim::is_blank_text;
+
+/// Cuts one input into the problem and the solution (own). The problem goes through the first
+/// blank line behind the first line that begins with the bytes `request:`. Where there is no
+/// such line, or no blank line behind it, all is the problem. Takes no memory.
+pub fn cut_joined(bytes: &[u8]) -> (&[u8], &[u8])
+    ensures problem { result.0.now ≡ problem_part bytes.now }
+    ensures solution { result.1.now ≡ solution_part bytes.now }
+    ensures joined { result.0.now ++ result.1.now ≡ bytes.now }
+{
+    let rest = behind(behind(bytes, Mark::Request), Mark::Blank);
+    bytes.split_at(bytes.len() - rest.len())
+}
+
+/// What is looked for in a line.
+#[derive(Clone, Copy)]
+enum Mark {
+    /// It begins with `request:`.
+    Request,
+    /// It is blank.
+    Blank,
+}
+
+impl Mark {
+    fn is_on(self, line: &[u8]) -> bool
+        ensures { result ≡ marks self line.now }
+    {
+        match self {
+            Mark::Request => line.starts_with(b"request:"),
+            Mark::Blank => is_blank_text(line),
+        }
+    }
+}
+
+/// What follows the first line with the mark.
+fn behind(bytes: &[u8], mark: Mark) -> &[u8]
+    ensures inside { length result.now ≤ length bytes.now }
+    ensures end { drop (length bytes.now - length result.now) bytes.now ≡ result.now }
+    ensures lines { raw_lines result.now ≡ drop (len_through (marks mark) (lines bytes.now)) (raw_lines bytes.now) }
+{
+    let mut rest = bytes;
+    while !rest.is_empty() {
+        let end = line_end(rest);
+        let line = &rest[..end.text];
+        rest = rest.split_at(end.next).1;
+        if mark.is_on(line) {
+            return rest;
+        }
+    }
+    rest
+}

@@ -1,0 +1,53 @@
+use crate::fault::Fault;
+use std::alloc::AllocError;
+use std::borrow::CowStr;
+use thiserror::Error;
+
+/// A document as its stanzas (CUDF 2.0, syntax of stanzas and properties), each part with its
+/// line. Reading ends at the first line that is faulty; only `lines` counts those behind it.
+#[derive(Debug, Drop)]
+pub struct Text<'a> {
+    /// The bytes that were read.
+    pub source: &'a str,
+    /// The stanzas, in order.
+    pub stanzas: Vec<Stanza<'a>>,
+    /// The first line of kind E2 or E3, if there is one.
+    pub fault: Option<Fault>,
+    /// The number of all lines, comments and those behind the fault too.
+    pub lines: u64,
+}
+
+/// Properties without a blank line between them, one at least.
+#[derive(Debug, Drop)]
+pub struct Stanza<'a> {
+    /// The line of the first property, from 1.
+    pub line: u64,
+    /// The line of the last property or continuation, or of the E2 that ends the stanza.
+    pub last: u64,
+    /// The properties, in order.
+    pub properties: Vec<Property<'a>>,
+}
+
+/// A name and its value.
+#[derive(Debug, Drop)]
+pub struct Property<'a> {
+    /// The line of the name, from 1.
+    pub line: u64,
+    /// The text before the colon: an ASCII letter, then letters, digits, `-` and `_`.
+    pub name: &'a str,
+    /// The text after the colon and the texts of the continuations, trimmed of spaces and tabs;
+    /// those that aren't empty are joined by one space (own). A part of the source, unless two
+    /// texts are joined.
+    pub value: CowStr<'a>,
+}
+
+/// Why bytes have no `Text`.
+#[derive(Debug, Drop, Error)]
+pub enum TextError {
+    /// Always of kind E1: the bytes aren't UTF-8.
+    #[error("line {}: {}", .0.line, .0.kind.text())]
+    Fault(Fault),
+    /// A growth was refused.
+    #[error("out of memory")]
+    Memory(AllocError),
+}
