@@ -1,0 +1,11 @@
+pub mod Chars
+pub mod Words
+pub mod Numbers
+pub mod Parts
+pub mod Vpkgs
+pub mod Formulas
+pub mod Printing
+pub mod Types
+pub mod Places
+pub mod Declarations
+pub mod Laws

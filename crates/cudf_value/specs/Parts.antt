@@ -1,0 +1,31 @@
+-- Values made of parts (own): a text is cut at each separator, and each part has to have a value.
+use Rattle.std.specs.Prelude.{ℕ, Bool, ◌==◌, List, [], ◌∷◌, length, map, Option, Some, None, option_map, if◌then◌else◌}
+use Rattle.std.specs.List.{slice_split}
+use Rattle.std.specs.Str.{byte}
+
+-- the value, where the test holds
+abbrev pub some_if : {A : Type 0} → Bool → A → Option A
+some_if test value = if test then Some value else None
+
+-- all values, where there is one at each place
+abbrev pub all_some : {A : Type 0} → List (Option A) → Option (List A)
+all_some [] = Some []
+all_some (None ∷ rest) = None
+all_some (Some value ∷ rest) = option_map (λ values. value ∷ values) (all_some rest)
+
+-- the parts of a text, cut at each separator
+abbrev pub parts : ℕ → List ℕ → List (List ℕ)
+parts separator text = slice_split (λ b. b == separator) text
+
+-- the parts of what stands behind a separator, if there is one
+abbrev pub parts_behind : ℕ → Option (List ℕ) → List (List ℕ)
+parts_behind separator None = []
+parts_behind separator (Some text) = parts separator text
+
+-- the values of the parts
+abbrev pub read_parts : {A : Type 0} → ℕ → (List ℕ → Option A) → List ℕ → Option (List A)
+read_parts separator read text = all_some (map read (parts separator text))
+
+-- the values of the parts between commas; the empty text has none
+abbrev pub comma_list : {A : Type 0} → (List ℕ → Option A) → List ℕ → Option (List A)
+comma_list read text = if length text == 0 then Some [] else read_parts (byte ",") read text

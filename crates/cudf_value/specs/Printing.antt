@@ -1,0 +1,34 @@
+-- How vpkgs, atoms and clauses are printed (own): spaces round an operator and round `|`, numbers without leading zeros.
+use Rattle.std.specs.Prelude.{ℕ, List, [], ◌++◌, Option, Some, None, codes, decimal}
+use Rattle.std.specs.List.{join_by}
+use Rattle.cudf_value.specs.declared.relop.Relop.{Relop}
+use Rattle.cudf_value.specs.declared.relop.Relop.TheVariants.{Eq, Neq, Geq, Gt, Leq, Lt}
+use Rattle.cudf_value.specs.Vpkgs.{PlainVpkg}
+use Rattle.cudf_value.specs.Formulas.{PlainAtom, truth_atom, falsehood_atom, named}
+
+-- the operator as it is written
+abbrev pub relop_text : Relop → List ℕ
+relop_text Eq = codes "="
+relop_text Neq = codes "!="
+relop_text Geq = codes ">="
+relop_text Gt = codes ">"
+relop_text Leq = codes "<="
+relop_text Lt = codes "<"
+
+-- a bound, with the space before it
+abbrev pub bound_text : Option (Relop × ℕ) → List ℕ
+bound_text None = []
+bound_text (Some (r, n)) = codes " " ++ relop_text r ++ codes " " ++ decimal n
+
+-- a vpkg, as `wheel` or `wheel > 2`
+abbrev pub vpkg_text : PlainVpkg → List ℕ
+vpkg_text v = v.name ++ bound_text v.bound
+
+abbrev pub atom_text : PlainAtom → List ℕ
+atom_text truth_atom = codes "true!"
+atom_text falsehood_atom = codes "false!"
+atom_text (named v) = vpkg_text v
+
+-- a clause, as `wheel > 2 | true!`
+abbrev pub clause_text : List PlainAtom → List ℕ
+clause_text atoms = join_by atom_text (codes " | ") atoms

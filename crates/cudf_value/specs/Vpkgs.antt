@@ -1,0 +1,62 @@
+-- The types `vpkg` and `veqpkg` (the type library), and what a bound admits.
+use Rattle.std.specs.Prelude.{ℕ, Bool, true, false, not, ◌==◌, nat_lt, nat_le, List, length, take_while, Option, Some, None, option_and_then, bytes_eq, codes, if◌then◌else◌}
+use Rattle.cudf_value.specs.declared.relop.Relop.{Relop}
+use Rattle.cudf_value.specs.declared.relop.Relop.TheVariants.{Eq, Neq, Geq, Gt, Leq, Lt}
+use Rattle.cudf_value.specs.declared.vpkg.Vpkg.{Vpkg}
+use Rattle.cudf_value.specs.Chars.{is_pkgname_char, is_operator_char, behind, trim_start}
+use Rattle.cudf_value.specs.Parts.{some_if}
+use Rattle.cudf_value.specs.Numbers.{positive}
+
+-- a vpkg, its name as a plain text
+pub record PlainVpkg : Type 0 where
+  pub name : List ℕ
+  pub bound : Option (Relop × ℕ)
+
+abbrev pub vpkg_view : Vpkg → PlainVpkg
+vpkg_view v = record { name = v.name.now; bound = v.bound }
+
+-- the operator that is written so
+abbrev pub relop : List ℕ → Option Relop
+relop text = if bytes_eq text (codes "=") then Some Eq
+    else (if bytes_eq text (codes "!=") then Some Neq
+    else (if bytes_eq text (codes ">=") then Some Geq
+    else (if bytes_eq text (codes ">") then Some Gt
+    else (if bytes_eq text (codes "<=") then Some Leq
+    else (if bytes_eq text (codes "<") then Some Lt
+    else None)))))
+
+-- the vpkg of a name, an operator and a number
+abbrev pub bounded : List ℕ → Option Relop → Option ℕ → Option PlainVpkg
+bounded name None n = None
+bounded name (Some r) None = None
+bounded name (Some r) (Some n) = Some (record { name = name; bound = Some (r, n) })
+
+-- the vpkg of a name and what stands behind it: nothing, or an operator, blanks or none, and a posint
+abbrev pub vpkg_behind : List ℕ → List ℕ → Option PlainVpkg
+vpkg_behind name rest = if length rest == 0 then Some (record { name = name; bound = None })
+    else bounded name (relop (take_while is_operator_char rest)) (positive (trim_start (behind is_operator_char rest)))
+
+-- a vpkg begins with its name, the longest there is, with blanks or none behind it
+unfoldable pub vpkg : List ℕ → Option PlainVpkg
+vpkg text = if length (take_while is_pkgname_char text) == 0 then None
+    else vpkg_behind (take_while is_pkgname_char text) (trim_start (behind is_pkgname_char text))
+
+-- no bound, or one by `=`
+abbrev pub is_exact : Option (Relop × ℕ) → Bool
+is_exact None = true
+is_exact (Some (Eq, n)) = true
+is_exact (Some (_, n)) = false
+
+-- a veqpkg is a vpkg of one version, or of all
+unfoldable pub veqpkg : List ℕ → Option PlainVpkg
+veqpkg text = option_and_then (λ v. some_if (is_exact v.bound) v) (vpkg text)
+
+-- the number n is one that the bound admits
+abbrev pub meets : Option (Relop × ℕ) → ℕ → Bool
+meets None n = true
+meets (Some (Eq, m)) n = n == m
+meets (Some (Neq, m)) n = not (n == m)
+meets (Some (Geq, m)) n = nat_le m n
+meets (Some (Gt, m)) n = nat_lt m n
+meets (Some (Leq, m)) n = nat_le n m
+meets (Some (Lt, m)) n = nat_lt n m

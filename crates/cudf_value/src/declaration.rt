@@ -1,0 +1,120 @@
+//! Declarations of extra package properties, the values of the preamble's `property`.
+ghost use Rattle.std.specs.Prelude.{◌≡◌, map, option_map, IfOk};
+ghost use Rattle.cudf_value.specs.Chars.{trim};
+ghost use Rattle.cudf_value.specs.Types.{type_view};
+ghost use Rattle.cudf_value.specs.Declarations.{declaration_view, with_kind, declaration_piece, read_pieces, declarations};
+
+use crate::class::Class;
+use crate::default::{is_default, without_brackets};
+use crate::kind::type_of;
+use crate::piece::cut_piece;
+use crate::text::{after, first_byte, split_run, trimmed, trimmed_start};
+use crate::value_type::ValueType;
+use crate::word::is_ident;
+use std::alloc::{AllocError, Global};
+
+/// The declaration of a package property.
+#[derive(Debug, Drop)]
+pub struct Declaration<'t> {
+    /// An `ident`.
+    pub name: &'t str,
+    /// The type of the property's values.
+    pub kind: ValueType<'t>,
+    /// The default without brackets round it, with quotes as written.
+    pub default: Option<&'t str>,
+}
+
+/// Reads the value of a `property`, with blanks or none round it: nothing, or declarations between the commas outside
+/// quotes and brackets, each as `name: type` or `name: type = [default]`.
+///
+/// A name may be declared twice. `None` is answered where a piece of the text is no declaration.
+///
+/// # Errors
+///
+/// `AllocError` where memory is refused for the declarations, for an enum's idents, or for reading a default that is a
+/// list or a formula.
+pub fn read_declarations(
+    alloc: Global,
+    text: &str,
+) -> Result<Option<Vec<Declaration<'_>>>, AllocError>
+    ensures { IfOk result (λ r. option_map (λ v. map declaration_view v.items) r ≡ declarations (trim text.now)) }
+{
+    declarations_of(alloc, trimmed(text))
+}
+
+#[tactic(auto, unfolding(crate::specs::Declarations::declarations))]
+fn declarations_of(alloc: Global, text: &str) -> Result<Option<Vec<Declaration<'_>>>, AllocError>
+    ensures { IfOk result (λ r. option_map (λ v. map declaration_view v.items) r ≡ declarations text.now) }
+{
+    if text.is_empty() {
+        return Ok(Some(Vec::new(alloc)));
+    }
+    pieces_of(alloc, text)
+}
+
+/// The declarations of the pieces, one at least.
+fn pieces_of(alloc: Global, text: &str) -> Result<Option<Vec<Declaration<'_>>>, AllocError>
+    ensures { IfOk result (λ r. option_map (λ v. map declaration_view v.items) r ≡ read_pieces declaration_piece text.now) }
+{
+    let mut declarations = Vec::new(alloc);
+    let mut rest = text;
+    loop {
+        let Some((piece, behind)) = cut_piece(rest) else {
+            return Ok(None);
+        };
+        match declaration_of(alloc, piece)? {
+            Some(declaration) => declarations.push(declaration)?,
+            None => return Ok(None),
+        }
+        match behind {
+            Some(more) => rest = more,
+            None => return Ok(Some(declarations)),
+        }
+    }
+}
+
+/// The declaration, with blanks or none round it.
+fn declaration_of(alloc: Global, piece: &str) -> Result<Option<Declaration<'_>>, AllocError>
+    ensures { IfOk result (λ r. option_map declaration_view r ≡ declaration_piece piece.now) }
+{
+    let (name, rest) = split_run(trimmed(piece), Class::Ident);
+    let rest = trimmed_start(rest);
+    if !is_ident(name) || first_byte(rest) != b':' {
+        return Ok(None);
+    }
+    match type_of(alloc, trimmed_start(after(rest, 1)))? {
+        Some((kind, rest)) => with_kind(alloc, name, kind, trimmed_start(rest)),
+        None => Ok(None),
+    }
+}
+
+/// The declaration of a name and a type, with `rest` behind them: nothing, or `=` and a default.
+fn with_kind<'t>(
+    alloc: Global,
+    name: &'t str,
+    kind: ValueType<'t>,
+    rest: &'t str,
+) -> Result<Option<Declaration<'t>>, AllocError>
+    ensures { IfOk result (λ r. option_map declaration_view r ≡ with_kind name.now (type_view kind.entry) rest.now) }
+{
+    if rest.is_empty() {
+        return Ok(Some(Declaration {
+            name,
+            kind,
+            default: None,
+        }));
+    }
+    if first_byte(rest) != b'=' {
+        return Ok(None);
+    }
+    let default = without_brackets(trimmed(after(rest, 1)));
+    if is_default(alloc, &kind, default)? {
+        Ok(Some(Declaration {
+            name,
+            kind,
+            default: Some(default),
+        }))
+    } else {
+        Ok(None)
+    }
+}

@@ -1,0 +1,66 @@
+//! Defaults of declarations.
+ghost use Rattle.std.specs.Prelude.{◌≡◌, IfOk};
+ghost use Rattle.cudf_value.specs.Types.{type_view};
+ghost use Rattle.cudf_value.specs.Places.{is_quotable};
+ghost use Rattle.cudf_value.specs.Declarations.{without_brackets, takes_quoted, is_default};
+
+use crate::place::Place;
+use crate::text::{between, first_byte, trimmed};
+use crate::value_type::{ValueType, is_of_type, is_one_of};
+use std::alloc::{AllocError, Global};
+
+/// The text without brackets round it.
+pub(crate) fn without_brackets(text: &str) -> &str
+    ensures { result.now ≡ without_brackets text.now }
+{
+    match between(text, b'[', b']') {
+        Some(inner) => trimmed(inner),
+        None => text,
+    }
+}
+
+/// Whether the text is a default of the type.
+pub(crate) fn is_default(
+    alloc: Global,
+    kind: &ValueType<'_>,
+    text: &str,
+) -> Result<bool, AllocError>
+    ensures { IfOk result (λ b. b ≡ is_default (type_view kind.now) text.now) }
+{
+    if first_byte(text) == b'"' {
+        return Ok(match between(text, b'"', b'"') {
+            Some(inner) => is_quotable(inner) && takes_quoted(kind, inner),
+            None => false,
+        });
+    }
+    if text.as_bytes().contains(&b'"') {
+        return Ok(false);
+    }
+    is_of_type(alloc, kind, text)
+}
+
+/// Whether the type takes this text in quotes.
+fn takes_quoted(kind: &ValueType<'_>, text: &str) -> bool
+    ensures { result ≡ takes_quoted (type_view kind.now) text.now }
+{
+    match kind {
+        ValueType::Words => true,
+        ValueType::Choice(idents) => is_one_of(idents, text),
+        _ => false,
+    }
+}
+
+/// Whether the text can stand between quotes.
+fn is_quotable(text: &str) -> bool
+    ensures { result ≡ is_quotable text.now }
+{
+    let bytes = text.as_bytes();
+    let mut place = Place::Quotes;
+    for byte in bytes {
+        if place.is_outside() {
+            return false;
+        }
+        place = place.next(*byte);
+    }
+    place.is_in_quotes()
+}

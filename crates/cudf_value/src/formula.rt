@@ -1,0 +1,109 @@
+//! The type `vpkgformula`.
+ghost use Rattle.std.specs.Prelude.{◌≡◌, option_map, IfOk};
+ghost use Rattle.std.specs.Str.{byte};
+ghost use Rattle.cudf_value.specs.Chars.{trim};
+ghost use Rattle.cudf_value.specs.Parts.{read_parts};
+ghost use Rattle.cudf_value.specs.Formulas.{atom_view, clause_view, formula_view, atom_part, clause, formula};
+
+use crate::text::{cut, trimmed};
+use crate::vpkg::{Vpkg, vpkg_of};
+use std::alloc::{AllocError, Global};
+
+/// An atom of a clause.
+#[derive(Clone, Copy, Debug, PartialEq, Eq)]
+pub enum Atom<'t> {
+    /// `true!`
+    Yes,
+    /// `false!`
+    No,
+    /// A vpkg.
+    Is(Vpkg<'t>),
+}
+
+/// A disjunction, of one atom at least in what the readers give.
+#[derive(Debug, Drop)]
+pub struct Clause<'t> {
+    /// In the order of the text.
+    pub atoms: Vec<Atom<'t>>,
+}
+
+/// A conjunction; without clauses it holds always (own).
+#[derive(Debug, Drop)]
+pub struct Formula<'t> {
+    /// In the order of the text.
+    pub clauses: Vec<Clause<'t>>,
+}
+
+/// Reads a `vpkgformula`, with blanks or none round it: nothing, or clauses between commas, each of atoms between `|`.
+///
+/// `None` is answered where the whole text is no `vpkgformula`.
+///
+/// # Errors
+///
+/// `AllocError` where memory for the formula is refused.
+pub fn read_formula(alloc: Global, text: &str) -> Result<Option<Formula<'_>>, AllocError>
+    ensures { IfOk result (λ r. option_map formula_view r ≡ formula (trim text.now)) }
+{
+    formula_of(alloc, trimmed(text))
+}
+
+#[tactic(auto, unfolding(crate::specs::Formulas::formula))]
+pub(crate) fn formula_of(alloc: Global, text: &str) -> Result<Option<Formula<'_>>, AllocError>
+    ensures { IfOk result (λ r. option_map formula_view r ≡ formula text.now) }
+{
+    if text.is_empty() {
+        return Ok(Some(Formula {
+            clauses: Vec::new(alloc),
+        }));
+    }
+    clauses_of(alloc, text)
+}
+
+/// The formula of the clauses between commas.
+fn clauses_of(alloc: Global, text: &str) -> Result<Option<Formula<'_>>, AllocError>
+    ensures { IfOk result (λ r. option_map formula_view r ≡ read_parts (byte ",") clause text.now) }
+{
+    let mut clauses = Vec::with_capacity(alloc, 1)?;
+    let mut rest = text;
+    loop {
+        let (part, behind) = cut(rest, b',');
+        match clause_of(alloc, part)? {
+            Some(clause) => clauses.push(clause)?,
+            None => return Ok(None),
+        }
+        match behind {
+            Some(more) => rest = more,
+            None => return Ok(Some(Formula { clauses })),
+        }
+    }
+}
+
+/// The clause of the atoms between `|`.
+fn clause_of(alloc: Global, text: &str) -> Result<Option<Clause<'_>>, AllocError>
+    ensures { IfOk result (λ r. option_map clause_view r ≡ clause text.now) }
+{
+    let mut atoms = Vec::with_capacity(alloc, 1)?;
+    let mut rest = text;
+    loop {
+        let (part, behind) = cut(rest, b'|');
+        match atom_of(part) {
+            Some(atom) => atoms.push(atom)?,
+            None => return Ok(None),
+        }
+        match behind {
+            Some(more) => rest = more,
+            None => return Ok(Some(Clause { atoms })),
+        }
+    }
+}
+
+/// The atom, with blanks or none round it.
+fn atom_of(part: &str) -> Option<Atom<'_>>
+    ensures { option_map atom_view result ≡ atom_part part.now }
+{
+    match trimmed(part) {
+        "true!" => Some(Atom::Yes),
+        "false!" => Some(Atom::No),
+        text => vpkg_of(text).map(Atom::Is),
+    }
+}

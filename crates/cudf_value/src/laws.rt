@@ -1,0 +1,13 @@
+//! Laws over the definitions alone, each the contract of a function without effect.
+ghost use Rattle.std.specs.Prelude.{IsTrue};
+ghost use Rattle.cudf_value.specs.Words.{is_pkgname};
+ghost use Rattle.cudf_value.specs.Laws.{IsPosintBound, IsReadBack};
+
+use crate::relop::Relop;
+
+/// What is printed of a vpkg of a `pkgname`, without a bound or with one whose number is at least 1, is read back as it.
+pub fn read_back(_name: &str, _bound: Option<(Relop, u64)>)
+    requires name { IsTrue (is_pkgname _name.now) }
+    requires bound { IsPosintBound _bound }
+    ensures { IsReadBack _name.now _bound }
+{}

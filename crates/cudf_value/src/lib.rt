@@ -1,0 +1,30 @@
+//! Typed values of CUDF 2.0 and their printing. A reader gives the value exactly where the whole text is of the type.
+#![tactic(auto)]
+
+mod class;
+mod declaration;
+mod default;
+mod formula;
+mod kind;
+pub mod laws;
+mod number;
+mod piece;
+mod place;
+mod printing;
+mod relop;
+#[cfg(test)]
+mod tests;
+mod text;
+mod value_type;
+mod vpkg;
+mod vpkglist;
+mod word;
+
+pub use declaration::{Declaration, read_declarations};
+pub use formula::{Atom, Clause, Formula, read_formula};
+pub use number::{read_int, read_nat, read_posint};
+pub use relop::{Relop, meets};
+pub use value_type::{ValueType, fits};
+pub use vpkg::{Vpkg, read_veqpkg, read_vpkg};
+pub use vpkglist::{read_veqpkglist, read_vpkglist};
+pub use word::{is_ident, is_pkgname, read_bool};

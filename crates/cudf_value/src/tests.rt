@@ -1,0 +1,5 @@
+mod declarations;
+mod lists;
+mod numbers;
+mod types;
+mod words;

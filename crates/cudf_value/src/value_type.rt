@@ -1,0 +1,87 @@
+//! CUDF's types.
+ghost use Rattle.std.specs.Prelude.{◌≡◌, IfOk, bytes_eq};
+ghost use Rattle.std.specs.List.{list_any};
+ghost use Rattle.cudf_value.specs.Chars.{trim};
+ghost use Rattle.cudf_value.specs.Types.{type_view, is_of_type};
+
+use crate::formula::formula_of;
+use crate::number::{int_of, nat_of, posint_of};
+use crate::text::trimmed;
+use crate::vpkg::{veqpkg_of, vpkg_of};
+use crate::vpkglist::{veqpkglist_of, vpkglist_of};
+use crate::word::{bool_of, is_ident, is_pkgname};
+use std::alloc::{AllocError, Global};
+
+/// A type of CUDF's type library.
+#[derive(Debug, Drop)]
+pub enum ValueType<'t> {
+    /// `posint`: 1 to `u64::MAX` (own).
+    Positive,
+    /// `nat`: 0 to `u64::MAX` (own).
+    Natural,
+    /// `int`: `i64::MIN` to `i64::MAX` (own).
+    Signed,
+    /// `bool`: `true` and `false`.
+    Truth,
+    /// `string`: any text.
+    Words,
+    /// `pkgname`: the name of a package or a feature.
+    Name,
+    /// `ident`: a name of a property.
+    Ident,
+    /// `enum[a,b,..]`: one of these idents.
+    Choice(Vec<&'t str>),
+    /// `vpkg`: a name with or without a bound.
+    Versioned,
+    /// `veqpkg`: a vpkg without an operator or with `=`.
+    Exact,
+    /// `vpkgformula`: clauses between commas.
+    Formula,
+    /// `vpkglist`: vpkgs between commas.
+    List,
+    /// `veqpkglist`: veqpkgs between commas.
+    ExactList,
+}
+
+/// Whether the whole text, but for blanks round it, is of the type.
+///
+/// # Errors
+///
+/// `AllocError` where memory is refused for reading a list or a formula.
+pub fn fits(alloc: Global, kind: &ValueType<'_>, text: &str) -> Result<bool, AllocError>
+    ensures { IfOk result (λ b. b ≡ is_of_type (type_view kind.now) (trim text.now)) }
+{
+    is_of_type(alloc, kind, trimmed(text))
+}
+
+/// Whether the whole text is of the type.
+pub(crate) fn is_of_type(
+    alloc: Global,
+    kind: &ValueType<'_>,
+    text: &str,
+) -> Result<bool, AllocError>
+    ensures { IfOk result (λ b. b ≡ is_of_type (type_view kind.now) text.now) }
+{
+    match kind {
+        ValueType::Positive => Ok(posint_of(text).is_some()),
+        ValueType::Natural => Ok(nat_of(text).is_some()),
+        ValueType::Signed => Ok(int_of(text).is_some()),
+        ValueType::Truth => Ok(bool_of(text).is_some()),
+        ValueType::Words => Ok(true),
+        ValueType::Name => Ok(is_pkgname(text)),
+        ValueType::Ident => Ok(is_ident(text)),
+        ValueType::Choice(idents) => Ok(is_one_of(idents, text)),
+        ValueType::Versioned => Ok(vpkg_of(text).is_some()),
+        ValueType::Exact => Ok(veqpkg_of(text).is_some()),
+        ValueType::Formula => Ok(formula_of(alloc, text)?.is_some()),
+        ValueType::List => Ok(vpkglist_of(alloc, text)?.is_some()),
+        ValueType::ExactList => Ok(veqpkglist_of(alloc, text)?.is_some()),
+    }
+}
+
+/// Whether the text is one of the idents.
+pub(crate) fn is_one_of(idents: &[&str], text: &str) -> bool
+    ensures { result ≡ list_any (λ ident. bytes_eq ident.now text.now) idents.now }
+{
+    idents.iter().any(|ident| *ident == text)
+}

@@ -1,0 +1,83 @@
+//! The types `vpkg` and `veqpkg`.
+ghost use Rattle.std.specs.Prelude.{◌≡◌, option_map, length, ◌<◌};
+ghost use Rattle.cudf_value.specs.Chars.{trim};
+ghost use Rattle.cudf_value.specs.Vpkgs.{vpkg_view, vpkg, veqpkg, vpkg_behind, is_exact};
+
+use crate::class::Class;
+use crate::number::posint_of;
+use crate::relop::Relop;
+use crate::text::{split_run, trimmed, trimmed_start};
+
+/// A package or a feature by its name, at the versions that the bound admits, or at all.
+#[derive(Clone, Copy, Debug, PartialEq, Eq)]
+pub struct Vpkg<'t> {
+    /// A `pkgname`.
+    pub name: &'t str,
+    /// The operator and its number, at least 1 in what the readers give.
+    pub bound: Option<(Relop, u64)>,
+}
+
+/// Reads a `vpkg`, with blanks or none round it: a `pkgname`, alone or with an operator and a `posint` behind it.
+///
+/// `None` is answered where the whole text is no `vpkg`.
+pub fn read_vpkg(text: &str) -> Option<Vpkg<'_>>
+    ensures { option_map vpkg_view result ≡ vpkg (trim text.now) }
+{
+    vpkg_of(trimmed(text))
+}
+
+/// Reads a `veqpkg`, with blanks or none round it: a `vpkg` without an operator or with `=`.
+///
+/// `None` is answered where the whole text is no `veqpkg`.
+pub fn read_veqpkg(text: &str) -> Option<Vpkg<'_>>
+    ensures { option_map vpkg_view result ≡ veqpkg (trim text.now) }
+{
+    veqpkg_of(trimmed(text))
+}
+
+#[tactic(auto, unfolding(crate::specs::Vpkgs::vpkg))]
+pub(crate) fn vpkg_of(text: &str) -> Option<Vpkg<'_>>
+    ensures { option_map vpkg_view result ≡ vpkg text.now }
+{
+    let (name, rest) = split_run(text, Class::Name);
+    if name.is_empty() {
+        None
+    } else {
+        vpkg_before(name, trimmed_start(rest))
+    }
+}
+
+/// The vpkg of a name, with `rest` behind it.
+fn vpkg_before<'t>(name: &'t str, rest: &str) -> Option<Vpkg<'t>>
+    ensures { option_map vpkg_view result ≡ vpkg_behind name.now rest.now }
+{
+    if rest.is_empty() {
+        return Some(Vpkg { name, bound: None });
+    }
+    let (symbol, rest) = split_run(rest, Class::Operator);
+    let relop = Relop::of_symbol(symbol)?;
+    let number = posint_of(trimmed_start(rest))?;
+    Some(Vpkg {
+        name,
+        bound: Some((relop, number)),
+    })
+}
+
+#[tactic(auto, unfolding(crate::specs::Vpkgs::veqpkg))]
+pub(crate) fn veqpkg_of(text: &str) -> Option<Vpkg<'_>>
+    ensures { option_map vpkg_view result ≡ veqpkg text.now }
+{
+    let vpkg = vpkg_of(text)?;
+    if is_exact(vpkg.bound) {
+        Some(vpkg)
+    } else {
+        None
+    }
+}
+
+/// Whether the bound admits all numbers, or one.
+fn is_exact(bound: Option<(Relop, u64)>) -> bool
+    ensures { result ≡ is_exact bound }
+{
+    matches!(bound, None | Some((Relop::Eq, _)))
+}

@@ -1,0 +1,92 @@
+//! The types `vpkglist` and `veqpkglist`.
+ghost use Rattle.std.specs.Prelude.{◌≡◌, map, option_map, IfOk};
+ghost use Rattle.std.specs.Str.{byte};
+ghost use Rattle.cudf_value.specs.Chars.{trim};
+ghost use Rattle.cudf_value.specs.Parts.{read_parts, comma_list};
+ghost use Rattle.cudf_value.specs.Vpkgs.{vpkg_view};
+ghost use Rattle.cudf_value.specs.Formulas.{vpkg_part, vpkglist, veqpkglist};
+
+use crate::text::{cut, trimmed};
+use crate::vpkg::{Vpkg, veqpkg_of, vpkg_of};
+use std::alloc::{AllocError, Global};
+
+/// Reads a `vpkglist`, with blanks or none round it: nothing, or vpkgs between commas.
+///
+/// `None` is answered where the whole text is no `vpkglist`.
+///
+/// # Errors
+///
+/// `AllocError` where memory for the list is refused.
+pub fn read_vpkglist(alloc: Global, text: &str) -> Result<Option<Vec<Vpkg<'_>>>, AllocError>
+    ensures { IfOk result (λ r. option_map (λ v. map vpkg_view v.items) r ≡ vpkglist (trim text.now)) }
+{
+    vpkglist_of(alloc, trimmed(text))
+}
+
+/// Reads a `veqpkglist`, with blanks or none round it: nothing, or veqpkgs between commas.
+///
+/// `None` is answered where the whole text is no `veqpkglist`.
+///
+/// # Errors
+///
+/// `AllocError` where memory for the list is refused.
+pub fn read_veqpkglist(alloc: Global, text: &str) -> Result<Option<Vec<Vpkg<'_>>>, AllocError>
+    ensures { IfOk result (λ r. option_map (λ v. map vpkg_view v.items) r ≡ veqpkglist (trim text.now)) }
+{
+    veqpkglist_of(alloc, trimmed(text))
+}
+
+#[tactic(auto, unfolding(crate::specs::Formulas::vpkglist))]
+pub(crate) fn vpkglist_of(alloc: Global, text: &str) -> Result<Option<Vec<Vpkg<'_>>>, AllocError>
+    ensures { IfOk result (λ r. option_map (λ v. map vpkg_view v.items) r ≡ vpkglist text.now) }
+{
+    list_of(alloc, text, false)
+}
+
+#[tactic(auto, unfolding(crate::specs::Formulas::veqpkglist))]
+pub(crate) fn veqpkglist_of(alloc: Global, text: &str) -> Result<Option<Vec<Vpkg<'_>>>, AllocError>
+    ensures { IfOk result (λ r. option_map (λ v. map vpkg_view v.items) r ≡ veqpkglist text.now) }
+{
+    list_of(alloc, text, true)
+}
+
+/// Nothing, or the vpkgs between commas, or the veqpkgs where they are to be exact.
+fn list_of(alloc: Global, text: &str, exact: bool) -> Result<Option<Vec<Vpkg<'_>>>, AllocError>
+    ensures { IfOk result (λ r. option_map (λ v. map vpkg_view v.items) r ≡ comma_list (vpkg_part exact) text.now) }
+{
+    if text.is_empty() {
+        return Ok(Some(Vec::new(alloc)));
+    }
+    entries_of(alloc, text, exact)
+}
+
+/// The vpkgs between commas, one at least.
+fn entries_of(alloc: Global, text: &str, exact: bool) -> Result<Option<Vec<Vpkg<'_>>>, AllocError>
+    ensures { IfOk result (λ r. option_map (λ v. map vpkg_view v.items) r ≡ read_parts (byte ",") (vpkg_part exact) text.now) }
+{
+    let mut vpkgs = Vec::with_capacity(alloc, 1)?;
+    let mut rest = text;
+    loop {
+        let (part, behind) = cut(rest, b',');
+        match entry_of(part, exact) {
+            Some(vpkg) => vpkgs.push(vpkg)?,
+            None => return Ok(None),
+        }
+        match behind {
+            Some(more) => rest = more,
+            None => return Ok(Some(vpkgs)),
+        }
+    }
+}
+
+/// The vpkg or veqpkg, with blanks or none round it.
+fn entry_of(part: &str, exact: bool) -> Option<Vpkg<'_>>
+    ensures { option_map vpkg_view result ≡ vpkg_part exact part.now }
+{
+    let text = trimmed(part);
+    if exact {
+        veqpkg_of(text)
+    } else {
+        vpkg_of(text)
+    }
+}
