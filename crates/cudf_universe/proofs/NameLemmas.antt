@@ -1,0 +1,95 @@
+-- Names of properties, and what the first property of a name says.
+use Rattle.std.proofs.Common.{◌≡◌, ℕ, Bool, true, false, ◌||◌, List, [], ◌∷◌, ◌++◌, Option, None, Some, is_some, find, refl, sym, ap, ◌∙◌, if◌then◌else◌, option_and_then, bytes_eq}
+use Rattle.std.proofs.lemmas.Bool.{true≢false}
+use Rattle.std.proofs.lemmas.Slice.Eq.{bytes_eq-Decides}
+use Rattle.std.proofs.lemmas.List.Folds.{list_any-append, find-append}
+use Rattle.std.specs.List.{list_any}
+use Rattle.std.specs.Option.{option_or}
+use Rattle.indexmap.specs.IndexSet.{insert_key}
+use Rattle.cudf_text.specs.Stanzas.{PlainProperty}
+use Rattle.cudf_universe.specs.Documents.{has_name, same_name, value_of}
+use Rattle.cudf_universe.proofs.ListLemmas.{or_false, is_some-find, find_none, list_any-insert_key}
+
+-- ---- equal names
+
+pub same_bytes : (xs ys : List ℕ) → bytes_eq xs ys ≡ true → xs ≡ ys
+same_bytes xs ys same = (bytes_eq-Decides xs ys).0 same
+
+pub bytes_same : (xs : List ℕ) → bytes_eq xs xs ≡ true
+bytes_same xs = (bytes_eq-Decides xs xs).1 refl
+
+pub bytes_eq-sym : (xs ys : List ℕ) → bytes_eq xs ys ≡ bytes_eq ys xs
+bytes_eq-sym xs ys = by (bytes_eq xs ys) (bytes_eq ys xs) refl refl
+  where
+    by : (a b : Bool) → bytes_eq xs ys ≡ a → bytes_eq ys xs ≡ b → bytes_eq xs ys ≡ bytes_eq ys xs
+    by true true p q = p ∙ sym q
+    by false false p q = p ∙ sym q
+    by true false p q = absurd (true≢false (sym ((bytes_eq-Decides ys xs).1 (sym (same_bytes xs ys p))) ∙ q))
+    by false true p q = absurd (true≢false (sym ((bytes_eq-Decides xs ys).1 (sym (same_bytes ys xs q))) ∙ p))
+
+-- ---- the names that were seen
+
+-- a name is among the names that were seen where a property has it
+abbrev pub AreNames : List (List ℕ) → List PlainProperty → Type 0
+AreNames names ps = (name : List ℕ) → list_any (bytes_eq name) names ≡ list_any (λ p. bytes_eq name p.name) ps
+
+pub AreNames-next : (names : List (List ℕ)) (ps : List PlainProperty) (p : PlainProperty) → AreNames names ps → AreNames (insert_key bytes_eq names p.name) (ps ++ p ∷ [])
+AreNames-next names ps p are name =
+    list_any-insert_key bytes_eq (bytes_eq name) names p.name (λ k same. ap (bytes_eq name) (sym (same_bytes p.name k same)))
+    ∙ (λ i. are name i || sym (or_false (bytes_eq name p.name)) i)
+    ∙ sym (list_any-append (λ q. bytes_eq name q.name) ps (p ∷ []))
+
+pub AreNames-more : (names : List (List ℕ)) (ps : List PlainProperty) (p : PlainProperty) (more : List PlainProperty) (new_names : List (List ℕ))
+    → AreNames names ps → more ≡ ps ++ p ∷ [] → new_names ≡ insert_key bytes_eq names p.name → AreNames new_names more
+AreNames-more names ps p more new_names are more_is names_is name =
+    ap (list_any (bytes_eq name)) names_is ∙ AreNames-next names ps p are name ∙ ap (list_any (λ q. bytes_eq name q.name)) (sym more_is)
+
+-- ---- values
+
+pub has_same_name : (name : List ℕ) (p : PlainProperty) (ps : List PlainProperty) → bytes_eq p.name name ≡ true → list_any (same_name p) ps ≡ list_any (has_name name) ps
+has_same_name name p [] same = refl
+has_same_name name p (q ∷ ps) same =
+    (λ i. (ap (λ n. bytes_eq n q.name) (same_bytes p.name name same) ∙ bytes_eq-sym name q.name) i || has_same_name name p ps same i)
+
+-- a property of another name says nothing
+pub value_of-other : {A : Type 0} (read : List ℕ → Option A) (name : List ℕ) (ps : List PlainProperty) (p : PlainProperty)
+    → bytes_eq p.name name ≡ false → value_of read name (ps ++ p ∷ []) ≡ value_of read name ps
+value_of-other read name ps p other =
+    ap (option_and_then (λ q. read q.value.bytes))
+    (find-append (has_name name) ps (p ∷ []) ∙ ap (λ b. option_or (find (has_name name) ps) (if b then Some p else None)) other ∙ or_none (find (has_name name) ps))
+  where
+    or_none : {B : Type 0} (x : Option B) → option_or x None ≡ x
+    or_none None = refl
+    or_none (Some y) = refl
+
+-- the first of its name does
+pub value_of-new : {A : Type 0} (read : List ℕ → Option A) (name : List ℕ) (ps : List PlainProperty) (p : PlainProperty)
+    → bytes_eq p.name name ≡ true → list_any (same_name p) ps ≡ false → value_of read name (ps ++ p ∷ []) ≡ read p.value.bytes
+value_of-new read name ps p same new =
+    let none : find (has_name name) ps ≡ None = find_none (has_name name) ps (sym (has_same_name name p ps same) ∙ new) in
+    ap (option_and_then (λ q. read q.value.bytes))
+    (find-append (has_name name) ps (p ∷ []) ∙ (λ i. option_or (none i) (if same i then Some p else None)))
+
+-- a repeated one says nothing
+pub value_of-repeated : {A : Type 0} (read : List ℕ → Option A) (name : List ℕ) (ps : List PlainProperty) (p : PlainProperty)
+    → list_any (same_name p) ps ≡ true → value_of read name (ps ++ p ∷ []) ≡ value_of read name ps
+value_of-repeated {A} read name ps p again = by (bytes_eq p.name name) refl
+  where
+    or_some : {B : Type 0} (x y : Option B) → is_some x ≡ true → option_or x y ≡ x
+    or_some None y h = absurd cc
+    or_some (Some z) y h = refl
+
+    by : (b : Bool) → bytes_eq p.name name ≡ b → value_of read name (ps ++ p ∷ []) ≡ value_of read name ps
+    by false other = value_of-other read name ps p other
+    by true same = ap (option_and_then (λ q. read q.value.bytes))
+        (find-append (has_name name) ps (p ∷ [])
+        ∙ or_some (find (has_name name) ps) (find (has_name name) (p ∷ [])) (is_some-find (has_name name) ps ∙ sym (has_same_name name p ps same) ∙ again))
+
+-- the value of a name, with what a property says that is the first of its own
+pub value_next : {A : Type 0} (read : List ℕ → Option A) (name : List ℕ) (ps : List PlainProperty) (p : PlainProperty) → list_any (same_name p) ps ≡ false
+    → value_of read name (ps ++ p ∷ []) ≡ (if bytes_eq p.name name then read p.value.bytes else value_of read name ps)
+value_next {A} read name ps p new = by (bytes_eq p.name name) refl
+  where
+    by : (b : Bool) → bytes_eq p.name name ≡ b → value_of read name (ps ++ p ∷ []) ≡ (if b then read p.value.bytes else value_of read name ps)
+    by true same = value_of-new read name ps p same new
+    by false other = value_of-other read name ps p other

@@ -1,0 +1,115 @@
+-- What a status gives, and when it satisfies a vpkg or a clause: CUDF 2.0, installations and features.
+-- Own: an unversioned provision gives all positive integers, without an upper end.
+use Rattle.std.specs.Prelude.{◌≡◌, ◌≤◌, ℕ, Bool, true, false, not, ◌&&◌, ◌||◌, ◌==◌, List, [], ◌∷◌, All, Contains, bytes_eq, map, filter, find, Option, Some, None, IsNone, IfSome, option_map, filter_map, ◌↔◌}
+use Rattle.std.specs.List.{list_any, flat_map, enumerate_from}
+use Rattle.cudf_value.specs.declared.relop.Relop.{Relop}
+use Rattle.cudf_value.specs.declared.relop.Relop.TheVariants.{Lt}
+use Rattle.cudf_value.specs.Vpkgs.{PlainVpkg, meets}
+use Rattle.cudf_value.specs.Formulas.{PlainAtom, truth_atom, falsehood_atom, named}
+use Rattle.cudf_universe.specs.Universe.{PlainPackage}
+
+-- ---- statuses as lists of packages
+
+-- a package beside its place in the universe, counted from 1
+abbrev pub Placed : Type 0
+Placed = ℕ × PlainPackage
+
+-- the packages of a universe that a status holds, in the order of their places
+abbrev pub members : (ℕ → Bool) → List PlainPackage → List Placed
+members holds packages = filter (λ p. holds p.0) (enumerate_from 1 packages)
+
+-- a status less the package at one place
+abbrev pub without : ℕ → List Placed → List Placed
+without place status = filter (λ p. not (p.0 == place)) status
+
+-- ---- what they give
+
+-- a name and a number
+abbrev pub Pair : Type 0
+Pair = List ℕ × ℕ
+
+-- the pair of an entry `f = n` of a package's `provides`
+abbrev pub entry_pair : PlainVpkg → Option Pair
+entry_pair entry = option_map (λ bound. (entry.name, bound.1)) entry.bound
+
+abbrev pub name_unless : List ℕ → Option (Relop × ℕ) → Option (List ℕ)
+name_unless name None = Some name
+name_unless name (Some bound) = None
+
+-- the name of an entry `f` without a number
+abbrev pub unversioned_name : PlainVpkg → Option (List ℕ)
+unversioned_name entry = name_unless entry.name entry.bound
+
+-- the pairs that a package gives: its own, and those of its versioned features
+abbrev pub package_pairs : PlainPackage → List Pair
+package_pairs p = (p.name, p.version) ∷ filter_map entry_pair p.provides
+
+-- the pairs that a status gives
+abbrev pub gives : List Placed → List Pair
+gives status = flat_map (λ p. package_pairs p.1) status
+
+-- the names that a status gives at all versions
+abbrev pub gives_all_versions : List Placed → List (List ℕ)
+gives_all_versions status = flat_map (λ p. filter_map unversioned_name p.1.provides) status
+
+-- the numbers that a status gives of a name
+abbrev pub numbers_of : List ℕ → List Placed → List ℕ
+numbers_of name status = map (λ pair. pair.1) (filter (λ pair. bytes_eq pair.0 name) (gives status))
+
+-- the least of the numbers: none where there are no numbers, else one of them that is at most each
+pub record IsLeast (numbers : List ℕ) (least : Option ℕ) : Type 0 where
+  pub none : IsNone least ↔ (numbers ≡ [])
+  pub among : IfSome least (Contains numbers)
+  pub bound : IfSome least (λ n. All (λ m. n ≤ m) numbers)
+
+-- the greatest of the numbers: none where there are no numbers, else one of them that is at least each
+pub record IsGreatest (numbers : List ℕ) (greatest : Option ℕ) : Type 0 where
+  pub none : IsNone greatest ↔ (numbers ≡ [])
+  pub among : IfSome greatest (Contains numbers)
+  pub bound : IfSome greatest (λ n. All (λ m. m ≤ n) numbers)
+
+-- ---- satisfaction
+
+-- the pair is of the vpkg's name, and its number meets the bound
+abbrev pub is_met_by : PlainVpkg → Pair → Bool
+is_met_by v pair = bytes_eq pair.0 v.name && meets v.bound pair.1
+
+-- the bound `< 1`, which no positive integer meets
+abbrev pub is_below_one : Option (Relop × ℕ) → Bool
+is_below_one (Some (Lt, n)) = n == 1
+is_below_one _ = false
+
+-- a pair of the status meets the vpkg, or the status gives its name at all versions, of which some meet the bound
+abbrev pub satisfies : List Placed → PlainVpkg → Bool
+satisfies status v =
+    list_any (is_met_by v) (gives status)
+    || (list_any (λ name. bytes_eq name v.name) (gives_all_versions status) && not (is_below_one v.bound))
+
+-- the atom is `true!`, or a vpkg that the status satisfies
+abbrev pub satisfies_atom : List Placed → PlainAtom → Bool
+satisfies_atom status truth_atom = true
+satisfies_atom status falsehood_atom = false
+satisfies_atom status (named v) = satisfies status v
+
+-- one of the atoms is satisfied
+abbrev pub satisfies_clause : List Placed → List PlainAtom → Bool
+satisfies_clause status clause = list_any (satisfies_atom status) clause
+
+-- ---- the package that meets a vpkg
+
+-- the package, alone, satisfies the vpkg
+abbrev pub meets_alone : PlainVpkg → Placed → Bool
+meets_alone v p = satisfies (p ∷ []) v
+
+-- the least place of a status whose package alone satisfies the vpkg
+abbrev pub first_meeting : List Placed → PlainVpkg → Option ℕ
+first_meeting status v = option_map (λ p. p.0) (find (meets_alone v) status)
+
+-- a status less the package at a place, if one is named
+abbrev pub other_than : Option ℕ → List Placed → List Placed
+other_than None status = status
+other_than (Some place) status = without place status
+
+-- a status satisfies a vpkg where one of its packages alone does
+abbrev pub MemberAlone : Type 0
+MemberAlone = (status : List Placed) (v : PlainVpkg) → satisfies status v ≡ list_any (meets_alone v) status
