@@ -1,0 +1,7 @@
+pub mod EntryLemmas
+pub mod ListLemmas
+pub mod ListingLemmas
+pub mod NumberLemmas
+pub mod SolutionLemmas
+pub mod StatusLemmas
+pub mod VpkgItems

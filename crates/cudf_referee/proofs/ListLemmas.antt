@@ -1,0 +1,97 @@
+-- Lists that are empty, and tests of lists.
+use Rattle.std.proofs.Common.{◌≡◌, ℕ, ◌+◌, Bool, true, false, not, ◌&&◌, ◌||◌, ◌==◌, List, [], ◌∷◌, ◌++◌, length, arith, map, filter, cond, refl, ap, sym, ◌∙◌}
+use Rattle.std.proofs.lemmas.Bool.{ne_eqb}
+use Rattle.std.specs.List.{list_all, list_any, flat_map, enumerate_from}
+use Rattle.cudf_referee.specs.Entries.{is_empty}
+
+pub and_true : (a : Bool) → (a && true) ≡ a
+and_true true = refl
+and_true false = refl
+
+pub and_false : (a : Bool) → (a && false) ≡ false
+and_false true = refl
+and_false false = refl
+
+pub and_left : (a b : Bool) → (a && b) ≡ true → a ≡ true
+and_left true b h = refl
+and_left false b h = h
+
+pub and_right : (a b : Bool) → (a && b) ≡ true → b ≡ true
+and_right true b h = h
+and_right false b h = absurd (cc h)
+
+pub and_assoc : (a b c : Bool) → (a && (b && c)) ≡ ((a && b) && c)
+and_assoc true b c = refl
+and_assoc false b c = refl
+
+pub and_comm : (a b : Bool) → (a && b) ≡ (b && a)
+and_comm true b = sym (and_true b)
+and_comm false b = sym (and_false b)
+
+-- the middle two change places
+pub and_swap : (a b c d : Bool) → ((a && b) && (c && d)) ≡ ((a && c) && (b && d))
+and_swap true b true d = refl
+and_swap true true false d = refl
+and_swap true false false d = refl
+and_swap false b c d = refl
+
+pub not_not : (a : Bool) → not (not a) ≡ a
+not_not true = refl
+not_not false = refl
+
+-- tests that agree everywhere
+pub list_all-same : {A : Type 0} (p q : A → Bool) → ((x : A) → p x ≡ q x) → (xs : List A) → list_all p xs ≡ list_all q xs
+list_all-same p q same xs = ap (λ test. list_all test xs) (λ i x. same x i)
+
+pub is_empty-length : {A : Type 0} (xs : List A) → (length xs == 0) ≡ is_empty xs
+is_empty-length [] = refl
+is_empty-length (x ∷ xs) = ne_eqb (length (x ∷ xs)) 0 (λ e. omega arith)
+
+pub is_empty-append : {A : Type 0} (xs ys : List A) → is_empty (xs ++ ys) ≡ (is_empty xs && is_empty ys)
+is_empty-append [] ys = refl
+is_empty-append (x ∷ xs) ys = refl
+
+pub is_empty-map : {A B : Type 0} (f : A → B) (xs : List A) → is_empty (map f xs) ≡ is_empty xs
+is_empty-map f [] = refl
+is_empty-map f (x ∷ xs) = refl
+
+pub is_empty-flat_map : {A B : Type 0} (f : A → List B) (xs : List A) → is_empty (flat_map f xs) ≡ list_all (λ x. is_empty (f x)) xs
+is_empty-flat_map f [] = refl
+is_empty-flat_map f (x ∷ xs) = is_empty-append (f x) (flat_map f xs) ∙ ap (λ b. is_empty (f x) && b) (is_empty-flat_map f xs)
+
+is_empty-cond : {A : Type 0} (b : Bool) (x : A) (xs : List A) (rest : Bool) → is_empty xs ≡ rest → is_empty (cond b (x ∷ xs) xs) ≡ (not b && rest)
+is_empty-cond true x xs rest h = refl
+is_empty-cond false x xs rest h = h
+
+pub is_empty-filter : {A : Type 0} (test : A → Bool) (xs : List A) → is_empty (filter test xs) ≡ list_all (λ x. not (test x)) xs
+is_empty-filter test [] = refl
+is_empty-filter test (x ∷ xs) = is_empty-cond (test x) x (filter test xs) (list_all (λ x. not (test x)) xs) (is_empty-filter test xs)
+
+-- a test of the elements alone doesn't see their numbers
+pub list_all-enumerate : {A : Type 0} (p : A → Bool) (n : ℕ) (xs : List A) → list_all (λ x. p x.1) (enumerate_from n xs) ≡ list_all p xs
+list_all-enumerate p n [] = refl
+list_all-enumerate p n (x ∷ xs) = ap (λ b. p x && b) (list_all-enumerate p (n + 1) xs)
+
+pub list_all-and : {A : Type 0} (p q : A → Bool) (xs : List A) → list_all (λ x. p x && q x) xs ≡ (list_all p xs && list_all q xs)
+list_all-and p q [] = refl
+list_all-and p q (x ∷ xs) = ap (λ b. (p x && q x) && b) (list_all-and p q xs) ∙ and_swap (p x) (q x) (list_all p xs) (list_all q xs)
+
+filter_step : {A : Type 0} (t a rest : Bool) (p : A → Bool) (x : A) (xs : List A) → p x ≡ a → list_all p xs ≡ rest
+    → (cond t a true && rest) ≡ list_all p (cond t (x ∷ xs) xs)
+filter_step true a rest p x xs here below = λ i. sym here i && sym below i
+filter_step false a rest p x xs here below = sym below
+
+-- a test where another holds is a test of those that pass the other
+pub list_all-filter : {A : Type 0} (t p : A → Bool) (xs : List A) → list_all (λ x. cond (t x) (p x) true) xs ≡ list_all p (filter t xs)
+list_all-filter t p [] = refl
+list_all-filter t p (x ∷ xs) = ap (λ b. cond (t x) (p x) true && b) (list_all-filter t p xs)
+    ∙ filter_step (t x) (p x) (list_all p (filter t xs)) p x (filter t xs) refl refl
+
+not_or : (a b : Bool) → not (a || b) ≡ (not a && not b)
+not_or true b = refl
+not_or false b = refl
+
+-- none passes
+pub list_any-none : {A : Type 0} (p : A → Bool) (xs : List A) → not (list_any p xs) ≡ list_all (λ x. not (p x)) xs
+list_any-none p [] = refl
+list_any-none p (x ∷ xs) = not_or (p x) (list_any p xs) ∙ ap (λ b. not (p x) && b) (list_any-none p xs)

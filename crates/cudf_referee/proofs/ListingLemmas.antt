@@ -1,0 +1,36 @@
+-- What the search for instances finds is the listing.
+use Rattle.std.proofs.Common.{◌≡◌, ℕ, Bool, List, [], ◌++◌, map, ap, sym, ◌∙◌}
+use Rattle.std.specs.List.{flat_map, enumerate_from}
+use Rattle.cudf_universe.specs.Universe.{PlainPackage, PlainProblem}
+use Rattle.cudf_universe.specs.Statuses.{PlainUnknown}
+use Rattle.cudf_universe.specs.Satisfaction.{Placed, members}
+use Rattle.cudf_referee.specs.Instances.{PlainInstance}
+use Rattle.cudf_referee.specs.Proposals.{holds_place, put_forward}
+use Rattle.cudf_referee.specs.Violations.{package_rules, violated_install, violated_remove, violated_upgrade, unknown_instance, listing}
+use Rattle.cudf_referee.proofs.StatusLemmas.{holds-filter, holds-own, flat_map-held}
+
+-- the packages are judged by what their statuses hold
+rules_of_members : (was is : ℕ → Bool) (packages : List PlainPackage) (status : List Placed)
+    → flat_map (λ p. package_rules (holds_place (members was packages) p.0) (holds_place (members is packages) p.0) status p) (enumerate_from 1 packages)
+    ≡ flat_map (λ p. package_rules (was p.0) (is p.0) status p) (enumerate_from 1 packages)
+rules_of_members was is packages status =
+    let all = enumerate_from 1 packages in
+    ap (λ (f : Placed → List PlainInstance). flat_map f all)
+    (λ i p. package_rules (holds-filter was all p.0 i) (holds-filter is all p.0 i) status p)
+    ∙ flat_map-held was is (λ w n p. package_rules w n status p) all all (holds-own all)
+
+-- what is found of the packages, then of the request, then of the solution
+pub listed : (problem : PlainProblem) (was is : ℕ → Bool) (unknown : List PlainUnknown) (before status : List Placed) (none packages requests all : List PlainInstance)
+    → before ≡ members was problem.packages → status ≡ members is problem.packages → none ≡ []
+    → packages ≡ none ++ flat_map (λ p. package_rules (was p.0) (is p.0) status p) (enumerate_from 1 problem.packages)
+    → requests ≡ packages ++ (violated_install status problem.request ++ violated_remove status problem.request ++ violated_upgrade before status problem.request)
+    → all ≡ requests ++ map unknown_instance unknown
+    → all ≡ listing (put_forward problem before status unknown)
+unfolding listing
+listed problem was is unknown before status none packages requests all before_is status_is none_is packages_is requests_is all_is =
+    let request = violated_install status problem.request ++ violated_remove status problem.request ++ violated_upgrade before status problem.request in
+    let places = enumerate_from 1 problem.packages in
+    let found : packages ≡ flat_map (λ p. package_rules (was p.0) (is p.0) status p) places = packages_is ∙ ap (λ xs. xs ++ flat_map (λ p. package_rules (was p.0) (is p.0) status p) places) none_is in
+    all_is ∙ ap (λ xs. xs ++ map unknown_instance unknown) (requests_is ∙ ap (λ xs. xs ++ request) (found
+    ∙ sym (rules_of_members was is problem.packages status)
+    ∙ (λ i. flat_map (λ p. package_rules (holds_place (sym before_is i) p.0) (holds_place (sym status_is i) p.0) status p) places)))

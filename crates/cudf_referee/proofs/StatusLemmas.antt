@@ -1,0 +1,144 @@
+-- Which places a list of packages with their places holds, where some of them were left out.
+use Rattle.std.proofs.Common.{◌≡◌, ℕ, zero, suc, ◌+◌, ◌<◌, Bool, true, false, ◌&&◌, ◌||◌, ◌==◌, List, [], ◌∷◌, ◌++◌, ◌≤◌, length, get_or, map, take, filter, cond, refl, ap, sym, ◌∙◌, arith, eq-eqb, eqb-true}
+use Rattle.std.specs.List.{list_any, list_all, flat_map, enumerate_from}
+use Rattle.std.proofs.lemmas.List.{map_more, length-map}
+use Rattle.std.proofs.Math.ListN.{get_or-map}
+use Rattle.std.proofs.lemmas.List.Elements.{filter-append}
+use Rattle.std.proofs.lemmas.List.Folds.{list_any-append}
+use Rattle.cudf_referee.proofs.EntryLemmas.{enumerate-push, length-map-take}
+use Rattle.cudf_referee.proofs.ListLemmas.{and_true, and_left, and_right}
+
+-- the list has this place
+abbrev pub holds : {A : Type 0} → List (ℕ × A) → ℕ → Bool
+holds xs n = list_any (λ p. p.0 == n) xs
+
+filter_case : {A : Type 0} (tx tn b rest : Bool) (n : ℕ) (x : ℕ × A) (xs : List (ℕ × A)) → (b ≡ true → tx ≡ tn) → (x.0 == n) ≡ b
+    → holds xs n ≡ (tn && rest) → holds (cond tx (x ∷ xs) xs) n ≡ (tn && (b || rest))
+filter_case true tn true rest n x xs same here below = (λ i. here i || below i) ∙ sym (ap (λ t. t && true) (sym (same refl)))
+filter_case true tn false rest n x xs same here below = λ i. here i || below i
+filter_case false tn true rest n x xs same here below = below ∙ ap (λ t. t && rest) (sym (same refl)) ∙ ap (λ t. t && true) (same refl)
+filter_case false tn false rest n x xs same here below = below
+
+-- of those that pass a test of their places, the places that are there and pass it
+pub holds-filter : {A : Type 0} (t : ℕ → Bool) (xs : List (ℕ × A)) (n : ℕ) → holds (filter (λ p. t p.0) xs) n ≡ (t n && holds xs n)
+holds-filter t [] n = elim (t n) as (λ b. false ≡ (b && false)) [ true ↦ refl | false ↦ refl ]
+holds-filter t (x ∷ xs) n = filter_case (t x.0) (t n) (x.0 == n) (holds xs n) n x (filter (λ p. t p.0) xs)
+    (λ same. ap t (eqb-true x.0 n same)) refl (holds-filter t xs n)
+
+or_true : (a : Bool) → (a || true) ≡ true
+or_true true = refl
+or_true false = refl
+
+weaker : {A : Type 0} (q r : A → Bool) (xs : List A) → list_all q xs ≡ true → list_all (λ x. r x || q x) xs ≡ true
+weaker q r [] h = refl
+weaker q r (x ∷ xs) h = weaker_case q r x xs (q x) refl h (weaker q r xs)
+  where
+    weaker_case : {A : Type 0} (q r : A → Bool) (x : A) (xs : List A) (b : Bool) → q x ≡ b → (q x && list_all q xs) ≡ true
+        → (list_all q xs ≡ true → list_all (λ x. r x || q x) xs ≡ true) → ((r x || q x) && list_all (λ x. r x || q x) xs) ≡ true
+    weaker_case q r x xs true here h below = (λ i. (r x || here i) && below (sym (ap (λ b. b && list_all q xs) here) ∙ h) i) ∙ ap (λ b. b && true) (or_true (r x))
+    weaker_case q r x xs false here h below = absurd (cc (sym (ap (λ b. b && list_all q xs) here) ∙ h))
+
+-- a list holds its own places
+pub holds-own : {A : Type 0} (xs : List (ℕ × A)) → list_all (λ p. holds xs p.0) xs ≡ true
+holds-own [] = refl
+holds-own (x ∷ xs) = (λ i. (eq-eqb x.0 x.0 refl i || holds xs x.0) && weaker (λ p. holds xs p.0) (λ p. x.0 == p.0) xs (holds-own xs) i)
+
+-- a test of those whose places pass, where all places are there
+pub list_all-held : {A : Type 0} (t : ℕ → Bool) (p : ℕ × A → Bool) (zs xs : List (ℕ × A)) → list_all (λ x. holds zs x.0) xs ≡ true
+    → list_all (λ x. cond (t x.0 && holds zs x.0) (p x) true) xs ≡ list_all (λ x. cond (t x.0) (p x) true) xs
+list_all-held t p zs [] h = refl
+list_all-held t p zs (x ∷ xs) h = held_case t p zs x xs (holds zs x.0) refl h (list_all-held t p zs xs)
+  where
+    held_case : {A : Type 0} (t : ℕ → Bool) (p : ℕ × A → Bool) (zs : List (ℕ × A)) (x : ℕ × A) (xs : List (ℕ × A)) (b : Bool) → holds zs x.0 ≡ b
+        → (holds zs x.0 && list_all (λ x. holds zs x.0) xs) ≡ true
+        → (list_all (λ x. holds zs x.0) xs ≡ true → list_all (λ x. cond (t x.0 && holds zs x.0) (p x) true) xs ≡ list_all (λ x. cond (t x.0) (p x) true) xs)
+        → (cond (t x.0 && holds zs x.0) (p x) true && list_all (λ x. cond (t x.0 && holds zs x.0) (p x) true) xs)
+        ≡ (cond (t x.0) (p x) true && list_all (λ x. cond (t x.0) (p x) true) xs)
+    held_case t p zs x xs true here h below = λ i. cond ((ap (λ b. t x.0 && b) here ∙ and_true (t x.0)) i) (p x) true
+        && below (sym (ap (λ b. b && list_all (λ x. holds zs x.0) xs) here) ∙ h) i
+    held_case t p zs x xs false here h below = absurd (cc (sym (ap (λ b. b && list_all (λ x. holds zs x.0) xs) here) ∙ h))
+
+-- the place of an element is there
+pub holds-enumerate : {A : Type 0} (n : ℕ) (xs : List A) (i : ℕ) → i < length xs → holds (enumerate_from n xs) (n + i) ≡ true
+holds-enumerate n [] i h = absurd (omega arith)
+holds-enumerate n (x ∷ xs) zero h = ap (λ b. b || holds (enumerate_from (n + 1) xs) (n + 0)) (eq-eqb n (n + 0) (omega arith))
+holds-enumerate n (x ∷ xs) (suc i) h = ap (λ b. (n == n + suc i) || b) (ap (holds (enumerate_from (n + 1) xs)) number ∙ holds-enumerate (n + 1) xs i below) ∙ or_true (n == n + suc i)
+  where
+    number : n + suc i ≡ n + 1 + i
+    number = omega arith
+
+    below : i < length xs
+    below = omega arith
+
+-- ---- an element of those whose places pass
+
+-- the one at index i passes both tests
+pub any-found : {A : Type 0} (t : ℕ → Bool) (q : ℕ × A → Bool) (n : ℕ) (xs : List A) (i : ℕ) (d : A) → i < length xs
+    → t (n + i) ≡ true → q (n + i, get_or xs i d) ≡ true → list_any q (filter (λ p. t p.0) (enumerate_from n xs)) ≡ true
+any-found t q n [] i d h t_is q_is = absurd (omega arith)
+any-found t q n (x ∷ xs) zero d h t_is q_is = first_found t q n x (filter (λ p. t p.0) (enumerate_from (n + 1) xs)) (ap t number ∙ t_is) (ap (λ m. q (m, x)) number ∙ q_is)
+  where
+    number : n ≡ n + 0
+    number = omega arith
+
+    first_found : {A : Type 0} (t : ℕ → Bool) (q : ℕ × A → Bool) (n : ℕ) (x : A) (rest : List (ℕ × A)) → t n ≡ true → q (n, x) ≡ true
+        → list_any q (cond (t n) ((n, x) ∷ rest) rest) ≡ true
+    first_found t q n x rest t_is q_is = ap (λ b. list_any q (cond b ((n, x) ∷ rest) rest)) t_is ∙ ap (λ b. b || list_any q rest) q_is
+any-found t q n (x ∷ xs) (suc i) d h t_is q_is = later_found q (t n) (n, x) (filter (λ p. t p.0) (enumerate_from (n + 1) xs))
+    (any-found t q (n + 1) xs i d below (ap t number ∙ t_is) (ap (λ m. q (m, get_or xs i d)) number ∙ q_is))
+  where
+    number : n + 1 + i ≡ n + suc i
+    number = omega arith
+
+    below : i < length xs
+    below = omega arith
+
+    later_found : {A : Type 0} (q : A → Bool) (b : Bool) (x : A) (rest : List A) → list_any q rest ≡ true → list_any q (cond b (x ∷ rest) rest) ≡ true
+    later_found q true x rest h = ap (λ b. q x || b) h ∙ or_true (q x)
+    later_found q false x rest h = h
+
+one_none : {A : Type 0} (q : A → Bool) (b : Bool) (x : A) → (b && q x) ≡ false → list_any q (cond b (x ∷ []) []) ≡ false
+one_none q true x h = ap (λ a. a || false) h
+one_none q false x h = refl
+
+-- one more that doesn't pass both tests
+pub any-none_more : {A B : Type 0} (view : B → A) (t : ℕ → Bool) (q : ℕ × A → Bool) (xs : List B) (i : ℕ) (d : B) → i < length xs
+    → list_any q (filter (λ p. t p.0) (enumerate_from 1 (map view (take i xs)))) ≡ false
+    → (t (i + 1) && q (i + 1, view (get_or xs i d))) ≡ false
+    → list_any q (filter (λ p. t p.0) (enumerate_from 1 (map view (take (i + 1) xs)))) ≡ false
+any-none_more view t q xs i d below before here =
+    ap (λ ys. list_any q (filter (λ p. t p.0) (enumerate_from 1 ys))) (map_more view xs i d below)
+    ∙ ap (λ ys. list_any q (filter (λ p. t p.0) ys)) (enumerate-push 1 (map view (take i xs)) (view (get_or xs i d)) ∙ ap (λ m. enumerate_from 1 (map view (take i xs)) ++ (m, view (get_or xs i d)) ∷ []) number)
+    ∙ ap (list_any q) (filter-append (λ p. t p.0) (enumerate_from 1 (map view (take i xs))) ((i + 1, view (get_or xs i d)) ∷ []))
+    ∙ list_any-append q (filter (λ p. t p.0) (enumerate_from 1 (map view (take i xs)))) (cond (t (i + 1)) ((i + 1, view (get_or xs i d)) ∷ []) [])
+    ∙ (λ k. before k || one_none q (t (i + 1)) (i + 1, view (get_or xs i d)) here k)
+  where
+    within : i ≤ length xs
+    within = omega arith
+
+    number : 1 + length (map view (take i xs)) ≡ i + 1
+    number = omega (arith, length-map-take view xs i within)
+
+-- one of what is seen of a list passes both tests
+pub any-found_view : {A B : Type 0} (view : B → A) (t : ℕ → Bool) (q : ℕ × A → Bool) (xs : List B) (i : ℕ) (d : B) → i < length xs
+    → (t (i + 1) && q (i + 1, view (get_or xs i d))) ≡ true → list_any q (filter (λ p. t p.0) (enumerate_from 1 (map view xs))) ≡ true
+any-found_view view t q xs i d below h = any-found t q 1 (map view xs) i (view d) within
+    (ap t number ∙ and_left (t (i + 1)) (q (i + 1, view (get_or xs i d))) h)
+    (ap (λ m. q (m, get_or (map view xs) i (view d))) number ∙ ap (λ y. q (i + 1, y)) (get_or-map view xs i d)
+    ∙ and_right (t (i + 1)) (q (i + 1, view (get_or xs i d))) h)
+  where
+    within : i < length (map view xs)
+    within = omega (arith, length-map xs view)
+
+    number : 1 + i ≡ i + 1
+    number = omega arith
+
+-- what each element gives, where all places are there
+pub flat_map-held : {A B : Type 0} (t u : ℕ → Bool) (f : Bool → Bool → ℕ × A → List B) (zs xs : List (ℕ × A)) → list_all (λ p. holds zs p.0) xs ≡ true
+    → flat_map (λ p. f (t p.0 && holds zs p.0) (u p.0 && holds zs p.0) p) xs ≡ flat_map (λ p. f (t p.0) (u p.0) p) xs
+flat_map-held t u f zs [] h = refl
+flat_map-held t u f zs (x ∷ xs) h =
+    (λ i. f (here t i) (here u i) x ++ flat_map-held t u f zs xs (and_right (holds zs x.0) (list_all (λ p. holds zs p.0) xs) h) i)
+  where
+    here : (t : ℕ → Bool) → (t x.0 && holds zs x.0) ≡ t x.0
+    here t = ap (λ b. t x.0 && b) (and_left (holds zs x.0) (list_all (λ p. holds zs p.0) xs) h) ∙ and_true (t x.0)

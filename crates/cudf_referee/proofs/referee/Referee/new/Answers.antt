@@ -1,0 +1,28 @@
+use Rattle.std.proofs.Common.{◌≡◌, ◌++◌, map, ap, ◌∙◌}
+use Rattle.std.specs.FinSet as set
+use Rattle.cudf_universe.specs.Universe.{PlainRequest}
+use Rattle.cudf_universe.specs.Statuses.{is_initial, unknown_view}
+use Rattle.cudf_universe.specs.Satisfaction.{members}
+use Rattle.cudf_referee.specs.Views.{instance_view, instances_view}
+use Rattle.cudf_referee.specs.Violations.{violated_install, violated_remove, violated_upgrade, unknown_instance}
+use Rattle.cudf_referee.proofs.ListingLemmas.{listed}
+use Rattle.cudf_referee.proofs.referee.Referee.new.Goals as goal
+
+pub invariant_of-result : goal.invariant_of-result
+invariant_of-result c =
+    let problem = c.args.problem.now in
+    let was = set.contains c.in_ok-was_installed.was_installed in
+    let is = set.contains c.args.solution.now.status in
+    let was_is : was ≡ is_initial problem = λ i place. c.in_ok-was_installed.ensures.places place i in
+    let before = c.in_ok-before.before in
+    let status = c.in_ok-proposed.proposed in
+    let rules = λ (r : PlainRequest). violated_install status r ++ violated_remove status r ++ violated_upgrade before status r in (
+      c.in_ok-before.ensures ∙ ap (λ t. members t problem.packages) was_is,
+      c.in_ok-proposed.ensures,
+      listed problem was is (map unknown_view c.args.solution.now.unknown.items) before status
+          (instances_view c.new-instances.result) (instances_view c.find_packages.new.found) (instances_view c.find_request.new.found) (instances_view c.find_unknown.new.found)
+          c.in_ok-before.ensures c.in_ok-proposed.ensures (ap (map instance_view) c.new-instances.ensures.items)
+          c.in_ok-find_packages.ensures
+          (c.in_ok-find_request.ensures ∙ ap (λ r. instances_view c.find_packages.new.found ++ rules r) c.request.ensures)
+          (c.in_ok-find_unknown.ensures ∙ ap (λ us. instances_view c.find_request.new.found ++ map unknown_instance (map unknown_view us)) c.deref.ensures.value),
+    )

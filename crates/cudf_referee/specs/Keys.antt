@@ -1,0 +1,103 @@
+-- Keys of violated instances, their order and their texts: own.
+use Rattle.std.specs.Prelude.{ℕ, Bool, true, false, ◌&&◌, nat_lt, List, [], ◌++◌, codes, decimal, Option, Some, None}
+use Rattle.cudf_referee.specs.declared.key.Part.{Part}
+use Rattle.cudf_referee.specs.declared.key.Part.TheVariants.{Package, Request, Solution}
+use Rattle.cudf_referee.specs.declared.key.Rule.{Rule}
+use Rattle.cudf_referee.specs.declared.key.Rule.TheVariants.{Depends, Conflicts, Keep, Install, Remove, Upgrade, Unknown}
+use Rattle.cudf_referee.specs.declared.key.Aspect.{Aspect}
+use Rattle.cudf_referee.specs.declared.key.Aspect.TheVariants.{Unsatisfied, Many, Lower}
+
+-- a key by its parts
+pub record PlainKey : Type 0 where
+  pub part : Part
+  pub rule : Rule
+  pub place : ℕ
+  pub aspect : Option Aspect
+
+-- ---- which parts fit each other
+
+abbrev pub fits_part : Part → Rule → Bool
+fits_part (Package n) Depends = true
+fits_part (Package n) Conflicts = true
+fits_part (Package n) Keep = true
+fits_part Request Install = true
+fits_part Request Remove = true
+fits_part Request Upgrade = true
+fits_part Solution Unknown = true
+fits_part part rule = false
+
+-- upgrade alone has an aspect
+abbrev pub fits_aspect : Rule → Option Aspect → Bool
+fits_aspect Upgrade (Some aspect) = true
+fits_aspect Upgrade None = false
+fits_aspect rule None = true
+fits_aspect rule (Some aspect) = false
+
+-- a rule of packages, which has no aspect
+abbrev pub is_package_rule : Rule → Bool
+is_package_rule Depends = true
+is_package_rule Conflicts = true
+is_package_rule Keep = true
+is_package_rule rule = false
+
+-- a rule of the request, with its aspect
+abbrev pub fits_request : Rule → Option Aspect → Bool
+fits_request Install None = true
+fits_request Remove None = true
+fits_request Upgrade (Some aspect) = true
+fits_request rule aspect = false
+
+-- numbers are from 1
+abbrev pub is_counted : Part → Bool
+is_counted (Package n) = nat_lt 0 n
+is_counted part = true
+
+abbrev pub is_key : Part → Rule → ℕ → Option Aspect → Bool
+is_key part rule place aspect = fits_part part rule && is_counted part && nat_lt 0 place && fits_aspect rule aspect
+
+-- ---- order: packages by place, the request, the solution; then the rule; then the place; then the aspect
+
+abbrev pub rule_rank : Rule → ℕ
+rule_rank Depends = 1
+rule_rank Conflicts = 2
+rule_rank Keep = 3
+rule_rank Install = 4
+rule_rank Remove = 5
+rule_rank Upgrade = 6
+rule_rank Unknown = 7
+
+abbrev pub aspect_rank : Option Aspect → ℕ
+aspect_rank None = 0
+aspect_rank (Some Unsatisfied) = 1
+aspect_rank (Some Many) = 2
+aspect_rank (Some Lower) = 3
+
+-- ---- texts
+
+abbrev pub part_text : Part → List ℕ
+part_text (Package n) = codes "p" ++ decimal n
+part_text Request = codes "r"
+part_text Solution = codes "s"
+
+abbrev pub rule_text : Rule → List ℕ
+rule_text Depends = codes "depends"
+rule_text Conflicts = codes "conflicts"
+rule_text Keep = codes "keep"
+rule_text Install = codes "install"
+rule_text Remove = codes "remove"
+rule_text Upgrade = codes "upgrade"
+rule_text Unknown = codes "unknown"
+
+abbrev pub aspect_word : Aspect → List ℕ
+aspect_word Unsatisfied = codes "unsatisfied"
+aspect_word Many = codes "many"
+aspect_word Lower = codes "lower"
+
+-- an aspect with the point before it
+abbrev pub aspect_text : Option Aspect → List ℕ
+aspect_text None = []
+aspect_text (Some aspect) = codes "." ++ aspect_word aspect
+
+-- a key, as `p1.depends.2` or `r.upgrade.1.many`
+abbrev pub key_text : PlainKey → List ℕ
+key_text key = part_text key.part ++ codes "." ++ rule_text key.rule ++ codes "." ++ decimal key.place ++ aspect_text key.aspect

@@ -1,0 +1,9 @@
+pub mod Entries
+pub mod Instances
+pub mod KeyViews
+pub mod Keys
+pub mod Laws
+pub mod Proposals
+pub mod Solutions
+pub mod Views
+pub mod Violations

@@ -1,0 +1,35 @@
+-- What is judged: a universe and a request, the initial and the proposed status, and what is proposed beyond the universe.
+use Rattle.std.specs.Prelude.{ℕ, Bool, ◌==◌, List}
+use Rattle.std.specs.List.{list_any}
+use Rattle.cudf_universe.specs.Universe.{PlainPackage, PlainRequest, PlainProblem}
+use Rattle.cudf_universe.specs.Statuses.{PlainUnknown}
+use Rattle.cudf_universe.specs.Satisfaction.{Placed, members}
+
+pub record Proposal : Type 0 where
+  -- the universe, in document order
+  pub packages : List PlainPackage
+  pub request : PlainRequest
+  -- the packages that were installed, and those that are to be, each with its place
+  pub initial : List Placed
+  pub proposed : List Placed
+  -- the solution's installed stanzas whose pairs aren't in the universe
+  pub unknown : List PlainUnknown
+
+-- the status holds the package at this place
+abbrev pub holds_place : List Placed → ℕ → Bool
+holds_place status place = list_any (λ p. p.0 == place) status
+
+-- what is put forward for a problem: its statuses, and the unknown stanzas
+abbrev pub put_forward : PlainProblem → List Placed → List Placed → List PlainUnknown → Proposal
+put_forward problem initial proposed unknown = record {
+  packages = problem.packages;
+  request = problem.request;
+  initial = initial;
+  proposed = proposed;
+  unknown = unknown;
+}
+
+-- the statuses are those of a problem's packages that these tests of places pick
+abbrev pub proposal : PlainProblem → (ℕ → Bool) → (ℕ → Bool) → List PlainUnknown → Proposal
+proposal problem was_installed is_installed unknown =
+    put_forward problem (members was_installed problem.packages) (members is_installed problem.packages) unknown

@@ -1,0 +1,53 @@
+-- What a solution is, in positive words, apart from the violated instances.
+-- CUDF 2.0: consistent installations, semantics of requests. Own: keep of features, numbers of features in upgrade,
+-- unknown stanzas.
+use Rattle.std.specs.Prelude.{ℕ, Bool, true, not, ◌&&◌, ◌==◌, nat_le, List}
+use Rattle.std.specs.List.{list_all}
+use Rattle.cudf_value.specs.Vpkgs.{PlainVpkg}
+use Rattle.cudf_universe.specs.declared.package.Keep.{Keep}
+use Rattle.cudf_universe.specs.declared.package.Keep.TheVariants.{Version, Package, Feature, Nothing}
+use Rattle.cudf_universe.specs.Satisfaction.{Placed, without, numbers_of, satisfies, satisfies_clause}
+use Rattle.cudf_referee.specs.Entries.{is_empty}
+use Rattle.cudf_referee.specs.Proposals.{holds_place, Proposal}
+use Rattle.cudf_referee.specs.Violations.{has_package}
+
+-- the status satisfies each conjunct of the package's `depends`
+abbrev pub has_its_depends : List Placed → Placed → Bool
+has_its_depends status p = list_all (satisfies_clause status) p.1.depends
+
+-- the status without the package satisfies no entry of its `conflicts`
+abbrev pub has_no_conflict : List Placed → Placed → Bool
+has_no_conflict status p = list_all (λ v. not (satisfies (without p.0 status) v)) p.1.conflicts
+
+-- what is to be kept of the package is there: itself, its name at some version, or all that it provides
+abbrev pub is_kept : Bool → List Placed → Keep → Placed → Bool
+is_kept is_installed status Version p = is_installed
+is_kept is_installed status Package p = has_package status p.1.name
+is_kept is_installed status Feature p = list_all (satisfies status) p.1.provides
+is_kept is_installed status Nothing p = true
+
+-- all numbers are equal
+abbrev pub are_equal : List ℕ → Bool
+are_equal numbers = list_all (λ m. list_all (λ n. m == n) numbers) numbers
+
+-- each of the numbers is at least each of those before
+abbrev pub are_at_least : List ℕ → List ℕ → Bool
+are_at_least before numbers = list_all (λ n. list_all (λ m. nat_le m n) before) numbers
+
+-- the entry is satisfied, and its name has one number, not lower than before
+abbrev pub is_upgraded : List Placed → List Placed → PlainVpkg → Bool
+is_upgraded before status v =
+    satisfies status v
+    && are_equal (numbers_of v.name status)
+    && are_at_least (numbers_of v.name before) (numbers_of v.name status)
+
+-- the proposed status is a solution
+unfoldable pub is_solution : Proposal → Bool
+is_solution s =
+    is_empty s.unknown
+    && list_all (has_its_depends s.proposed) s.proposed
+    && list_all (has_no_conflict s.proposed) s.proposed
+    && list_all (λ p. is_kept (holds_place s.proposed p.0) s.proposed p.1.keep p) s.initial
+    && list_all (satisfies s.proposed) s.request.install
+    && list_all (λ v. not (satisfies s.proposed v)) s.request.remove
+    && list_all (is_upgraded s.initial s.proposed) s.request.upgrade

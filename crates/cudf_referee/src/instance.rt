@@ -1,0 +1,106 @@
+//! Violated instances of rules.
+use crate::key::{Aspect, Key, Part, Rule};
+use cudf_universe::{Package, Request, Unknown};
+use cudf_value::{Clause, Vpkg};
+
+/// One violated instance of a rule. Own.
+#[derive(Clone, Copy, Debug)]
+pub struct Instance<'p, 't> {
+    /// Its name.
+    pub key: Key,
+    /// The line of the stanza's first property: of the problem for packages and the request, of the solution for
+    /// unknown stanzas. From 1.
+    pub line: u64,
+    /// The name and version of the package or the unknown stanza; `None` for the request.
+    pub subject: Option<(&'t str, u64)>,
+    /// What is wrong, with the document's own conjunct or entry.
+    pub what: What<'p, 't>,
+}
+
+/// What an instance says is wrong. Own.
+#[derive(Clone, Copy, Debug)]
+pub enum What<'p, 't> {
+    /// The status doesn't satisfy this conjunct.
+    Needs(&'p Clause<'t>),
+    /// The other packages of the status satisfy this entry.
+    ConflictsWith(&'p Vpkg<'t>),
+    /// The package was to be kept at its version, and is gone.
+    KeepVersion,
+    /// The package was to be kept at some version, and is gone.
+    KeepPackage,
+    /// This feature was to be kept, and the status doesn't satisfy it.
+    KeepFeature(&'p Vpkg<'t>),
+    /// The status doesn't satisfy this entry of `install`.
+    Install(&'p Vpkg<'t>),
+    /// The status satisfies this entry of `remove`.
+    Remove(&'p Vpkg<'t>),
+    /// This entry of `upgrade` is violated in the way of the key's aspect.
+    Upgrade(&'p Vpkg<'t>),
+    /// The pair isn't in the universe.
+    Unknown,
+}
+
+impl<'p, 't> Instance<'p, 't> {
+    ghost use Rattle.std.specs.Prelude.{◌≡◌, ◌<◌, IsTrue};
+    ghost use Rattle.cudf_universe.specs.Universe.{package_view, request_view};
+    ghost use Rattle.cudf_universe.specs.Statuses.{unknown_view};
+    ghost use Rattle.cudf_referee.specs.Keys.{is_package_rule, fits_request};
+    ghost use Rattle.cudf_referee.specs.Violations.{at_package, at_request, unknown_instance};
+    ghost use Rattle.cudf_referee.specs.Views.{instance_view, what_view};
+
+    /// An instance of a package's rule, at an entry's place.
+    pub(crate) fn of_package(
+        place: u64,
+        package: &Package<'t>,
+        rule: Rule,
+        entry: u64,
+        what: What<'p, 't>,
+    ) -> Self
+        requires placed { 0 < place }
+        requires counted { 0 < entry }
+        requires fits { IsTrue (is_package_rule rule) }
+
+        ensures { instance_view result ≡ at_package (place, package_view «package».now) rule entry (what_view what.entry) }
+    {
+        Instance {
+            key: Key::new(Part::Package(place), rule, entry, None),
+            line: package.line,
+            subject: Some((package.name, package.version)),
+            what,
+        }
+    }
+
+    /// An instance of a rule of the request, at an entry's place.
+    pub(crate) fn of_request(
+        request: &Request<'t>,
+        rule: Rule,
+        entry: u64,
+        aspect: Option<Aspect>,
+        what: What<'p, 't>,
+    ) -> Self
+        requires counted { 0 < entry }
+        requires fits { IsTrue (fits_request rule aspect) }
+
+        ensures { instance_view result ≡ at_request (request_view request.now) rule entry aspect (what_view what.entry) }
+    {
+        Instance {
+            key: Key::new(Part::Request, rule, entry, aspect),
+            line: request.line,
+            subject: None,
+            what,
+        }
+    }
+
+    /// The instance of an unknown stanza.
+    pub(crate) fn of_unknown(unknown: &Unknown<'t>) -> Self
+        requires { 0 < unknown.now.stanza }
+        ensures { instance_view result ≡ unknown_instance (unknown_view unknown.now) }
+    {
+        Instance {
+            key: Key::new(Part::Solution, Rule::Unknown, unknown.stanza, None),
+            line: unknown.line,
+            subject: Some((unknown.name, unknown.version)),
+            what: What::Unknown,
+        }
+    }
+}

@@ -1,0 +1,34 @@
+//! Install: an entry that the status doesn't satisfy.
+ghost use Rattle.std.specs.Prelude.{◌≡◌, ◌++◌, OnOk};
+ghost use Rattle.cudf_universe.specs.Universe.{request_view};
+ghost use Rattle.cudf_referee.specs.Views.{instances_view};
+ghost use Rattle.cudf_referee.specs.Violations.{violated_install};
+
+use crate::found::note;
+use crate::instance::{Instance, What};
+use crate::key::Rule;
+use cudf_universe::{Index, Request};
+use std::alloc::AllocError;
+
+/// Adds the violated entries of the request's `install`.
+pub(crate) fn find_install<'p, 't>(
+    status: &Index<'p, 't>,
+    request: &'p Request<'t>,
+    found: &mut Vec<Instance<'p, 't>>,
+) -> Result<(), AllocError>
+    ensures { OnOk result (instances_view found.new
+        ≡ instances_view found.old ++ violated_install status.now (request_view request.now)) }
+{
+    for (index, vpkg) in request.install.iter().enumerate() {
+        let entry = index as u64 + 1;
+        let instance = Instance::of_request(
+            request,
+            Rule::Install,
+            entry,
+            None,
+            What::Install(vpkg),
+        );
+        note(found, !status.satisfies(vpkg), instance)?;
+    }
+    Ok(())
+}
