@@ -1,0 +1,5 @@
+pub mod AnswerLemmas
+pub mod PaperLemmas
+pub mod PrintLemmas
+pub mod UnknownLemmas
+pub mod WritingLemmas

@@ -1,0 +1,10 @@
+pub mod Answering
+pub mod Command
+pub mod Device
+pub mod DeviceInside
+pub mod Failure
+pub mod Job
+pub mod Outcome
+pub mod Report
+pub mod Running
+pub mod Writing

@@ -1,0 +1,105 @@
+//! What the program says, and its exit status, where there is no whole report. (own)
+use crate::command::{FileName, Usage};
+use crate::outcome::RunError;
+use std::io::{self, ErrorKind};
+
+/// Why the program wrote no whole report.
+#[derive(Drop)]
+pub enum Failure<'w> {
+    /// The words of the command line can't be had.
+    Words(io::Error),
+    /// The words start no run.
+    Usage(Usage),
+    /// A file can't be opened.
+    Open(FileName<'w>, io::Error),
+    /// The run was broken off.
+    Run(RunError),
+}
+
+impl Failure<'_> {
+    ghost use Rattle.std.specs.Prelude.{◌≡◌};
+    ghost use Rattle.cudf_check.specs.Failure.{failure_status};
+
+    /// The exit status: 0 for help, 4 for a usage fault, 5 for files and devices, 6 for want of
+    /// memory.
+    pub fn status(&self) -> u8
+        ensures { result ≡ failure_status self.now }
+    {
+        match self {
+            Failure::Words(_) => 4,
+            Failure::Usage(usage) => usage.status(),
+            Failure::Open(_, _) => 5,
+            Failure::Run(error) => error.status(),
+        }
+    }
+
+    /// Prints help on standard output, and anything else on standard error.
+    pub fn tell(&self, rt: &(impl Print + Eprint)) -> io::Result<()> {
+        match self {
+            Failure::Words(error) => {
+                eprintln!(rt; "cudf_check: the words can't be read: {error}; give them as UTF-8")
+            }
+            Failure::Usage(Usage::Help(text) | Usage::Mistake(text)) => text.print(rt),
+            Failure::Usage(Usage::Memory) => {
+                eprintln!(rt; "cudf_check: there is not enough memory; free some, and run again")
+            }
+            Failure::Open(FileName::Path(path), error) => {
+                eprintln!(rt;
+                    "cudf_check: {path} can't be opened: {error}; check the name, and run again"
+                )
+            }
+            Failure::Open(FileName::Standard, error) => {
+                eprintln!(rt; "cudf_check: standard input can't be opened: {error}")
+            }
+            Failure::Run(error) => eprintln!(rt; "cudf_check: {error}"),
+        }
+    }
+}
+
+impl<'w> Failure<'w> {
+    ghost use Rattle.std.specs.Prelude.{◌≡◌};
+    ghost use Rattle.std.specs.IoError.{error_kind};
+    ghost use Rattle.cudf_check.specs.Failure.{failure_status, status_by_kind};
+
+    /// The words of the command line can't be had.
+    pub fn from_words(error: io::Error) -> Failure<'w>
+        ensures { failure_status result ≡ status_by_kind (error_kind error) 4 }
+    {
+        match error.kind() {
+            ErrorKind::OutOfMemory => Failure::Run(RunError::Memory),
+            _ => Failure::Words(error),
+        }
+    }
+
+    /// The file `name` can't be opened.
+    pub fn from_open(name: FileName<'w>, error: io::Error) -> Failure<'w>
+        ensures { failure_status result ≡ status_by_kind (error_kind error) 5 }
+    {
+        match error.kind() {
+            ErrorKind::OutOfMemory => Failure::Run(RunError::Memory),
+            _ => Failure::Open(name, error),
+        }
+    }
+}
+
+impl From<Usage> for Failure<'_> {
+    ghost use Rattle.std.specs.Prelude.{◌≡◌};
+    ghost use Rattle.cudf_check.specs.declared.failure.Failure.TheVariants.{Usage as UsageFailure};
+
+    ghost from_gives = { λ usage failure. failure ≡ UsageFailure usage };
+
+    fn from(usage: Usage) -> Self {
+        Failure::Usage(usage)
+    }
+}
+
+impl From<RunError> for Failure<'_> {
+    ghost use Rattle.std.specs.Prelude.{◌≡◌};
+    ghost use Rattle.cudf_check.specs.declared.failure.Failure.TheVariants.{Run};
+
+    ghost from_gives = { λ error failure. failure ≡ Run error };
+
+    fn from(error: RunError) -> Self {
+        Failure::Run(error)
+    }
+}

@@ -1,0 +1,64 @@
+//! What a run answers, and the exit status of each answer. (own)
+ghost use Rattle.std.specs.Prelude.{◌≡◌};
+
+use thiserror::Error;
+
+/// What the report of a whole input says.
+#[derive(Clone, Copy, Debug, PartialEq, Eq)]
+pub enum Outcome {
+    /// The proposed status is a solution, or nothing is wrong with the problem.
+    Yes,
+    /// The proposed status isn't a solution.
+    No,
+    /// A document is faulty.
+    Faulty,
+    /// The solution says that there is none.
+    Fail,
+}
+
+/// Why there is no whole report.
+#[derive(Clone, Copy, Debug, PartialEq, Eq, Error)]
+pub enum RunError {
+    /// A read failed, or a reader didn't end within its turns. Nothing was written.
+    #[error("an input could not be read to its end; check that it is a file that can be read, and run again")]
+    Read,
+    /// An input has more than 268435456 bytes. Nothing was written.
+    #[error("an input is longer than 268435456 bytes; give a shorter one")]
+    TooLong,
+    /// A write failed. What was written before is the front of the report.
+    #[error("the report could not be written to its end; make room for the output, and run again")]
+    Write,
+    /// Memory ran out. Nothing was written.
+    #[error("there is not enough memory for this input; free some, and run again")]
+    Memory,
+}
+
+impl Outcome {
+    ghost use Rattle.cudf_check.specs.Outcome.{outcome_status};
+
+    /// The exit status: 0 for `Yes`, 1 for `No`, 2 for `Faulty`, 3 for `Fail`.
+    pub fn status(self) -> u8
+        ensures { result ≡ outcome_status self }
+    {
+        match self {
+            Outcome::Yes => 0,
+            Outcome::No => 1,
+            Outcome::Faulty => 2,
+            Outcome::Fail => 3,
+        }
+    }
+}
+
+impl RunError {
+    ghost use Rattle.cudf_check.specs.Outcome.{error_status};
+
+    /// The exit status: 6 for `Memory`, and else 5.
+    pub fn status(self) -> u8
+        ensures { result ≡ error_status self }
+    {
+        match self {
+            RunError::Read | RunError::TooLong | RunError::Write => 5,
+            RunError::Memory => 6,
+        }
+    }
+}

@@ -1,0 +1,27 @@
+//! The ghost number behind `Steps`. Its two functions are proved by hand, and nothing else may set it.
+ghost use Rattle.std.specs.Prelude.{◌≡◌, ℕ, ◌+◌};
+ghost use Rattle.std.specs.Borrow.{ftrue};
+
+use std::marker::Model;
+
+/// A number that only contracts see.
+#[derive(Drop)]
+pub(crate) struct Mark {
+    pub(crate) ghost total: { ℕ },
+}
+
+impl Model for Mark {
+    ghost also_owns = { λ _. ftrue };
+}
+
+impl Mark {
+    pub(crate) fn new() -> Mark
+        ensures { result.total ≡ 0 }
+    {
+        Mark {}
+    }
+
+    pub(crate) fn grow(&mut self, _by: usize)
+        ensures { self.new.total ≡ self.old.total + _by }
+    {}
+}
