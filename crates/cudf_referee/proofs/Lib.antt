@@ -1,4 +1,5 @@
 pub mod EntryLemmas
+pub mod KeyLemmas
 pub mod ListLemmas
 pub mod ListingLemmas
 pub mod NumberLemmas

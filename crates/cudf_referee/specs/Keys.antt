@@ -1,5 +1,8 @@
 -- Keys of violated instances, their order and their texts: own.
-use Rattle.std.specs.Prelude.{ℕ, Bool, true, false, ◌&&◌, nat_lt, List, [], ◌++◌, codes, decimal, Option, Some, None}
+use Rattle.std.specs.Prelude.{ℕ, Bool, true, false, ◌&&◌, nat_lt, List, [], ◌∷◌, ◌++◌, codes, decimal, Option, Some, None}
+use Rattle.std.specs.Cmp.Lexicographic.{slice_cmp}
+use Rattle.std.specs.Ordering.{nat_cmp}
+use Rattle.std.specs.declared.cmp.Ordering.{Ordering}
 use Rattle.cudf_referee.specs.declared.key.Part.{Part}
 use Rattle.cudf_referee.specs.declared.key.Part.TheVariants.{Package, Request, Solution}
 use Rattle.cudf_referee.specs.declared.key.Rule.{Rule}
@@ -55,7 +58,19 @@ is_counted part = true
 abbrev pub is_key : Part → Rule → ℕ → Option Aspect → Bool
 is_key part rule place aspect = fits_part part rule && is_counted part && nat_lt 0 place && fits_aspect rule aspect
 
--- ---- order: packages by place, the request, the solution; then the rule; then the place; then the aspect
+-- ---- order
+
+-- packages, the request, the solution
+abbrev pub part_rank : Part → ℕ
+part_rank (Package n) = 1
+part_rank Request = 2
+part_rank Solution = 3
+
+-- the place of a package
+abbrev pub part_place : Part → ℕ
+part_place (Package n) = n
+part_place Request = 0
+part_place Solution = 0
 
 abbrev pub rule_rank : Rule → ℕ
 rule_rank Depends = 1
@@ -71,6 +86,14 @@ aspect_rank None = 0
 aspect_rank (Some Unsatisfied) = 1
 aspect_rank (Some Many) = 2
 aspect_rank (Some Lower) = 3
+
+-- packages by place, the request, the solution; then the rule; then the place; then the aspect
+abbrev pub key_ranks : PlainKey → List ℕ
+key_ranks key = part_rank key.part ∷ part_place key.part ∷ rule_rank key.rule ∷ key.place ∷ aspect_rank key.aspect ∷ []
+
+-- the first of these that differ tell which key comes first
+abbrev pub key_cmp : PlainKey → PlainKey → Ordering
+key_cmp a b = slice_cmp nat_cmp (key_ranks a) (key_ranks b)
 
 -- ---- texts
 

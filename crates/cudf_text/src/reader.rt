@@ -71,7 +71,8 @@ impl<'a> Reader<'a> {
             return Ok(());
         };
         let line = first.line;
-        let properties = mem::replace(&mut self.properties, Vec::new(alloc));
+        let mut properties = mem::replace(&mut self.properties, Vec::new(alloc));
+        properties.shrink_to_fit();
         self.stanzas.push(Stanza {
             line,
             last: self.last,

@@ -73,7 +73,10 @@ fn clauses_of(alloc: Global, text: &str) -> Result<Option<Formula<'_>>, AllocErr
         }
         match behind {
             Some(more) => rest = more,
-            None => return Ok(Some(Formula { clauses })),
+            None => {
+                clauses.shrink_to_fit();
+                return Ok(Some(Formula { clauses }));
+            }
         }
     }
 }
