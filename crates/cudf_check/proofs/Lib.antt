@@ -1,4 +1,5 @@
 pub mod AnswerLemmas
+pub mod Examples
 pub mod PaperLemmas
 pub mod PrintLemmas
 pub mod UnknownLemmas
