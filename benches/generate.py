@@ -55,13 +55,13 @@ def formula(out, megabytes):
     out.add("\ninstalled: true\n\nrequest: none\n\n")
 
 
-PREAMBLE = """preamble:
-property: suite: enum[stable,unstable] = ["stable"], source: string = [""]
-property: recommends: vpkgformula = [true!],
-  replaces: vpkglist = []
-property: priority: int = [0], essential: bool = [false], architecture: string
-
-"""
+# libcudf reads this form too: a blank behind the colon, one `property` line, an enum's default without quotes.
+PREAMBLE = (
+    "preamble: \n"
+    'property: suite: enum[stable,unstable] = [stable], source: string = [""],\n'
+    "  recommends: vpkgformula = [true!], replaces: vpkglist = [],\n"
+    "  priority: int = [0], essential: bool = [false], architecture: string\n\n"
+)
 
 
 def distribution(out, packages):

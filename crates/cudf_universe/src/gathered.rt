@@ -139,8 +139,11 @@ impl<'t> Gathered<'t> {
             declarations,
             packages,
             request,
+            ids,
             ..
         } = self;
+        // The problem numbers its packages anew: their ids needn't stand twice in memory.
+        drop(ids);
         let recommends = declarations.recommends_default(alloc)?;
         Problem::new(alloc, packages, request.unwrap(), recommends)
     }
