@@ -9,7 +9,7 @@ use std::test::Fail;
 
 /// What goes into a run and what comes out of it. Without a solution the input is joined.
 #[derive(Clone, Copy)]
-struct Row {
+pub(super) struct Row {
     problem: &'static [u8],
     solution: Option<&'static [u8]>,
     report: &'static [u8],
@@ -22,7 +22,7 @@ const CHECK: Job = Job::Check {
 };
 
 /// A row of two inputs.
-const fn two(
+pub(super) const fn two(
     problem: &'static [u8],
     solution: &'static [u8],
     report: &'static [u8],
@@ -60,6 +60,16 @@ fn passes(rt: &HostRuntime, job: &Job, row: &Row) -> Result<bool, RunError>
         None => run::<_, Device<&[u8]>, _>(rt.alloc(), job, &mut problem, None, &mut out)?,
     };
     Ok(outcome == row.outcome && out.into_inner().as_slice() == row.report)
+}
+
+/// Checks each row, and says whether all pass.
+pub(super) fn passes_all(rt: &HostRuntime, rows: &[Row]) -> Result<bool, RunError> {
+    for row in rows {
+        if !passes(rt, &CHECK, row)? {
+            return Ok(false);
+        }
+    }
+    Ok(true)
 }
 
 #[test]
