@@ -1,3 +1,4 @@
+pub mod AscentLemmas
 pub mod EntryLemmas
 pub mod KeyLemmas
 pub mod ListLemmas

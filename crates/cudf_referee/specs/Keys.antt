@@ -1,7 +1,8 @@
 -- Keys of violated instances, their order and their texts: own.
 use Rattle.std.specs.Prelude.{ℕ, Bool, true, false, ◌&&◌, nat_lt, List, [], ◌∷◌, ◌++◌, codes, decimal, Option, Some, None}
 use Rattle.std.specs.Cmp.Lexicographic.{slice_cmp}
-use Rattle.std.specs.Ordering.{nat_cmp}
+use Rattle.std.specs.List.{list_all}
+use Rattle.std.specs.Ordering.{nat_cmp, is_lt}
 use Rattle.std.specs.declared.cmp.Ordering.{Ordering}
 use Rattle.cudf_referee.specs.declared.key.Part.{Part}
 use Rattle.cudf_referee.specs.declared.key.Part.TheVariants.{Package, Request, Solution}
@@ -94,6 +95,15 @@ key_ranks key = part_rank key.part ∷ part_place key.part ∷ rule_rank key.rul
 -- the first of these that differ tell which key comes first
 abbrev pub key_cmp : PlainKey → PlainKey → Ordering
 key_cmp a b = slice_cmp nat_cmp (key_ranks a) (key_ranks b)
+
+-- the key comes before each of these
+abbrev pub precedes_all : PlainKey → List PlainKey → Bool
+precedes_all key keys = list_all (λ k. is_lt (key_cmp key k)) keys
+
+-- each key comes before all later ones
+abbrev pub ascend : List PlainKey → Bool
+ascend [] = true
+ascend (key ∷ keys) = precedes_all key keys && ascend keys
 
 -- ---- texts
 
