@@ -1,5 +1,5 @@
 #!/usr/bin/env python3
-"""Compares cudf_check with a second implementation, written from the documents of docs/, on random inputs.
+"""Compares cudf_check with a second implementation, which follows docs/FORMAT.md and docs/RULES.md, on random inputs.
 
 usage: crosscheck.py PROGRAM SEED COUNT
 
