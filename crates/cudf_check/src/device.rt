@@ -5,7 +5,7 @@ ghost use Rattle.std.specs.IoError.{error_kind};
 ghost use Rattle.std.specs.Io.KnownBytes.{ReadConsumes, WriteAppends};
 ghost use Rattle.cudf_check.specs.Device.{failed_reads, ended_reads, bytes_given, failed_writes};
 
-use crate::steps::Steps;
+use cudf_universe::Steps;
 use std::io::{self, ErrorKind, Read, Write};
 
 /// Why a call of a device gave or took no byte.

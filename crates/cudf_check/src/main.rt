@@ -17,7 +17,6 @@ mod printing;
 mod reading;
 mod reporting;
 mod running;
-mod steps;
 #[cfg(test)]
 mod tests;
 mod writing;

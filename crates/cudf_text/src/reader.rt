@@ -10,6 +10,9 @@ use std::alloc::{AllocError, Global};
 use std::borrow::CowStr;
 use std::mem;
 
+/// The most properties that a stanza gets room for before they are read.
+const ROOM: usize = 64;
+
 /// What was read of a text so far.
 #[derive(Drop)]
 pub(crate) struct Reader<'a> {
@@ -71,7 +74,9 @@ impl<'a> Reader<'a> {
             return Ok(());
         };
         let line = first.line;
-        let mut properties = mem::replace(&mut self.properties, Vec::new(alloc));
+        // Stanzas are often alike: the next one gets room for as many properties at once.
+        let room = self.properties.len().min(ROOM);
+        let mut properties = mem::replace(&mut self.properties, Vec::with_capacity(alloc, room)?);
         properties.shrink_to_fit();
         self.stanzas.push(Stanza {
             line,

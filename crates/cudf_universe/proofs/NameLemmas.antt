@@ -1,14 +1,15 @@
 -- Names of properties, and what the first property of a name says.
-use Rattle.std.proofs.Common.{◌≡◌, ℕ, Bool, true, false, ◌||◌, List, [], ◌∷◌, ◌++◌, Option, None, Some, is_some, find, refl, sym, ap, ◌∙◌, if◌then◌else◌, option_and_then, bytes_eq}
+use Rattle.std.proofs.Common.{◌≡◌, ℕ, Bool, true, false, ◌||◌, List, [], ◌∷◌, ◌++◌, map, Bor, Option, None, Some, is_some, find, refl, sym, ap, ◌∙◌, if◌then◌else◌, option_and_then, bytes_eq}
 use Rattle.std.proofs.lemmas.Bool.{true≢false}
 use Rattle.std.proofs.lemmas.Slice.Eq.{bytes_eq-Decides}
+use Rattle.std.proofs.lemmas.List.{append_assoc, map_push}
 use Rattle.std.proofs.lemmas.List.Folds.{list_any-append, find-append}
 use Rattle.std.specs.List.{list_any}
 use Rattle.std.specs.Option.{option_or}
 use Rattle.indexmap.specs.IndexSet.{insert_key}
 use Rattle.cudf_text.specs.Stanzas.{PlainProperty}
 use Rattle.cudf_universe.specs.Documents.{has_name, same_name, value_of}
-use Rattle.cudf_universe.proofs.ListLemmas.{or_false, is_some-find, find_none, list_any-insert_key}
+use Rattle.cudf_universe.proofs.ListLemmas.{or_false, is_some-find, find_none, list_any-map, list_any-insert_key}
 
 -- ---- equal names
 
@@ -93,3 +94,40 @@ value_next {A} read name ps p new = by (bytes_eq p.name name) refl
     by : (b : Bool) → bytes_eq p.name name ≡ b → value_of read name (ps ++ p ∷ []) ≡ (if b then read p.value.bytes else value_of read name ps)
     by true same = value_of-new read name ps p same new
     by false other = value_of-other read name ps p other
+
+-- ---- the names of a set, the first of them in a list
+
+-- a name is among them where it is among the first or among the others
+any_kept : (name : List ℕ) (few more : List (Bor (List ℕ))) → list_any (bytes_eq name) (map (λ n. n.now) (few ++ more))
+    ≡ (list_any (λ n. bytes_eq name n.now) few || list_any (λ n. bytes_eq name n.now) more)
+any_kept name few more = list_any-map (λ n. n.now) (bytes_eq name) (few ++ more) ∙ list_any-append (λ n. bytes_eq name n.now) few more
+
+-- a name of the first is one of all
+pub any_few : (name : List ℕ) (few more : List (Bor (List ℕ))) → list_any (λ n. bytes_eq name n.now) few ≡ true
+    → list_any (bytes_eq name) (map (λ n. n.now) (few ++ more)) ≡ true
+any_few name few more known = any_kept name few more ∙ ap (λ b. b || list_any (λ n. bytes_eq name n.now) more) known
+
+-- any other name is one of all where it is among the others
+pub any_more : (name : List ℕ) (few more : List (Bor (List ℕ))) → list_any (λ n. bytes_eq name n.now) few ≡ false
+    → list_any (bytes_eq name) (map (λ n. n.now) (few ++ more)) ≡ list_any (λ n. bytes_eq name n.now) more
+any_more name few more unknown = any_kept name few more ∙ ap (λ b. b || list_any (λ n. bytes_eq name n.now) more) unknown
+
+pub insert_known : (names : List (List ℕ)) (name : List ℕ) → list_any (bytes_eq name) names ≡ true → names ≡ insert_key bytes_eq names name
+insert_known names name known = ap (λ b. if b then names else names ++ name ∷ []) (sym known)
+
+-- a new name goes among the others
+pub insert_more : (few more : List (Bor (List ℕ))) (name : Bor (List ℕ)) → list_any (λ n. bytes_eq name.now n.now) few ≡ false
+    → map (λ n. n.now) (few ++ insert_key (λ x y. bytes_eq x.now y.now) more name) ≡ insert_key bytes_eq (map (λ n. n.now) (few ++ more)) name.now
+insert_more few more name unknown =
+    by (list_any (λ n. bytes_eq name.now n.now) more)
+    ∙ ap (λ b. if b then map (λ n. n.now) (few ++ more) else map (λ n. n.now) (few ++ more) ++ name.now ∷ []) (sym (any_more name.now few more unknown))
+  where
+    by : (b : Bool) → map (λ n. n.now) (few ++ (if b then more else more ++ name ∷ []))
+        ≡ (if b then map (λ n. n.now) (few ++ more) else map (λ n. n.now) (few ++ more) ++ name.now ∷ [])
+    by true = refl
+    by false = ap (map (λ n. n.now)) (sym (append_assoc few more (name ∷ []))) ∙ map_push (λ n. n.now) (few ++ more) name
+
+-- or behind the first, where there are no others
+pub insert_few : (few : List (Bor (List ℕ))) (name : Bor (List ℕ)) → list_any (λ n. bytes_eq name.now n.now) few ≡ false
+    → map (λ n. n.now) ((few ++ name ∷ []) ++ []) ≡ insert_key bytes_eq (map (λ n. n.now) (few ++ [])) name.now
+insert_few few name unknown = ap (map (λ n. n.now)) (append_assoc few (name ∷ []) []) ∙ insert_more few [] name unknown

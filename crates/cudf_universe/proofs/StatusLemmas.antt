@@ -1,8 +1,8 @@
 -- Statuses hold places of the universe alone, and unknown stanzas ascend and lie outside it.
-use Rattle.std.proofs.Common.{◌≡◌, ℕ, ◌+◌, ◌-◌, ◌<◌, ◌≤◌, ◌==◌, nat_lt, Bool, true, false, not, ◌&&◌, List, [], ◌∷◌, map, length, slice_get, Option, None, Some, filter_map, refl, sym, ap, ◌∙◌, arith, if◌then◌else◌, option_and_then}
+use Rattle.std.proofs.Common.{◌≡◌, ℕ, ◌+◌, ◌-◌, ◌<◌, ◌≤◌, ◌==◌, Bool, true, false, ◌&&◌, List, [], ◌∷◌, map, length, slice_get, Option, None, Some, filter_map, refl, arith, if◌then◌else◌, option_and_then}
 use Rattle.std.proofs.lemmas.Bool.{eqb-false, lt-ltb, not_from_false}
 use Rattle.std.proofs.lemmas.Option.{slice_get_within}
-use Rattle.std.specs.List.{enumerate_from, list_all, cons_option}
+use Rattle.std.specs.List.{enumerate_from, cons_option}
 use Rattle.std.specs.Option.{option_map_or}
 use Rattle.cudf_text.specs.Stanzas.{PlainStanza}
 use Rattle.cudf_universe.specs.Ids.{Id, is_among}

@@ -21,6 +21,7 @@ mod reading;
 mod request;
 mod solution;
 mod status;
+mod steps;
 #[cfg(test)]
 mod tests;
 mod values;
@@ -34,3 +35,4 @@ pub use reading::read_problem;
 pub use request::Request;
 pub use solution::{Solution, Unknown, read_solution};
 pub use status::{Status, initial};
+pub use steps::Steps;

@@ -7,21 +7,23 @@ use indexmap::IndexSet;
 use std::alloc::{AllocError, Global};
 use std::marker::Model;
 
-/// Above this many names a set is let go and not cleared, since clearing takes time by its room.
-const FEW: usize = 32;
+/// Few names are looked through one by one, which is faster than a set.
+const FEW: usize = 24;
 
 /// The names that were seen, each once.
 #[derive(Drop)]
 pub(crate) struct Names<'t> {
-    seen: IndexSet<&'t str>,
+    few: Vec<&'t str>,
+    /// Those behind the few.
+    more: IndexSet<&'t str>,
 }
 
 impl<'t> Model for Names<'t> {
-    ghost use Rattle.std.specs.Prelude.{List, ℕ, map};
+    ghost use Rattle.std.specs.Prelude.{List, ℕ, map, ◌++◌};
 
     ghost Value = { List (List ℕ) };
 
-    ghost view = { λ n. map (λ name. name.now) n.seen.keys };
+    ghost view = { λ n. map (λ name. name.now) (n.few.items ++ n.more.keys) };
 }
 
 impl<'t> Names<'t> {
@@ -29,18 +31,19 @@ impl<'t> Names<'t> {
         ensures { result ≡ [] }
     {
         Names {
-            seen: IndexSet::new(alloc),
+            few: Vec::new(alloc),
+            more: IndexSet::new(alloc),
         }
     }
 
-    /// Forgets all names.
+    /// Forgets all names. A set is let go and not cleared, since clearing takes time by its room.
     pub(crate) fn clear(&mut self, alloc: Global)
         ensures { self.new ≡ [] }
     {
-        if self.seen.len() > FEW {
-            *self = Names::new(alloc);
+        if self.more.is_empty() {
+            self.few.clear();
         } else {
-            self.seen.clear();
+            *self = Names::new(alloc);
         }
     }
 
@@ -50,6 +53,20 @@ impl<'t> Names<'t> {
             is_new ≡ not (list_any (bytes_eq name.now) self.old)) }
         ensures names { OnOk result (self.new ≡ insert_key bytes_eq self.old name.now) }
     {
-        Ok(self.seen.insert(name)?)
+        if is_among(name, &self.few) {
+            return Ok(false);
+        }
+        if self.few.len() < FEW && self.more.is_empty() {
+            self.few.push(name)?;
+            return Ok(true);
+        }
+        Ok(self.more.insert(name)?)
     }
+}
+
+/// Whether the name is one of these.
+fn is_among(name: &str, names: &[&str]) -> bool
+    ensures { result ≡ list_any (λ seen. bytes_eq name.now seen.now) names.now }
+{
+    names.iter().any(|seen| name == *seen)
 }

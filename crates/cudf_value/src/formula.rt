@@ -5,7 +5,7 @@ ghost use Rattle.cudf_value.specs.Chars.{trim};
 ghost use Rattle.cudf_value.specs.Parts.{read_parts};
 ghost use Rattle.cudf_value.specs.Formulas.{atom_view, clause_view, formula_view, atom_part, clause, formula};
 
-use crate::text::{cut, trimmed};
+use crate::text::{cut, room_for, trimmed};
 use crate::vpkg::{Vpkg, vpkg_of};
 use std::alloc::{AllocError, Global};
 
@@ -63,7 +63,7 @@ pub(crate) fn formula_of(alloc: Global, text: &str) -> Result<Option<Formula<'_>
 fn clauses_of(alloc: Global, text: &str) -> Result<Option<Formula<'_>>, AllocError>
     ensures { IfOk result (λ r. option_map formula_view r ≡ read_parts (byte ",") clause text.now) }
 {
-    let mut clauses = Vec::with_capacity(alloc, 1)?;
+    let mut clauses = Vec::with_capacity(alloc, room_for(text))?;
     let mut rest = text;
     loop {
         let (part, behind) = cut(rest, b',');

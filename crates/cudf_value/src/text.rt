@@ -6,6 +6,12 @@ ghost use Rattle.cudf_value.specs.Parts.{parts, parts_behind};
 
 use crate::class::Class;
 
+/// The most parts that get room before they are read.
+const ROOM: usize = 64;
+
+/// How many bytes a part usually has.
+const USUAL_LEN: usize = 16;
+
 /// The text without blanks at either end.
 pub(crate) fn trimmed(text: &str) -> &str
     ensures { result.now ≡ trim text.now }
@@ -74,6 +80,13 @@ pub(crate) fn cut(text: &str, separator: u8) -> (&str, Option<&str>)
         Some(n) => (before(text, n), Some(after(text, n + 1))),
         None => (text, None),
     }
+}
+
+/// How many parts get room before they are read: about as many as are usual in a text so long.
+pub(crate) fn room_for(text: &str) -> usize
+    ensures { result ≤ 64 }
+{
+    1 + (text.len() / USUAL_LEN).min(ROOM - 1)
 }
 
 /// Where the byte first stands.

@@ -6,7 +6,7 @@ ghost use Rattle.cudf_value.specs.Parts.{read_parts, comma_list};
 ghost use Rattle.cudf_value.specs.Vpkgs.{vpkg_view};
 ghost use Rattle.cudf_value.specs.Formulas.{vpkg_part, vpkglist, veqpkglist};
 
-use crate::text::{cut, trimmed};
+use crate::text::{cut, room_for, trimmed};
 use crate::vpkg::{Vpkg, veqpkg_of, vpkg_of};
 use std::alloc::{AllocError, Global};
 
@@ -64,7 +64,7 @@ fn list_of(alloc: Global, text: &str, exact: bool) -> Result<Option<Vec<Vpkg<'_>
 fn entries_of(alloc: Global, text: &str, exact: bool) -> Result<Option<Vec<Vpkg<'_>>>, AllocError>
     ensures { IfOk result (λ r. option_map (λ v. map vpkg_view v.items) r ≡ read_parts (byte ",") (vpkg_part exact) text.now) }
 {
-    let mut vpkgs = Vec::with_capacity(alloc, 1)?;
+    let mut vpkgs = Vec::with_capacity(alloc, room_for(text))?;
     let mut rest = text;
     loop {
         let (part, behind) = cut(rest, b',');
@@ -74,7 +74,10 @@ fn entries_of(alloc: Global, text: &str, exact: bool) -> Result<Option<Vec<Vpkg<
         }
         match behind {
             Some(more) => rest = more,
-            None => return Ok(Some(vpkgs)),
+            None => {
+                vpkgs.shrink_to_fit();
+                return Ok(Some(vpkgs));
+            }
         }
     }
 }

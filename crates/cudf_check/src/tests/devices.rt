@@ -2,7 +2,7 @@
 ghost use Rattle.std.specs.Prelude.{None};
 
 use crate::device::{Sink, Source, Trouble};
-use crate::steps::Steps;
+use cudf_universe::Steps;
 
 /// An interruption that never ends.
 pub(super) const FOREVER: u32 = u32::MAX;

@@ -10,11 +10,11 @@ use denote.Shadow.{pure_i}
 use denote.Steps.{nothing}
 use denote.Triple.Entry.{on_entry}
 use denote.Triple.Walked.{says, ends_at}
-use Rattle.cudf_check.specs.declared.steps.mark.Mark.{Mark}
-use Rattle.cudf_check.specs.contracts.steps.mark.Mark as T
-use Rattle.cudf_check.specs.contracts.steps.mark.Mark.new as f
-use Rattle.cudf_check.proofs.steps.mark.Mark.new.Statement.{statement}
-use Rattle.cudf_check.proofs.steps.mark.Mark.new.Code as code
+use Rattle.cudf_universe.specs.declared.steps.mark.Mark.{Mark}
+use Rattle.cudf_universe.specs.contracts.steps.mark.Mark as T
+use Rattle.cudf_universe.specs.contracts.steps.mark.Mark.new as f
+use Rattle.cudf_universe.proofs.steps.mark.Mark.new.Statement.{statement}
+use Rattle.cudf_universe.proofs.steps.mark.Mark.new.Code as code
 
 abbrev at_run_time : Val
 at_run_time = vstruct vnil

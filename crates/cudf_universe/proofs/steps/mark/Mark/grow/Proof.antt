@@ -15,10 +15,10 @@ use denote.Ref.{MutRef, mut_vals, mut_Tells}
 use denote.Signature.{plain}
 use denote.Steps.{nothing, opens, closes}
 use denote.Triple.Walked.{says, Stays, walk_of, stay_ref, Goes-ref, stay_dropped, Goes-dropped, ends_at}
-use Rattle.cudf_check.specs.contracts.steps.mark.Mark.{the_row as T}
-use Rattle.cudf_check.specs.contracts.steps.mark.Mark.grow as f
-use Rattle.cudf_check.proofs.steps.mark.Mark.grow.Statement.{statement}
-use Rattle.cudf_check.proofs.steps.mark.Mark.grow.Code as code
+use Rattle.cudf_universe.specs.contracts.steps.mark.Mark.{the_row as T}
+use Rattle.cudf_universe.specs.contracts.steps.mark.Mark.grow as f
+use Rattle.cudf_universe.proofs.steps.mark.Mark.grow.Statement.{statement}
+use Rattle.cudf_universe.proofs.steps.mark.Mark.grow.Code as code
 
 abbrev stayed : Stays f.ended.signature.params f.ended.kept
 stayed = (stay_ref (0 ∷ []) tt (plain (λ _. T)), (stay_dropped _ yes, tt))
