@@ -1,7 +1,7 @@
 //! What the words of the command line ask for. (own)
-ghost use Rattle.std.specs.Prelude.{IfOk, MatchOption, IsNone, IsSomeAnd, codes};
+ghost use Rattle.std.specs.Prelude.{◌≡◌, false, IfOk, MatchOption, IsNone, IsSomeAnd, codes};
 ghost use Rattle.clap.specs.Matches.{first_value, found_of};
-ghost use Rattle.cudf_check.specs.Command.{IsNamedBy};
+ghost use Rattle.cudf_check.specs.Command.{IsNamedBy, takes_standard_twice};
 ghost use Rattle.cudf_check.specs.Job.{IsWholeListing};
 
 use crate::job::Job;
@@ -38,8 +38,13 @@ pub struct Order<'w> {
 }
 
 impl Order<'_> {
+    ghost use Rattle.std.specs.Prelude.{◌≡◌};
+    ghost use Rattle.cudf_check.specs.Command.{takes_standard_twice};
+
     /// Whether both files are standard input.
-    fn takes_standard_twice(&self) -> bool {
+    fn takes_standard_twice(&self) -> bool
+        ensures { result ≡ takes_standard_twice self.now }
+    {
         self.problem == FileName::Standard && self.solution == Some(FileName::Standard)
     }
 }
@@ -100,7 +105,8 @@ impl From<AllocError> for Usage {
 
 /// The run that the words ask for. The first word is the program's name.
 pub fn command<'w>(alloc: Global, words: &'w [String]) -> Result<Order<'w>, Usage>
-    ensures { IfOk result (λ order. IsWholeListing order.job) }
+    ensures job { IfOk result (λ order. IsWholeListing order.job) }
+    ensures standard { IfOk result (λ order. takes_standard_twice order ≡ false) }
 {
     let mut program = program(alloc)?;
     let matches = program.try_get_matches_from_mut(words)?;

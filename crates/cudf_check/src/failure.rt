@@ -59,11 +59,11 @@ impl Failure<'_> {
 impl<'w> Failure<'w> {
     ghost use Rattle.std.specs.Prelude.{◌≡◌};
     ghost use Rattle.std.specs.IoError.{error_kind};
-    ghost use Rattle.cudf_check.specs.Failure.{failure_status, status_by_kind};
+    ghost use Rattle.cudf_check.specs.Failure.{words_failure, open_failure};
 
     /// The words of the command line can't be had.
     pub fn from_words(error: io::Error) -> Failure<'w>
-        ensures { failure_status result ≡ status_by_kind (error_kind error) 4 }
+        ensures { result ≡ words_failure (error_kind error) error }
     {
         match error.kind() {
             ErrorKind::OutOfMemory => Failure::Run(RunError::Memory),
@@ -73,7 +73,7 @@ impl<'w> Failure<'w> {
 
     /// The file `name` can't be opened.
     pub fn from_open(name: FileName<'w>, error: io::Error) -> Failure<'w>
-        ensures { failure_status result ≡ status_by_kind (error_kind error) 5 }
+        ensures { result ≡ open_failure (error_kind error) name.entry error }
     {
         match error.kind() {
             ErrorKind::OutOfMemory => Failure::Run(RunError::Memory),
