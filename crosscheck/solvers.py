@@ -4,8 +4,9 @@
 usage: solvers.py PROGRAM SEED COUNT
 
 Each problem is answered by mccs and by aspcud, as far as they are installed (Debian has both), and each answer is
-judged by `PROGRAM check`. It is expected that an answer is `solution yes`, and that all solvers answer FAIL or none
-does. Whatever else comes is printed with its problem. Python's standard library alone.
+judged by `PROGRAM check`. It is expected that an answer is `solution yes` or FAIL; any other is printed with its
+problem. Counted alone are a solver that breaks off, and FAIL where the other solver has an answer. Python's standard
+library alone.
 """
 import collections
 import os
@@ -17,16 +18,18 @@ import tempfile
 
 NAMES = ["car", "wheel", "door", "engine", "glass", "tyre"]
 FEATURES = ["drive", "light"]
-# `feature` isn't among them: mccs asks that the package's own name stays too, where aspcud and the program don't.
-KEEPS = ["version", "package", "none"]
+OPERATORS = ["=", "!=", ">=", ">", "<=", "<"]
+# Where solvers read in ways of their own (see README.md), a problem is plain: each provision has a version and isn't a
+# package's name, and nothing stands under `keep: feature`.
+KEEPS = ["version", "package", "none", "feature"]
 SOLVERS = {
     "mccs": lambda problem, answer: ["mccs", "-i", problem, "-o", answer, "-lexicographic[-removed,-changed]"],
     "aspcud": lambda problem, answer: ["aspcud", problem, answer, "-removed,-changed"],
 }
 
 
-def bound(dice, operators=("=", "!=", ">=", ">", "<=", "<")):
-    return f" {dice.choice(operators)} {dice.randint(1, 4)}" if dice.random() < 0.4 else ""
+def bound(dice):
+    return f" {dice.choice(OPERATORS)} {dice.randint(1, 4)}" if dice.random() < 0.4 else ""
 
 
 def entry(dice):
@@ -37,46 +40,48 @@ def entries(dice, most, separator=", "):
     return separator.join(entry(dice) for _ in range(dice.randint(1, most)))
 
 
-def package(dice, name, version):
+def package(dice, name, version, is_plain):
     lines = [f"package: {name}", f"version: {version}"]
     if dice.random() < 0.5:
         lines.append("depends: " + ", ".join(entries(dice, 2, " | ") for _ in range(dice.randint(1, 2))))
     if dice.random() < 0.3:
         lines.append("conflicts: " + (name if dice.random() < 0.5 else entries(dice, 2)))
     if dice.random() < 0.3:
-        lines.append("provides: " + dice.choice(FEATURES) + bound(dice, ("=",)))
+        version = f" = {dice.randint(1, 4)}" if is_plain or dice.random() < 0.5 else ""
+        lines.append("provides: " + dice.choice(FEATURES if is_plain else FEATURES + NAMES[:1]) + version)
     if dice.random() < 0.4:
         lines.append("installed: true")
         if dice.random() < 0.3:
-            lines.append("keep: " + dice.choice(KEEPS))
+            lines.append("keep: " + dice.choice(KEEPS[:3] if is_plain else KEEPS))
     return "\n".join(lines) + "\n"
 
 
-def problem(dice):
+def problem(dice, is_plain):
+    """Returns a random problem. One that isn't plain asks for no upgrade of features."""
     stanzas = []
     for name in NAMES:
-        stanzas += [package(dice, name, version) for version in dice.sample(range(1, 5), dice.randint(1, 3))]
+        stanzas += [package(dice, name, version, is_plain) for version in dice.sample(range(1, 5), dice.randint(1, 3))]
     request = ["request: random"]
     for wish in ("install", "remove", "upgrade"):
         if dice.random() < 0.4:
-            request.append(f"{wish}: {entry(dice)}")
+            is_name = wish == "upgrade" and not is_plain
+            request.append(f"{wish}: " + (dice.choice(NAMES[1:]) + bound(dice) if is_name else entry(dice)))
     return "\n".join(stanzas + ["\n".join(request) + "\n"])
 
 
 def answers(program, solvers, text, room):
-    """Returns each solver's answer as the program judges it: the last line that it prints, and all of them."""
+    """Returns for each solver that ended well the verdict, the program's whole report and the answer."""
     place = os.path.join(room, "problem")
     with open(place, "w") as out:
         out.write(text)
     judged = {}
     for name in solvers:
         answer = os.path.join(room, name)
-        with open(answer, "w"):
-            pass
-        subprocess.run(SOLVERS[name](place, answer), stdout=subprocess.DEVNULL, stderr=subprocess.DEVNULL)
+        if subprocess.run(SOLVERS[name](place, answer), stdout=subprocess.DEVNULL, stderr=subprocess.DEVNULL).returncode:
+            continue
         ran = subprocess.run([program, "check", place, answer], stdout=subprocess.PIPE, text=True)
         with open(answer) as it:
-            judged[name] = ran.stdout.splitlines()[-1:], ran.stdout, it.read()
+            judged[name] = ran.stdout.rpartition("\n")[0].rpartition("\n")[2], ran.stdout, it.read()
     return judged
 
 
@@ -87,12 +92,13 @@ def main(program, seed, count):
     dice, told, odd = random.Random(int(seed)), collections.Counter(), 0
     with tempfile.TemporaryDirectory() as room:
         for _ in range(int(count)):
-            text = problem(dice)
+            text = problem(dice, True)
             judged = answers(program, solvers, text, room)
-            for name, (line, _, _) in judged.items():
-                told[name, *line] += 1
-            lines = {tuple(line) for line, _, _ in judged.values()}
-            if lines not in ({("solution yes",)}, {("solution FAIL",)}):
+            for name in solvers:
+                told[name, judged[name][0] if name in judged else "broken off"] += 1
+            verdicts = {verdict for verdict, _, _ in judged.values()}
+            told["FAIL beside an answer", ""] += verdicts == {"solution yes", "solution FAIL"}
+            if verdicts - {"solution yes", "solution FAIL"}:
                 odd += 1
                 print(text)
                 for name, (_, report, answer) in judged.items():
