@@ -29,7 +29,9 @@ SOLVERS = {
 
 
 def bound(dice):
-    return f" {dice.choice(OPERATORS)} {dice.randint(1, 4)}" if dice.random() < 0.4 else ""
+    """Returns an operator and a number, or nothing. Not `< 1`, which mccs and libcudf read in a way of their own."""
+    operator = dice.choice(OPERATORS)
+    return f" {operator} {dice.randint(2 if operator == '<' else 1, 4)}" if dice.random() < 0.4 else ""
 
 
 def entry(dice):
