@@ -8,6 +8,7 @@ usage: generate.py small MEGABYTES            a joined input of small stanzas, i
        generate.py long-names PACKAGES        a problem whose names share a prefix of 200 letters
        generate.py properties COUNT           a problem with COUNT properties declared, and set in one package
        generate.py continuations COUNT        a problem with one value of COUNT continuations
+       generate.py absent PACKAGES            a solution to a distribution, of as many packages, none installed
 
 The same words give the same bytes. Python's standard library alone.
 """
@@ -110,6 +111,11 @@ def continuations(out, count):
     out.add("\n\nrequest: none\n")
 
 
+def absent(out, packages):
+    for number in range(1, packages + 1):
+        out.add(f"package: lib-{number}\nversion: {number % 9 + 1}\ninstalled: false\n\n")
+
+
 KINDS = {
     "small": small,
     "formula": formula,
@@ -118,6 +124,7 @@ KINDS = {
     "long-names": long_names,
     "properties": properties,
     "continuations": continuations,
+    "absent": absent,
 }
 
 
