@@ -105,7 +105,11 @@ unread_case : (whose bytes : List ℕ) (report : PlainText → Report) (f : Faul
 unread_case whose bytes report f true is not_utf8 same = absurd (not_utf8 (IsUtf8-from_is_utf8 bytes is))
 unread_case whose bytes report f false is not_utf8 same = ap (faulty whose) same ∙ ap (λ b. if b then report (plain_text bytes) else faulty whose (utf8_fault bytes)) (sym is)
 
--- the fault of bytes that are not UTF-8
+-- bytes that are not UTF-8, and their fault
+pub bytes_not_utf8 : (whose bytes : List ℕ) (report : PlainText → Report) (f : Fault) → (IsUtf8 bytes → ⊥) → f ≡ utf8_fault bytes → faulty whose f ≡ of_bytes whose bytes report
+bytes_not_utf8 whose bytes report f not_utf8 same = unread_case whose bytes report f (is_utf8 bytes) refl not_utf8 same
+
+-- the fault of bytes that are not UTF-8, where they are read whole
 pub bytes_unread : (whose bytes : List ℕ) (report : PlainText → Report) (f : Fault) (e : TextError) → e ≡ text_error.Fault f
     → (IsUtf8 bytes → e ≡ text_error.Memory alloc_error) → (¬ (IsUtf8 bytes) → unread_error e ≡ unread_error (text_error.Fault (utf8_fault bytes)))
     → faulty whose f ≡ of_bytes whose bytes report

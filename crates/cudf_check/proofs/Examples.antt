@@ -10,9 +10,9 @@ use Rattle.cudf_value.specs.Words.{truth, is_pkgname}
 use Rattle.cudf_value.specs.Numbers.{positive, natural}
 use Rattle.cudf_value.specs.Vpkgs.{vpkg, veqpkg}
 use Rattle.cudf_value.specs.Formulas.{formula, vpkglist, veqpkglist}
-use Rattle.cudf_universe.specs.ProblemFaults.{problem_faults}
-use Rattle.cudf_universe.specs.SolutionFaults.{solution_faults}
-use Rattle.cudf_universe.specs.Universe.{plain_problem}
+use Rattle.cudf_document.specs.ProblemFaults.{problem_faults}
+use Rattle.cudf_document.specs.SolutionFaults.{solution_faults}
+use Rattle.cudf_document.specs.Universe.{plain_problem}
 use Rattle.cudf_referee.specs.Violations.{listing}
 use Rattle.cudf_referee.specs.Solutions.{is_solution}
 use Rattle.cudf_check.specs.declared.job.Job.TheVariants.{Check}

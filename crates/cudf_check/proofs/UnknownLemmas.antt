@@ -2,9 +2,9 @@
 use Rattle.std.proofs.Common.{ℕ, zero, suc, ◌+◌, ◌<◌, Bool, true, false, cond, List, [], ◌∷◌, All, Option, Some, None, option_and_then, arith}
 use Rattle.std.specs.List.{filter_map, cons_option, enumerate_from}
 use Rattle.cudf_text.specs.Stanzas.{PlainStanza}
-use Rattle.cudf_universe.specs.Universe.{PlainProblem}
-use Rattle.cudf_universe.specs.Statuses.{PlainUnknown, unknown_with, unknown_of, installed_id, unknown_stanzas}
-use Rattle.cudf_universe.specs.Ids.{Id, is_among}
+use Rattle.cudf_document.specs.Universe.{PlainProblem}
+use Rattle.cudf_document.specs.Statuses.{PlainUnknown, unknown_with, unknown_of, installed_id, unknown_stanzas}
+use Rattle.cudf_document.specs.Ids.{Id, is_among}
 
 all_cons : (P : PlainUnknown → Type 0) (x : PlainUnknown) (xs : List PlainUnknown) → P x → All P xs → All P (x ∷ xs)
 all_cons P x xs here rest zero d below = here

@@ -9,11 +9,11 @@ use Rattle.cudf_text.specs.Views.{utf8_fault}
 use Rattle.cudf_text.specs.Joined.{problem_part, solution_part, is_fail}
 use Rattle.cudf_value.specs.Vpkgs.{PlainVpkg}
 use Rattle.cudf_value.specs.Printing.{vpkg_text, clause_text}
-use Rattle.cudf_universe.specs.Faults.{least}
-use Rattle.cudf_universe.specs.ProblemFaults.{problem_faults}
-use Rattle.cudf_universe.specs.SolutionFaults.{solution_faults}
-use Rattle.cudf_universe.specs.Universe.{PlainPackage, PlainProblem, plain_problem}
-use Rattle.cudf_universe.specs.Statuses.{is_initial, is_proposed, unknown_stanzas}
+use Rattle.cudf_document.specs.Faults.{least}
+use Rattle.cudf_document.specs.ProblemFaults.{problem_faults}
+use Rattle.cudf_document.specs.SolutionFaults.{solution_faults}
+use Rattle.cudf_document.specs.Universe.{PlainPackage, PlainProblem, plain_problem}
+use Rattle.cudf_document.specs.Statuses.{is_initial, is_proposed, unknown_stanzas}
 use Rattle.cudf_universe.specs.Satisfaction.{Pair}
 use Rattle.cudf_referee.specs.declared.key.Aspect.{Aspect}
 use Rattle.cudf_referee.specs.declared.key.Aspect.TheVariants.{Unsatisfied, Many, Lower}

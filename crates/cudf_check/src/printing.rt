@@ -4,7 +4,7 @@ ghost use Rattle.std.specs.List.{flat_map};
 ghost use Rattle.cudf_value.specs.Vpkgs.{vpkg_view};
 ghost use Rattle.cudf_value.specs.Formulas.{atom_view, clause_view};
 ghost use Rattle.cudf_value.specs.Printing.{vpkg_text, atom_text, clause_text};
-ghost use Rattle.cudf_universe.specs.Universe.{package_view};
+ghost use Rattle.cudf_document.specs.Universe.{package_view};
 ghost use Rattle.cudf_referee.specs.Keys.{key_text, aspect_text};
 ghost use Rattle.cudf_referee.specs.KeyViews.{key_view};
 ghost use Rattle.cudf_referee.specs.Views.{instance_view, what_view};

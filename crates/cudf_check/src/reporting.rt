@@ -1,16 +1,17 @@
 //! Writes the report of the inputs. All memory is taken before the first byte is written. (own)
-ghost use Rattle.std.specs.Prelude.{◌≡◌, ◌<◌, All, false, map, option_map, option_copied, if◌then◌else◌};
+ghost use Rattle.std.specs.Prelude.{◌≡◌, ◌<◌, All, codes, false, map, option_map, option_copied, if◌then◌else◌};
 ghost use Rattle.std.specs.List.{flat_map};
 ghost use Rattle.std.specs.FinSet as set;
 ghost use Rattle.cudf_text.specs.Views.{text_view};
 ghost use Rattle.cudf_text.specs.Joined.{is_fail};
-ghost use Rattle.cudf_universe.specs.Universe.{package_view};
-ghost use Rattle.cudf_universe.specs.Statuses.{is_initial, unknown_view};
+ghost use Rattle.cudf_document.specs.Universe.{package_view};
+ghost use Rattle.cudf_document.specs.Statuses.{is_initial, unknown_view};
 ghost use Rattle.cudf_referee.specs.Proposals.{proposal};
 ghost use Rattle.cudf_referee.specs.Violations.{listing};
 ghost use Rattle.cudf_referee.specs.Solutions.{is_solution};
 ghost use Rattle.cudf_check.specs.Answering.{Answers};
-ghost use Rattle.cudf_check.specs.Report.{faulty, instance_line, package_at, verdict_text, judged_report, solution_text_report, solution_report, problem_text_report, check_report, lint_text_report, lint_report, inputs_report, report};
+ghost use Rattle.cudf_check.specs.declared.outcome.Outcome.TheVariants.{Yes};
+ghost use Rattle.cudf_check.specs.Report.{alone, faulty, faulty_or, instance_line, package_at, verdict_text, judged_report, solution_text_report, solution_report, problem_text_report, check_report, lint_text_report, lint_report, inputs_report, report};
 ghost use Rattle.cudf_check.specs.Writing.{Prints, joined};
 
 use crate::device::Sink;
@@ -19,8 +20,10 @@ use crate::outcome::{Outcome, RunError};
 use crate::paper::Paper;
 use crate::printing::{print, print_instance};
 use cudf_referee::Referee;
-use cudf_text::{Fault, Text, TextError, cut_joined, is_fail, read};
-use cudf_universe::{Package, Problem, ReadError, Solution, read_problem, read_solution};
+use cudf_text::{Fault, Stanzas, Text, TextError, cut_joined, is_fail, read, stanzas};
+use cudf_universe::{
+    Package, Problem, ReadError, Solution, first_fault, read_problem, read_solution,
+};
 use itoa::Buffer;
 use std::alloc::Global;
 
@@ -226,15 +229,33 @@ fn check<W: Sink>(
     }
 }
 
-/// Reads a problem alone.
-fn lint_text<W: Sink>(alloc: Global, out: &mut W, text: &Text<'_>) -> Result<Outcome, RunError>
+/// Says that a problem has no fault, or which one is its first.
+fn answer_lint<W: Sink>(
+    alloc: Global,
+    out: &mut W,
+    first: Option<Fault>,
+) -> Result<Outcome, RunError>
     ensures { Answers (W.contents out.old) (W.contents out.new) (W.failures out.old) (W.failures out.new)
-        (lint_text_report (text_view text.now)) result }
+        (faulty_or (codes "problem") first (alone (codes "problem ok") Yes)) result }
 {
-    match read_problem(alloc, text) {
-        Ok(_problem) => answer(alloc, out, &["problem ok", "\n"], Outcome::Yes),
-        Err(ReadError::Fault(fault)) => answer_fault(alloc, out, "problem", fault),
-        Err(ReadError::Memory(_)) => Err(RunError::Memory),
+    match first {
+        None => answer(alloc, out, &["problem ok", "\n"], Outcome::Yes),
+        Some(fault) => answer_fault(alloc, out, "problem", fault),
+    }
+}
+
+/// Looks for the first fault of a problem's stanzas.
+fn lint_stanzas<W: Sink>(
+    alloc: Global,
+    out: &mut W,
+    stanzas: Stanzas<'_>,
+) -> Result<Outcome, RunError>
+    ensures { Answers (W.contents out.old) (W.contents out.new) (W.failures out.old) (W.failures out.new)
+        (lint_text_report stanzas.entry) result }
+{
+    match first_fault(alloc, stanzas) {
+        Ok(first) => answer_lint(alloc, out, first),
+        Err(_) => Err(RunError::Memory),
     }
 }
 
@@ -243,10 +264,9 @@ fn lint<W: Sink>(alloc: Global, out: &mut W, problem: &[u8]) -> Result<Outcome, 
     ensures { Answers (W.contents out.old) (W.contents out.new) (W.failures out.old) (W.failures out.new)
         (lint_report problem.now) result }
 {
-    match read(alloc, problem) {
-        Ok(text) => lint_text(alloc, out, &text),
-        Err(TextError::Fault(fault)) => answer_fault(alloc, out, "problem", fault),
-        Err(TextError::Memory(_)) => Err(RunError::Memory),
+    match stanzas(problem) {
+        Ok(stanzas) => lint_stanzas(alloc, out, stanzas),
+        Err(fault) => answer_fault(alloc, out, "problem", fault),
     }
 }
 

@@ -8,10 +8,10 @@ use Rattle.std.specs.List.{flat_map, enumerate_from}
 use Rattle.std.specs.Ordering.{nat_cmp, ordering_then, is_lt}
 use Rattle.std.specs.declared.cmp.Ordering.TheVariants.{Less}
 use Rattle.cudf_value.specs.Vpkgs.{PlainVpkg}
-use Rattle.cudf_universe.specs.declared.package.Keep.{Keep}
-use Rattle.cudf_universe.specs.declared.package.Keep.TheVariants.{Version, Package, Feature, Nothing}
-use Rattle.cudf_universe.specs.Universe.{PlainRequest, PlainProblem}
-use Rattle.cudf_universe.specs.Statuses.{PlainUnknown, ascend_above}
+use Rattle.cudf_document.specs.declared.package.Keep.{Keep}
+use Rattle.cudf_document.specs.declared.package.Keep.TheVariants.{Version, Package, Feature, Nothing}
+use Rattle.cudf_document.specs.Universe.{PlainRequest, PlainProblem}
+use Rattle.cudf_document.specs.Statuses.{PlainUnknown, ascend_above}
 use Rattle.cudf_universe.specs.Satisfaction.{Placed, numbers_of, satisfies}
 use Rattle.cudf_referee.specs.declared.key.Aspect.{Aspect}
 use Rattle.cudf_referee.specs.declared.key.Aspect.TheVariants.{Unsatisfied, Many, Lower}

@@ -1,8 +1,8 @@
 -- What the search for instances finds is the listing.
 use Rattle.std.proofs.Common.{◌≡◌, ℕ, Bool, List, [], ◌++◌, map, ap, sym, ◌∙◌}
 use Rattle.std.specs.List.{flat_map, enumerate_from}
-use Rattle.cudf_universe.specs.Universe.{PlainPackage, PlainProblem}
-use Rattle.cudf_universe.specs.Statuses.{PlainUnknown}
+use Rattle.cudf_document.specs.Universe.{PlainPackage, PlainProblem}
+use Rattle.cudf_document.specs.Statuses.{PlainUnknown}
 use Rattle.cudf_universe.specs.Satisfaction.{Placed, members}
 use Rattle.cudf_referee.specs.Instances.{PlainInstance}
 use Rattle.cudf_referee.specs.Proposals.{holds_place, put_forward}

@@ -1,7 +1,7 @@
 -- Laws over the definitions alone: own.
 use Rattle.std.specs.Prelude.{◌≡◌, ℕ, Bool, List, map, IsTrue}
-use Rattle.cudf_universe.specs.Universe.{PlainProblem}
-use Rattle.cudf_universe.specs.Statuses.{PlainUnknown, ascend_above}
+use Rattle.cudf_document.specs.Universe.{PlainProblem}
+use Rattle.cudf_document.specs.Statuses.{PlainUnknown, ascend_above}
 use Rattle.cudf_referee.specs.Entries.{is_empty}
 use Rattle.cudf_referee.specs.Keys.{ascend}
 use Rattle.cudf_referee.specs.Proposals.{proposal}

@@ -1,8 +1,8 @@
 -- What is judged: a universe and a request, the initial and the proposed status, and what is proposed beyond the universe.
 use Rattle.std.specs.Prelude.{ℕ, Bool, ◌==◌, List}
 use Rattle.std.specs.List.{list_any}
-use Rattle.cudf_universe.specs.Universe.{PlainPackage, PlainRequest, PlainProblem}
-use Rattle.cudf_universe.specs.Statuses.{PlainUnknown}
+use Rattle.cudf_document.specs.Universe.{PlainPackage, PlainRequest, PlainProblem}
+use Rattle.cudf_document.specs.Statuses.{PlainUnknown}
 use Rattle.cudf_universe.specs.Satisfaction.{Placed, members}
 
 pub record Proposal : Type 0 where

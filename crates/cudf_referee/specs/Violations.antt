@@ -4,10 +4,10 @@
 use Rattle.std.specs.Prelude.{ℕ, Bool, not, ◌==◌, nat_lt, List, [], ◌∷◌, ◌++◌, map, bytes_eq, Option, Some, None, if◌then◌else◌}
 use Rattle.std.specs.List.{list_any, flat_map, enumerate_from}
 use Rattle.cudf_value.specs.Vpkgs.{PlainVpkg}
-use Rattle.cudf_universe.specs.declared.package.Keep.{Keep}
-use Rattle.cudf_universe.specs.declared.package.Keep.TheVariants.{Version, Package, Feature, Nothing}
-use Rattle.cudf_universe.specs.Universe.{PlainRequest}
-use Rattle.cudf_universe.specs.Statuses.{PlainUnknown}
+use Rattle.cudf_document.specs.declared.package.Keep.{Keep}
+use Rattle.cudf_document.specs.declared.package.Keep.TheVariants.{Version, Package, Feature, Nothing}
+use Rattle.cudf_document.specs.Universe.{PlainRequest}
+use Rattle.cudf_document.specs.Statuses.{PlainUnknown}
 use Rattle.cudf_universe.specs.Satisfaction.{Placed, without, numbers_of, satisfies, satisfies_clause, first_meeting, other_than}
 use Rattle.cudf_referee.specs.declared.key.Part.{Part}
 use Rattle.cudf_referee.specs.declared.key.Part.TheVariants as part

@@ -26,7 +26,7 @@ pub struct Referee<'p, 't> {
 impl<'p, 't> Model for Referee<'p, 't> {
     ghost use Rattle.std.specs.Prelude.{◌≡◌, map};
     ghost use Rattle.std.specs.FinSet as set;
-    ghost use Rattle.cudf_universe.specs.Statuses.{is_initial, unknown_view};
+    ghost use Rattle.cudf_document.specs.Statuses.{is_initial, unknown_view};
     ghost use Rattle.cudf_universe.specs.Satisfaction.{members};
     ghost use Rattle.cudf_referee.specs.Proposals.{Proposal, put_forward};
     ghost use Rattle.cudf_referee.specs.Violations.{listing};
@@ -55,7 +55,7 @@ fn own_place(part: Part) -> Option<u64>
 impl<'p, 't> Referee<'p, 't> {
     ghost use Rattle.std.specs.Prelude.{◌≡◌, ◌<◌, All, IfOk, map};
     ghost use Rattle.std.specs.FinSet as set;
-    ghost use Rattle.cudf_universe.specs.Statuses.{is_initial, unknown_view};
+    ghost use Rattle.cudf_document.specs.Statuses.{is_initial, unknown_view};
     ghost use Rattle.cudf_referee.specs.Proposals.{proposal};
     ghost use Rattle.cudf_referee.specs.Violations.{listing, met_by};
     ghost use Rattle.cudf_referee.specs.Solutions.{is_solution};

@@ -2,7 +2,7 @@
 ghost use Rattle.std.specs.Prelude.{◌≡◌, ◌++◌, ◌<◌, OnOk};
 ghost use Rattle.std.specs.List.{flat_map, enumerate_from};
 ghost use Rattle.std.specs.FinSet as set;
-ghost use Rattle.cudf_universe.specs.Universe.{package_view, request_view};
+ghost use Rattle.cudf_document.specs.Universe.{package_view, request_view};
 ghost use Rattle.cudf_universe.specs.Satisfaction.{members};
 ghost use Rattle.cudf_referee.specs.Views.{instances_view};
 ghost use Rattle.cudf_referee.specs.Violations.{violated_depends, violated_conflicts, package_rules, violated_install, violated_remove, violated_upgrade};

@@ -1,30 +1,47 @@
--- What `read` has read behind each line, and in the end.
-use Rattle.std.proofs.Common.{◌≡◌, ℕ, ◌+◌, ◌≤◌, List, [], length, map, Option, Some, None, refl, sym, ◌∙◌, arith}
+-- What a cursor has read behind each line.
+use Rattle.std.proofs.Common.{◌≡◌, ℕ, ◌+◌, ◌≤◌, Bool, true, false, not, is_some, List, [], ◌∷◌, length, map, Option, Some, None, refl, sym, ap, ◌∙◌, arith}
 use Rattle.std.specs.List.{enumerate_from}
+use Rattle.cudf_text.specs.declared.cursor.Place.{Place}
 use Rattle.cudf_text.specs.declared.fault.Fault.{Fault}
-use Rattle.cudf_text.specs.Lines.{class, lines, NumberedLine, numbered_lines}
-use Rattle.cudf_text.specs.Stanzas.{PlainStanza, PlainText, plain_text}
-use Rattle.cudf_text.specs.Steps.{State, ended}
-use Rattle.cudf_text.proofs.RunLemmas.{outcome, run_is, state}
+use Rattle.cudf_text.specs.declared.text.Property.{Property}
+use Rattle.cudf_text.specs.Lines.{class, lines, NumberedLine}
+use Rattle.cudf_text.specs.Working.Left.{left, numbered_from, text_left}
+use Rattle.cudf_text.specs.Stanzas.{PlainStanza, PlainText}
+use Rattle.cudf_text.specs.Working.Steps.{State, open_state, step}
+use Rattle.cudf_text.proofs.RunLemmas.{outcome, closed_is, state}
 
--- the lines of a text, numbered from n
-abbrev pub numbered_from : ℕ → List ℕ → List NumberedLine
-numbered_from n text = enumerate_from n (map class (lines text))
+-- from the first place the lines up to the other were read, and this is what they gave
+pub record SoFar (start : Place) (s : State) (place : Place) : Type 0 where
+  pub run : ◌≡◌ {A = List PlainStanza × Option Fault} (outcome s place.fault (numbered_from (place.lines + 1) place.rest.now)) (left start.fault (numbered_from (start.lines + 1) start.rest.now))
+  pub count : place.lines + length (lines place.rest.now) ≡ start.lines + length (lines start.rest.now)
+  pub bound : place.lines + length place.rest.now ≤ start.lines + length start.rest.now
 
--- n lines of the source are read, the rest is left, and this is what they gave
-pub record SoFar (source rest : List ℕ) (s : State) (fault : Option Fault) (n : ℕ) : Type 0 where
-  pub run : ◌≡◌ {A = List PlainStanza × Option Fault} (outcome s fault (numbered_from (n + 1) rest)) (outcome (state [] [] 0) None (numbered_lines source))
-  pub count : n + length (lines rest) ≡ length (lines source)
-  pub bound : n + length rest ≤ length source
+left-start : (last : ℕ) (fault : Option Fault) (ls : List NumberedLine) → ◌≡◌ {A = List PlainStanza × Option Fault} (outcome (state [] [] last) fault ls) (left fault ls)
+left-start last None ls = closed_is [] last ls
+left-start last (Some f) ls = refl
 
-outcome-nil : (s : State) (fault : Option Fault) → ◌≡◌ {A = List PlainStanza × Option Fault} (outcome s fault []) ((ended s).stanzas, fault)
-outcome-nil s None = refl
-outcome-nil s (Some f) = refl
+pub SoFar-start : (place : Place) (ps : List Property) → ps ≡ [] → SoFar place (open_state ps 0) place
+SoFar-start place ps none = record {
+  run = ap (λ (qs : List Property). outcome (open_state qs 0) place.fault (numbered_from (place.lines + 1) place.rest.now)) none
+      ∙ left-start 0 place.fault (numbered_from (place.lines + 1) place.rest.now);
+  count = refl;
+  bound = omega arith;
+}
 
-pub SoFar-end : (source : List ℕ) (s : State) (fault : Option Fault) (n : ℕ) → SoFar source [] s fault n
-    → let t : PlainText = record { stanzas = (ended s).stanzas; fault = fault; lines = n } in t ≡ plain_text source
-unfolding plain_text
-SoFar-end source s fault n so_far =
-    let said = sym (outcome-nil s fault) ∙ so_far.run ∙ run_is 0 (numbered_lines source) in
-    let all : n ≡ length (lines source) = omega (arith, so_far.count) in
+-- a line has ended a stanza, which stands before what is left
+pub SoFar-stanza : (start place : Place) (s : State) (line rest : List ℕ) (st : PlainStanza) (last : ℕ) → SoFar start s place → place.fault ≡ None → lines place.rest.now ≡ line ∷ lines rest
+    → ◌≡◌ {A = State × Option Fault} (step s (place.lines + 1) (class line)) (state (st ∷ []) [] last, None)
+    → let t : PlainText = record { stanzas = st ∷ (left place.fault (numbered_from (place.lines + 1 + 1) rest)).0; fault = (left place.fault (numbered_from (place.lines + 1 + 1) rest)).1; lines = place.lines + 1 + length (lines rest) } in
+    text_left start ≡ t
+SoFar-stanza start place s line rest st last so_far none e taken =
+    let ls : List NumberedLine = numbered_from (place.lines + 1 + 1) rest in
+    let said : ◌≡◌ {A = List PlainStanza × Option Fault} (left start.fault (numbered_from (start.lines + 1) start.rest.now)) (st ∷ (left place.fault ls).0, (left place.fault ls).1) =
+    sym so_far.run ∙ (λ i. outcome s (none i) (enumerate_from (place.lines + 1) (map class (e i)))) ∙ ap (λ (r : State × Option Fault). outcome r.0 r.1 ls) taken
+    ∙ closed_is (st ∷ []) last ls ∙ (λ i. (st ∷ (left (sym none i) ls).0, (left (sym none i) ls).1)) in
+    let all : start.lines + length (lines start.rest.now) ≡ place.lines + 1 + length (lines rest) = omega (arith, so_far.count, ap length e) in
     λ i. let t : PlainText = record { stanzas = (said i).0; fault = (said i).1; lines = all i } in t
+
+pub no_fault : (fault : Option Fault) (none : Bool) → is_some fault ≡ not none → none ≡ true → fault ≡ None
+no_fault None none h e = refl
+no_fault (Some f) true h e = absurd cc
+no_fault (Some f) false h e = absurd cc

@@ -7,7 +7,7 @@ use Rattle.cudf_text.specs.declared.fault.Fault.{Fault}
 use Rattle.cudf_text.specs.Lines.{Class, comment, blank, continuation, named, faulty, NumberedLine, is_no_comment}
 use Rattle.cudf_text.specs.LineFaults.{is_open, line_fault, sound_len, fault_after, read_after}
 use Rattle.cudf_text.specs.Stanzas.{PlainProperty, PlainStanza, PlainValue, continuations, joined, properties, last_number, stanza_with, is_blank_line, stanzas_of}
-use Rattle.cudf_text.specs.Steps.{State, continued, ended, extend_last, step, with_stanza}
+use Rattle.cudf_text.specs.Working.Steps.{State, continued, ended, extend_last, step, with_stanza}
 use Rattle.cudf_text.proofs.ValueLemmas.{joined-push, joined-one}
 
 -- ---- the run
@@ -255,6 +255,7 @@ runs ((n, continuation text) ∷ ls) = runs-continuation n text ls (runs ls)
 runs ((n, named name text) ∷ ls) = runs-named n name text ls (runs ls)
 runs ((n, faulty) ∷ ls) = runs-faulty n ls
 
-pub run_is : (last : ℕ) (ls : List NumberedLine) → ◌≡◌ {A = List PlainStanza × Option Fault} (outcome (state [] [] last) None ls)
-    (stanzas_of (read_after blank (filter is_no_comment ls)), fault_after blank (filter is_no_comment ls))
-run_is last ls = (runs ls).closed [] last
+-- from a state where no stanza is open, behind these stanzas
+pub closed_is : (stanzas : List PlainStanza) (last : ℕ) (ls : List NumberedLine) → ◌≡◌ {A = List PlainStanza × Option Fault} (outcome (state stanzas [] last) None ls)
+    (stanzas ++ stanzas_of (read_after blank (filter is_no_comment ls)), fault_after blank (filter is_no_comment ls))
+closed_is stanzas last ls = (runs ls).closed stanzas last

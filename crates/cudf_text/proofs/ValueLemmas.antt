@@ -6,7 +6,7 @@ use Rattle.std.proofs.lemmas.List.{append_assoc, append-nil, length-append, leng
 use Rattle.std.proofs.lemmas.List.Elements.{filter-append}
 use Rattle.std.proofs.lemmas.Bool.{cases_Bool, eqb-false, ne_eqb, lt-ltb}
 use Rattle.cudf_text.specs.Stanzas.{PlainValue, joined, some_texts}
-use Rattle.cudf_text.specs.Steps.{value_onto}
+use Rattle.cudf_text.specs.Working.Steps.{value_onto}
 
 join-push : (x : List ℕ) (xs : List (List ℕ)) (text : List ℕ) → join_with_byte 32 (x ∷ xs ++ text ∷ []) ≡ join_with_byte 32 (x ∷ xs) ++ 32 ∷ text
 join-push x [] text = refl

@@ -4,7 +4,6 @@ pub mod Stanzas
 pub mod Views
 pub mod Joined
 pub mod Faults
-pub mod LineView
-pub mod Steps
-pub mod Marks
 pub mod Laws
+pub mod Joins
+pub mod Working

@@ -1,21 +1,17 @@
 -- What contracts see of a `Text`: own.
-use Rattle.std.specs.Prelude.{◌≡◌, ℕ, ◌+◌, Bool, true, false, List, map, take, count_by}
+use Rattle.std.specs.Prelude.{◌≡◌, ℕ, ◌+◌, List, map, take, count_by}
 use Rattle.std.specs.Str.Lossy.{utf8_valid_len}
 use Rattle.std.specs.Cow.{cow_str_bytes}
 use Rattle.std.specs.declared.alloc.Global.{Global}
 use Rattle.std.specs.declared.borrow.CowStr.{CowStr}
-use Rattle.std.specs.declared.borrow.CowStr.TheVariants as value
 use Rattle.cudf_text.specs.declared.fault.Fault.{Fault}
 use Rattle.cudf_text.specs.declared.fault.Kind.TheVariants.{E1}
 use Rattle.cudf_text.specs.declared.text.Property.{Property}
 use Rattle.cudf_text.specs.declared.text.Stanza.{Stanza}
 use Rattle.cudf_text.specs.declared.text.Text.{Text}
 use Rattle.cudf_text.specs.Lines.{is_lf}
+use Rattle.cudf_text.specs.Joins.{is_owned}
 use Rattle.cudf_text.specs.Stanzas.{PlainValue, PlainProperty, PlainStanza, PlainText, plain_text}
-
-abbrev pub is_owned : CowStr Global → Bool
-is_owned (value.Borrowed r) = false
-is_owned (value.Owned s) = true
 
 -- a value by its bytes
 abbrev pub value_view : CowStr Global → PlainValue

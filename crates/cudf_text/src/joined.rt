@@ -2,7 +2,7 @@ ghost use Rattle.std.specs.Prelude.{◌≡◌, ◌++◌, ◌-◌, ◌≤◌, len
 ghost use Rattle.std.specs.List.{starts_with};
 ghost use Rattle.cudf_text.specs.Joined.{begins_request, len_through, problem_part, solution_part};
 ghost use Rattle.cudf_text.specs.Lines.{lines, raw_lines};
-ghost use Rattle.cudf_text.specs.Marks.{marks};
+ghost use Rattle.cudf_text.specs.Working.Marks.{marks};
 
 use crate::lines::line_end;
 use crate::trim::is_blank_text;

@@ -2,6 +2,7 @@
 //! solution in one input, and the solution `FAIL`.
 #![tactic(auto)]
 
+mod cursor;
 mod cut;
 mod fail;
 mod fault;
@@ -9,15 +10,15 @@ mod joined;
 pub mod laws;
 mod line;
 mod lines;
-mod reader;
 mod reading;
 mod text;
 mod trim;
 
+pub use cursor::{Next, Stanzas};
 pub use fail::is_fail;
 pub use fault::{Fault, Kind};
 pub use joined::cut_joined;
-pub use reading::read;
+pub use reading::{read, stanzas};
 pub use text::{Property, Stanza, Text, TextError};
 
 #[cfg(test)]

@@ -1,7 +1,7 @@
 ghost use Rattle.std.specs.Prelude.{◌≡◌, ◌<◌, length, slice_index, position, IfSome};
 ghost use Rattle.std.specs.List.{list_all};
 ghost use Rattle.cudf_text.specs.Lines.{class, class_by_colon, is_colon, is_letter, is_name, is_name_byte};
-ghost use Rattle.cudf_text.specs.LineView.{line_view};
+ghost use Rattle.cudf_text.specs.Working.LineView.{line_view};
 
 use crate::cut::{after, before};
 use crate::trim::{is_blank, is_blank_text, trim};

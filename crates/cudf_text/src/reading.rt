@@ -1,13 +1,16 @@
 ghost use Rattle.std.specs.Prelude.{◌≡◌, ◌+◌, IfErr, IfOk, IsUtf8, alloc_error, count_by};
 ghost use Rattle.cudf_text.specs.Lines.{is_lf};
+ghost use Rattle.cudf_text.specs.Stanzas.{plain_text};
 ghost use Rattle.cudf_text.specs.Views.{IsText, utf8_fault};
 
+use crate::cursor::{Next, Stanzas};
 use crate::fault::{Fault, Kind};
-use crate::lines::first_line;
-use crate::reader::Reader;
-use crate::text::{Text, TextError};
+use crate::text::{Property, Stanza, Text, TextError};
 use std::alloc::{AllocError, Global};
-use std::str;
+use std::{mem, str};
+
+/// The most properties that a stanza gets room for before they are read.
+const ROOM: usize = 64;
 
 /// Reads the stanzas of a document (CUDF 2.0, syntax of stanzas and properties), up to its first
 /// faulty line. `TextError::Fault` is answered exactly where the bytes aren't UTF-8, without
@@ -34,33 +37,65 @@ pub fn read<'a>(alloc: Global, bytes: &'a [u8]) -> Result<Text<'a>, TextError>
     }
 }
 
+/// The stanzas of a document, of which each is read as it is asked for, or E1 where the bytes
+/// aren't UTF-8. It takes no memory.
+pub fn stanzas(bytes: &[u8]) -> Result<Stanzas<'_>, Fault>
+    ensures utf8 { IfOk result (λ s. IsUtf8 bytes.now × (s ≡ plain_text bytes.now)) }
+    ensures fault { IfErr result (λ f. (¬ (IsUtf8 bytes.now)) × (f ≡ utf8_fault bytes.now)) }
+{
+    match str::from_utf8(bytes) {
+        Ok(source) => Ok(Stanzas::new(source)),
+        Err(error) => {
+            let line = 1 + lf_count(&bytes[..error.valid_up_to()]);
+            Err(Fault {
+                line,
+                kind: Kind::E1,
+            })
+        }
+    }
+}
+
 fn read_text<'a>(alloc: Global, source: &'a str) -> Result<Text<'a>, AllocError>
     ensures source { IfOk result (λ t. t.source.now ≡ source.now) }
     ensures text { IfOk result IsText }
 {
-    let mut reader = Reader {
-        stanzas: Vec::new(alloc),
-        properties: Vec::new(alloc),
-        last: 0,
-    };
-    let mut rest = source;
-    let mut lines = 0;
-    let mut fault = None;
-    while let Some((line, after)) = first_line(rest) {
-        lines += 1;
-        rest = after;
-        if fault.is_none() {
-            fault = reader.take(alloc, lines, line)?;
+    let mut cursor = Stanzas::new(source);
+    let mut stanzas = Vec::new(alloc);
+    let mut properties = Vec::new(alloc);
+    'stanzas: loop {
+        match cursor.next(alloc, &mut properties)? {
+            Next::Stanza { line, last } => {
+                let properties = take_all(alloc, &mut properties)?;
+                stanzas.push(Stanza {
+                    line,
+                    last,
+                    properties,
+                })?;
+            }
+            Next::End { fault, lines } => {
+                return Ok(Text {
+                    source,
+                    stanzas,
+                    fault,
+                    lines,
+                });
+            }
         }
     }
-    reader.end_stanza(alloc)?;
-    let Reader { stanzas, .. } = reader;
-    Ok(Text {
-        source,
-        stanzas,
-        fault,
-        lines,
-    })
+}
+
+/// The properties, in no more room than they need. Stanzas are often alike: the next one gets
+/// room for as many at once.
+fn take_all<'a>(
+    alloc: Global,
+    properties: &mut Vec<Property<'a>>,
+) -> Result<Vec<Property<'a>>, AllocError>
+    ensures { IfOk result (λ taken. taken.items ≡ properties.old.items) }
+{
+    let room = properties.len().min(ROOM);
+    let mut taken = mem::replace(properties, Vec::with_capacity(alloc, room)?);
+    taken.shrink_to_fit();
+    Ok(taken)
 }
 
 fn lf_count(bytes: &[u8]) -> u64

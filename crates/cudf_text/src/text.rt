@@ -1,3 +1,5 @@
+ghost use Rattle.cudf_text.specs.Joins.{IsJoined};
+
 use crate::fault::Fault;
 use std::alloc::AllocError;
 use std::borrow::CowStr;
@@ -39,6 +41,7 @@ pub struct Property<'a> {
     /// those that aren't empty are joined by one space (own). A part of the source, unless two
     /// texts are joined.
     pub value: CowStr<'a>,
+    pub ghost joined: { IsJoined value },
 }
 
 /// Why bytes have no `Text`.

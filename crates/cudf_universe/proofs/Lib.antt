@@ -1,22 +1,12 @@
-pub mod ListLemmas
-pub mod FaultLemmas
-pub mod FlagLemmas
-pub mod DeclarationLemmas
-pub mod NameLemmas
-pub mod PropertyLemmas
-pub mod FieldLemmas
-pub mod WishLemmas
-pub mod PreambleLemmas
-pub mod GatheredLemmas
-pub mod FaultlessLemmas
-pub mod LawLemmas
-pub mod EntryLemmas
-pub mod IdLemmas
-pub mod ProposalLemmas
-mod Examples
-pub mod StatusLemmas
-mod SatisfactionExamples
 pub mod SearchLemmas
 pub mod SatisfactionLemmas
-pub mod SpanLemmas
 pub mod MemberLemmas
+pub mod CountLemmas
+pub mod TakenOffLemmas
+pub mod EndLemmas
+pub mod GatheringLemmas
+pub mod FoundLemmas
+pub mod FirstLemmas
+pub mod PriceLemmas
+pub mod SearchedLemmas
+mod SatisfactionExamples

@@ -4,7 +4,7 @@ use Rattle.std.specs.Prelude.{filter}
 use Rattle.std.specs.List.{enumerate_from}
 use Rattle.std.proofs.lemmas.List.{append-nil, length-map, length-take-le, map_push, take_more}
 use Rattle.std.proofs.lemmas.List.Elements.{filter-append}
-use Rattle.cudf_universe.specs.Universe.{PlainPackage}
+use Rattle.cudf_document.specs.Universe.{PlainPackage}
 use Rattle.cudf_universe.specs.Satisfaction.{Placed, members}
 
 enumerate-push : (n : ℕ) (xs : List PlainPackage) (x : PlainPackage) → enumerate_from n (xs ++ x ∷ []) ≡ enumerate_from n xs ++ (n + length xs, x) ∷ []
@@ -20,7 +20,7 @@ members-push holds xs x =
     ∙ filter-append (λ (p : Placed). holds p.0) (enumerate_from 1 xs) ((1 + length xs, x) ∷ [])
 
 module _ {A B : Type 0} (view : A → PlainPackage) (member : B → Placed) (holds : ℕ → Bool) (xs : List A) (i : ℕ) (d : A) (inside : i < length xs) where
-  members-more : members holds (map view (take (i + 1) xs)) ≡ members holds (map view (take i xs)) ++ cond (holds (i + 1)) ((i + 1, view (get_or xs i d)) ∷ []) []
+  pub members-more : members holds (map view (take (i + 1) xs)) ≡ members holds (map view (take i xs)) ++ cond (holds (i + 1)) ((i + 1, view (get_or xs i d)) ∷ []) []
   members-more =
       let place : 1 + length (map view (take i xs)) ≡ i + 1 = omega (arith, length-map (take i xs) view, length-take-le i xs (omega arith)) in
       ap (λ ys. members holds (map view ys)) (take_more xs i d inside)

@@ -8,7 +8,7 @@ use Rattle.std.proofs.lemmas.List.{append-nil}
 use Rattle.cudf_value.specs.declared.relop.Relop.{Relop}
 use Rattle.cudf_value.specs.Vpkgs.{PlainVpkg, meets}
 use Rattle.cudf_universe.specs.Satisfaction.{Placed, Pair, MemberAlone, without, other_than, entry_pair, name_unless, unversioned_name, package_pairs, gives, gives_all_versions, is_met_by, is_below_one, satisfies, meets_alone, first_meeting}
-use Rattle.cudf_universe.specs.Members.{provision_meets, entry_meets, is_other}
+use Rattle.cudf_universe.specs.Working.Members.{provision_meets, entry_meets, is_other}
 use Rattle.cudf_universe.proofs.SearchLemmas.{list_any-map, list_any-filter, find-map, find-filter}
 
 or_assoc : (a b c : Bool) → ((a || b) || c) ≡ (a || (b || c))

@@ -6,7 +6,7 @@ use Rattle.cudf_value.specs.declared.relop.Relop.{Relop}
 use Rattle.cudf_value.specs.declared.relop.Relop.TheVariants.{Lt}
 use Rattle.cudf_value.specs.Vpkgs.{PlainVpkg, meets}
 use Rattle.cudf_value.specs.Formulas.{PlainAtom, truth_atom, falsehood_atom, named}
-use Rattle.cudf_universe.specs.Universe.{PlainPackage}
+use Rattle.cudf_document.specs.Universe.{PlainPackage}
 
 -- ---- statuses as lists of packages
 

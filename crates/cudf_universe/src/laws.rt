@@ -1,16 +1,8 @@
-//! What follows from the definitions alone. Each law is the contract of a function without effect.
-ghost use Rattle.cudf_universe.specs.Laws.{LeastIsFirst, FaultlessIsSound};
+//! What follows from the definitions of satisfaction alone. A law is the contract of a function
+//! without effect.
+ghost use Rattle.cudf_universe.specs.Satisfaction.{MemberAlone};
 
-pub use crate::index::law::member;
-
-/// The fault that a reader answers is one of the document's faults and precedes every other one,
-/// and no other fault does.
-pub fn first()
-    ensures { LeastIsFirst }
-{}
-
-/// Where a problem has no fault, each package stanza describes a package, no two packages have
-/// one name and version, and there is one request.
-pub fn sound()
-    ensures { FaultlessIsSound }
+/// A status satisfies a vpkg exactly where one of its packages alone does.
+pub fn member()
+    ensures { MemberAlone }
 {}

@@ -1,9 +1,11 @@
-pub mod NumberLemmas
+mod AtomLemmas
+mod ClassLemmas
+mod Examples
 pub mod Boundary
+pub mod NumberLemmas
 pub mod PartsLemmas
-pub mod TypeLemmas
+pub mod PiecesLemmas
+pub mod PlacesLemmas
 pub mod PrintingLemmas
 pub mod ReadBack
-pub mod PlacesLemmas
-pub mod PiecesLemmas
-mod Examples
+pub mod TypeLemmas

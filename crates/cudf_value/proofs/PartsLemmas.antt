@@ -43,7 +43,7 @@ split_found separator text n found =
     let at = cond_some (nat_lt (position_or_len (λ b. b == separator) text) (length text)) _ n found in
     rw (sym at.1) (slice_split_first (λ b. b == separator) text 0 (ltb-true _ _ at.0))
 
-cond_none : (test : Bool) (x : ℕ) → cond test (Some x) None ≡ None → test ≡ false
+pub cond_none : (test : Bool) (x : ℕ) → cond test (Some x) None ≡ None → test ≡ false
 cond_none true x e = cc
 cond_none false x e = refl
 

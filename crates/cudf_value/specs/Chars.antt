@@ -51,3 +51,11 @@ trim_end text = take (length text - suffix_len is_blank text) text
 -- the text without blanks at either end
 abbrev pub trim : List ℕ → List ℕ
 trim text = trim_end (trim_start text)
+
+-- the bit of a class in the table
+abbrev pub class_bit : Class → ℕ
+class_bit Blank = 1
+class_bit Letter = 2
+class_bit Ident = 4
+class_bit Name = 8
+class_bit Operator = 16

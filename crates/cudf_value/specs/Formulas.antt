@@ -1,6 +1,7 @@
 -- The types `vpkgformula`, `vpkglist` and `veqpkglist` (the type library). Constants beside other atoms, and the empty
 -- text as the formula of no clauses, are own.
-use Rattle.std.specs.Prelude.{ℕ, Bool, true, false, List, map, Option, Some, option_map, bytes_eq, codes, if◌then◌else◌}
+use Rattle.std.specs.Prelude.{ℕ, Bool, true, false, List, [], ◌||◌, ◌==◌, map, Option, Some, None, option_map, bytes_eq, codes, if◌then◌else◌}
+use Rattle.std.specs.List.{slice_split}
 use Rattle.std.specs.Str.{byte}
 use Rattle.cudf_value.specs.declared.formula.Atom.{Atom}
 use Rattle.cudf_value.specs.declared.formula.Atom.TheVariants.{Yes, No, Is}
@@ -56,3 +57,16 @@ vpkglist text = comma_list (vpkg_part false) text
 -- a list of veqpkgs between commas
 unfoldable pub veqpkglist : List ℕ → Option (List PlainVpkg)
 veqpkglist text = comma_list (vpkg_part true) text
+
+-- ---- atoms of all clauses
+
+abbrev pub ends_atom : ℕ → Bool
+ends_atom b = b == byte "," || b == byte "|"
+
+-- the parts of a text, cut at each comma and each bar
+abbrev pub atoms : List ℕ → List (List ℕ)
+atoms text = slice_split ends_atom text
+
+abbrev pub atoms_behind : Option (List ℕ) → List (List ℕ)
+atoms_behind None = []
+atoms_behind (Some text) = atoms text

@@ -1,11 +1,11 @@
 //! The type `vpkgformula`.
-ghost use Rattle.std.specs.Prelude.{◌≡◌, option_map, IfOk};
+ghost use Rattle.std.specs.Prelude.{◌≡◌, option_map, option_copied, is_some, ◌∷◌, ◌<◌, length, position, slice_index, IfSome, IfOk};
 ghost use Rattle.std.specs.Str.{byte};
 ghost use Rattle.cudf_value.specs.Chars.{trim};
 ghost use Rattle.cudf_value.specs.Parts.{read_parts};
-ghost use Rattle.cudf_value.specs.Formulas.{atom_view, clause_view, formula_view, atom_part, clause, formula};
+ghost use Rattle.cudf_value.specs.Formulas.{atom_view, clause_view, formula_view, atom_part, clause, formula, ends_atom, atoms, atoms_behind};
 
-use crate::text::{cut, room_for, trimmed};
+use crate::text::{after, before, cut, room_for, trimmed};
 use crate::vpkg::{Vpkg, vpkg_of};
 use std::alloc::{AllocError, Global};
 
@@ -98,6 +98,55 @@ fn clause_of(alloc: Global, text: &str) -> Result<Option<Clause<'_>>, AllocError
             None => return Ok(Some(Clause { atoms })),
         }
     }
+}
+
+/// Whether the text is a `vpkgformula`, with blanks or none round it. Takes no memory.
+pub fn is_formula(text: &str) -> bool
+    ensures { result ≡ is_some (formula (trim text.now)) }
+{
+    is_formula_text(trimmed(text))
+}
+
+#[tactic(auto, unfolding(crate::specs::Formulas::formula))]
+pub(crate) fn is_formula_text(text: &str) -> bool
+    ensures { result ≡ is_some (formula text.now) }
+{
+    text.is_empty() || are_atoms(text)
+}
+
+/// Whether there is an atom at each place between commas and bars.
+fn are_atoms(text: &str) -> bool
+    ensures { result ≡ is_some (read_parts (byte ",") clause text.now) }
+{
+    let mut rest = text;
+    'atoms: loop {
+        let (part, behind) = cut_atom(rest);
+        if atom_of(part).is_none() {
+            return false;
+        }
+        match behind {
+            Some(more) => rest = more,
+            None => return true,
+        }
+    }
+}
+
+/// The text of the first atom, and what stands behind its comma or bar, if there is one.
+fn cut_atom(text: &str) -> (&str, Option<&str>)
+    ensures atoms { atoms text.now ≡ result.0.now ∷ atoms_behind (option_copied result.1) }
+    ensures shorter { IfSome result.1 (λ rest. length rest.now < length text.now) }
+{
+    match atom_end(text.as_bytes()) {
+        Some(n) => (before(text, n), Some(after(text, n + 1))),
+        None => (text, None),
+    }
+}
+
+fn atom_end(bytes: &[u8]) -> Option<usize>
+    ensures value { result ≡ position ends_atom bytes.now }
+    ensures here { IfSome result (λ n. (n < length bytes.now) × (slice_index bytes.now n < 128)) }
+{
+    bytes.iter().position(|b| *b == b',' || *b == b'|')
 }
 
 /// The atom, with blanks or none round it.

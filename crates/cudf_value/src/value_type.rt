@@ -4,11 +4,11 @@ ghost use Rattle.std.specs.List.{list_any};
 ghost use Rattle.cudf_value.specs.Chars.{trim};
 ghost use Rattle.cudf_value.specs.Types.{type_view, is_of_type};
 
-use crate::formula::formula_of;
+use crate::formula::is_formula_text;
 use crate::number::{int_of, nat_of, posint_of};
 use crate::text::trimmed;
 use crate::vpkg::{veqpkg_of, vpkg_of};
-use crate::vpkglist::{veqpkglist_of, vpkglist_of};
+use crate::vpkglist::{is_veqpkglist_text, is_vpkglist_text};
 use crate::word::{bool_of, is_ident, is_pkgname};
 use std::alloc::{AllocError, Global};
 
@@ -62,20 +62,27 @@ pub(crate) fn is_of_type(
 ) -> Result<bool, AllocError>
     ensures { IfOk result (λ b. b ≡ is_of_type (type_view kind.now) text.now) }
 {
+    Ok(has_type(kind, text))
+}
+
+/// Whether the whole text is of the type. Takes no memory.
+pub(crate) fn has_type(kind: &ValueType<'_>, text: &str) -> bool
+    ensures { result ≡ is_of_type (type_view kind.now) text.now }
+{
     match kind {
-        ValueType::Positive => Ok(posint_of(text).is_some()),
-        ValueType::Natural => Ok(nat_of(text).is_some()),
-        ValueType::Signed => Ok(int_of(text).is_some()),
-        ValueType::Truth => Ok(bool_of(text).is_some()),
-        ValueType::Words => Ok(true),
-        ValueType::Name => Ok(is_pkgname(text)),
-        ValueType::Ident => Ok(is_ident(text)),
-        ValueType::Choice(idents) => Ok(is_one_of(idents, text)),
-        ValueType::Versioned => Ok(vpkg_of(text).is_some()),
-        ValueType::Exact => Ok(veqpkg_of(text).is_some()),
-        ValueType::Formula => Ok(formula_of(alloc, text)?.is_some()),
-        ValueType::List => Ok(vpkglist_of(alloc, text)?.is_some()),
-        ValueType::ExactList => Ok(veqpkglist_of(alloc, text)?.is_some()),
+        ValueType::Positive => posint_of(text).is_some(),
+        ValueType::Natural => nat_of(text).is_some(),
+        ValueType::Signed => int_of(text).is_some(),
+        ValueType::Truth => bool_of(text).is_some(),
+        ValueType::Words => true,
+        ValueType::Name => is_pkgname(text),
+        ValueType::Ident => is_ident(text),
+        ValueType::Choice(idents) => is_one_of(idents, text),
+        ValueType::Versioned => vpkg_of(text).is_some(),
+        ValueType::Exact => veqpkg_of(text).is_some(),
+        ValueType::Formula => is_formula_text(text),
+        ValueType::List => is_vpkglist_text(text),
+        ValueType::ExactList => is_veqpkglist_text(text),
     }
 }
 

@@ -1,5 +1,5 @@
 //! The types `vpkglist` and `veqpkglist`.
-ghost use Rattle.std.specs.Prelude.{◌≡◌, map, option_map, IfOk};
+ghost use Rattle.std.specs.Prelude.{◌≡◌, map, option_map, is_some, IfOk};
 ghost use Rattle.std.specs.Str.{byte};
 ghost use Rattle.cudf_value.specs.Chars.{trim};
 ghost use Rattle.cudf_value.specs.Parts.{read_parts, comma_list};
@@ -78,6 +78,56 @@ fn entries_of(alloc: Global, text: &str, exact: bool) -> Result<Option<Vec<Vpkg<
                 vpkgs.shrink_to_fit();
                 return Ok(Some(vpkgs));
             }
+        }
+    }
+}
+
+/// Whether the text is a `vpkglist`, with blanks or none round it. Takes no memory.
+pub fn is_vpkglist(text: &str) -> bool
+    ensures { result ≡ is_some (vpkglist (trim text.now)) }
+{
+    is_vpkglist_text(trimmed(text))
+}
+
+/// Whether the text is a `veqpkglist`, with blanks or none round it. Takes no memory.
+pub fn is_veqpkglist(text: &str) -> bool
+    ensures { result ≡ is_some (veqpkglist (trim text.now)) }
+{
+    is_veqpkglist_text(trimmed(text))
+}
+
+#[tactic(auto, unfolding(crate::specs::Formulas::vpkglist))]
+pub(crate) fn is_vpkglist_text(text: &str) -> bool
+    ensures { result ≡ is_some (vpkglist text.now) }
+{
+    is_list(text, false)
+}
+
+#[tactic(auto, unfolding(crate::specs::Formulas::veqpkglist))]
+pub(crate) fn is_veqpkglist_text(text: &str) -> bool
+    ensures { result ≡ is_some (veqpkglist text.now) }
+{
+    is_list(text, true)
+}
+
+fn is_list(text: &str, exact: bool) -> bool
+    ensures { result ≡ is_some (comma_list (vpkg_part exact) text.now) }
+{
+    text.is_empty() || are_entries(text, exact)
+}
+
+fn are_entries(text: &str, exact: bool) -> bool
+    ensures { result ≡ is_some (read_parts (byte ",") (vpkg_part exact) text.now) }
+{
+    let mut rest = text;
+    'parts: loop {
+        let (part, behind) = cut(rest, b',');
+        if entry_of(part, exact).is_none() {
+            return false;
+        }
+        match behind {
+            Some(more) => rest = more,
+            None => return true,
         }
     }
 }

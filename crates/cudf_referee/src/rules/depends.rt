@@ -1,6 +1,6 @@
 //! Depends: a conjunct that the status doesn't satisfy.
 ghost use Rattle.std.specs.Prelude.{◌≡◌, ◌++◌, ◌<◌, OnOk};
-ghost use Rattle.cudf_universe.specs.Universe.{package_view};
+ghost use Rattle.cudf_document.specs.Universe.{package_view};
 ghost use Rattle.cudf_referee.specs.Views.{instances_view};
 ghost use Rattle.cudf_referee.specs.Violations.{violated_depends};
 

@@ -1,7 +1,7 @@
 //! Keep: a package that isn't installed any more, a name with no package left, or a feature that isn't satisfied.
 ghost use Rattle.std.specs.Prelude.{◌≡◌, ◌++◌, ◌<◌, ◌&&◌, OnOk, bytes_eq};
 ghost use Rattle.std.specs.FinSet as set;
-ghost use Rattle.cudf_universe.specs.Universe.{package_view};
+ghost use Rattle.cudf_document.specs.Universe.{package_view};
 ghost use Rattle.cudf_universe.specs.Satisfaction.{members};
 ghost use Rattle.cudf_referee.specs.Views.{instances_view};
 ghost use Rattle.cudf_referee.specs.Violations.{has_package, violated_keep, violated_features};

@@ -1,6 +1,6 @@
 //! Remove: an entry that the status satisfies.
 ghost use Rattle.std.specs.Prelude.{◌≡◌, ◌++◌, OnOk};
-ghost use Rattle.cudf_universe.specs.Universe.{request_view};
+ghost use Rattle.cudf_document.specs.Universe.{request_view};
 ghost use Rattle.cudf_referee.specs.Views.{instances_view};
 ghost use Rattle.cudf_referee.specs.Violations.{violated_remove};
 

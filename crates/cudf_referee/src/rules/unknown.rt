@@ -1,6 +1,6 @@
 //! Unknown: an installed stanza of the solution whose pair isn't in the universe.
 ghost use Rattle.std.specs.Prelude.{◌≡◌, ◌++◌, ◌<◌, All, OnOk, map};
-ghost use Rattle.cudf_universe.specs.Statuses.{unknown_view};
+ghost use Rattle.cudf_document.specs.Statuses.{unknown_view};
 ghost use Rattle.cudf_referee.specs.Views.{instances_view};
 ghost use Rattle.cudf_referee.specs.Violations.{unknown_instance};
 

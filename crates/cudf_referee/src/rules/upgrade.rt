@@ -1,7 +1,7 @@
 //! Upgrade: an entry that isn't satisfied, whose name has several numbers, or one that is lower than before.
 ghost use Rattle.std.specs.Prelude.{◌≡◌, ◌++◌, ◌<◌, OnOk};
 ghost use Rattle.cudf_value.specs.Vpkgs.{vpkg_view};
-ghost use Rattle.cudf_universe.specs.Universe.{request_view};
+ghost use Rattle.cudf_document.specs.Universe.{request_view};
 ghost use Rattle.cudf_universe.specs.Satisfaction.{numbers_of};
 ghost use Rattle.cudf_referee.specs.Instances.{upgrade};
 ghost use Rattle.cudf_referee.specs.Views.{instance_view, instances_view};

@@ -1,14 +1,14 @@
 //! A package of a status.
-ghost use Rattle.std.specs.Prelude.{◌≡◌, [], ◌∷◌, filter_map, fold, None};
-ghost use Rattle.std.specs.List.{list_any};
+ghost use Rattle.std.specs.Prelude.{◌≡◌, ◌<◌, ◌^◌, bytes_eq, filter_map, map};
+ghost use Rattle.std.specs.List.{list_any, count_by};
 ghost use Rattle.cudf_value.specs.Vpkgs.{vpkg_view};
-ghost use Rattle.cudf_universe.specs.Satisfaction.{entry_pair, package_pairs, is_met_by, is_below_one, meets_alone};
-ghost use Rattle.cudf_universe.specs.Spans.{joined, span};
-ghost use Rattle.cudf_universe.specs.Members.{member_view, entry_meets, numbers_in};
+ghost use Rattle.cudf_universe.specs.Satisfaction.{package_pairs, unversioned_name, is_met_by, meets_alone};
+ghost use Rattle.cudf_universe.specs.Working.Kept.{is_met_by_entry, gives_all_of};
+ghost use Rattle.cudf_universe.specs.Working.Members.{member_view, entry_meets};
 
-use crate::index::span::{Span, joined, single};
-use crate::package::Package;
-use cudf_value::{Relop, Vpkg, meets};
+use crate::index::entries::is_below_one;
+use cudf_document::Package;
+use cudf_value::{Vpkg, meets};
 
 /// A package of a status, with its place in the universe, from 1.
 #[derive(Clone, Copy, Debug)]
@@ -25,14 +25,19 @@ impl Member<'_, '_> {
         self.version_meets(vpkg) || any_entry_meets(&self.package.provides, vpkg)
     }
 
-    /// The ends of the numbers that the package gives of the name.
-    pub(crate) fn span(&self, name: &str) -> Option<Span>
-        ensures { result ≡ span (numbers_in name.now (package_pairs (member_view self.now).1)) }
+    /// How many of the numbers that the package gives meet the vpkg.
+    pub(crate) fn numbers_met(&self, vpkg: &Vpkg<'_>) -> usize
+        ensures { result ≡ count_by (is_met_by (vpkg_view vpkg.now)) (package_pairs (member_view self.now).1) }
     {
-        joined(
-            self.version_span(name),
-            entries_span(&self.package.provides, name),
-        )
+        let entries = numbers_met(&self.package.provides, vpkg);
+        if self.version_meets(vpkg) { entries + 1 } else { entries }
+    }
+
+    /// How often the package gives all versions of the name.
+    pub(crate) fn unversioned(&self, name: &str) -> usize
+        ensures { result ≡ count_by (λ given. bytes_eq given name.now) (filter_map unversioned_name (member_view self.now).1.provides) }
+    {
+        unversioned(&self.package.provides, name)
     }
 
     /// Whether the package's name and version meet the vpkg.
@@ -40,17 +45,6 @@ impl Member<'_, '_> {
         ensures { result ≡ is_met_by (vpkg_view vpkg.now) (self.now.package.now.name.now, self.now.package.now.version) }
     {
         self.package.name == vpkg.name && meets(vpkg.bound, self.package.version)
-    }
-
-    /// The ends of the version, if the name is the package's.
-    fn version_span(&self, name: &str) -> Option<Span>
-        ensures { result ≡ span (numbers_in name.now ((self.now.package.now.name.now, self.now.package.now.version) ∷ [])) }
-    {
-        if self.package.name == name {
-            Some(single(self.package.version))
-        } else {
-            None
-        }
     }
 }
 
@@ -72,28 +66,44 @@ fn entry_meets(entry: &Vpkg<'_>, vpkg: &Vpkg<'_>) -> bool
         }
 }
 
-/// Whether the bound is `< 1`, which no version meets.
-fn is_below_one(bound: Option<(Relop, u64)>) -> bool
-    ensures { result ≡ is_below_one bound }
+/// How many of the entries have a number that meets the vpkg.
+fn numbers_met(entries: &[Vpkg<'_>], vpkg: &Vpkg<'_>) -> usize
+    ensures met { result ≡ count_by (λ e. is_met_by_entry (vpkg_view vpkg.now) (vpkg_view e)) entries.now }
+    ensures small { result < 2 ^ 63 }
 {
-    matches!(bound, Some((Relop::Lt, 1)))
+    let mut met = 0;
+    for entry in entries {
+        if is_met_by_entry(entry, vpkg) {
+            met += 1;
+        }
+    }
+    met
 }
 
-/// The ends of the numbers that the entries give of the name.
-fn entries_span(entries: &[Vpkg<'_>], name: &str) -> Option<Span>
-    ensures { result ≡ fold (λ ends entry. joined ends (span (numbers_in name.now (filter_map entry_pair (vpkg_view entry ∷ []))))) None entries.now }
+/// How many of the entries give all versions of the name.
+fn unversioned(entries: &[Vpkg<'_>], name: &str) -> usize
+    ensures { result ≡ count_by (λ e. gives_all_of name.now (vpkg_view e)) entries.now }
 {
-    entries
-        .iter()
-        .fold(None, |ends, entry| joined(ends, entry_span(entry, name)))
+    let mut count = 0;
+    for entry in entries {
+        if gives_all_of(entry, name) {
+            count += 1;
+        }
+    }
+    count
 }
 
-/// The ends of the entry's number, if it has one and is of the name.
-fn entry_span(entry: &Vpkg<'_>, name: &str) -> Option<Span>
-    ensures { result ≡ span (numbers_in name.now (filter_map entry_pair (vpkg_view entry.now ∷ []))) }
+fn is_met_by_entry(entry: &Vpkg<'_>, vpkg: &Vpkg<'_>) -> bool
+    ensures { result ≡ is_met_by_entry (vpkg_view vpkg.now) (vpkg_view entry.now) }
 {
     match entry.bound {
-        Some((_, number)) if entry.name == name => Some(single(number)),
-        _ => None,
+        None => false,
+        Some((_, number)) => entry.name == vpkg.name && meets(vpkg.bound, number),
     }
+}
+
+fn gives_all_of(entry: &Vpkg<'_>, name: &str) -> bool
+    ensures { result ≡ gives_all_of name.now (vpkg_view entry.now) }
+{
+    entry.bound.is_none() && entry.name == name
 }

@@ -1,5 +1,5 @@
 use Rattle.std.proofs.Common.{◌++◌, ◌∙◌, [], ◌∷◌, ap, option_map}
-use Rattle.cudf_universe.specs.Universe.{package_view}
+use Rattle.cudf_document.specs.Universe.{package_view}
 use Rattle.cudf_referee.specs.Keys.{key_text}
 use Rattle.cudf_referee.specs.Views.{instance_view}
 use Rattle.cudf_check.specs.Report.{line, place_text, what_text}

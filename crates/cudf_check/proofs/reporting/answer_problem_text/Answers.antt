@@ -1,8 +1,8 @@
 use Rattle.std.proofs.Common.{◌≡◌, Some, ap, sym, subst, ◌∙◌, codes}
 use Rattle.cudf_text.specs.Views.{text_view}
-use Rattle.cudf_universe.specs.Faults.{least, IsFirstFault}
-use Rattle.cudf_universe.specs.ProblemFaults.{problem_faults}
-use Rattle.cudf_universe.specs.Universe.{plain_problem}
+use Rattle.cudf_document.specs.Faults.{least, IsFirstFault}
+use Rattle.cudf_document.specs.ProblemFaults.{problem_faults}
+use Rattle.cudf_document.specs.Universe.{plain_problem}
 use Rattle.cudf_check.specs.Report.{faulty_or, solution_report}
 use Rattle.cudf_check.proofs.AnswerLemmas.{answers_as}
 use Rattle.cudf_check.proofs.reporting.answer_problem_text.Goals as goal

@@ -1,6 +1,6 @@
 use Rattle.std.proofs.Common.{◌<◌, length, refl, arith}
 use Rattle.std.specs.FinSet as set
-use Rattle.cudf_universe.specs.Universe.{package_view}
+use Rattle.cudf_document.specs.Universe.{package_view}
 use Rattle.cudf_universe.specs.Satisfaction.{Placed}
 use Rattle.cudf_referee.specs.Violations.{package_rules}
 use Rattle.cudf_referee.proofs.EntryLemmas.{flat_more}

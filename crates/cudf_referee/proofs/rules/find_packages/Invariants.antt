@@ -1,7 +1,7 @@
 use Rattle.std.proofs.Common.{◌≡◌, ◌++◌, map, take}
 use Rattle.std.specs.List.{flat_map, enumerate_from}
 use Rattle.std.specs.FinSet as set
-use Rattle.cudf_universe.specs.Universe.{package_view}
+use Rattle.cudf_document.specs.Universe.{package_view}
 use Rattle.cudf_referee.specs.Views.{instances_view}
 use Rattle.cudf_referee.specs.Violations.{package_rules}
 use Rattle.cudf_referee.proofs.rules.find_packages.Given as goal

@@ -1,5 +1,5 @@
 use Rattle.std.proofs.Common.{◌∙◌, sym, take, arith}
-use Rattle.cudf_text.specs.Marks.{marks}
+use Rattle.cudf_text.specs.Working.Marks.{marks}
 use Rattle.cudf_text.proofs.JoinedLemmas.{behind-passed, suffix-next}
 use Rattle.cudf_text.proofs.joined.behind.Goals as goal
 

@@ -1,7 +1,7 @@
 use Rattle.std.proofs.Common.{◌≡◌, ◌-◌, ◌≤◌, length, drop}
 use Rattle.cudf_text.specs.Joined.{len_through}
 use Rattle.cudf_text.specs.Lines.{lines, raw_lines}
-use Rattle.cudf_text.specs.Marks.{marks}
+use Rattle.cudf_text.specs.Working.Marks.{marks}
 use Rattle.cudf_text.proofs.joined.behind.Given as goal
 
 abbrev pub invariant-loop-mark : goal.invariant-loop-mark

@@ -1,6 +1,6 @@
 use Rattle.std.proofs.Common.{◌≡◌, ◌==◌, length, map, ap, sym, ◌∙◌}
 use Rattle.std.specs.FinSet as set
-use Rattle.cudf_universe.specs.Statuses.{is_initial, unknown_view}
+use Rattle.cudf_document.specs.Statuses.{is_initial, unknown_view}
 use Rattle.cudf_referee.specs.Entries.{is_empty}
 use Rattle.cudf_referee.specs.Proposals.{put_forward, proposal}
 use Rattle.cudf_referee.specs.Solutions.{is_solution}

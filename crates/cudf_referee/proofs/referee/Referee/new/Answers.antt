@@ -1,8 +1,9 @@
 use Rattle.std.proofs.Common.{◌≡◌, ◌++◌, map, ap, ◌∙◌}
 use Rattle.std.specs.FinSet as set
-use Rattle.cudf_universe.specs.Universe.{PlainRequest}
-use Rattle.cudf_universe.specs.Statuses.{is_initial, unknown_view}
+use Rattle.cudf_document.specs.Universe.{PlainRequest}
+use Rattle.cudf_document.specs.Statuses.{is_initial, unknown_view}
 use Rattle.cudf_universe.specs.Satisfaction.{members}
+use Rattle.cudf_referee.specs.Proposals.{put_forward}
 use Rattle.cudf_referee.specs.Views.{instance_view, instances_view}
 use Rattle.cudf_referee.specs.Violations.{violated_install, violated_remove, violated_upgrade, unknown_instance}
 use Rattle.cudf_referee.proofs.ListingLemmas.{listed}
@@ -26,3 +27,11 @@ invariant_of-result c =
           (c.in_ok-find_request.ensures ∙ ap (λ r. instances_view c.find_packages.new.found ++ rules r) c.request.ensures)
           (c.in_ok-find_unknown.ensures ∙ ap (λ us. instances_view c.find_request.new.found ++ map unknown_instance (map unknown_view us)) c.deref.ensures.value),
     )
+
+pub returns : goal.returns
+returns c =
+    let problem = c.args.problem.now in
+    let unknown = map unknown_view c.args.solution.now.unknown.items in
+    let was_is : set.contains c.in_ok-was_installed.was_installed ≡ is_initial problem = λ i place. c.in_ok-was_installed.ensures.places place i in
+    ap (λ before. put_forward problem before c.in_ok-proposed.proposed unknown) (c.in_ok-before.ensures ∙ ap (λ t. members t problem.packages) was_is)
+    ∙ ap (λ now. put_forward problem (members (is_initial problem) problem.packages) now unknown) c.in_ok-proposed.ensures

@@ -1,7 +1,7 @@
 use Rattle.std.proofs.Common.{◌≡◌, ℕ, ◌<◌, List, length, get_or, ap, ◌∙◌, arith, not}
 use Rattle.cudf_value.specs.Formulas.{PlainAtom}
 use Rattle.cudf_value.specs.Formulas.{clause_view}
-use Rattle.cudf_universe.specs.Universe.{package_view}
+use Rattle.cudf_document.specs.Universe.{package_view}
 use Rattle.cudf_universe.specs.Satisfaction.{satisfies_clause}
 use Rattle.cudf_referee.specs.Instances.{needs}
 use Rattle.cudf_referee.specs.Violations.{at_package}

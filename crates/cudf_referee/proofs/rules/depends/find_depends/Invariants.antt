@@ -1,6 +1,6 @@
 use Rattle.std.proofs.Common.{◌≡◌, ◌++◌, map, take, not}
 use Rattle.cudf_value.specs.Formulas.{clause_view}
-use Rattle.cudf_universe.specs.Universe.{package_view}
+use Rattle.cudf_document.specs.Universe.{package_view}
 use Rattle.cudf_universe.specs.Satisfaction.{satisfies_clause}
 use Rattle.cudf_referee.specs.Instances.{needs}
 use Rattle.cudf_referee.specs.Violations.{at_package}

@@ -1,7 +1,7 @@
 use Rattle.std.proofs.Common.{◌≡◌, ℕ, ◌<◌, length, get_or, ap, arith, not, None}
 use Rattle.cudf_value.specs.Vpkgs.{PlainVpkg}
 use Rattle.cudf_value.specs.Vpkgs.{vpkg_view}
-use Rattle.cudf_universe.specs.Universe.{request_view}
+use Rattle.cudf_document.specs.Universe.{request_view}
 use Rattle.cudf_universe.specs.Satisfaction.{satisfies}
 use Rattle.cudf_referee.specs.Instances.{install}
 use Rattle.cudf_referee.specs.Violations.{at_request}

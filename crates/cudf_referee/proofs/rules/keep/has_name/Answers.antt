@@ -1,6 +1,6 @@
 use Rattle.std.proofs.Common.{◌+◌, ◌<◌, ◌&&◌, ◌∙◌, length, sym, ap, bytes_eq, arith}
 use Rattle.std.specs.FinSet as set
-use Rattle.cudf_universe.specs.Universe.{package_view}
+use Rattle.cudf_document.specs.Universe.{package_view}
 use Rattle.cudf_universe.specs.Satisfaction.{Placed, members}
 use Rattle.cudf_referee.specs.Violations.{has_package}
 use Rattle.cudf_referee.proofs.StatusLemmas.{any-none_more, any-found_view}

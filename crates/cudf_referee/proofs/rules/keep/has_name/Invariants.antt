@@ -1,6 +1,6 @@
 use Rattle.std.proofs.Common.{◌≡◌, false, map, take}
 use Rattle.std.specs.FinSet as set
-use Rattle.cudf_universe.specs.Universe.{package_view}
+use Rattle.cudf_document.specs.Universe.{package_view}
 use Rattle.cudf_universe.specs.Satisfaction.{members}
 use Rattle.cudf_referee.specs.Violations.{has_package}
 use Rattle.cudf_referee.proofs.rules.keep.has_name.Given as goal

@@ -1,8 +1,8 @@
 use Rattle.std.proofs.Common.{◌<◌, [], length, map, subst, arith}
 use Rattle.std.proofs.Math.ListN.{get_or-map}
 use Rattle.std.proofs.lemmas.List.{length-map}
-use Rattle.cudf_universe.specs.declared.solution.Unknown.{Unknown}
-use Rattle.cudf_universe.specs.Statuses.{PlainUnknown, unknown_view}
+use Rattle.cudf_document.specs.declared.solution.Unknown.{Unknown}
+use Rattle.cudf_document.specs.Statuses.{PlainUnknown, unknown_view}
 use Rattle.cudf_referee.proofs.rules.unknown.find_unknown.Goals as goal
 
 -- what stands for a stanza past the end

@@ -1,5 +1,5 @@
 use Rattle.std.proofs.Common.{◌≡◌, ◌++◌, map, take}
-use Rattle.cudf_universe.specs.Statuses.{unknown_view}
+use Rattle.cudf_document.specs.Statuses.{unknown_view}
 use Rattle.cudf_referee.specs.Views.{instances_view}
 use Rattle.cudf_referee.specs.Violations.{unknown_instance}
 use Rattle.cudf_referee.proofs.rules.unknown.find_unknown.Given as goal

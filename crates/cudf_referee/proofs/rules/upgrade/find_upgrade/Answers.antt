@@ -1,6 +1,6 @@
 use Rattle.std.proofs.Common.{◌≡◌, ◌<◌, length, get_or, refl, ap, arith}
 use Rattle.cudf_value.specs.Vpkgs.{vpkg_view}
-use Rattle.cudf_universe.specs.Universe.{request_view}
+use Rattle.cudf_document.specs.Universe.{request_view}
 use Rattle.cudf_referee.specs.Violations.{violated_entry}
 use Rattle.cudf_referee.proofs.VpkgItems.{no_vpkg}
 use Rattle.cudf_referee.proofs.EntryLemmas.{flat_more}

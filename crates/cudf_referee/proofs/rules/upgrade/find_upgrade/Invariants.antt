@@ -1,7 +1,7 @@
 use Rattle.std.proofs.Common.{◌≡◌, ◌++◌, map, take}
 use Rattle.std.specs.List.{flat_map, enumerate_from}
 use Rattle.cudf_value.specs.Vpkgs.{vpkg_view}
-use Rattle.cudf_universe.specs.Universe.{request_view}
+use Rattle.cudf_document.specs.Universe.{request_view}
 use Rattle.cudf_referee.specs.Views.{instances_view}
 use Rattle.cudf_referee.specs.Violations.{violated_entry}
 use Rattle.cudf_referee.proofs.rules.upgrade.find_upgrade.Given as goal

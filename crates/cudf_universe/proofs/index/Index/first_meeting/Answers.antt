@@ -1,18 +1,21 @@
-use Rattle.std.proofs.Common.{◌≡◌, ap, ◌∙◌, rules, tests, ◌&&◌}
-use Rattle.std.specs.Prelude.{option_map}
-use Rattle.std.proofs.lemmas.Iterator.{YieldsList-from_slice}
-use Rattle.std.proofs.lemmas.Iterator.Search.{find_from_yields_List}
+use Rattle.std.proofs.Common.{None, Some, [], ap, ◌∙◌, ◌&&◌}
+use Rattle.std.specs.Prelude.{find}
+use Rattle.std.specs.FinSet as set
 use Rattle.cudf_value.specs.Vpkgs.{vpkg_view}
-use Rattle.cudf_universe.specs.Satisfaction.{first_meeting, other_than, meets_alone}
-use Rattle.cudf_universe.specs.Members.{member_view, is_other}
-use Rattle.cudf_universe.proofs.SatisfactionLemmas.{first_meeting-found}
+use Rattle.cudf_universe.specs.Working.Members.{is_other}
+use Rattle.cudf_universe.specs.Working.Kept.{Keeps, meets_at}
+use Rattle.cudf_universe.proofs.FirstLemmas.{first_place}
 use Rattle.cudf_universe.proofs.index.Index.first_meeting.Goals as goal
 
-pub returns : goal.returns
-returns c =
-    let members = c.self.inside.members.items in
+pub returns-in-Some : goal.returns-in-Some
+returns-in-Some c =
     let v = vpkg_view c.args.vpkg.now in
-    let found = find_from_yields_List (λ m. is_other c.args.except m.place && meets_alone v (member_view m)) _ _ c.find.result c.find.ensures.ran (YieldsList-from_slice members cc) (λ x b q k. search (rules, tests)) in
-    let place : c.map.result ≡ option_map (λ m. m.now.place) c.find.result = search rules in
-    place ∙ first_meeting-found member_view v (λ m. m.now) c.args.except members c.find.result found
-    ∙ ap (λ status. first_meeting (other_than c.args.except status) v) c.self.view_is
+    let keeps : Keeps v.name c.args.self.now (Some c.in-Some.entries.now) = rw c.in-Some.is at c.kept.ensures in
+    c.first_of.ensures ∙ ap (find (λ place. is_other c.args.except place && meets_at c.args.self.now v place)) c.deref.ensures.value
+    ∙ first_place v c.args.except (set.contains c.self.inside.status) c.self.inside.problem.now.packages c.args.self.now c.in-Some.entries.now.places.items c.self.view_is keeps.places
+
+pub returns-in-None : goal.returns-in-None
+returns-in-None c =
+    let v = vpkg_view c.args.vpkg.now in
+    let keeps : Keeps v.name c.args.self.now None = rw c.in-None.is at c.kept.ensures in
+    first_place v c.args.except (set.contains c.self.inside.status) c.self.inside.problem.now.packages c.args.self.now [] c.self.view_is keeps.places

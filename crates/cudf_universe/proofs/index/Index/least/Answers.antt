@@ -1,12 +1,15 @@
-use Rattle.std.proofs.Common.{◌≡◌, ap, sym, ◌∙◌, subst, rules}
-use Rattle.std.specs.Prelude.{option_map}
-use Rattle.cudf_universe.specs.Satisfaction.{numbers_of, IsLeast}
-use Rattle.cudf_universe.proofs.SpanLemmas.{span-least}
-use Rattle.std.proofs.iter.runs.Made.{chains}
+use Rattle.std.proofs.Common.{None, Some, []}
+use Rattle.cudf_universe.specs.Satisfaction.{numbers_of}
+use Rattle.cudf_universe.specs.Working.Kept.{Keeps}
+use Rattle.cudf_universe.proofs.EndLemmas.{least_same, least_none}
 use Rattle.cudf_universe.proofs.index.Index.least.Goals as goal
 
-pub returns : goal.returns
-returns c =
-    let numbers = numbers_of c.args.name.now c.args.self.now in
-    let least : c.map.result ≡ option_map (λ s. s.least) c.span.result = search (rules, chains) in
-    subst (IsLeast numbers) (ap (option_map (λ s. s.least)) (sym c.span.ensures) ∙ sym least) (span-least numbers)
+pub returns-in-Some : goal.returns-in-Some
+returns-in-Some c =
+    let keeps : Keeps c.args.name.now c.args.self.now (Some c.in-Some.entries.now) = rw c.in-Some.is at c.kept.ensures in
+    least_same c.in-Some.entries.now.numbers (numbers_of c.args.name.now c.args.self.now) keeps.numbers c.least.result c.least.ensures
+
+pub returns-in-None : goal.returns-in-None
+returns-in-None c =
+    let keeps : Keeps c.args.name.now c.args.self.now None = rw c.in-None.is at c.kept.ensures in
+    least_same [] (numbers_of c.args.name.now c.args.self.now) keeps.numbers None least_none

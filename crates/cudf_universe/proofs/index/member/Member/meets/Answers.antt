@@ -1,6 +1,6 @@
 use Rattle.std.proofs.Common.{refl, sym, ◌∙◌}
 use Rattle.cudf_value.specs.Vpkgs.{vpkg_view}
-use Rattle.cudf_universe.specs.Members.{member_view}
+use Rattle.cudf_universe.specs.Working.Members.{member_view}
 use Rattle.cudf_universe.proofs.SatisfactionLemmas.{entries_decide}
 use Rattle.cudf_universe.proofs.index.member.Member.meets.Goals as goal
 

@@ -1,0 +1,69 @@
+-- Declarations, one behind the other.
+use Rattle.std.proofs.Common.{◌≡◌, ℕ, ◌≤◌, Bool, true, false, ◌&&◌, List, [], ◌∷◌, ◌++◌, map, length, take, Some, find, refl, sym, ap, ◌∙◌, arith, if◌then◌else◌, option_map, bytes_eq}
+use Rattle.std.proofs.lemmas.List.{append_assoc, append-nil, take-append-le, length-take, take_all}
+use Rattle.std.proofs.lemmas.List.Folds.{list_all-append}
+use Rattle.std.specs.List.{list_all}
+use Rattle.cudf_value.specs.Declarations.{PlainDeclaration}
+use Rattle.cudf_document.specs.Values.{declared_test, test_of}
+use Rattle.cudf_document.specs.Documents.{with_earlier}
+use Rattle.cudf_document.specs.Preamble.{is_declarable, all_declarable}
+use Rattle.cudf_document.proofs.ListLemmas.{with_earlier-push}
+
+-- the test of a declared name is that of its first declaration
+pub test_of-declared : (name : List ℕ) (ds : List PlainDeclaration)
+    → test_of name (map declared_test ds) ≡ option_map (λ d. (declared_test d).1) (find (λ d. bytes_eq name d.name) ds)
+test_of-declared name [] = refl
+test_of-declared name (d ∷ ds) = by (bytes_eq name d.name) (test_of-declared name ds)
+  where
+    by : (b : Bool) → test_of name (map declared_test ds) ≡ option_map (λ e. (declared_test e).1) (find (λ e. bytes_eq name e.name) ds)
+        → (if b then Some ((declared_test d).1) else test_of name (map declared_test ds))
+        ≡ option_map (λ e. (declared_test e).1) (if b then Some d else find (λ e. bytes_eq name e.name) ds)
+    by true rest = refl
+    by false rest = rest
+
+and_true : (a : Bool) → (a && true) ≡ a
+and_true true = refl
+and_true false = refl
+
+pub all_declarable-push : (before ds : List PlainDeclaration) (d : PlainDeclaration)
+    → all_declarable before (ds ++ d ∷ []) ≡ (all_declarable before ds && is_declarable (before ++ ds, d))
+all_declarable-push before ds d =
+    ap (list_all is_declarable) (with_earlier-push before ds d)
+    ∙ list_all-append is_declarable (with_earlier before ds) ((before ++ ds, d) ∷ [])
+    ∙ ap (λ b. all_declarable before ds && b) (and_true (is_declarable (before ++ ds, d)))
+
+-- what was added so far: all of them, as long as all could be
+pub record Added (before now ds : List PlainDeclaration) (all : Bool) : Type 0 where
+  pub are_all : all ≡ all_declarable before ds
+  pub added : all ≡ true → now ≡ before ++ ds
+  pub kept : take (length before) now ≡ before
+
+-- nothing
+pub Added-none : (before : List PlainDeclaration) → Added before before [] true
+Added-none before = record { are_all = refl; added = λ _. sym (append-nil before); kept = take_all (length before) before (omega arith) }
+
+-- one more, where it can stand behind those that are there
+pub Added-next : (before now ds : List PlainDeclaration) (d : PlainDeclaration) (all is_added : Bool) (new : List PlainDeclaration)
+    → Added before now ds all → is_added ≡ is_declarable (now, d) → new ≡ (if is_added then now ++ d ∷ [] else now)
+    → Added before new (ds ++ d ∷ []) (all && is_added)
+Added-next before now ds d all is_added new so_far is new_is = record {
+  are_all = whole all so_far.are_all so_far.added ∙ sym (all_declarable-push before ds d);
+  added = more all is_added so_far.added new_is;
+  kept = ap (take (length before)) new_is ∙ still is_added;
+}
+  where
+    whole : (a : Bool) → a ≡ all_declarable before ds → (a ≡ true → now ≡ before ++ ds) → (a && is_added) ≡ (all_declarable before ds && is_declarable (before ++ ds, d))
+    whole true good there = (λ i. good i && (is ∙ ap (λ l. is_declarable (l, d)) (there refl)) i)
+    whole false bad there = ap (λ b. b && is_declarable (before ++ ds, d)) bad
+
+    more : (a b : Bool) → (a ≡ true → now ≡ before ++ ds) → new ≡ (if b then now ++ d ∷ [] else now) → (a && b) ≡ true → new ≡ before ++ (ds ++ d ∷ [])
+    more true true there pushed _ = pushed ∙ ap (λ l. l ++ d ∷ []) (there refl) ∙ append_assoc before ds (d ∷ [])
+    more true false there pushed h = absurd cc
+    more false b there pushed h = absurd cc
+
+    inside : length before ≤ length now
+    inside = let n = length-take (length before) now in let m = ap length so_far.kept in omega (arith, n, m)
+
+    still : (b : Bool) → take (length before) (if b then now ++ d ∷ [] else now) ≡ before
+    still true = take-append-le (length before) now (d ∷ []) inside ∙ so_far.kept
+    still false = so_far.kept

@@ -1,0 +1,283 @@
+-- What follows where a problem has no fault.
+use Rattle.std.proofs.Common.{◌≡◌, ◌≢◌, ℕ, zero, suc, ◌<◌, nat_eq, Bool, true, false, not, ◌||◌, ◌&&◌, List, [], ◌∷◌, ◌++◌, map, take, length, get_or, max, Option, None, Some, is_some, is_none, find, filter, filter_map, count_by, AllPairs, refl, sym, ap, ◌∙◌, arith, if◌then◌else◌, option_map, option_and_then, option_to_list, bytes_eq, codes}
+use Rattle.std.proofs.lemmas.Bool.{true≢false, and_parts, and_from, not-true, not-false, not_from_false, false_from_ne_true, eq-eqb}
+use Rattle.std.proofs.lemmas.List.{append-nil, append_assoc, get_or-take, length-take-le, get_or-map, length-map}
+use Rattle.std.proofs.lemmas.List.Elements.{filter_map-append}
+use Rattle.std.proofs.lemmas.List.Folds.{list_any-append, list_any_at}
+use Rattle.std.proofs.lemmas.List.Sums.{length-filter}
+use Rattle.std.specs.List.{list_any, list_all, flat_map, cons_option}
+use Rattle.cudf_text.specs.declared.fault.Fault.{Fault}
+use Rattle.cudf_text.specs.declared.fault.Kind.{Kind}
+use Rattle.cudf_text.specs.declared.fault.Kind.TheVariants.{E4, E5, E6, E9, E11, E12, E13}
+use Rattle.cudf_text.specs.Stanzas.{PlainProperty, PlainStanza, PlainText}
+use Rattle.cudf_value.specs.Declarations.{PlainDeclaration}
+use Rattle.cudf_document.specs.declared.postmark.Postmark.{Postmark}
+use Rattle.cudf_document.specs.declared.postmark.Postmark.TheVariants.{Preamble, Package, Request}
+use Rattle.cudf_document.specs.Faults.{fault_if}
+use Rattle.cudf_document.specs.Documents.{is_empty, with_earlier, first_mark, postmark, marks_preamble, marks_package, is_package, is_request, has_name, value_of, line_of}
+use Rattle.cudf_document.specs.Ids.{Id, is_id, is_among, is_known, id_with, id_under, id_of, are_distinct}
+use Rattle.cudf_document.specs.Values.{Test, name_value, version_value, can_be, test_of, fails}
+use Rattle.cudf_document.specs.Preamble.{declared}
+use Rattle.cudf_document.specs.ProblemFaults.{tests, place_faults, property_faults, repeated_faults, undeclared_faults, mistyped_faults, misdeclared_faults, version_property, repeated_package_faults, unversioned_faults, inner_faults, faults_or, stanza_faults, requestless_faults, problem_faults}
+use Rattle.cudf_document.specs.Universe.{PlainPackage, package_id, package_with, package_of, packages_in}
+use Rattle.cudf_document.specs.Laws.{IsSound}
+use Rattle.cudf_document.proofs.ListLemmas.{is_some-find, is_some-option_map}
+use Rattle.cudf_document.proofs.NameLemmas.{same_bytes, bytes_same}
+
+-- ---- lists without elements
+
+nil_parts : {A : Type 0} (xs ys : List A) → xs ++ ys ≡ [] → (xs ≡ []) × (ys ≡ [])
+nil_parts [] ys h = (refl, h)
+nil_parts (x ∷ xs) ys h = absurd cc
+
+none_of : (b : Bool) (n : ℕ) (k : Kind) → fault_if b n k ≡ [] → b ≡ false
+none_of true n k h = absurd cc
+none_of false n k h = refl
+
+neither : (place inner : List Fault) → faults_or place inner ≡ [] → (place ≡ []) × (inner ≡ [])
+neither [] inner h = (refl, h)
+neither (f ∷ fs) inner h = absurd cc
+
+-- a test that every element without faults passes
+all_without : {A B : Type 0} (faults : A → List B) (test : A → Bool) → ((x : A) → faults x ≡ [] → test x ≡ true)
+    → (xs : List A) → flat_map faults xs ≡ [] → list_all test xs ≡ true
+all_without faults test passes [] none = refl
+all_without faults test passes (x ∷ xs) none =
+    let parts = nil_parts (faults x) (flat_map faults xs) none in
+    (λ i. passes x parts.0 i && all_without faults test passes xs parts.1 i)
+
+all_behind : {A : Type 0} (test : A → Bool) (before xs : List A) → list_all (λ x. test x.1) (with_earlier before xs) ≡ list_all test xs
+all_behind test before [] = refl
+all_behind test before (x ∷ xs) = ap (λ b. test x && b) (all_behind test (before ++ x ∷ []) xs)
+
+-- ---- a stanza without faults
+
+record IsClean (before : List PlainStanza) (s : PlainStanza) : Type 0 where
+  not_late : list_any is_request before ≡ false
+  well_typed : list_all (λ p. not (fails (test_of p.name (tests (declared before) (postmark s))) p.value.bytes)) s.properties ≡ true
+  fresh : is_known (filter_map id_of before) (id_of s) ≡ false
+  versioned : (marks_package (postmark s) && is_none (version_property s)) ≡ false
+
+typed_property : (ds : List PlainDeclaration) (mark : Option Postmark) (x : List PlainProperty × PlainProperty) → property_faults ds mark x ≡ []
+    → not (fails (test_of x.1.name (tests ds mark)) x.1.value.bytes) ≡ true
+typed_property ds mark (before, p) none =
+    let front = nil_parts (repeated_faults mark (before, p) ++ undeclared_faults ds mark p ++ mistyped_faults ds mark p) (misdeclared_faults mark (before, p)) none in
+    let typed = nil_parts (repeated_faults mark (before, p) ++ undeclared_faults ds mark p) (mistyped_faults ds mark p) front.0 in
+    ap not (none_of (fails (test_of p.name (tests ds mark)) p.value.bytes) p.line E9 typed.1)
+
+clean : (before : List PlainStanza) (s : PlainStanza) → stanza_faults (before, s) ≡ [] → IsClean before s
+clean before s none =
+    let both = neither (place_faults (is_empty before) (list_any is_request before) (postmark s) s.line) (inner_faults before s) none in
+    let place = nil_parts (fault_if (is_none (postmark s)) s.line E4 ++ fault_if (marks_preamble (postmark s) && not (is_empty before)) s.line E5)
+    (fault_if (list_any is_request before) s.line E6) both.0 in
+    let inner = nil_parts (flat_map (property_faults (declared before) (postmark s)) (with_earlier [] s.properties) ++ repeated_package_faults (filter_map id_of before) s) (unversioned_faults s) both.1 in
+    let front = nil_parts (flat_map (property_faults (declared before) (postmark s)) (with_earlier [] s.properties)) (repeated_package_faults (filter_map id_of before) s) inner.0 in
+    record {
+      not_late = none_of (list_any is_request before) s.line E6 place.1;
+      well_typed =
+          sym (all_behind (λ p. not (fails (test_of p.name (tests (declared before) (postmark s))) p.value.bytes)) [] s.properties)
+          ∙ all_without (property_faults (declared before) (postmark s)) (λ x. not (fails (test_of x.1.name (tests (declared before) (postmark s))) x.1.value.bytes))
+          (typed_property (declared before) (postmark s)) (with_earlier [] s.properties) front.0;
+      fresh = none_of (is_known (filter_map id_of before) (id_of s)) (line_of (version_property s)) E11 front.1;
+      versioned = none_of (marks_package (postmark s) && is_none (version_property s)) s.last E12 inner.1;
+    }
+
+-- ---- the parts of a problem
+
+stanzas_clean : (text : PlainText) → problem_faults text ≡ [] → flat_map stanza_faults (with_earlier [] text.stanzas) ≡ []
+unfolding problem_faults
+stanzas_clean text none =
+    let parts = nil_parts (option_to_list text.fault ++ flat_map stanza_faults (with_earlier [] text.stanzas)) (requestless_faults text) none in
+    (nil_parts (option_to_list text.fault) (flat_map stanza_faults (with_earlier [] text.stanzas)) parts.0).1
+
+-- there is a request
+pub has_request : (text : PlainText) → problem_faults text ≡ [] → list_any is_request text.stanzas ≡ true
+unfolding problem_faults
+has_request text none =
+    let parts = nil_parts (option_to_list text.fault ++ flat_map stanza_faults (with_earlier [] text.stanzas)) (requestless_faults text) none in
+    not-false (list_any is_request text.stanzas) (none_of (not (list_any is_request text.stanzas)) (max 1 text.lines) E13 parts.1)
+
+-- ---- no pair twice
+
+packages_ids : (ds : List PlainDeclaration) (stanzas : List PlainStanza) → map package_id (filter_map (package_of ds) stanzas) ≡ filter_map id_of stanzas
+packages_ids ds [] = refl
+packages_ids ds (s ∷ stanzas) = by (id_of s) (packages_ids ds stanzas)
+  where
+    by : (o : Option Id) → map package_id (filter_map (package_of ds) stanzas) ≡ filter_map id_of stanzas
+        → map package_id (cons_option (option_map (package_with ds s.line s.properties) o) (filter_map (package_of ds) stanzas)) ≡ cons_option o (filter_map id_of stanzas)
+    by None rest = rest
+    by (Some id) rest = ap (λ l. id ∷ l) rest
+
+fresh_each : (before stanzas : List PlainStanza)
+    → list_all (λ x. not (is_known (filter_map id_of x.0) (id_of x.1))) (with_earlier before stanzas)
+    ≡ list_all (λ x. not (is_among x.0 x.1)) (with_earlier (filter_map id_of before) (filter_map id_of stanzas))
+fresh_each before [] = refl
+fresh_each before (s ∷ stanzas) = by (id_of s) refl (fresh_each (before ++ s ∷ []) stanzas)
+  where
+    rest : List Id → Bool
+    rest ids = list_all (λ x. not (is_among x.0 x.1)) (with_earlier ids (filter_map id_of stanzas))
+
+    by : (o : Option Id) → id_of s ≡ o
+        → list_all (λ x. not (is_known (filter_map id_of x.0) (id_of x.1))) (with_earlier (before ++ s ∷ []) stanzas)
+        ≡ list_all (λ x. not (is_among x.0 x.1)) (with_earlier (filter_map id_of (before ++ s ∷ [])) (filter_map id_of stanzas))
+        → (not (is_known (filter_map id_of before) o) && list_all (λ x. not (is_known (filter_map id_of x.0) (id_of x.1))) (with_earlier (before ++ s ∷ []) stanzas))
+        ≡ list_all (λ x. not (is_among x.0 x.1)) (with_earlier (filter_map id_of before) (cons_option o (filter_map id_of stanzas)))
+    by None is more = more ∙ ap (λ ids. list_all (λ x. not (is_among x.0 x.1)) (with_earlier ids (filter_map id_of stanzas)))
+        (filter_map-append id_of before (s ∷ []) ∙ ap (λ o. filter_map id_of before ++ cons_option o []) is ∙ append-nil (filter_map id_of before))
+    by (Some id) is more = ap (λ b. not (is_among (filter_map id_of before) id) && b)
+        (more ∙ ap (λ ids. list_all (λ x. not (is_among x.0 x.1)) (with_earlier ids (filter_map id_of stanzas)))
+        (filter_map-append id_of before (s ∷ []) ∙ ap (λ o. filter_map id_of before ++ cons_option o []) is))
+
+-- no two packages have one name and version
+pub ids_distinct : (text : PlainText) → problem_faults text ≡ [] → are_distinct (map package_id (packages_in text.stanzas)) ≡ true
+ids_distinct text none =
+    ap are_distinct (packages_ids (declared text.stanzas) text.stanzas)
+    ∙ sym (fresh_each [] text.stanzas)
+    ∙ all_without stanza_faults (λ x. not (is_known (filter_map id_of x.0) (id_of x.1)))
+    (λ x clean_x. not_from_false (is_known (filter_map id_of x.0) (id_of x.1)) (clean x.0 x.1 clean_x).fresh)
+    (with_earlier [] text.stanzas) (stanzas_clean text none)
+
+-- of pairs of which none stands twice, each isn't among those before it
+pub distinct-at : (ids : List Id) (i : ℕ) (d : Id) → are_distinct ids ≡ true → i < length ids → is_among (take i ids) (get_or ids i d) ≡ false
+distinct-at ids i d all within = at [] ids i all within
+  where
+    at : (before xs : List Id) (k : ℕ) → list_all (λ x. not (is_among x.0 x.1)) (with_earlier before xs) ≡ true → k < length xs → is_among (before ++ take k xs) (get_or xs k d) ≡ false
+    at before [] k h lt = absurd (omega arith)
+    at before (x ∷ xs) zero h lt =
+        ap (λ l. is_among l x) (append-nil before) ∙ not-true (is_among before x) (and_parts (not (is_among before x)) (list_all (λ y. not (is_among y.0 y.1)) (with_earlier (before ++ x ∷ []) xs)) h).0
+    at before (x ∷ xs) (suc k) h lt =
+        ap (λ l. is_among l (get_or xs k d)) (sym (append_assoc before (x ∷ []) (take k xs)))
+        ∙ at (before ++ x ∷ []) xs k (and_parts (not (is_among before x)) (list_all (λ y. not (is_among y.0 y.1)) (with_earlier (before ++ x ∷ []) xs)) h).1 (omega arith)
+
+pub same_id : (x : Id) → is_id x x ≡ true
+same_id x = and_from (bytes_eq x.0 x.0) (nat_eq x.1 x.1) (bytes_same x.0) (eq-eqb x.1 x.1 refl)
+
+-- two places of such pairs have different ones
+pub distinct-places : (ids : List Id) (i j : ℕ) (d : Id) → are_distinct ids ≡ true → i < j → j < length ids → is_id (get_or ids j d) (get_or ids i d) ≡ false
+distinct-places ids i j d all before within =
+    false_from_ne_true (is_id (get_or ids j d) (get_or ids i d)) (λ same.
+    let len : length (take j ids) ≡ j = length-take-le j ids (omega arith) in
+    let there : is_among (take j ids) (get_or ids j d) ≡ true =
+    list_any_at (is_id (get_or ids j d)) (take j ids) i d (omega arith)
+    (ap (is_id (get_or ids j d)) (get_or-take j ids i d before) ∙ same) in
+    true≢false (sym there ∙ distinct-at ids j d all within))
+
+-- ---- what a sound problem has
+
+all_apart : (packages : List PlainPackage) → are_distinct (map package_id packages) ≡ true → AllPairs (λ p q. package_id p ≢ package_id q) packages
+all_apart packages all i j d before within same =
+    let ids = map package_id packages in
+    let len : length ids ≡ length packages = length-map packages package_id in
+    let apart : is_id (get_or ids j (package_id d)) (get_or ids i (package_id d)) ≡ false = distinct-places ids i j (package_id d) all before (omega (arith, len)) in
+    let first : get_or ids i (package_id d) ≡ package_id (get_or packages i d) = get_or-map package_id packages i d (package_id d) (omega arith) in
+    let second : get_or ids j (package_id d) ≡ package_id (get_or packages j d) = get_or-map package_id packages j d (package_id d) within in
+    true≢false (sym (same_id (package_id (get_or packages j d)))
+    ∙ (λ k. is_id (package_id (get_or packages j d)) (sym same k))
+    ∙ (λ k. is_id (sym second k) (sym first k)) ∙ apart)
+
+one_passes : {A : Type 0} (p : A → Bool) (before xs : List A) → list_all (λ x. not (list_any p x.0)) (with_earlier before xs) ≡ true
+    → list_any p before ≡ false → list_any p xs ≡ true → length (filter p xs) ≡ 1
+one_passes p before [] all none one = absurd (true≢false (sym one))
+one_passes {A} p before (x ∷ xs) all none one =
+    by (p x) refl (one_passes p (before ++ x ∷ []) xs)
+  where
+    behind : list_all (λ y. not (list_any p y.0)) (with_earlier (before ++ x ∷ []) xs) ≡ true
+    behind = (and_parts (not (list_any p before)) (list_all (λ y. not (list_any p y.0)) (with_earlier (before ++ x ∷ []) xs)) all).1
+
+    so_far : (b : Bool) → p x ≡ b → list_any p (before ++ x ∷ []) ≡ b
+    so_far true is = list_any-append p before (x ∷ []) ∙ (λ i. none i || (is i || false))
+    so_far false is = list_any-append p before (x ∷ []) ∙ (λ i. none i || (is i || false))
+
+    nothing : (ys : List A) → list_any p (before ++ x ∷ []) ≡ true → list_all (λ y. not (list_any p y.0)) (with_earlier (before ++ x ∷ []) ys) ≡ true → ys ≡ []
+    nothing [] there h = refl
+    nothing (y ∷ ys) there h =
+        absurd (true≢false (sym there ∙ not-true (list_any p (before ++ x ∷ []))
+        (and_parts (not (list_any p (before ++ x ∷ []))) (list_all (λ z. not (list_any p z.0)) (with_earlier (before ++ x ∷ [] ++ y ∷ []) ys)) h).0))
+
+    by : (b : Bool) → p x ≡ b
+        → (list_all (λ y. not (list_any p y.0)) (with_earlier (before ++ x ∷ []) xs) ≡ true → list_any p (before ++ x ∷ []) ≡ false → list_any p xs ≡ true → length (filter p xs) ≡ 1)
+        → length (if b then x ∷ filter p xs else filter p xs) ≡ 1
+    by true is rest = ap (λ l. length (x ∷ filter p l)) (nothing xs (so_far true is) behind)
+    by false is rest = rest behind (so_far false is) (ap (λ b. b || list_any p xs) (sym is) ∙ one)
+
+-- there is one request
+one_request : (text : PlainText) → problem_faults text ≡ [] → count_by is_request text.stanzas ≡ 1
+one_request text none =
+    sym (length-filter is_request text.stanzas)
+    ∙ one_passes is_request [] text.stanzas
+    (all_without stanza_faults (λ x. not (list_any is_request x.0))
+    (λ x clean_x. not_from_false (list_any is_request x.0) (clean x.0 x.1 clean_x).not_late)
+    (with_earlier [] text.stanzas) (stanzas_clean text none))
+    refl (has_request text none)
+
+-- a property that is there and of its type has a value
+value_there : {A : Type 0} (read : List ℕ → Option A) (name : List ℕ) (known : List (List ℕ × Test)) (ps : List PlainProperty)
+    → test_of name known ≡ Some (can_be read) → list_all (λ p. not (fails (test_of p.name known) p.value.bytes)) ps ≡ true
+    → list_any (has_name name) ps ≡ true → is_some (value_of read name ps) ≡ true
+value_there read name known [] test typed there = absurd (true≢false (sym there))
+value_there {A} read name known (p ∷ ps) test typed there =
+    by (bytes_eq p.name name) refl there (value_there read name known ps test parts.1)
+  where
+    parts : (not (fails (test_of p.name known) p.value.bytes) ≡ true) × (list_all (λ q. not (fails (test_of q.name known) q.value.bytes)) ps ≡ true)
+    parts = and_parts (not (fails (test_of p.name known) p.value.bytes)) (list_all (λ q. not (fails (test_of q.name known) q.value.bytes)) ps) typed
+
+    twice : (b : Bool) → not (not b) ≡ b
+    twice true = refl
+    twice false = refl
+
+    by : (b : Bool) → bytes_eq p.name name ≡ b → (b || list_any (has_name name) ps) ≡ true → (list_any (has_name name) ps ≡ true → is_some (value_of read name ps) ≡ true)
+        → is_some (option_and_then (λ q. read q.value.bytes) (if b then Some p else find (has_name name) ps)) ≡ true
+    by true is there rest =
+        sym (twice (is_some (read p.value.bytes)))
+        ∙ ap (λ t. not (fails t p.value.bytes)) (sym (ap (λ n. test_of n known) (same_bytes p.name name is) ∙ test))
+        ∙ parts.0
+    by false is there rest = rest there
+
+named_package : (ps : List PlainProperty) → first_mark ps ≡ Some Package → list_any (has_name (codes "package")) ps ≡ true
+named_package [] marked = absurd cc
+named_package (p ∷ ps) marked =
+    ap (λ b. b || list_any (has_name (codes "package")) ps) (by (bytes_eq p.name (codes "preamble")) (bytes_eq p.name (codes "package")) (bytes_eq p.name (codes "request")) marked)
+  where
+    by : (a b c : Bool) → ◌≡◌ {A = Option Postmark} (if a then Some Preamble else (if b then Some Package else (if c then Some Request else None))) (Some Package) → b ≡ true
+    by true b c h = absurd cc
+    by false true c h = refl
+    by false false true h = absurd cc
+    by false false false h = absurd cc
+
+both_there : (name : Option (List ℕ)) (version : Option ℕ) → is_some name ≡ true → is_some version ≡ true → is_some (id_with name version) ≡ true
+both_there None version a b = absurd cc
+both_there (Some n) None a b = absurd cc
+both_there (Some n) (Some v) a b = refl
+
+-- a package stanza without faults has a name and a version
+id_there : (before : List PlainStanza) (s : PlainStanza) (mark : Option Postmark) → postmark s ≡ mark → IsClean before s
+    → (not (marks_package mark) || is_some (id_under mark s.properties)) ≡ true
+id_there before s None marked c = refl
+id_there before s (Some Preamble) marked c = refl
+id_there before s (Some Request) marked c = refl
+id_there before s (Some Package) marked c =
+    let known = tests (declared before) (Some Package) in
+    let typed : list_all (λ p. not (fails (test_of p.name known) p.value.bytes)) s.properties ≡ true =
+    ap (λ m. list_all (λ p. not (fails (test_of p.name (tests (declared before) m)) p.value.bytes)) s.properties) (sym marked) ∙ c.well_typed in
+    let version : is_none (version_property s) ≡ false = ap (λ m. marks_package m && is_none (version_property s)) (sym marked) ∙ c.versioned in
+    both_there (value_of name_value (codes "package") s.properties) (value_of version_value (codes "version") s.properties)
+    (value_there name_value (codes "package") known s.properties refl typed (named_package s.properties marked))
+    (value_there version_value (codes "version") known s.properties refl typed
+    (sym (is_some-find (has_name (codes "version")) s.properties) ∙ is_there (version_property s) version))
+  where
+    is_there : {A : Type 0} (o : Option A) → is_none o ≡ false → is_some o ≡ true
+    is_there None h = absurd cc
+    is_there (Some x) h = refl
+
+pub faultless_is_sound : (text : PlainText) → problem_faults text ≡ [] → IsSound text
+faultless_is_sound text none = record {
+  described =
+      sym (all_behind (λ s. not (is_package s) || is_some (package_of (declared text.stanzas) s)) [] text.stanzas)
+      ∙ all_without stanza_faults (λ x. not (is_package x.1) || is_some (package_of (declared text.stanzas) x.1))
+      (λ x clean_x.
+      ap (λ b. not (is_package x.1) || b) (is_some-option_map (package_with (declared text.stanzas) x.1.line x.1.properties) (id_of x.1))
+      ∙ id_there x.0 x.1 (postmark x.1) refl (clean x.0 x.1 clean_x))
+      (with_earlier [] text.stanzas) (stanzas_clean text none);
+  distinct = all_apart (packages_in text.stanzas) (ids_distinct text none);
+  requested = one_request text none;
+}

@@ -1,0 +1,130 @@
+-- Names of properties, and what the first property of a name says.
+use Rattle.std.proofs.Common.{◌≡◌, ℕ, Bool, true, false, ◌||◌, List, [], ◌∷◌, ◌++◌, map, Bor, Option, None, Some, is_some, find, refl, sym, ap, ◌∙◌, if◌then◌else◌, option_and_then, bytes_eq}
+use Rattle.std.proofs.lemmas.Bool.{true≢false}
+use Rattle.std.proofs.lemmas.Slice.Eq.{bytes_eq-Decides}
+use Rattle.std.proofs.lemmas.List.{append_assoc, map_push}
+use Rattle.std.proofs.lemmas.List.Folds.{list_any-append, find-append}
+use Rattle.std.specs.List.{list_any}
+use Rattle.std.specs.Option.{option_or}
+use Rattle.indexmap.specs.IndexSet.{insert_key}
+use Rattle.cudf_text.specs.Stanzas.{PlainProperty}
+use Rattle.cudf_document.specs.Working.Names.{AreNames}
+use Rattle.cudf_document.specs.Documents.{has_name, same_name, value_of}
+use Rattle.cudf_document.proofs.ListLemmas.{or_false, is_some-find, find_none, list_any-map, list_any-insert_key}
+
+-- ---- equal names
+
+pub same_bytes : (xs ys : List ℕ) → bytes_eq xs ys ≡ true → xs ≡ ys
+same_bytes xs ys same = (bytes_eq-Decides xs ys).0 same
+
+pub bytes_same : (xs : List ℕ) → bytes_eq xs xs ≡ true
+bytes_same xs = (bytes_eq-Decides xs xs).1 refl
+
+pub bytes_eq-sym : (xs ys : List ℕ) → bytes_eq xs ys ≡ bytes_eq ys xs
+bytes_eq-sym xs ys = by (bytes_eq xs ys) (bytes_eq ys xs) refl refl
+  where
+    by : (a b : Bool) → bytes_eq xs ys ≡ a → bytes_eq ys xs ≡ b → bytes_eq xs ys ≡ bytes_eq ys xs
+    by true true p q = p ∙ sym q
+    by false false p q = p ∙ sym q
+    by true false p q = absurd (true≢false (sym ((bytes_eq-Decides ys xs).1 (sym (same_bytes xs ys p))) ∙ q))
+    by false true p q = absurd (true≢false (sym ((bytes_eq-Decides xs ys).1 (sym (same_bytes ys xs q))) ∙ p))
+
+-- ---- the names that were seen
+
+pub AreNames-next : (names : List (List ℕ)) (ps : List PlainProperty) (p : PlainProperty) → AreNames names ps → AreNames (insert_key bytes_eq names p.name) (ps ++ p ∷ [])
+AreNames-next names ps p are name =
+    list_any-insert_key bytes_eq (bytes_eq name) names p.name (λ k same. ap (bytes_eq name) (sym (same_bytes p.name k same)))
+    ∙ (λ i. are name i || sym (or_false (bytes_eq name p.name)) i)
+    ∙ sym (list_any-append (λ q. bytes_eq name q.name) ps (p ∷ []))
+
+pub AreNames-more : (names : List (List ℕ)) (ps : List PlainProperty) (p : PlainProperty) (more : List PlainProperty) (new_names : List (List ℕ))
+    → AreNames names ps → more ≡ ps ++ p ∷ [] → new_names ≡ insert_key bytes_eq names p.name → AreNames new_names more
+AreNames-more names ps p more new_names are more_is names_is name =
+    ap (list_any (bytes_eq name)) names_is ∙ AreNames-next names ps p are name ∙ ap (list_any (λ q. bytes_eq name q.name)) (sym more_is)
+
+-- ---- values
+
+pub has_same_name : (name : List ℕ) (p : PlainProperty) (ps : List PlainProperty) → bytes_eq p.name name ≡ true → list_any (same_name p) ps ≡ list_any (has_name name) ps
+has_same_name name p [] same = refl
+has_same_name name p (q ∷ ps) same =
+    (λ i. (ap (λ n. bytes_eq n q.name) (same_bytes p.name name same) ∙ bytes_eq-sym name q.name) i || has_same_name name p ps same i)
+
+-- a property of another name says nothing
+pub value_of-other : {A : Type 0} (read : List ℕ → Option A) (name : List ℕ) (ps : List PlainProperty) (p : PlainProperty)
+    → bytes_eq p.name name ≡ false → value_of read name (ps ++ p ∷ []) ≡ value_of read name ps
+value_of-other read name ps p other =
+    ap (option_and_then (λ q. read q.value.bytes))
+    (find-append (has_name name) ps (p ∷ []) ∙ ap (λ b. option_or (find (has_name name) ps) (if b then Some p else None)) other ∙ or_none (find (has_name name) ps))
+  where
+    or_none : {B : Type 0} (x : Option B) → option_or x None ≡ x
+    or_none None = refl
+    or_none (Some y) = refl
+
+-- the first of its name does
+pub value_of-new : {A : Type 0} (read : List ℕ → Option A) (name : List ℕ) (ps : List PlainProperty) (p : PlainProperty)
+    → bytes_eq p.name name ≡ true → list_any (same_name p) ps ≡ false → value_of read name (ps ++ p ∷ []) ≡ read p.value.bytes
+value_of-new read name ps p same new =
+    let none : find (has_name name) ps ≡ None = find_none (has_name name) ps (sym (has_same_name name p ps same) ∙ new) in
+    ap (option_and_then (λ q. read q.value.bytes))
+    (find-append (has_name name) ps (p ∷ []) ∙ (λ i. option_or (none i) (if same i then Some p else None)))
+
+-- a repeated one says nothing
+pub value_of-repeated : {A : Type 0} (read : List ℕ → Option A) (name : List ℕ) (ps : List PlainProperty) (p : PlainProperty)
+    → list_any (same_name p) ps ≡ true → value_of read name (ps ++ p ∷ []) ≡ value_of read name ps
+value_of-repeated {A} read name ps p again = by (bytes_eq p.name name) refl
+  where
+    or_some : {B : Type 0} (x y : Option B) → is_some x ≡ true → option_or x y ≡ x
+    or_some None y h = absurd cc
+    or_some (Some z) y h = refl
+
+    by : (b : Bool) → bytes_eq p.name name ≡ b → value_of read name (ps ++ p ∷ []) ≡ value_of read name ps
+    by false other = value_of-other read name ps p other
+    by true same = ap (option_and_then (λ q. read q.value.bytes))
+        (find-append (has_name name) ps (p ∷ [])
+        ∙ or_some (find (has_name name) ps) (find (has_name name) (p ∷ [])) (is_some-find (has_name name) ps ∙ sym (has_same_name name p ps same) ∙ again))
+
+-- the value of a name, with what a property says that is the first of its own
+pub value_next : {A : Type 0} (read : List ℕ → Option A) (name : List ℕ) (ps : List PlainProperty) (p : PlainProperty) → list_any (same_name p) ps ≡ false
+    → value_of read name (ps ++ p ∷ []) ≡ (if bytes_eq p.name name then read p.value.bytes else value_of read name ps)
+value_next {A} read name ps p new = by (bytes_eq p.name name) refl
+  where
+    by : (b : Bool) → bytes_eq p.name name ≡ b → value_of read name (ps ++ p ∷ []) ≡ (if b then read p.value.bytes else value_of read name ps)
+    by true same = value_of-new read name ps p same new
+    by false other = value_of-other read name ps p other
+
+-- ---- the names of a set, the first of them in a list
+
+-- a name is among them where it is among the first or among the others
+any_kept : (name : List ℕ) (few more : List (Bor (List ℕ))) → list_any (bytes_eq name) (map (λ n. n.now) (few ++ more))
+    ≡ (list_any (λ n. bytes_eq name n.now) few || list_any (λ n. bytes_eq name n.now) more)
+any_kept name few more = list_any-map (λ n. n.now) (bytes_eq name) (few ++ more) ∙ list_any-append (λ n. bytes_eq name n.now) few more
+
+-- a name of the first is one of all
+pub any_few : (name : List ℕ) (few more : List (Bor (List ℕ))) → list_any (λ n. bytes_eq name n.now) few ≡ true
+    → list_any (bytes_eq name) (map (λ n. n.now) (few ++ more)) ≡ true
+any_few name few more known = any_kept name few more ∙ ap (λ b. b || list_any (λ n. bytes_eq name n.now) more) known
+
+-- any other name is one of all where it is among the others
+pub any_more : (name : List ℕ) (few more : List (Bor (List ℕ))) → list_any (λ n. bytes_eq name n.now) few ≡ false
+    → list_any (bytes_eq name) (map (λ n. n.now) (few ++ more)) ≡ list_any (λ n. bytes_eq name n.now) more
+any_more name few more unknown = any_kept name few more ∙ ap (λ b. b || list_any (λ n. bytes_eq name n.now) more) unknown
+
+pub insert_known : (names : List (List ℕ)) (name : List ℕ) → list_any (bytes_eq name) names ≡ true → names ≡ insert_key bytes_eq names name
+insert_known names name known = ap (λ b. if b then names else names ++ name ∷ []) (sym known)
+
+-- a new name goes among the others
+pub insert_more : (few more : List (Bor (List ℕ))) (name : Bor (List ℕ)) → list_any (λ n. bytes_eq name.now n.now) few ≡ false
+    → map (λ n. n.now) (few ++ insert_key (λ x y. bytes_eq x.now y.now) more name) ≡ insert_key bytes_eq (map (λ n. n.now) (few ++ more)) name.now
+insert_more few more name unknown =
+    by (list_any (λ n. bytes_eq name.now n.now) more)
+    ∙ ap (λ b. if b then map (λ n. n.now) (few ++ more) else map (λ n. n.now) (few ++ more) ++ name.now ∷ []) (sym (any_more name.now few more unknown))
+  where
+    by : (b : Bool) → map (λ n. n.now) (few ++ (if b then more else more ++ name ∷ []))
+        ≡ (if b then map (λ n. n.now) (few ++ more) else map (λ n. n.now) (few ++ more) ++ name.now ∷ [])
+    by true = refl
+    by false = ap (map (λ n. n.now)) (sym (append_assoc few more (name ∷ []))) ∙ map_push (λ n. n.now) (few ++ more) name
+
+-- or behind the first, where there are no others
+pub insert_few : (few : List (Bor (List ℕ))) (name : Bor (List ℕ)) → list_any (λ n. bytes_eq name.now n.now) few ≡ false
+    → map (λ n. n.now) ((few ++ name ∷ []) ++ []) ≡ insert_key bytes_eq (map (λ n. n.now) (few ++ [])) name.now
+insert_few few name unknown = ap (map (λ n. n.now)) (append_assoc few (name ∷ []) []) ∙ insert_more few [] name unknown

@@ -1,0 +1,71 @@
+-- Stanzas, by their first property, and the properties in them: CUDF 2.0, syntax of stanzas and properties.
+-- Own: of several properties of one name the first is the stanza's.
+use Rattle.std.specs.Prelude.{ℕ, Bool, true, false, List, [], ◌∷◌, ◌++◌, Option, Some, None, find, option_and_then, bytes_eq, codes, if◌then◌else◌}
+use Rattle.cudf_text.specs.Stanzas.{PlainProperty, PlainStanza}
+use Rattle.cudf_document.specs.declared.postmark.Postmark.{Postmark}
+use Rattle.cudf_document.specs.declared.postmark.Postmark.TheVariants.{Preamble, Package, Request}
+
+-- ---- lists
+
+abbrev pub is_empty : {A : Type 0} → List A → Bool
+is_empty [] = true
+is_empty (x ∷ xs) = false
+
+-- each with those before it; the first list is before them all
+abbrev pub with_earlier : {A : Type 0} → List A → List A → List (List A × A)
+with_earlier before [] = []
+with_earlier before (x ∷ xs) = (before, x) ∷ with_earlier (before ++ x ∷ []) xs
+
+-- ---- what a stanza is
+
+abbrev pub postmark_named : List ℕ → Option Postmark
+postmark_named name = if bytes_eq name (codes "preamble") then Some Preamble
+    else (if bytes_eq name (codes "package") then Some Package
+    else (if bytes_eq name (codes "request") then Some Request
+    else None))
+
+abbrev pub first_mark : List PlainProperty → Option Postmark
+first_mark [] = None
+first_mark (p ∷ ps) = postmark_named p.name
+
+-- the first property's name says what a stanza is
+abbrev pub postmark : PlainStanza → Option Postmark
+postmark s = first_mark s.properties
+
+abbrev pub marks_preamble : Option Postmark → Bool
+marks_preamble (Some Preamble) = true
+marks_preamble _ = false
+
+abbrev pub marks_package : Option Postmark → Bool
+marks_package (Some Package) = true
+marks_package _ = false
+
+abbrev pub marks_request : Option Postmark → Bool
+marks_request (Some Request) = true
+marks_request _ = false
+
+abbrev pub is_preamble : PlainStanza → Bool
+is_preamble s = marks_preamble (postmark s)
+
+abbrev pub is_package : PlainStanza → Bool
+is_package s = marks_package (postmark s)
+
+abbrev pub is_request : PlainStanza → Bool
+is_request s = marks_request (postmark s)
+
+-- ---- properties
+
+abbrev pub has_name : List ℕ → PlainProperty → Bool
+has_name name p = bytes_eq p.name name
+
+abbrev pub same_name : PlainProperty → PlainProperty → Bool
+same_name p q = bytes_eq p.name q.name
+
+-- what the first property of this name says
+abbrev pub value_of : {A : Type 0} → (List ℕ → Option A) → List ℕ → List PlainProperty → Option A
+value_of read name ps = option_and_then (λ p. read p.value.bytes) (find (has_name name) ps)
+
+-- the line of the first property of this name, or 0
+abbrev pub line_of : Option PlainProperty → ℕ
+line_of None = 0
+line_of (Some p) = p.line

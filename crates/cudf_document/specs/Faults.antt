@@ -1,0 +1,47 @@
+-- Faults and their order (own): by line, then by kind.
+use Rattle.std.specs.Prelude.{◌≡◌, ℕ, Bool, ◌&&◌, ◌||◌, ◌==◌, nat_lt, List, [], ◌∷◌, Option, Some, None, if◌then◌else◌}
+use Rattle.cudf_text.specs.declared.fault.Fault.{Fault}
+use Rattle.cudf_text.specs.declared.fault.Kind.{Kind}
+use Rattle.cudf_text.specs.declared.fault.Kind.TheVariants.{E1, E2, E3, E4, E5, E6, E7, E8, E9, E10, E11, E12, E13}
+use Rattle.cudf_document.specs.declared.error.ReadError.{ReadError}
+use Rattle.cudf_document.specs.declared.error.ReadError.TheVariants as error
+
+-- a kind's number
+abbrev pub rank : Kind → ℕ
+rank E1 = 1
+rank E2 = 2
+rank E3 = 3
+rank E4 = 4
+rank E5 = 5
+rank E6 = 6
+rank E7 = 7
+rank E8 = 8
+rank E9 = 9
+rank E10 = 10
+rank E11 = 11
+rank E12 = 12
+rank E13 = 13
+
+-- f is on an earlier line than g, or on the same line and of a lesser kind
+abbrev pub precedes : Fault → Fault → Bool
+precedes f g = nat_lt f.line g.line || f.line == g.line && nat_lt (rank f.kind) (rank g.kind)
+
+-- the one that precedes the other
+abbrev pub lesser : Option Fault → Option Fault → Option Fault
+lesser None g = g
+lesser (Some f) None = Some f
+lesser (Some f) (Some g) = Some (if precedes g f then g else f)
+
+-- the fault that precedes all others
+abbrev pub least : List Fault → Option Fault
+least [] = None
+least (f ∷ fs) = lesser (Some f) (least fs)
+
+-- a fault of this kind on this line, where the test says so
+abbrev pub fault_if : Bool → ℕ → Kind → List Fault
+fault_if test n kind = if test then record { line = n; kind = kind } ∷ [] else []
+
+-- a document is refused for the least of its faults, or for want of memory
+abbrev pub IsFirstFault : List Fault → ReadError → Type 0
+IsFirstFault faults (error.Fault f) = least faults ≡ Some f
+IsFirstFault faults (error.Memory e) = Unit {0}

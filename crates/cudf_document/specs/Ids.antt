@@ -1,0 +1,45 @@
+-- Name and version, which together identify a package: CUDF 2.0, universes.
+use Rattle.std.specs.Prelude.{ℕ, Bool, false, not, ◌&&◌, ◌==◌, List, [], Option, Some, None, option_and_then, option_map, bytes_eq, codes}
+use Rattle.std.specs.List.{list_any, list_all}
+use Rattle.indexmap.specs.IndexSet.{insert_key}
+use Rattle.cudf_text.specs.Stanzas.{PlainProperty, PlainStanza}
+use Rattle.cudf_document.specs.declared.postmark.Postmark.{Postmark}
+use Rattle.cudf_document.specs.declared.postmark.Postmark.TheVariants.{Package}
+use Rattle.cudf_document.specs.Documents.{with_earlier, postmark, value_of}
+use Rattle.cudf_document.specs.Values.{name_value, version_value}
+
+abbrev pub Id : Type 0
+Id = List ℕ × ℕ
+
+abbrev pub is_id : Id → Id → Bool
+is_id x y = bytes_eq x.0 y.0 && x.1 == y.1
+
+-- the pair is one of these
+abbrev pub is_among : List Id → Id → Bool
+is_among ids id = list_any (is_id id) ids
+
+-- there is a pair, and it is one of these
+abbrev pub is_known : List Id → Option Id → Bool
+is_known ids None = false
+is_known ids (Some id) = is_among ids id
+
+-- both, where there are both
+abbrev pub id_with : Option (List ℕ) → Option ℕ → Option Id
+id_with name version = option_and_then (λ n. option_map (λ v. (n, v)) version) name
+
+abbrev pub id_under : Option Postmark → List PlainProperty → Option Id
+id_under (Some Package) ps = id_with (value_of name_value (codes "package") ps) (value_of version_value (codes "version") ps)
+id_under _ ps = None
+
+-- the name and the version of a package stanza, where both are of their types
+abbrev pub id_of : PlainStanza → Option Id
+id_of s = id_under (postmark s) s.properties
+
+-- the pairs with one more, if there is one and it is new
+abbrev pub with_id : List Id → Option Id → List Id
+with_id ids None = ids
+with_id ids (Some id) = insert_key is_id ids id
+
+-- no pair stands twice
+abbrev pub are_distinct : List Id → Bool
+are_distinct ids = list_all (λ x. not (is_among x.0 x.1)) (with_earlier [] ids)

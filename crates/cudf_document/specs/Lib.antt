@@ -1,0 +1,11 @@
+pub mod Faults
+pub mod Documents
+pub mod Values
+pub mod Ids
+pub mod Preamble
+pub mod ProblemFaults
+pub mod SolutionFaults
+pub mod Universe
+pub mod Statuses
+pub mod Laws
+pub mod Working

@@ -1,0 +1,105 @@
+-- What is wrong with a problem: a clause for each kind of fault. The rules that they break are those of CUDF 2.0, syntax of
+-- documents and of stanzas, the preamble, package and request properties. Own: the kinds and their lines, and that a stanza
+-- in a wrong place has no other fault.
+use Rattle.std.specs.Prelude.{ℕ, Bool, not, ◌&&◌, max, List, [], ◌++◌, map, is_none, Option, Some, find, filter_map, option_to_list, if◌then◌else◌, codes}
+use Rattle.std.specs.List.{list_any, flat_map}
+use Rattle.cudf_text.specs.declared.fault.Fault.{Fault}
+use Rattle.cudf_text.specs.declared.fault.Kind.TheVariants.{E4, E5, E6, E7, E8, E9, E10, E11, E12, E13}
+use Rattle.cudf_text.specs.Stanzas.{PlainProperty, PlainStanza, PlainText}
+use Rattle.cudf_value.specs.Declarations.{PlainDeclaration}
+use Rattle.cudf_document.specs.declared.postmark.Postmark.{Postmark}
+use Rattle.cudf_document.specs.declared.postmark.Postmark.TheVariants.{Package, Request}
+use Rattle.cudf_document.specs.Faults.{fault_if}
+use Rattle.cudf_document.specs.Documents.{is_empty, with_earlier, postmark, marks_preamble, marks_package, is_request, has_name, same_name, line_of}
+use Rattle.cudf_document.specs.Ids.{Id, id_of, is_known}
+use Rattle.cudf_document.specs.Values.{Test, package_tests, request_tests, declared_test, test_of, fails}
+use Rattle.cudf_document.specs.Preamble.{is_bad_declaration, declared_behind, declared}
+
+-- ---- where a stanza stands
+
+-- E4, stanza without postmark
+abbrev pub unmarked_faults : Option Postmark → ℕ → List Fault
+unmarked_faults mark line = fault_if (is_none mark) line E4
+
+-- E5, preamble is not first
+abbrev pub late_preamble_faults : Bool → Option Postmark → ℕ → List Fault
+late_preamble_faults is_first mark line = fault_if (marks_preamble mark && not is_first) line E5
+
+-- E6, stanza after the request
+abbrev pub late_stanza_faults : Bool → ℕ → List Fault
+late_stanza_faults is_after_request line = fault_if is_after_request line E6
+
+abbrev pub place_faults : Bool → Bool → Option Postmark → ℕ → List Fault
+place_faults is_first is_after_request mark line =
+    unmarked_faults mark line ++ late_preamble_faults is_first mark line ++ late_stanza_faults is_after_request line
+
+-- ---- properties, each behind those before it in its stanza
+
+-- a name that may stand more than once: `property` in a preamble
+abbrev pub is_repeatable : Option Postmark → PlainProperty → Bool
+is_repeatable mark p = marks_preamble mark && has_name (codes "property") p
+
+-- the names that are known in a stanza, and what each has to be
+abbrev pub tests : List PlainDeclaration → Option Postmark → List (List ℕ × Test)
+tests ds (Some Package) = package_tests ++ map declared_test ds
+tests ds (Some Request) = request_tests
+tests ds _ = []
+
+-- E7, property repeated
+abbrev pub repeated_faults : Option Postmark → List PlainProperty × PlainProperty → List Fault
+repeated_faults mark (before, p) = fault_if (list_any (same_name p) before && not (is_repeatable mark p)) p.line E7
+
+-- E8, property not declared
+abbrev pub undeclared_faults : List PlainDeclaration → Option Postmark → PlainProperty → List Fault
+undeclared_faults ds mark p = fault_if (marks_package mark && is_none (test_of p.name (tests ds mark))) p.line E8
+
+-- E9, value is not of its type
+abbrev pub mistyped_faults : List PlainDeclaration → Option Postmark → PlainProperty → List Fault
+mistyped_faults ds mark p = fault_if (fails (test_of p.name (tests ds mark)) p.value.bytes) p.line E9
+
+-- E10, bad declaration
+abbrev pub misdeclared_faults : Option Postmark → List PlainProperty × PlainProperty → List Fault
+misdeclared_faults mark (before, p) = fault_if (marks_preamble mark && is_bad_declaration (declared_behind [] before) p) p.line E10
+
+abbrev pub property_faults : List PlainDeclaration → Option Postmark → List PlainProperty × PlainProperty → List Fault
+property_faults ds mark (before, p) =
+    repeated_faults mark (before, p) ++ undeclared_faults ds mark p ++ mistyped_faults ds mark p ++ misdeclared_faults mark (before, p)
+
+-- the faults of a stanza's properties
+abbrev pub properties_faults : List PlainDeclaration → Option Postmark → List PlainProperty → List Fault
+properties_faults ds mark ps = flat_map (property_faults ds mark) (with_earlier [] ps)
+
+-- ---- packages
+
+abbrev pub version_property : PlainStanza → Option PlainProperty
+version_property s = find (has_name (codes "version")) s.properties
+
+-- E11, package repeated
+abbrev pub repeated_package_faults : List Id → PlainStanza → List Fault
+repeated_package_faults ids s = fault_if (is_known ids (id_of s)) (line_of (version_property s)) E11
+
+-- E12, no version
+abbrev pub unversioned_faults : PlainStanza → List Fault
+unversioned_faults s = fault_if (marks_package (postmark s) && is_none (version_property s)) s.last E12
+
+-- ---- a stanza behind those before it, and a problem
+
+abbrev pub inner_faults : List PlainStanza → PlainStanza → List Fault
+inner_faults before s =
+    properties_faults (declared before) (postmark s) s.properties
+    ++ repeated_package_faults (filter_map id_of before) s ++ unversioned_faults s
+
+-- a stanza in a wrong place has no other fault
+abbrev pub faults_or : List Fault → List Fault → List Fault
+faults_or place inner = if is_empty place then inner else place
+
+abbrev pub stanza_faults : List PlainStanza × PlainStanza → List Fault
+stanza_faults (before, s) = faults_or (place_faults (is_empty before) (list_any is_request before) (postmark s) s.line) (inner_faults before s)
+
+-- E13, no request
+abbrev pub requestless_faults : PlainText → List Fault
+requestless_faults text = fault_if (not (list_any is_request text.stanzas)) (max 1 text.lines) E13
+
+-- the faults of a problem, in no order; the fault of a line is E2 or E3
+unfoldable pub problem_faults : PlainText → List Fault
+problem_faults text = option_to_list text.fault ++ flat_map stanza_faults (with_earlier [] text.stanzas) ++ requestless_faults text

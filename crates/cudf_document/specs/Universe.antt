@@ -1,0 +1,132 @@
+-- The packages and the request that a problem describes: CUDF 2.0, universes, package and request properties with their defaults.
+-- What these words say counts for a problem without fault; of any other they say something too.
+use Rattle.std.specs.Prelude.{ℕ, ◌-◌, ◌==◌, Bool, false, List, [], map, Option, None, is_some, find, filter_map, slice_get, unwrap_or, option_map, option_and_then, codes, Vec, if◌then◌else◌}
+use Rattle.std.specs.Option.{option_or}
+use Rattle.std.specs.declared.alloc.Global.{Global}
+use Rattle.cudf_text.specs.Stanzas.{PlainProperty, PlainStanza, PlainText}
+use Rattle.cudf_value.specs.declared.vpkg.Vpkg.{Vpkg}
+use Rattle.cudf_value.specs.Vpkgs.{PlainVpkg, vpkg_view}
+use Rattle.cudf_value.specs.Formulas.{PlainAtom, formula_view}
+use Rattle.cudf_value.specs.Declarations.{PlainDeclaration}
+use Rattle.cudf_document.specs.declared.package.Keep.{Keep}
+use Rattle.cudf_document.specs.declared.package.Keep.TheVariants.{Nothing}
+use Rattle.cudf_document.specs.declared.package.Package.{Package}
+use Rattle.cudf_document.specs.declared.request.Request.{Request}
+use Rattle.cudf_document.specs.Documents.{value_of, is_request}
+use Rattle.cudf_document.specs.Ids.{Id, id_of}
+use Rattle.cudf_document.specs.Values.{formula_value, list_value, exact_list_value, truth_value, keep_value}
+use Rattle.cudf_document.specs.Preamble.{declared, recommends_in, recommends_default}
+
+-- ---- packages
+
+-- a package, wherever it lies in memory
+pub record PlainPackage : Type 0 where
+  pub line : ℕ
+  pub name : List ℕ
+  pub version : ℕ
+  pub depends : List (List PlainAtom)
+  pub conflicts : List PlainVpkg
+  pub provides : List PlainVpkg
+  pub installed : Bool
+  pub keep : Keep
+  pub recommends : Option (List (List PlainAtom))
+
+abbrev pub list_view : Vec Vpkg Global → List PlainVpkg
+list_view entries = map vpkg_view entries.items
+
+abbrev pub package_view : Package → PlainPackage
+package_view p = record {
+  line = p.line;
+  name = p.name.now;
+  version = p.version;
+  depends = formula_view p.depends;
+  conflicts = list_view p.conflicts;
+  provides = list_view p.provides;
+  installed = p.installed;
+  keep = p.keep;
+  recommends = option_map formula_view p.recommends;
+}
+
+abbrev pub package_id : PlainPackage → Id
+package_id p = (p.name, p.version)
+
+-- the value, or the default
+abbrev pub or_default : {A : Type 0} → A → Option A → A
+or_default default value = unwrap_or value default
+
+-- a package's own `recommends`, where that is declared to be a formula
+abbrev pub own_recommends : List PlainDeclaration → List PlainProperty → Option (List (List PlainAtom))
+own_recommends ds ps = if is_some (recommends_in ds) then value_of formula_value (codes "recommends") ps else None
+
+-- the package of this name and version, with the values of its other properties or their defaults
+abbrev pub package_with : List PlainDeclaration → ℕ → List PlainProperty → Id → PlainPackage
+package_with ds line ps (name, version) = record {
+  line = line;
+  name = name;
+  version = version;
+  depends = or_default [] (value_of formula_value (codes "depends") ps);
+  conflicts = or_default [] (value_of list_value (codes "conflicts") ps);
+  provides = or_default [] (value_of exact_list_value (codes "provides") ps);
+  installed = or_default false (value_of truth_value (codes "installed") ps);
+  keep = or_default Nothing (value_of keep_value (codes "keep") ps);
+  recommends = own_recommends ds ps;
+}
+
+-- the package that a stanza describes, if it is a package stanza with a name and a version
+abbrev pub package_of : List PlainDeclaration → PlainStanza → Option PlainPackage
+package_of ds s = option_map (package_with ds s.line s.properties) (id_of s)
+
+-- ---- the request
+
+pub record PlainRequest : Type 0 where
+  pub line : ℕ
+  pub install : List PlainVpkg
+  pub remove : List PlainVpkg
+  pub upgrade : List PlainVpkg
+
+abbrev pub request_view : Request → PlainRequest
+request_view r = record { line = r.line; install = list_view r.install; remove = list_view r.remove; upgrade = list_view r.upgrade }
+
+abbrev pub request_of : PlainStanza → PlainRequest
+request_of s = record {
+  line = s.line;
+  install = or_default [] (value_of list_value (codes "install") s.properties);
+  remove = or_default [] (value_of list_value (codes "remove") s.properties);
+  upgrade = or_default [] (value_of list_value (codes "upgrade") s.properties);
+}
+
+-- what the first request stanza asks for
+abbrev pub request_in : List PlainStanza → Option PlainRequest
+request_in stanzas = option_map request_of (find is_request stanzas)
+
+-- asks for nothing; a problem without fault has a request
+abbrev pub no_request : PlainRequest
+no_request = record { line = 0; install = []; remove = []; upgrade = [] }
+
+-- ---- the problem
+
+pub record PlainProblem : Type 0 where
+  pub packages : List PlainPackage
+  pub request : PlainRequest
+  -- the declared default of `recommends`
+  pub recommends : Option (List (List PlainAtom))
+
+abbrev pub packages_in : List PlainStanza → List PlainPackage
+packages_in stanzas = filter_map (package_of (declared stanzas)) stanzas
+
+unfoldable pub plain_problem : PlainText → PlainProblem
+plain_problem text = record {
+  packages = packages_in text.stanzas;
+  request = or_default no_request (request_in text.stanzas);
+  recommends = recommends_default (declared text.stanzas);
+}
+
+-- ---- places
+
+-- the package at a place, counted from 1
+abbrev pub package_at : PlainProblem → ℕ → Option PlainPackage
+package_at problem place = if place == 0 then None else slice_get problem.packages (place - 1)
+
+-- what the package at a place recommends: by itself, or by the declared default
+abbrev pub recommends_at : PlainProblem → ℕ → Option (List (List PlainAtom))
+recommends_at problem place = option_or (option_and_then (λ p. p.recommends) (package_at problem place)) problem.recommends

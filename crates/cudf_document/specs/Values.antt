@@ -1,0 +1,94 @@
+-- The types of the properties that CUDF knows: CUDF 2.0, package and request properties. How a keep is written is CUDF's;
+-- that `was-installed` may be anything is own.
+use Rattle.std.specs.Prelude.{ℕ, Bool, true, false, not, List, [], ◌∷◌, Option, Some, None, is_some, bytes_eq, codes, if◌then◌else◌}
+use Rattle.cudf_value.specs.Chars.{trim}
+use Rattle.cudf_value.specs.Words.{truth, is_pkgname}
+use Rattle.cudf_value.specs.Numbers.{positive}
+use Rattle.cudf_value.specs.Vpkgs.{PlainVpkg}
+use Rattle.cudf_value.specs.Formulas.{PlainAtom, formula, vpkglist, veqpkglist}
+use Rattle.cudf_value.specs.Types.{is_of_type}
+use Rattle.cudf_value.specs.Declarations.{PlainDeclaration}
+use Rattle.cudf_document.specs.declared.package.Keep.{Keep}
+use Rattle.cudf_document.specs.declared.package.Keep.TheVariants.{Version, Package, Feature, Nothing}
+
+-- ---- how a value is read
+
+abbrev pub name_value : List ℕ → Option (List ℕ)
+name_value text = if is_pkgname text then Some text else None
+
+abbrev pub version_value : List ℕ → Option ℕ
+version_value text = positive (trim text)
+
+abbrev pub formula_value : List ℕ → Option (List (List PlainAtom))
+formula_value text = formula (trim text)
+
+abbrev pub list_value : List ℕ → Option (List PlainVpkg)
+list_value text = vpkglist (trim text)
+
+abbrev pub exact_list_value : List ℕ → Option (List PlainVpkg)
+exact_list_value text = veqpkglist (trim text)
+
+abbrev pub truth_value : List ℕ → Option Bool
+truth_value text = truth (trim text)
+
+abbrev pub keep_value : List ℕ → Option Keep
+keep_value text = if bytes_eq text (codes "version") then Some Version
+    else (if bytes_eq text (codes "package") then Some Package
+    else (if bytes_eq text (codes "feature") then Some Feature
+    else (if bytes_eq text (codes "none") then Some Nothing
+    else None)))
+
+-- ---- what a value has to be
+
+-- the values of a type
+abbrev pub Test : Type 0
+Test = List ℕ → Bool
+
+abbrev pub can_be : {A : Type 0} → (List ℕ → Option A) → Test
+can_be read = λ text. is_some (read text)
+
+abbrev pub is_anything : Test
+is_anything text = true
+
+-- the properties of a package, and what each has to be
+abbrev pub package_tests : List (List ℕ × Test)
+package_tests =
+    (codes "package", can_be name_value)
+    ∷ (codes "version", can_be version_value)
+    ∷ (codes "depends", can_be formula_value)
+    ∷ (codes "conflicts", can_be list_value)
+    ∷ (codes "provides", can_be exact_list_value)
+    ∷ (codes "installed", can_be truth_value)
+    ∷ (codes "keep", can_be keep_value)
+    ∷ (codes "was-installed", is_anything)
+    ∷ []
+
+-- the properties of a request that count
+abbrev pub request_tests : List (List ℕ × Test)
+request_tests =
+    (codes "install", can_be list_value)
+    ∷ (codes "remove", can_be list_value)
+    ∷ (codes "upgrade", can_be list_value)
+    ∷ []
+
+-- the properties of a solution's package that count
+abbrev pub solution_tests : List (List ℕ × Test)
+solution_tests =
+    (codes "package", can_be name_value)
+    ∷ (codes "version", can_be version_value)
+    ∷ (codes "installed", can_be truth_value)
+    ∷ []
+
+-- a declared property has to be of its declared type
+abbrev pub declared_test : PlainDeclaration → List ℕ × Test
+declared_test d = (d.name, λ text. is_of_type d.kind (trim text))
+
+-- what a property of this name has to be, if the name is known
+abbrev pub test_of : List ℕ → List (List ℕ × Test) → Option Test
+test_of name [] = None
+test_of name ((known, test) ∷ tests) = if bytes_eq name known then Some test else test_of name tests
+
+-- the value isn't what it has to be
+abbrev pub fails : Option Test → List ℕ → Bool
+fails None text = false
+fails (Some test) text = not (test text)

@@ -1,0 +1,41 @@
+//! Faults, alone and compared.
+ghost use Rattle.std.specs.Prelude.{◌≡◌};
+ghost use Rattle.cudf_document.specs.Faults.{precedes, lesser, least, fault_if};
+ghost use Rattle.cudf_document.specs.Working.Fields.{fault_on};
+
+use cudf_text::{Fault, Kind};
+
+/// The one that is on the earlier line, or on one line of the lesser kind.
+pub(crate) fn lesser(one: Option<Fault>, other: Option<Fault>) -> Option<Fault>
+    ensures { result ≡ lesser one other }
+{
+    match (one, other) {
+        (Some(f), Some(g)) => Some(if precedes(g, f) { g } else { f }),
+        (Some(f), None) => Some(f),
+        (None, g) => g,
+    }
+}
+
+fn precedes(f: Fault, g: Fault) -> bool
+    ensures { result ≡ precedes f g }
+{
+    f < g
+}
+
+/// A fault of this kind on this line, where the test says so.
+pub(crate) fn fault_if(test: bool, line: u64, kind: Kind) -> Option<Fault>
+    ensures { result ≡ least (fault_if test line kind) }
+{
+    if test {
+        Some(Fault { line, kind })
+    } else {
+        None
+    }
+}
+
+/// The fault of the kind on this line, if there is a kind.
+pub(crate) fn fault_on(line: u64, kind: Option<Kind>) -> Option<Fault>
+    ensures { result ≡ fault_on line kind }
+{
+    kind.map(|kind| Fault { line, kind })
+}

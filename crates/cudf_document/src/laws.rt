@@ -1,0 +1,14 @@
+//! What follows from the definitions alone. Each law is the contract of a function without effect.
+ghost use Rattle.cudf_document.specs.Laws.{LeastIsFirst, FaultlessIsSound};
+
+/// The fault that a reader answers is one of the document's faults and precedes every other one,
+/// and no other fault does.
+pub fn first()
+    ensures { LeastIsFirst }
+{}
+
+/// Where a problem has no fault, each package stanza describes a package, no two packages have
+/// one name and version, and there is one request.
+pub fn sound()
+    ensures { FaultlessIsSound }
+{}

@@ -1,0 +1,115 @@
+//! Problems: a universe and a request.
+ghost use Rattle.std.specs.Prelude.{◌≡◌, true, map, IfOk};
+ghost use Rattle.cudf_document.specs.Ids.{are_distinct};
+ghost use Rattle.cudf_document.specs.Universe.{package_view, package_id};
+
+use crate::ids::Ids;
+use crate::package::Package;
+use crate::request::Request;
+use cudf_value::Formula;
+use std::alloc::{AllocError, Global};
+use std::marker::Model;
+
+/// The packages and the request of a document without fault (CUDF 2.0, universes).
+#[derive(Drop)]
+pub struct Problem<'t> {
+    packages: Vec<Package<'t>>,
+    request: Request<'t>,
+    recommends: Option<Formula<'t>>,
+    ids: Ids<'t>,
+}
+
+impl<'t> Model for Problem<'t> {
+    ghost use Rattle.std.specs.Prelude.{◌≡◌, true, map, option_map};
+    ghost use Rattle.cudf_value.specs.Formulas.{formula_view};
+    ghost use Rattle.cudf_document.specs.Ids.{are_distinct};
+    ghost use Rattle.cudf_document.specs.Universe.{PlainProblem, package_view, request_view, package_id};
+
+    ghost Value = { PlainProblem };
+
+    ghost view = { λ p. record {
+      packages = map package_view p.packages.items;
+      request = request_view p.request;
+      recommends = option_map formula_view p.recommends;
+    } };
+
+    ghost invariant = { λ p. (p.ids ≡ map package_id (map package_view p.packages.items)) × (are_distinct p.ids ≡ true) };
+}
+
+impl<'t> Problem<'t> {
+    ghost use Rattle.std.specs.Prelude.{◌≡◌, ◌<◌, ◌≤◌, true, map, length, option_map, position, IfOk};
+    ghost use Rattle.cudf_value.specs.Formulas.{formula_view};
+    ghost use Rattle.cudf_document.specs.Ids.{is_id, are_distinct};
+    ghost use Rattle.cudf_document.specs.Universe.{package_view, request_view, package_id, recommends_at};
+
+    pub(crate) fn new(
+        alloc: Global,
+        packages: Vec<Package<'t>>,
+        request: Request<'t>,
+        recommends: Option<Formula<'t>>,
+    ) -> Result<Self, AllocError>
+        requires { are_distinct (map package_id (map package_view packages.items)) ≡ true }
+        ensures { IfOk result (λ p. p ≡ record {
+          packages = map package_view packages.entry.items;
+          request = request_view request.entry;
+          recommends = option_map formula_view recommends.entry;
+        }) }
+    {
+        let ids = ids_of(alloc, &packages)?;
+        Ok(Problem {
+            packages,
+            request,
+            recommends,
+            ids,
+        })
+    }
+
+    /// The universe: the packages in document order.
+    pub fn packages(&self) -> &[Package<'t>]
+        ensures { map package_view result.now ≡ self.now.packages }
+    {
+        self.packages.as_slice()
+    }
+
+    /// The request.
+    pub fn request(&self) -> &Request<'t>
+        ensures { request_view result.now ≡ self.now.request }
+    {
+        &self.request
+    }
+
+    /// What the package at this place of the universe recommends: what it says itself, or else the
+    /// declared default. `None` where neither is there, or where `recommends` isn't declared as
+    /// `vpkgformula`.
+    pub fn recommends(&self, place: u64) -> Option<&Formula<'t>>
+        requires from_one { 0 < place }
+        requires in_universe { place ≤ length self.now.packages }
+        ensures { option_map (λ f. formula_view f.now) result ≡ recommends_at self.now place }
+    {
+        self.packages[place as usize - 1]
+            .recommends
+            .as_ref()
+            .or(self.recommends.as_ref())
+    }
+
+    /// The index of the package of this name and version, if the universe has it.
+    pub(crate) fn index_of(&self, name: &str, version: u64) -> Option<usize>
+        ensures index { result
+            ≡ position (is_id (name.now, version)) (map package_id self.now.packages) }
+        ensures distinct { are_distinct (map package_id self.now.packages) ≡ true }
+    {
+        self.ids.index_of(name, version)
+    }
+}
+
+/// The names and versions of the packages.
+fn ids_of<'t>(alloc: Global, packages: &[Package<'t>]) -> Result<Ids<'t>, AllocError>
+    requires { are_distinct (map package_id (map package_view packages.now)) ≡ true }
+    ensures { IfOk result (λ ids. ids ≡ map package_id (map package_view packages.now)) }
+{
+    let mut ids = Ids::new(alloc);
+    for package in packages {
+        ids.insert(package.name, package.version)?;
+    }
+    Ok(ids)
+}

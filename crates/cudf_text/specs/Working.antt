@@ -1,0 +1,4 @@
+pub mod LineView
+pub mod Marks
+pub mod Steps
+pub mod Left

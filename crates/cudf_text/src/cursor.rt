@@ -1,0 +1,217 @@
+ghost use Rattle.std.specs.Prelude.{◌≡◌, map, IfOk};
+ghost use Rattle.cudf_text.specs.Lines.{class};
+ghost use Rattle.cudf_text.specs.Working.Left.{text_left, with_next, IsCounted};
+ghost use Rattle.cudf_text.specs.Working.Steps.{open_state, step, stepped, extend_last, value_onto};
+ghost use Rattle.cudf_text.specs.Views.{property_view, value_view};
+
+use crate::fault::{Fault, Kind};
+use crate::line::{Line, classify};
+use crate::lines::first_line;
+use crate::text::Property;
+use std::alloc::{AllocError, Global};
+use std::borrow::CowStr;
+use std::marker::Model;
+
+/// What a cursor answers.
+#[derive(Clone, Copy, Debug, PartialEq, Eq)]
+pub enum Next {
+    /// A stanza, by the line of its first property and its last line.
+    Stanza { line: u64, last: u64 },
+    /// There are no more stanzas: the first faulty line, and the number of all lines.
+    End { fault: Option<Fault>, lines: u64 },
+}
+
+/// A text's stanzas, of which each is read as it is asked for.
+#[derive(Drop)]
+pub struct Stanzas<'a> {
+    place: Place<'a>,
+}
+
+impl<'a> Model for Stanzas<'a> {
+    ghost use Rattle.cudf_text.specs.Stanzas.{PlainText};
+    ghost use Rattle.cudf_text.specs.Working.Left.{text_left, IsCounted};
+
+    ghost Value = { PlainText };
+
+    ghost view = { λ s. text_left s.place };
+
+    ghost invariant = { λ s. IsCounted s.place };
+}
+
+impl<'a> Stanzas<'a> {
+    ghost use Rattle.std.specs.Prelude.{◌≡◌, IfOk, IfErr};
+    ghost use Rattle.cudf_text.specs.Stanzas.{plain_text};
+    ghost use Rattle.cudf_text.specs.Working.Left.{with_next};
+
+    /// All stanzas of a text.
+    pub fn new(source: &'a str) -> Self
+        ensures { result ≡ plain_text source.now }
+    {
+        Stanzas {
+            place: Place {
+                rest: source,
+                lines: 0,
+                fault: None,
+            },
+        }
+    }
+
+    /// Reads the next stanza into the list, in place of what was there.
+    pub fn next(
+        &mut self,
+        alloc: Global,
+        properties: &mut Vec<Property<'a>>,
+    ) -> Result<Next, AllocError>
+        // What was left is what was read, and behind it what is left now.
+        ensures read { IfOk result (λ next.
+            self.old ≡ with_next next properties.new.items self.new) }
+        // Without memory nothing is passed over.
+        ensures kept { IfErr result (λ _. self.new ≡ self.old) }
+    {
+        let (next, place) = read_stanza(alloc, self.place, properties)?;
+        self.place = place;
+        Ok(next)
+    }
+}
+
+/// How far a text was read.
+#[derive(Clone, Copy)]
+pub(crate) struct Place<'a> {
+    /// The lines that are left.
+    rest: &'a str,
+    /// How many lines were read.
+    lines: u64,
+    /// The first faulty one.
+    fault: Option<Fault>,
+}
+
+/// Reads the next stanza into the list, in place of what was there.
+fn read_stanza<'a>(
+    alloc: Global,
+    place: Place<'a>,
+    properties: &mut Vec<Property<'a>>,
+) -> Result<(Next, Place<'a>), AllocError>
+    requires { IsCounted place }
+    ensures read { IfOk result (λ r.
+        text_left place.entry ≡ with_next r.0 properties.new.items (text_left r.1)) }
+    ensures counted { IfOk result (λ r. IsCounted r.1) }
+{
+    let mut place = place;
+    let mut last = 0;
+    properties.clear();
+    while let Some((line, rest)) = first_line(place.rest) {
+        place.rest = rest;
+        place.lines += 1;
+        if place.fault.is_none() {
+            match take(alloc, properties, &mut last, place.lines, line)? {
+                Taken::On => {}
+                Taken::Fault(kind) => {
+                    place.fault = Some(Fault {
+                        line: place.lines,
+                        kind,
+                    });
+                }
+                Taken::End(line) => return Ok((Next::Stanza { line, last }, place)),
+            }
+        }
+    }
+    let next = match properties.first() {
+        Some(first) => Next::Stanza {
+            line: first.line,
+            last,
+        },
+        None => Next::End {
+            fault: place.fault,
+            lines: place.lines,
+        },
+    };
+    Ok((next, place))
+}
+
+/// What a line did to the open stanza.
+#[derive(Clone, Copy)]
+pub(crate) enum Taken {
+    /// It goes on.
+    On,
+    /// It has ended; its first property is on this line.
+    End(u64),
+    /// The line is faulty.
+    Fault(Kind),
+}
+
+/// Takes the next line into the open stanza.
+fn take<'a>(
+    alloc: Global,
+    properties: &mut Vec<Property<'a>>,
+    last: &mut u64,
+    number: u64,
+    line: &'a str,
+) -> Result<Taken, AllocError>
+    ensures { IfOk result (λ taken.
+        step (open_state properties.old.items last.old) number (class line.now)
+        ≡ stepped taken number (open_state properties.new.items last.new)) }
+{
+    match classify(line) {
+        Line::Comment => {}
+        Line::Blank => {
+            if let Some(first) = properties.first() {
+                return Ok(Taken::End(first.line));
+            }
+        }
+        Line::Continuation(text) => {
+            if properties.is_empty() {
+                return Ok(Taken::Fault(Kind::E3));
+            }
+            continue_property(alloc, properties, text)?;
+            *last = number;
+        }
+        Line::Named(name, text) => {
+            properties.push(Property {
+                line: number,
+                name,
+                value: CowStr::Borrowed(text),
+            })?;
+            *last = number;
+        }
+        Line::Faulty => {
+            *last = number;
+            return Ok(Taken::Fault(Kind::E2));
+        }
+    }
+    Ok(Taken::On)
+}
+
+/// Adds one more text to the value of the last property.
+fn continue_property<'a>(
+    alloc: Global,
+    properties: &mut Vec<Property<'a>>,
+    text: &'a str,
+) -> Result<(), AllocError>
+    ensures { IfOk result (λ _.
+        map property_view properties.new.items
+        ≡ extend_last (map property_view properties.old.items) text.now) }
+{
+    let Some(Property { line, name, value }) = properties.pop() else {
+        return Ok(());
+    };
+    let value = with_text(alloc, value, text)?;
+    properties.push(Property { line, name, value })?;
+    Ok(())
+}
+
+/// The value with one more text, behind a space where both have bytes. Only a value of two texts
+/// is a text of its own.
+fn with_text<'a>(alloc: Global, value: CowStr<'a>, text: &'a str) -> Result<CowStr<'a>, AllocError>
+    ensures { IfOk result (λ joined. value_view joined ≡ value_onto (value_view value.entry) text.now) }
+{
+    if text.is_empty() {
+        return Ok(value);
+    }
+    if value.is_empty() {
+        return Ok(CowStr::Borrowed(text));
+    }
+    let mut joined = value.into_owned(alloc)?;
+    joined.push(' ')?;
+    joined.push_str(text)?;
+    Ok(CowStr::Owned(joined))
+}

@@ -1,0 +1,64 @@
+-- Lists with the same counts have the same ends.
+use Rattle.std.proofs.Common.{◌≡◌, ℕ, ◌<◌, ◌≤◌, zero, suc, Bool, true, false, ◌==◌, List, [], ◌∷◌, ◌++◌, length, get_or, Option, Some, None, refl, sym, ap, ◌∙◌, subst, arith, nat_lt, inl, inr}
+use Rattle.std.specs.Prelude.{Contains, All}
+use Rattle.std.specs.List.{count_by, list_any}
+use Rattle.std.proofs.lemmas.Bool.{eqb-true, eq-eqb, true≢false, or_cases}
+use Rattle.std.proofs.lemmas.List.{get_or_default}
+use Rattle.std.proofs.lemmas.List.Elements.{Contains-append_left, Contains-append_right, Contains-push}
+use Rattle.std.proofs.lemmas.List.Folds.{list_any_at}
+use Rattle.cudf_universe.specs.Satisfaction.{IsLeast, IsGreatest}
+use Rattle.cudf_universe.proofs.CountLemmas.{any-count, count-all}
+
+Contains-first : (x y : ℕ) (xs : List ℕ) → y ≡ x → Contains (y ∷ xs) x
+Contains-first x y xs e = subst (λ z. Contains (z ∷ xs) x) (sym e) (Contains-append_left (x ∷ []) xs x (Contains-push [] x))
+
+contains_any : (xs : List ℕ) (x : ℕ) → list_any (λ y. y == x) xs ≡ true → Contains xs x
+contains_any [] x e = absurd cc
+contains_any (y ∷ ys) x e =
+    elim (or_cases (y == x) (list_any (λ z. z == x) ys) e) [
+      | inl here ↦ Contains-first x y ys (eqb-true y x here)
+      | inr later ↦ Contains-append_right (y ∷ []) ys x (contains_any ys x later)
+    ]
+
+any_contains : (xs : List ℕ) (x : ℕ) → Contains xs x → list_any (λ y. y == x) xs ≡ true
+any_contains xs x at = list_any_at (λ y. y == x) xs at.0 x at.1 (eq-eqb (get_or xs at.0 x) x at.2)
+
+module _ (xs ys : List ℕ) (same : (p : ℕ → Bool) → count_by p xs ≡ count_by p ys) where
+  pub contains_same : (x : ℕ) → Contains xs x → Contains ys x
+  contains_same x at =
+      contains_any ys x (any-count (λ y. y == x) ys ∙ ap (nat_lt 0) (sym (same (λ y. y == x))) ∙ sym (any-count (λ y. y == x) xs) ∙ any_contains xs x at)
+
+  pub length_same : length xs ≡ length ys
+  length_same = sym (count-all xs) ∙ same (λ x. true) ∙ count-all ys
+
+pub all_same : (xs ys : List ℕ) → ((p : ℕ → Bool) → count_by p xs ≡ count_by p ys) → (P : ℕ → Type 0) → All P xs → All P ys
+all_same xs ys same P all = λ k d inside.
+    let at = contains_same ys xs (λ p. sym (same p)) (get_or ys k d) (k, inside, get_or_default ys k (get_or ys k d) d inside) in
+    subst P at.2 (all at.0 (get_or ys k d) at.1)
+
+nil_same : (xs ys : List ℕ) → length xs ≡ length ys → xs ≡ [] → ys ≡ []
+nil_same xs [] l e = refl
+nil_same xs (y ∷ ys) l e = absurd (omega (arith, ap length e))
+
+module _ (xs ys : List ℕ) (same : (p : ℕ → Bool) → count_by p xs ≡ count_by p ys) where
+  pub least_same : (o : Option ℕ) → IsLeast xs o → IsLeast ys o
+  least_same None l = record { none = (λ e. nil_same xs ys (length_same xs ys same) (l.none.0 e), λ e. refl); among = tt; bound = tt }
+  least_same (Some n) l = record {
+    none = (λ e. absurd (true≢false e), λ e. l.none.1 (nil_same ys xs (sym (length_same xs ys same)) e));
+    among = contains_same xs ys same n l.among;
+    bound = all_same xs ys same (λ m. n ≤ m) l.bound;
+  }
+
+  pub greatest_same : (o : Option ℕ) → IsGreatest xs o → IsGreatest ys o
+  greatest_same None l = record { none = (λ e. nil_same xs ys (length_same xs ys same) (l.none.0 e), λ e. refl); among = tt; bound = tt }
+  greatest_same (Some n) l = record {
+    none = (λ e. absurd (true≢false e), λ e. l.none.1 (nil_same ys xs (sym (length_same xs ys same)) e));
+    among = contains_same xs ys same n l.among;
+    bound = all_same xs ys same (λ m. m ≤ n) l.bound;
+  }
+
+pub least_none : IsLeast [] None
+least_none = record { none = (λ _. refl, λ _. refl); among = tt; bound = tt }
+
+pub greatest_none : IsGreatest [] None
+greatest_none = record { none = (λ _. refl, λ _. refl); among = tt; bound = tt }

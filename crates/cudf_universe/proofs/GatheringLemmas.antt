@@ -1,0 +1,223 @@
+-- What packages give, gathered by name.
+use Rattle.std.proofs.Common.{◌≡◌, ℕ, ◌+◌, ◌<◌, zero, suc, Bool, true, false, cond, List, [], ◌∷◌, ◌++◌, length, get_or, take, map, Option, Some, None, refl, sym, ap, ◌∙◌, arith, bytes_eq, subst, Bor}
+use Rattle.std.specs.Prelude.{filter, filter_map, option_map, slice_get, option_to_list, option_and_then, position}
+use Rattle.std.specs.Option.{is_none}
+use Rattle.std.specs.List.{count_by, flat_map, cons_option}
+use Rattle.std.specs.Global.{Vec}
+use Rattle.std.proofs.lemmas.List.{map-append}
+use Rattle.std.proofs.lemmas.List.Elements.{filter-append}
+use Rattle.cudf_value.specs.Vpkgs.{PlainVpkg}
+use Rattle.cudf_universe.specs.declared.index.entries.Entries.{Entries}
+use Rattle.cudf_universe.specs.declared.index.gathered_names.Provision.{Provision}
+use Rattle.std.proofs.lemmas.List.{append-nil}
+use Rattle.std.proofs.lemmas.List.Concat.{flat_map-append}
+use Rattle.cudf_value.specs.declared.relop.Relop.{Relop}
+use Rattle.cudf_document.specs.Universe.{PlainPackage}
+use Rattle.cudf_universe.specs.Satisfaction.{Placed, Pair, members, entry_pair, unversioned_name, name_unless, package_pairs, gives, gives_all_versions, numbers_of}
+use Rattle.cudf_universe.specs.Working.Kept.{Keeps, found, places_of}
+use Rattle.cudf_universe.specs.Working.Gathering.{row_items, provisions_of, own_entry, given_by, given_of, Completes, CompletesAt}
+use Rattle.cudf_universe.proofs.MemberLemmas.{members-more}
+use Rattle.cudf_universe.proofs.FoundLemmas.{found_at}
+use Rattle.cudf_universe.proofs.CountLemmas.{count-cons, count-append}
+
+-- ---- rows that are completed in turn
+
+pub completes_push : (xs : List (Vec Provision)) (ys : List Entries) (x : Vec Provision) (y : Entries) → length ys ≡ length xs → ((k : ℕ) → CompletesAt (slice_get xs k) (slice_get ys k)) → Completes x.items y
+    → (k : ℕ) → CompletesAt (slice_get (xs ++ x ∷ []) k) (slice_get (ys ++ y ∷ []) k)
+completes_push [] [] x y same done more zero = more
+completes_push [] [] x y same done more (suc k) = tt
+completes_push [] (y' ∷ ys) x y same done more k = absurd (omega arith)
+completes_push (x' ∷ xs) [] x y same done more k = absurd (omega arith)
+completes_push (x' ∷ xs) (y' ∷ ys) x y same done more zero = done zero
+completes_push (x' ∷ xs) (y' ∷ ys) x y same done more (suc k) = completes_push xs ys x y (omega arith) (λ j. done (suc j)) more k
+
+-- each item of a row has a number or none
+pub numbers_and_none : (row : List Provision) → length (filter_map (λ g. g.number) row) + count_by (λ g. is_none g.number) row ≡ length row
+numbers_and_none [] = refl
+numbers_and_none (g ∷ gs) =
+    ap (λ n. length (cons_option g.number (filter_map (λ h. h.number) gs)) + n) (count-cons (λ h. is_none h.number) g gs)
+    ∙ by g.number ∙ ap (λ n. n + 1) (numbers_and_none gs) ∙ omega arith
+  where
+    by : (o : Option ℕ) → length (cons_option o (filter_map (λ g. g.number) gs)) + (cond (is_none o) 1 0 + count_by (λ g. is_none g.number) gs) ≡ (length (filter_map (λ g. g.number) gs) + count_by (λ g. is_none g.number) gs) + 1
+    by None = omega arith
+    by (Some n) = omega arith
+
+-- one entry more
+pub provisions-push : (f : List ℕ) (place : ℕ) (xs : List PlainVpkg) (e : PlainVpkg)
+    → provisions_of f place (xs ++ e ∷ []) ≡ provisions_of f place xs ++ cond (bytes_eq e.name f) (record { number = option_map (λ b. b.1) e.bound; place = place } ∷ []) []
+provisions-push f place xs e =
+    ap (map given) (filter-append (λ entry. bytes_eq entry.name f) xs (e ∷ []))
+    ∙ map-append given (filter (λ entry. bytes_eq entry.name f) xs) (cond (bytes_eq e.name f) (e ∷ []) [])
+    ∙ ap (λ ys. provisions_of f place xs ++ ys) (by (bytes_eq e.name f))
+  where
+    given : PlainVpkg → Provision
+    given entry = record { number = option_map (λ b. b.1) entry.bound; place = place }
+
+    by : (b : Bool) → map given (cond b (e ∷ []) []) ≡ cond b (given e ∷ []) []
+    by true = refl
+    by false = refl
+
+pub filter_map_push : {X Y : Type 0} (h : X → Option Y) (xs : List X) (x : X) → filter_map h (xs ++ x ∷ []) ≡ filter_map h xs ++ option_to_list (h x)
+filter_map_push {Y = Y} h [] x = by (h x)
+  where
+    by : (o : Option Y) → cons_option o [] ≡ option_to_list o
+    by None = refl
+    by (Some y) = refl
+filter_map_push {Y = Y} h (y ∷ ys) x = by (h y) (filter_map_push h ys x)
+  where
+    by : (o : Option Y) → filter_map h (ys ++ x ∷ []) ≡ filter_map h ys ++ option_to_list (h x) → cons_option o (filter_map h (ys ++ x ∷ [])) ≡ cons_option o (filter_map h ys) ++ option_to_list (h x)
+    by None rest = rest
+    by (Some z) rest = ap (λ zs. z ∷ zs) rest
+
+-- one entry first
+pub provisions-cons : (f : List ℕ) (place : ℕ) (e : PlainVpkg) (es : List PlainVpkg)
+    → provisions_of f place (e ∷ es) ≡ cond (bytes_eq e.name f) (record { number = option_map (λ b. b.1) e.bound; place = place } ∷ []) [] ++ provisions_of f place es
+provisions-cons f place e es = by (bytes_eq e.name f)
+  where
+    given : PlainVpkg → Provision
+    given entry = record { number = option_map (λ b. b.1) entry.bound; place = place }
+
+    by : (b : Bool) → map given (cond b (e ∷ filter (λ entry. bytes_eq entry.name f) es) (filter (λ entry. bytes_eq entry.name f) es)) ≡ cond b (given e ∷ []) [] ++ provisions_of f place es
+    by true = refl
+    by false = refl
+
+-- ---- one package more
+
+module _ {A : Type 0} (view : A → PlainPackage) (f : List ℕ) (holds : ℕ → Bool) (xs : List A) (i : ℕ) (d : A) (inside : i < length xs) where
+  given_more : (b : Bool) → holds (i + 1) ≡ b → given_of f (members holds (map view (take (i + 1) xs))) ≡ given_of f (members holds (map view (take i xs))) ++ given_of f (cond b ((i + 1, view (get_or xs i d)) ∷ []) [])
+  given_more b e =
+      ap (given_of f) (members-more {B = Placed} view (λ p. p) holds xs i d inside ∙ ap (λ c. members holds (map view (take i xs)) ++ cond c ((i + 1, view (get_or xs i d)) ∷ []) []) e)
+      ∙ flat_map-append (given_by f) (members holds (map view (take i xs))) (cond b ((i + 1, view (get_or xs i d)) ∷ []) [])
+
+  pub given_kept : (done now : List Provision) → holds (i + 1) ≡ true → done ≡ given_of f (members holds (map view (take i xs))) → now ≡ done ++ given_by f (i + 1, view (get_or xs i d)) → now ≡ given_of f (members holds (map view (take (i + 1) xs)))
+  given_kept done now e before more =
+      more ∙ ap (λ ps. ps ++ given_by f (i + 1, view (get_or xs i d))) before
+      ∙ ap (λ ps. given_of f (members holds (map view (take i xs))) ++ ps) (sym (append-nil (given_by f (i + 1, view (get_or xs i d))))) ∙ sym (given_more true e)
+
+  pub given_left_out : (done : List Provision) → holds (i + 1) ≡ false → done ≡ given_of f (members holds (map view (take i xs))) → done ≡ given_of f (members holds (map view (take (i + 1) xs)))
+  given_left_out done e before = before ∙ sym (append-nil (given_of f (members holds (map view (take i xs))))) ∙ sym (given_more false e)
+
+-- ---- what is gathered is what the status gives
+
+-- the provisions of an entry
+abbrev one_given : Bool → Option ℕ → ℕ → List Provision
+one_given b number place = cond b (record { number = number; place = place } ∷ []) []
+
+module _ (f : List ℕ) where
+  abbrev named_numbers : List Pair → List ℕ
+  named_numbers pairs = map (λ pair. pair.1) (filter (λ pair. bytes_eq pair.0 f) pairs)
+
+  numbers-append : (xs ys : List Pair) → named_numbers (xs ++ ys) ≡ named_numbers xs ++ named_numbers ys
+  numbers-append xs ys =
+      ap (map (λ (pair : Pair). pair.1)) (filter-append (λ (pair : Pair). bytes_eq pair.0 f) xs ys)
+      ∙ map-append (λ (pair : Pair). pair.1) (filter (λ (pair : Pair). bytes_eq pair.0 f) xs) (filter (λ (pair : Pair). bytes_eq pair.0 f) ys)
+
+  filter_map_append : (xs ys : List Provision) → filter_map (λ g. g.number) (xs ++ ys) ≡ filter_map (λ g. g.number) xs ++ filter_map (λ g. g.number) ys
+  filter_map_append [] ys = refl
+  filter_map_append (x ∷ xs) ys = by x.number (filter_map_append xs ys)
+    where
+      by : (o : Option ℕ) → filter_map (λ g. g.number) (xs ++ ys) ≡ filter_map (λ g. g.number) xs ++ filter_map (λ g. g.number) ys → cons_option o (filter_map (λ g. g.number) (xs ++ ys)) ≡ cons_option o (filter_map (λ g. g.number) xs) ++ filter_map (λ g. g.number) ys
+      by None rest = rest
+      by (Some n) rest = ap (λ ns. n ∷ ns) rest
+
+  entry_numbers : (place : ℕ) (es : List PlainVpkg) → named_numbers (filter_map entry_pair es) ≡ filter_map (λ g. g.number) (provisions_of f place es)
+  entry_numbers place [] = refl
+  entry_numbers place (e ∷ es) =
+      by e.bound (entry_numbers place es)
+      ∙ sym (filter_map_append (one_given (bytes_eq e.name f) (option_map (λ b. b.1) e.bound) place) (provisions_of f place es))
+      ∙ ap (filter_map (λ g. g.number)) (sym (provisions-cons f place e es))
+    where
+      with_number : (b : Bool) (n : ℕ) (rest : named_numbers (filter_map entry_pair es) ≡ filter_map (λ g. g.number) (provisions_of f place es))
+          → map (λ pair. pair.1) (cond b ((e.name, n) ∷ filter (λ pair. bytes_eq pair.0 f) (filter_map entry_pair es)) (filter (λ pair. bytes_eq pair.0 f) (filter_map entry_pair es)))
+          ≡ filter_map (λ g. g.number) (one_given b (Some n) place) ++ filter_map (λ g. g.number) (provisions_of f place es)
+      with_number true n rest = ap (λ ns. n ∷ ns) rest
+      with_number false n rest = rest
+
+      without_number : (b : Bool) → filter_map (λ g. g.number) (provisions_of f place es) ≡ filter_map (λ g. g.number) (one_given b None place) ++ filter_map (λ g. g.number) (provisions_of f place es)
+      without_number true = refl
+      without_number false = refl
+
+      by : (o : Option (Relop × ℕ)) → named_numbers (filter_map entry_pair es) ≡ filter_map (λ g. g.number) (provisions_of f place es)
+          → named_numbers (cons_option (option_map (λ bound. (e.name, bound.1)) o) (filter_map entry_pair es)) ≡ filter_map (λ g. g.number) (one_given (bytes_eq e.name f) (option_map (λ b. b.1) o) place) ++ filter_map (λ g. g.number) (provisions_of f place es)
+      by None rest = rest ∙ without_number (bytes_eq e.name f)
+      by (Some bound) rest = with_number (bytes_eq e.name f) bound.1 rest
+
+  entry_names : (place : ℕ) (es : List PlainVpkg) → count_by (λ given. bytes_eq given f) (filter_map unversioned_name es) ≡ count_by (λ g. is_none g.number) (provisions_of f place es)
+  entry_names place [] = refl
+  entry_names place (e ∷ es) =
+      by e.bound (entry_names place es)
+      ∙ sym (count-append (λ g. is_none g.number) (one_given (bytes_eq e.name f) (option_map (λ b. b.1) e.bound) place) (provisions_of f place es))
+      ∙ ap (count_by (λ g. is_none g.number)) (sym (provisions-cons f place e es))
+    where
+      all_versions : (b : Bool) → cond b 1 0 ≡ count_by (λ g. is_none g.number) (one_given b None place)
+      all_versions true = refl
+      all_versions false = refl
+
+      number : (b : Bool) (n : ℕ) → 0 ≡ count_by (λ g. is_none g.number) (one_given b (Some n) place)
+      number true n = refl
+      number false n = refl
+
+      by : (o : Option (Relop × ℕ)) → count_by (λ given. bytes_eq given f) (filter_map unversioned_name es) ≡ count_by (λ g. is_none g.number) (provisions_of f place es)
+          → count_by (λ given. bytes_eq given f) (cons_option (name_unless e.name o) (filter_map unversioned_name es)) ≡ count_by (λ g. is_none g.number) (one_given (bytes_eq e.name f) (option_map (λ b. b.1) o) place) + count_by (λ g. is_none g.number) (provisions_of f place es)
+      by None rest = omega (arith, count-cons (λ given. bytes_eq given f) e.name (filter_map unversioned_name es), rest, all_versions (bytes_eq e.name f))
+      by (Some bound) rest = omega (arith, rest, number (bytes_eq e.name f) bound.1)
+
+  entry_places : (place : ℕ) (es : List PlainVpkg) → map (λ n. place) (filter (λ given. bytes_eq given f) (map (λ entry. entry.name) es)) ≡ map (λ g. g.place) (provisions_of f place es)
+  entry_places place [] = refl
+  entry_places place (e ∷ es) =
+      by (bytes_eq e.name f) (entry_places place es) ∙ sym (map-append (λ (g : Provision). g.place) (one_given (bytes_eq e.name f) (option_map (λ b. b.1) e.bound) place) (provisions_of f place es)) ∙ ap (map (λ g. g.place)) (sym (provisions-cons f place e es))
+    where
+      by : (b : Bool) → map (λ n. place) (filter (λ given. bytes_eq given f) (map (λ entry. entry.name) es)) ≡ map (λ g. g.place) (provisions_of f place es)
+          → map (λ n. place) (cond b (e.name ∷ filter (λ given. bytes_eq given f) (map (λ entry. entry.name) es)) (filter (λ given. bytes_eq given f) (map (λ entry. entry.name) es))) ≡ map (λ g. g.place) (one_given b (option_map (λ k. k.1) e.bound) place) ++ map (λ g. g.place) (provisions_of f place es)
+      by true rest = ap (λ ns. place ∷ ns) rest
+      by false rest = rest
+
+  -- the same of a status
+  numbers_given : (status : List Placed) → numbers_of f status ≡ filter_map (λ g. g.number) (given_of f status)
+  numbers_given [] = refl
+  numbers_given (p ∷ ps) =
+      numbers-append (package_pairs p.1) (gives ps)
+      ∙ ap (λ ns. ns ++ numbers_of f ps) (entry_numbers p.0 (own_entry p.1 ∷ p.1.provides))
+      ∙ ap (λ ns. filter_map (λ g. g.number) (given_by f p) ++ ns) (numbers_given ps)
+      ∙ sym (filter_map_append (given_by f p) (given_of f ps))
+
+  names_given_all : (status : List Placed) → count_by (λ given. bytes_eq given f) (gives_all_versions status) ≡ count_by (λ g. is_none g.number) (given_of f status)
+  names_given_all [] = refl
+  names_given_all (p ∷ ps) =
+      omega (arith, count-append (λ given. bytes_eq given f) (filter_map unversioned_name p.1.provides) (gives_all_versions ps), entry_names p.0 (own_entry p.1 ∷ p.1.provides), names_given_all ps, count-append (λ g. is_none g.number) (given_by f p) (given_of f ps))
+
+  places_given : (status : List Placed) → places_of f status ≡ map (λ g. g.place) (given_of f status)
+  places_given [] = refl
+  places_given (p ∷ ps) =
+      ap (λ ns. ns ++ places_of f ps) (entry_places p.0 (own_entry p.1 ∷ p.1.provides))
+      ∙ ap (λ ns. map (λ g. g.place) (given_by f p) ++ ns) (places_given ps)
+      ∙ sym (map-append (λ (g : Provision). g.place) (given_by f p) (given_of f ps))
+
+  keeps_row : (status : List Placed) (o : Option (Vec Provision)) (e : Option Entries) → CompletesAt o e → row_items o ≡ given_of f status → Keeps f status e
+  keeps_row status None None whole same = record {
+    ascending = λ i j d up inside. absurd (omega arith);
+    numbers = λ p. ap (λ row. count_by p (filter_map (λ g. g.number) row)) same ∙ ap (count_by p) (sym (numbers_given status));
+    unversioned = ap (count_by (λ g. is_none g.number)) same ∙ sym (names_given_all status);
+    places = ap (map (λ g. g.place)) same ∙ sym (places_given status);
+  }
+  keeps_row status (Some row) None whole same = absurd whole
+  keeps_row status None (Some e) whole same = absurd whole
+  keeps_row status (Some row) (Some e) whole same = record {
+    ascending = whole.ascending;
+    numbers = λ p. whole.numbers p ∙ ap (λ r. count_by p (filter_map (λ g. g.number) r)) same ∙ ap (count_by p) (sym (numbers_given status));
+    unversioned = whole.unversioned ∙ ap (count_by (λ g. is_none g.number)) same ∙ sym (names_given_all status);
+    places = whole.places ∙ ap (map (λ g. g.place)) same ∙ sym (places_given status);
+  }
+
+  completes_found : (rows : List (Vec Provision)) (entries : List Entries) (o : Option ℕ) → ((k : ℕ) → CompletesAt (slice_get rows k) (slice_get entries k)) → CompletesAt (option_and_then (slice_get rows) o) (option_and_then (slice_get entries) o)
+  completes_found rows entries None whole = tt
+  completes_found rows entries (Some k) whole = whole k
+
+  pub keeps_found : (status : List Placed) (keys : List (Bor (List ℕ))) (rows : List (Vec Provision)) (entries : List Entries) → ((k : ℕ) → CompletesAt (slice_get rows k) (slice_get entries k)) → row_items (found (λ k. bytes_eq f k.now) keys rows) ≡ given_of f status
+      → Keeps f status (found (λ k. bytes_eq f k.now) keys entries)
+  keeps_found status keys rows entries whole same =
+      keeps_row status (found (λ k. bytes_eq f k.now) keys rows) (found (λ k. bytes_eq f k.now) keys entries)
+        (subst (λ o. CompletesAt o (found (λ k. bytes_eq f k.now) keys entries)) (sym (found_at (λ k. bytes_eq f k.now) keys rows))
+          (subst (CompletesAt (option_and_then (slice_get rows) (position (λ k. bytes_eq f k.now) keys))) (sym (found_at (λ k. bytes_eq f k.now) keys entries))
+            (completes_found rows entries (position (λ k. bytes_eq f k.now) keys) whole)))
+        same

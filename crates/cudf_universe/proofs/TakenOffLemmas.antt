@@ -1,0 +1,185 @@
+-- Counts of what a status gives, and of what it gives without one package.
+use Rattle.std.proofs.Common.{◌≡◌, ℕ, ◌+◌, ◌-◌, ◌<◌, ◌≤◌, zero, suc, Bool, true, false, not, cond, ◌||◌, ◌&&◌, ◌==◌, List, [], ◌∷◌, ◌++◌, length, get_or, map, Option, Some, None, refl, sym, ap, ◌∙◌, arith, nat_lt, bytes_eq, subst, inl, inr, ◌⊎◌}
+use Rattle.std.specs.Prelude.{filter, filter_map, find, option_map, slice_get}
+use Rattle.std.specs.Option.{option_map_or, is_some, IfSome}
+use Rattle.std.proofs.lemmas.Option.{slice_get_past, slice_get_read}
+use Rattle.std.proofs.Common.{Bor}
+use Rattle.std.proofs.Math.Dec.{ltb}
+use Rattle.std.specs.List.{count_by, list_any, flat_map, cons_option, enumerate_from}
+use Rattle.std.proofs.lemmas.Bool.{eqb-true, eq-eqb, ne_eqb, true≢false, ltb-true, ltb-false}
+use Rattle.std.proofs.lemmas.Bool.Decides.{nat_tests}
+use Rattle.cudf_value.specs.declared.relop.Relop.{Relop}
+use Rattle.cudf_value.specs.Vpkgs.{PlainVpkg, meets}
+use Rattle.cudf_universe.specs.declared.index.entries.Entries.{Entries}
+use Rattle.cudf_universe.specs.Working.Kept.{Keeps, kept_numbers, kept_unversioned, is_met_by_entry, gives_all_of}
+use Rattle.cudf_document.specs.Universe.{PlainPackage}
+use Rattle.cudf_universe.specs.Satisfaction.{Placed, Pair, entry_pair, members, without, gives, gives_all_versions, package_pairs, unversioned_name, numbers_of, is_met_by, is_below_one, satisfies}
+use Rattle.cudf_universe.proofs.CountLemmas.{count-cons, count-append, count-same, any-count}
+
+-- ---- counts of mapped and filtered lists
+
+module _ {X Y : Type 0} where
+  pub count-map : (p : Y → Bool) (h : X → Y) (xs : List X) → count_by p (map h xs) ≡ count_by (λ x. p (h x)) xs
+  count-map p h [] = refl
+  count-map p h (x ∷ xs) = omega (arith, count-cons p (h x) (map h xs), count-cons (λ y. p (h y)) x xs, count-map p h xs)
+
+  pub count-filter_map : (p : Y → Bool) (h : X → Option Y) (xs : List X) → count_by p (filter_map h xs) ≡ count_by (λ x. option_map_or p (h x) false) xs
+  count-filter_map p h [] = refl
+  count-filter_map p h (x ∷ xs) = by (h x) ∙ ap (λ n. cond (option_map_or p (h x) false) 1 0 + n) (count-filter_map p h xs) ∙ sym (count-cons (λ y. option_map_or p (h y) false) x xs)
+    where
+      by : (o : Option Y) → count_by p (cons_option o (filter_map h xs)) ≡ cond (option_map_or p o false) 1 0 + count_by p (filter_map h xs)
+      by None = omega arith
+      by (Some y) = count-cons p y (filter_map h xs)
+
+pub count-filter : {X : Type 0} (p q : X → Bool) (xs : List X) → count_by p (filter q xs) ≡ count_by (λ x. q x && p x) xs
+count-filter p q [] = refl
+count-filter {X} p q (x ∷ xs) = by (q x) ∙ ap (λ n. cond (q x && p x) 1 0 + n) (count-filter p q xs) ∙ sym (count-cons (λ y. q y && p y) x xs)
+  where
+    by : (b : Bool) → count_by p (cond b (x ∷ filter q xs) (filter q xs)) ≡ cond (b && p x) 1 0 + count_by p (filter q xs)
+    by true = count-cons p x (filter q xs)
+    by false = omega arith
+
+-- ---- satisfaction is a matter of counts
+
+pub count-numbers : (v : PlainVpkg) (status : List Placed) → count_by (meets v.bound) (numbers_of v.name status) ≡ count_by (is_met_by v) (gives status)
+count-numbers v status =
+    count-map (meets v.bound) (λ pair. pair.1) (filter (λ pair. bytes_eq pair.0 v.name) (gives status))
+    ∙ count-filter (λ pair. meets v.bound pair.1) (λ pair. bytes_eq pair.0 v.name) (gives status)
+
+pub satisfies-counted : (status : List Placed) (v : PlainVpkg)
+    → satisfies status v
+    ≡ (nat_lt 0 (count_by (meets v.bound) (numbers_of v.name status))
+        || (nat_lt 0 (count_by (λ given. bytes_eq given v.name) (gives_all_versions status)) && not (is_below_one v.bound)))
+satisfies-counted status v =
+    ap (λ b. b || (list_any (λ given. bytes_eq given v.name) (gives_all_versions status) && not (is_below_one v.bound))) (any-count (is_met_by v) (gives status) ∙ ap (nat_lt 0) (sym (count-numbers v status)))
+    ∙ ap (λ b. nat_lt 0 (count_by (meets v.bound) (numbers_of v.name status)) || (b && not (is_below_one v.bound))) (any-count (λ given. bytes_eq given v.name) (gives_all_versions status))
+
+-- more than those of the package, where the others and those are all
+pub more_than_own : (all others own : ℕ) → all ≡ others + own → nat_lt own all ≡ nat_lt 0 others
+more_than_own all others own e = grind (arith, nat_tests)
+
+-- ---- a status less one package
+
+module _ (holds : ℕ → Bool) where
+  -- the packages that are held, the first at place n
+  abbrev pub held : ℕ → List PlainPackage → List Placed
+  held n packages = filter (λ p. holds p.0) (enumerate_from n packages)
+
+  kept_all : (place n : ℕ) (xs : List PlainPackage) → place < n → without place (held n xs) ≡ held n xs
+  kept_all place n [] below = refl
+  kept_all place n (x ∷ xs) below = by (holds n) (kept_all place (n + 1) xs (omega arith))
+    where
+      by : (b : Bool) → without place (held (n + 1) xs) ≡ held (n + 1) xs → without place (cond b ((n, x) ∷ held (n + 1) xs) (held (n + 1) xs)) ≡ cond b ((n, x) ∷ held (n + 1) xs) (held (n + 1) xs)
+      by false rest = rest
+      by true rest = ap (λ b. cond (not b) ((n, x) ∷ without place (held (n + 1) xs)) (without place (held (n + 1) xs))) (ne_eqb n place (λ e. omega arith)) ∙ ap (λ ps. (n, x) ∷ ps) rest
+
+  pub find_below : (place n : ℕ) (xs : List PlainPackage) → place < n → find (λ q. q.0 == place) (held n xs) ≡ None
+  find_below place n [] below = refl
+  find_below place n (x ∷ xs) below = by (holds n) (find_below place (n + 1) xs (omega arith))
+    where
+      by : (b : Bool) → find (λ q. q.0 == place) (held (n + 1) xs) ≡ None → find (λ q. q.0 == place) (cond b ((n, x) ∷ held (n + 1) xs) (held (n + 1) xs)) ≡ None
+      by false rest = rest
+      by true rest = ap (λ b. cond b (Some (n, x)) (find (λ q. q.0 == place) (held (n + 1) xs))) (ne_eqb n place (λ e. omega arith)) ∙ rest
+
+  pub find_unheld : (place n : ℕ) (xs : List PlainPackage) → holds place ≡ false → find (λ q. q.0 == place) (held n xs) ≡ None
+  find_unheld place n [] not_held = refl
+  find_unheld place n (x ∷ xs) not_held = by (holds n) refl (find_unheld place (n + 1) xs not_held)
+    where
+      by : (b : Bool) → holds n ≡ b → find (λ q. q.0 == place) (held (n + 1) xs) ≡ None → find (λ q. q.0 == place) (cond b ((n, x) ∷ held (n + 1) xs) (held (n + 1) xs)) ≡ None
+      by false e rest = rest
+      by true e rest = ap (λ b. cond b (Some (n, x)) (find (λ q. q.0 == place) (held (n + 1) xs))) (ne_eqb n place (λ same. true≢false (sym e ∙ ap holds same ∙ not_held))) ∙ rest
+
+  pub find_at_place : (k n : ℕ) (xs : List PlainPackage) → holds (n + k) ≡ true → find (λ q. q.0 == n + k) (held n xs) ≡ option_map (λ x. (n + k, x)) (slice_get xs k)
+  find_at_place k n [] e = refl
+  find_at_place zero n (x ∷ xs) e =
+      let same : n + 0 ≡ n = omega arith in
+      ap (λ b. find (λ q. q.0 == n + 0) (cond b ((n, x) ∷ held (n + 1) xs) (held (n + 1) xs))) (sym (ap holds same) ∙ e)
+      ∙ ap (λ b. cond b (Some (n, x)) (find (λ q. q.0 == n + 0) (held (n + 1) xs))) (eq-eqb n (n + 0) (sym same))
+      ∙ ap (λ m. Some (m, x)) (sym same)
+  find_at_place (suc k) n (x ∷ xs) e =
+      let same : (n + 1) + k ≡ n + suc k = omega arith in
+      by (holds n)
+      ∙ ap (λ m. find (λ q. q.0 == m) (held (n + 1) xs)) (sym same)
+      ∙ find_at_place k (n + 1) xs (ap holds same ∙ e)
+      ∙ ap (λ m. option_map (λ y. (m, y)) (slice_get xs k)) same
+    where
+      by : (b : Bool) → find (λ q. q.0 == n + suc k) (cond b ((n, x) ∷ held (n + 1) xs) (held (n + 1) xs)) ≡ find (λ q. q.0 == n + suc k) (held (n + 1) xs)
+      by false = refl
+      by true = ap (λ b. cond b (Some (n, x)) (find (λ q. q.0 == n + suc k) (held (n + 1) xs))) (ne_eqb n (n + suc k) (λ e. omega arith))
+
+  module _ {Y : Type 0} (g : Placed → List Y) (p : Y → Bool) where
+    abbrev counted : List Placed → ℕ
+    counted ps = count_by p (flat_map g ps)
+
+    counted-cons : (q : Placed) (ps : List Placed) → counted (q ∷ ps) ≡ count_by p (g q) + counted ps
+    counted-cons q ps = count-append p (g q) (flat_map g ps)
+
+    abbrev own_count : Option Placed → ℕ
+    own_count None = 0
+    own_count (Some q) = count_by p (g q)
+
+    -- what is given is what is given without the package at a place, and what that package gives
+    split_from : (place n : ℕ) (xs : List PlainPackage) → counted (held n xs) ≡ counted (without place (held n xs)) + own_count (find (λ q. q.0 == place) (held n xs))
+    split_from place n [] = refl
+    split_from place n (x ∷ xs) = by (holds n) (n == place) refl (split_from place (n + 1) xs)
+      where
+        none_here : (q : ℕ) (ps : List Placed) → n ≡ place → without place (held (n + 1) xs) ≡ held (n + 1) xs
+        none_here q ps e = kept_all place (n + 1) xs (omega arith)
+
+        by : (b here : Bool) → (n == place) ≡ here → counted (held (n + 1) xs) ≡ counted (without place (held (n + 1) xs)) + own_count (find (λ q. q.0 == place) (held (n + 1) xs))
+            → counted (cond b ((n, x) ∷ held (n + 1) xs) (held (n + 1) xs)) ≡ counted (without place (cond b ((n, x) ∷ held (n + 1) xs) (held (n + 1) xs))) + own_count (find (λ q. q.0 == place) (cond b ((n, x) ∷ held (n + 1) xs) (held (n + 1) xs)))
+        by false here e rest = rest
+        by true true e rest =
+            rw e (omega (arith, counted-cons (n, x) (held (n + 1) xs), ap counted (none_here 0 [] (eqb-true n place e))))
+        by true false e rest =
+            rw e (omega (arith, counted-cons (n, x) (held (n + 1) xs), counted-cons (n, x) (without place (held (n + 1) xs)), rest))
+
+    pub split_members : (place : ℕ) (packages : List PlainPackage) → counted (members holds packages) ≡ counted (without place (members holds packages)) + own_count (find (λ q. q.0 == place) (members holds packages))
+    split_members place packages = split_from place 1 packages
+
+-- ---- what is kept
+
+module _ (name : List ℕ) (status : List Placed) (kept : Option Entries) (keeps : Keeps name status kept) where
+  pub beside_kept : (n u : ℕ) (bound : Option (Relop × ℕ))
+      → (nat_lt n (count_by (meets bound) (kept_numbers kept)) || (nat_lt u (kept_unversioned kept) && not (is_below_one bound)))
+      ≡ (nat_lt n (count_by (meets bound) (numbers_of name status)) || (nat_lt u (count_by (λ given. bytes_eq given name) (gives_all_versions status)) && not (is_below_one bound)))
+  beside_kept n u bound =
+      ap (λ k. nat_lt n k || (nat_lt u (kept_unversioned kept) && not (is_below_one bound))) (keeps.numbers (meets bound))
+      ∙ ap (λ k. nat_lt n (count_by (meets bound) (numbers_of name status)) || (nat_lt u k && not (is_below_one bound))) keeps.unversioned
+
+pub none_beside : (n u : ℕ) (b : Bool) → false ≡ (nat_lt n 0 || (nat_lt u 0 && b))
+none_beside n u b = grind (arith, nat_tests)
+
+-- ---- what is read of a list
+
+pub got : {X : Type 0} (xs : List X) (i : ℕ) (o : Option (Bor X)) → is_some o ≡ ltb i (length xs) → IfSome o (λ x. x.now ≡ get_or xs i x.now) → option_map (λ x. x.now) o ≡ slice_get xs i
+got xs i None e h = sym (slice_get_past xs i (ltb-false i (length xs) (sym e)))
+got xs i (Some x) e h = sym (slice_get_read xs (length xs) i x.now refl (ltb-true i (length xs) (sym e)) h)
+
+-- ---- the package at a place of a status, and the others
+
+module _ (holds : ℕ → Bool) (packages : List PlainPackage) (status : List Placed) (view : members holds packages ≡ status) where
+  pub numbers_split : (v : PlainVpkg) (place : ℕ) (o : Option Placed) → o ≡ find (λ q. q.0 == place) status
+      → count_by (meets v.bound) (numbers_of v.name status) ≡ count_by (meets v.bound) (numbers_of v.name (without place status)) + own_count holds (λ q. package_pairs q.1) (is_met_by v) o
+  numbers_split v place o e =
+      let split : count_by (is_met_by v) (gives status) ≡ count_by (is_met_by v) (gives (without place status)) + own_count holds (λ q. package_pairs q.1) (is_met_by v) (find (λ q. q.0 == place) status)
+            = subst (λ s. count_by (is_met_by v) (gives s) ≡ count_by (is_met_by v) (gives (without place s)) + own_count holds (λ q. package_pairs q.1) (is_met_by v) (find (λ q. q.0 == place) s)) view (split_members holds (λ q. package_pairs q.1) (is_met_by v) place packages) in
+      count-numbers v status ∙ split
+      ∙ ap (λ n. n + own_count holds (λ q. package_pairs q.1) (is_met_by v) (find (λ q. q.0 == place) status)) (sym (count-numbers v (without place status)))
+      ∙ ap (λ p. count_by (meets v.bound) (numbers_of v.name (without place status)) + own_count holds (λ q. package_pairs q.1) (is_met_by v) p) (sym e)
+
+  pub names_split : (name : List ℕ) (place : ℕ) (o : Option Placed) → o ≡ find (λ q. q.0 == place) status
+      → count_by (λ given. bytes_eq given name) (gives_all_versions status) ≡ count_by (λ given. bytes_eq given name) (gives_all_versions (without place status)) + own_count holds (λ q. filter_map unversioned_name q.1.provides) (λ given. bytes_eq given name) o
+  names_split name place o e =
+      subst (λ s. count_by (λ given. bytes_eq given name) (gives_all_versions s) ≡ count_by (λ given. bytes_eq given name) (gives_all_versions (without place s)) + own_count holds (λ q. filter_map unversioned_name q.1.provides) (λ given. bytes_eq given name) (find (λ q. q.0 == place) s)) view (split_members holds (λ q. filter_map unversioned_name q.1.provides) (λ given. bytes_eq given name) place packages)
+      ∙ ap (λ p. count_by (λ given. bytes_eq given name) (gives_all_versions (without place status)) + own_count holds (λ q. filter_map unversioned_name q.1.provides) (λ given. bytes_eq given name) p) (sym e)
+
+-- ---- what a package gives, entry by entry
+
+pub pairs_counted : {A : Type 0} (v : PlainVpkg) (own : Pair) (h : A → PlainVpkg) (es : List A) → count_by (is_met_by v) (own ∷ filter_map entry_pair (map h es)) ≡ cond (is_met_by v own) 1 0 + count_by (λ e. is_met_by_entry v (h e)) es
+pairs_counted v own h es =
+    count-cons (is_met_by v) own (filter_map entry_pair (map h es))
+    ∙ ap (λ n. cond (is_met_by v own) 1 0 + n) (count-filter_map (is_met_by v) entry_pair (map h es) ∙ count-map (is_met_by_entry v) h es)
+
+pub names_counted : {A : Type 0} (name : List ℕ) (h : A → PlainVpkg) (es : List A) → count_by (λ given. bytes_eq given name) (filter_map unversioned_name (map h es)) ≡ count_by (λ e. gives_all_of name (h e)) es
+names_counted name h es = count-filter_map (λ given. bytes_eq given name) unversioned_name (map h es) ∙ count-map (gives_all_of name) h es

@@ -1,0 +1,46 @@
+use Rattle.std.proofs.Common.{◌≡◌, ◌≤◌, ℕ, List, length, ◌+◌, ◌==◌, ap, sym, ◌∙◌, None, Some, bytes_eq, arith}
+use Rattle.std.specs.Prelude.{option_map, find}
+use Rattle.std.specs.FinSet as set
+use Rattle.std.specs.List.{count_by}
+use Rattle.cudf_value.specs.Vpkgs.{vpkg_view, meets}
+use Rattle.cudf_universe.specs.Satisfaction.{numbers_of, gives_all_versions, without}
+use Rattle.cudf_universe.specs.Prices.{own_entries, own_cost}
+use Rattle.std.proofs.lemmas.List.{length-map}
+use Rattle.cudf_universe.specs.Satisfaction.{Placed}
+use Rattle.cudf_universe.specs.Working.Members.{member_view}
+use Rattle.cudf_universe.proofs.TakenOffLemmas.{numbers_split, names_split}
+use Rattle.cudf_universe.proofs.index.Index.own.Goals as goal
+
+pub returns-in-Some-clause-numbers : goal.returns-in-Some-clause-numbers
+returns-in-Some-clause-numbers c =
+    let v = vpkg_view c.args.vpkg.now in
+    numbers_split (set.contains c.self.inside.status) c.self.inside.problem.now.packages c.args.self.now c.self.view_is v c.args.place (Some (member_view c.in-Some.member)) (ap (option_map member_view) (sym c.in-Some.is) ∙ c.member.ensures)
+    ∙ ap (λ n. count_by (meets v.bound) (numbers_of v.name (without c.args.place c.args.self.now)) + n) (sym c.numbers_met.ensures)
+
+pub returns-in-Some-clause-unversioned : goal.returns-in-Some-clause-unversioned
+returns-in-Some-clause-unversioned c =
+    let v = vpkg_view c.args.vpkg.now in
+    names_split (set.contains c.self.inside.status) c.self.inside.problem.now.packages c.args.self.now c.self.view_is v.name c.args.place (Some (member_view c.in-Some.member)) (ap (option_map member_view) (sym c.in-Some.is) ∙ c.member.ensures)
+    ∙ ap (λ n. count_by (λ given. bytes_eq given v.name) (gives_all_versions (without c.args.place c.args.self.now)) + n) (sym c.unversioned.ensures)
+
+pub returns-in-None-clause-numbers : goal.returns-in-None-clause-numbers
+returns-in-None-clause-numbers c =
+    numbers_split (set.contains c.self.inside.status) c.self.inside.problem.now.packages c.args.self.now c.self.view_is (vpkg_view c.args.vpkg.now) c.args.place None (ap (option_map member_view) (sym c.in-None.is) ∙ c.member.ensures)
+
+pub returns-in-None-clause-unversioned : goal.returns-in-None-clause-unversioned
+returns-in-None-clause-unversioned c =
+    names_split (set.contains c.self.inside.status) c.self.inside.problem.now.packages c.args.self.now c.self.view_is c.args.vpkg.now.name.now c.args.place None (ap (option_map member_view) (sym c.in-None.is) ∙ c.member.ensures)
+
+priced : (q : Placed) (place : ℕ) (status : List Placed) (old ticked new n : ℕ) → Some q ≡ find (λ p. p.0 == place) status → ticked ≡ old + 1 → new ≡ ticked + n → n ≡ length q.1.provides → new ≤ old + own_cost place status
+priced q place status old ticked new n found one more all =
+    let cost : own_entries (Some q) ≡ own_cost place status = ap own_entries found in
+    omega (arith, cost)
+
+pub returns-in-Some-clause-price : goal.returns-in-Some-clause-price
+returns-in-Some-clause-price c =
+    let provides = c.in-Some.member.«package».now.provides in
+    priced (member_view c.in-Some.member) c.args.place c.args.self.now c.args.steps.now c.tick.new.self c.grow_by.new.self c.len.result
+    (ap (option_map member_view) (sym c.in-Some.is) ∙ c.member.ensures) c.tick.ensures c.grow_by.ensures (c.len.ensures ∙ provides.ok.0 ∙ sym (length-map provides.items vpkg_view))
+
+pub returns-in-None-clause-price : goal.returns-in-None-clause-price
+returns-in-None-clause-price c = omega arith

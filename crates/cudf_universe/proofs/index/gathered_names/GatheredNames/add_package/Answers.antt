@@ -1,0 +1,22 @@
+use Rattle.std.proofs.Common.{◌≡◌, ℕ, List, ap, sym, ◌∙◌, ◌++◌, ◌∷◌, [], cond, append_assoc, bytes_eq, map}
+use Rattle.std.specs.Prelude.{option_map}
+use Rattle.cudf_value.specs.Vpkgs.{PlainVpkg, vpkg_view}
+use Rattle.cudf_document.specs.Universe.{package_view}
+use Rattle.cudf_universe.specs.declared.index.gathered_names.Provision.{Provision}
+use Rattle.cudf_universe.specs.Working.Gathering.{row_of, provisions_of, own_entry}
+use Rattle.cudf_universe.proofs.GatheringLemmas.{provisions-cons}
+use Rattle.cudf_universe.proofs.index.gathered_names.GatheredNames.add_package.Goals as goal
+
+package_more : (f : List ℕ) (place : ℕ) (own : PlainVpkg) (es : List PlainVpkg) (old own_added now : List Provision)
+    → own_added ≡ old ++ cond (bytes_eq own.name f) (record { number = option_map (λ b. b.1) own.bound; place = place } ∷ []) [] → now ≡ own_added ++ provisions_of f place es → now ≡ old ++ provisions_of f place (own ∷ es)
+package_more f place own es old own_added now first rest =
+    rest ∙ ap (λ row. row ++ provisions_of f place es) first
+    ∙ append_assoc old (cond (bytes_eq own.name f) (record { number = option_map (λ b. b.1) own.bound; place = place } ∷ []) []) (provisions_of f place es)
+    ∙ ap (λ ps. old ++ ps) (sym (provisions-cons f place own es))
+
+pub returns-clause-rows : goal.returns-clause-rows
+returns-clause-rows c = λ f.
+    let p = package_view c.args.member.«package».now in
+    package_more f c.args.member.place (own_entry p) p.provides (row_of f c.args.self.now) (row_of f c.add.new.self) (row_of f c.add_entries.new.self)
+    (c.in_ok-add.ensures.rows f)
+    (c.in_ok-add_entries.ensures.rows f ∙ ap (λ es. row_of f c.add.new.self ++ provisions_of f c.args.member.place (map vpkg_view es)) c.deref.ensures.value)

@@ -1,0 +1,11 @@
+use Rattle.std.proofs.Common.{◌≡◌, ℕ, ◌+◌, ◌-◌, ◌<◌, ◌≤◌, length, get_or}
+use Rattle.std.specs.List.Sorted.{IsNonDecreasing}
+use Rattle.cudf_universe.specs.Prices.{digits}
+use Rattle.cudf_universe.proofs.SearchedLemmas.{Searched}
+use Rattle.cudf_universe.proofs.index.sorted.Sorted.below.Given as goal
+
+abbrev pub invariant-loop-low : goal.invariant-loop-low
+invariant-loop-low l = Searched l.self l.bound l.low l.high l.fn.steps l.steps
+
+abbrev pub decreases-loop-low : goal.decreases-loop-low
+decreases-loop-low l = l.high - l.low

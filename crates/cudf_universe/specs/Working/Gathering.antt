@@ -1,0 +1,51 @@
+-- What an index gathers of each name before it is put in order (own).
+use Rattle.std.specs.Prelude.{◌≡◌, ℕ, ◌==◌, Bool, true, false, List, [], ◌∷◌, bytes_eq, map, filter, filter_map, Option, Some, None, option_map}
+use Rattle.std.specs.List.{flat_map, count_by}
+use Rattle.std.specs.List.Sorted.{IsNonDecreasing}
+use Rattle.std.specs.Option.{option_map_or, is_none}
+use Rattle.std.specs.Global.{Vec}
+use Rattle.cudf_value.specs.declared.relop.Relop.TheVariants.{Eq}
+use Rattle.cudf_value.specs.Vpkgs.{PlainVpkg}
+use Rattle.cudf_document.specs.Universe.{PlainPackage}
+use Rattle.cudf_universe.specs.Satisfaction.{Placed}
+use Rattle.cudf_universe.specs.Working.Kept.{found}
+use Rattle.cudf_universe.specs.declared.index.entries.Entries.{Entries}
+use Rattle.cudf_universe.specs.declared.index.gathered_names.Provision.{Provision}
+use Rattle.cudf_universe.specs.declared.index.gathered_names.GatheredNames.{GatheredNames}
+
+abbrev pub row_items : Option (Vec Provision) → List Provision
+row_items None = []
+row_items (Some row) = row.items
+
+-- the provisions that were gathered of a name
+abbrev pub row_of : List ℕ → GatheredNames → List Provision
+row_of f g = row_items (found (λ k. bytes_eq f k.now) g.names.keys g.rows.items)
+
+-- the provisions that entries of a package give of a name
+abbrev pub provisions_of : List ℕ → ℕ → List PlainVpkg → List Provision
+provisions_of f place entries = map (λ entry. record { number = option_map (λ b. b.1) entry.bound; place = place }) (filter (λ entry. bytes_eq entry.name f) entries)
+
+-- a package's name and version, as an entry
+abbrev pub own_entry : PlainPackage → PlainVpkg
+own_entry p = record { name = p.name; bound = Some (Eq, p.version) }
+
+-- the provisions that a package gives of a name: its version first
+abbrev pub given_by : List ℕ → Placed → List Provision
+given_by f p = provisions_of f p.0 (own_entry p.1 ∷ p.1.provides)
+
+-- those that a status gives of it
+abbrev pub given_of : List ℕ → List Placed → List Provision
+given_of f status = flat_map (given_by f) status
+
+-- what is kept of a row
+pub record Completes (row : List Provision) (kept : Entries) : Type 0 where
+  pub ascending : IsNonDecreasing kept.numbers
+  pub numbers : (p : ℕ → Bool) → count_by p kept.numbers ≡ count_by p (filter_map (λ g. g.number) row)
+  pub unversioned : kept.unversioned ≡ count_by (λ g. is_none g.number) row
+  pub places : kept.places.items ≡ map (λ g. g.place) row
+
+-- at each place, both or neither
+abbrev pub CompletesAt : Option (Vec Provision) → Option Entries → Type 0
+CompletesAt None None = Unit
+CompletesAt (Some row) (Some kept) = Completes row.items kept
+CompletesAt _ _ = ⊥

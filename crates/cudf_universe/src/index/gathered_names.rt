@@ -1,0 +1,133 @@
+//! What the packages of a status give, gathered by name.
+ghost use Rattle.std.specs.Prelude.{◌≡◌, ◌<◌, ℕ, List, [], ◌∷◌, ◌++◌, map, length, bytes_eq, cond, OnOk, IfOk, slice_get, option_map, option_to_list};
+ghost use Rattle.std.specs.List.{position_or_len};
+ghost use Rattle.cudf_value.specs.Vpkgs.{vpkg_view};
+ghost use Rattle.cudf_universe.specs.Working.Gathering.{row_of, given_by, given_of, provisions_of, Completes, CompletesAt};
+ghost use Rattle.cudf_universe.specs.Working.Members.{member_view};
+
+use crate::index::entries::Entries;
+use crate::index::member::Member;
+use crate::index::sorted::Sorted;
+use cudf_value::Vpkg;
+use indexmap::IndexSet;
+use std::alloc::{AllocError, Global};
+
+/// What a package gives of a name: a number, or all versions.
+#[derive(Clone, Copy, Debug)]
+pub(crate) struct Provision {
+    pub(crate) number: Option<u64>,
+    pub(crate) place: u64,
+}
+
+/// The provisions of each name, in the order of the places.
+#[derive(Drop)]
+pub(crate) struct GatheredNames<'t> {
+    pub(crate) names: IndexSet<&'t str>,
+    pub(crate) rows: Vec<Vec<Provision>>,
+}
+
+impl<'t> GatheredNames<'t> {
+    pub(crate) fn new(alloc: Global) -> Self
+        ensures lengths { length result.rows.items ≡ length result.names.keys }
+        ensures rows { (f : List ℕ) → row_of f result ≡ [] }
+    {
+        GatheredNames {
+            names: IndexSet::new(alloc),
+            rows: Vec::new(alloc),
+        }
+    }
+
+    /// Adds one provision of the name.
+    pub(crate) fn add(&mut self, alloc: Global, name: &'t str, provision: Provision) -> Result<(), AllocError>
+        requires { length self.old.rows.items ≡ length self.old.names.keys }
+        ensures lengths { OnOk result (length self.new.rows.items ≡ length self.new.names.keys) }
+        ensures rows { OnOk result ((f : List ℕ) → row_of f self.new ≡ row_of f self.old ++ cond (bytes_eq name.now f) (provision ∷ []) []) }
+    {
+        let number = self.number_of(alloc, name)?;
+        self.rows[number].push(provision)?;
+        Ok(())
+    }
+
+    /// The number of the name, which gets a row without provisions if it is new.
+    fn number_of(&mut self, alloc: Global, name: &'t str) -> Result<usize, AllocError>
+        requires { length self.old.rows.items ≡ length self.old.names.keys }
+        ensures lengths { OnOk result (length self.new.rows.items ≡ length self.new.names.keys) }
+        ensures number { IfOk result (λ n. n ≡ position_or_len (λ k. bytes_eq name.now k.now) self.new.names.keys) }
+        ensures within { IfOk result (λ n. n < length self.new.names.keys) }
+        ensures rows { OnOk result ((f : List ℕ) → row_of f self.new ≡ row_of f self.old) }
+    {
+        let (number, is_new) = self.names.insert_full(name)?;
+        if is_new {
+            self.rows.push(Vec::new(alloc))?;
+            return Ok(number);
+        }
+        Ok(number)
+    }
+
+    /// Adds all that the package gives.
+    pub(crate) fn add_package(&mut self, alloc: Global, member: Member<'_, 't>) -> Result<(), AllocError>
+        requires { length self.old.rows.items ≡ length self.old.names.keys }
+        ensures lengths { OnOk result (length self.new.rows.items ≡ length self.new.names.keys) }
+        ensures rows { OnOk result ((f : List ℕ) → row_of f self.new ≡ row_of f self.old ++ given_by f (member_view member.entry)) }
+    {
+        let place = member.place;
+        let package = member.package;
+        self.add(alloc, package.name, Provision { number: Some(package.version), place })?;
+        self.add_entries(alloc, &package.provides, place)?;
+        Ok(())
+    }
+
+    fn add_entries(&mut self, alloc: Global, entries: &[Vpkg<'t>], place: u64) -> Result<(), AllocError>
+        requires { length self.old.rows.items ≡ length self.old.names.keys }
+        ensures lengths { OnOk result (length self.new.rows.items ≡ length self.new.names.keys) }
+        ensures rows { OnOk result ((f : List ℕ) → row_of f self.new ≡ row_of f self.old ++ provisions_of f place (map vpkg_view entries.now)) }
+    {
+        for entry in entries {
+            let number = entry.bound.map(|(_, number)| number);
+            self.add(alloc, entry.name, Provision { number, place })?;
+        }
+        Ok(())
+    }
+}
+
+/// What is kept of each row.
+pub(crate) fn entries_of(alloc: Global, rows: &[Vec<Provision>]) -> Result<Vec<Entries>, AllocError>
+    ensures { IfOk result (λ entries. (k : ℕ) → CompletesAt (slice_get rows.now k) (slice_get entries.items k)) }
+{
+    let mut entries = Vec::new(alloc);
+    for row in rows {
+        entries.push(completed(alloc, row)?)?;
+    }
+    Ok(entries)
+}
+
+/// What is kept of a row: its numbers in ascending order, how many provisions have none, and the
+/// places.
+fn completed(alloc: Global, row: &[Provision]) -> Result<Entries, AllocError>
+    ensures { IfOk result (Completes row.now) }
+{
+    let mut numbers = Vec::new(alloc);
+    let mut places = Vec::new(alloc);
+    for provision in row {
+        places.push(provision.place)?;
+        push_some(&mut numbers, provision.number)?;
+    }
+    let unversioned = row.len() - numbers.len();
+    Ok(Entries {
+        numbers: Sorted::new(numbers),
+        unversioned,
+        places,
+    })
+}
+
+fn push_some(numbers: &mut Vec<u64>, number: Option<u64>) -> Result<(), AllocError>
+    ensures { OnOk result (numbers.new.items ≡ numbers.old.items ++ option_to_list number) }
+{
+    match number {
+        Some(number) => {
+            numbers.push(number)?;
+            Ok(())
+        }
+        None => Ok(()),
+    }
+}

@@ -1,7 +1,0 @@
-//! What follows from the definitions of satisfaction alone.
-ghost use Rattle.cudf_universe.specs.Satisfaction.{MemberAlone};
-
-/// A status satisfies a vpkg exactly where one of its packages alone does.
-pub fn member()
-    ensures { MemberAlone }
-{}

@@ -1,0 +1,125 @@
+//! Numbers in ascending order, to be counted.
+ghost use Rattle.std.specs.Prelude.{◌≡◌, ◌==◌, ◌<◌, ◌≤◌, ◌+◌, ◌*◌, ℕ, Bool, nat_lt, nat_le, length, slice_index_or};
+ghost use Rattle.std.specs.List.{count_by};
+ghost use Rattle.std.specs.List.Sorted.{IsNonDecreasing};
+ghost use Rattle.cudf_value.specs.Vpkgs.{meets};
+ghost use Rattle.cudf_universe.specs.Satisfaction.{IsLeast, IsGreatest};
+ghost use Rattle.cudf_universe.specs.Prices.{digits};
+
+use crate::steps::Steps;
+use cudf_value::Relop;
+use std::marker::Model;
+
+/// Numbers in ascending order, with repeats.
+#[derive(Drop)]
+pub(crate) struct Sorted {
+    numbers: Vec<u64>,
+}
+
+impl Model for Sorted {
+    ghost use Rattle.std.specs.Prelude.{List, ℕ};
+    ghost use Rattle.std.specs.List.Sorted.{IsNonDecreasing};
+
+    ghost Value = { List ℕ };
+
+    ghost view = { λ s. s.numbers.items };
+
+    ghost invariant = { λ s. IsNonDecreasing s.numbers.items };
+}
+
+impl Sorted {
+    /// These numbers, in ascending order.
+    pub(crate) fn new(numbers: Vec<u64>) -> Self
+        ensures counts { (p : ℕ → Bool) → count_by p result ≡ count_by p numbers.items }
+        ensures ascending { IsNonDecreasing result }
+    {
+        let mut numbers = numbers;
+        numbers.sort_unstable();
+        Sorted { numbers }
+    }
+
+    /// How many of them meet the bound.
+    pub(crate) fn count(&self, bound: Option<(Relop, u64)>, steps: &mut Steps) -> usize
+        ensures counted { result ≡ count_by (meets bound) self.now }
+        ensures price { steps.new ≤ steps.old + 2 * digits (length self.now) }
+    {
+        match bound {
+            None => self.len(),
+            Some((Relop::Eq, number)) => self.equal(number, steps),
+            Some((Relop::Neq, number)) => self.len() - self.equal(number, steps),
+            Some((Relop::Geq, number)) => self.len() - self.under(number, steps),
+            Some((Relop::Gt, number)) => self.len() - self.up_to(number, steps),
+            Some((Relop::Leq, number)) => self.up_to(number, steps),
+            Some((Relop::Lt, number)) => self.under(number, steps),
+        }
+    }
+
+    /// The least of them.
+    pub(crate) fn least(&self) -> Option<u64>
+        ensures { IsLeast self.now result }
+    {
+        self.numbers.first().copied()
+    }
+
+    /// The greatest of them.
+    pub(crate) fn greatest(&self) -> Option<u64>
+        ensures { IsGreatest self.now result }
+    {
+        self.numbers.last().copied()
+    }
+
+    fn len(&self) -> usize
+        ensures { result ≡ length self.now }
+    {
+        self.numbers.len()
+    }
+
+    fn equal(&self, number: u64, steps: &mut Steps) -> usize
+        ensures counted { result ≡ count_by (λ n. n == number) self.now }
+        ensures price { steps.new ≤ steps.old + 2 * digits (length self.now) }
+    {
+        let up_to = self.up_to(number, steps);
+        up_to - self.under(number, steps)
+    }
+
+    fn under(&self, number: u64, steps: &mut Steps) -> usize
+        ensures counted { result ≡ count_by (λ n. nat_lt n number) self.now }
+        ensures price { steps.new ≤ steps.old + digits (length self.now) }
+    {
+        self.below(u128::from(number), steps)
+    }
+
+    fn up_to(&self, number: u64, steps: &mut Steps) -> usize
+        ensures counted { result ≡ count_by (λ n. nat_le n number) self.now }
+        ensures price { steps.new ≤ steps.old + digits (length self.now) }
+    {
+        self.below(u128::from(number) + 1, steps)
+    }
+
+    fn below(&self, bound: u128, steps: &mut Steps) -> usize
+        ensures counted { result ≡ count_by (λ n. nat_lt n bound) self.now }
+        ensures price { steps.new ≤ steps.old + digits (length self.now) }
+    {
+        let mut low = 0;
+        let mut high = self.numbers.len();
+        while low < high {
+            let middle = low + (high - low) / 2;
+            if u128::from(self.at(middle, steps)) < bound {
+                low = middle + 1;
+            } else {
+                high = middle;
+            }
+        }
+        low
+    }
+
+    /// The only call that reads a number for a search.
+    fn at(&self, place: usize, steps: &mut Steps) -> u64
+        requires { place < length self.now }
+        ensures value { (d : ℕ) → result ≡ slice_index_or self.now place d }
+        ensures price { steps.new ≡ steps.old + 1 }
+    {
+        steps.tick();
+        self.numbers[place]
+    }
+}
