@@ -2,15 +2,9 @@
 import re
 from dataclasses import dataclass, field
 
-BLANKS = " \t"
-GREATEST = 2**64 - 1
-PKGNAME = re.compile(r"[A-Za-z0-9+\-./@()%_:~]+")
-IDENT = re.compile(r"[A-Za-z][A-Za-z0-9_-]*")
-OPERATORS = ("=", "!=", ">=", ">", "<=", "<")
+from values import BLANKS, BUILT_IN, IDENT, is_pkgname, read_declarations, read_posint, read_vpkglist
+
 POSTMARKS = ("preamble", "package", "request")
-RESERVED = {
-    "package", "version", "depends", "conflicts", "provides", "installed", "was-installed", "keep", "preamble", "request",
-}
 KINDS = {
     1: "not UTF-8", 2: "not a property, continuation, comment or blank line", 3: "continuation of nothing",
     4: "stanza without postmark", 5: "preamble is not first", 6: "stanza after the request", 7: "property repeated",
@@ -79,180 +73,6 @@ def read_stanzas(text):
     return stanzas, fault, len(lines)
 
 
-# ---- values
-
-
-def read_number(text, least, greatest, signs):
-    text = text.strip(BLANKS)
-    if re.fullmatch("[" + signs + "]?[0-9]+", text) and least <= int(text) <= greatest:
-        return int(text)
-    return None
-
-
-def read_posint(text):
-    return read_number(text, 1, GREATEST, "+")
-
-
-def read_bool(text):
-    return {"true": True, "false": False}.get(text.strip(BLANKS))
-
-
-def is_pkgname(text):
-    return PKGNAME.fullmatch(text.strip(BLANKS)) is not None
-
-
-def read_vpkg(text):
-    text = text.strip(BLANKS)
-    name = PKGNAME.match(text)
-    if not name:
-        return None
-    rest = text[name.end():].lstrip(BLANKS)
-    if rest == "":
-        return (name.group(), None)
-    for operator in OPERATORS:
-        number = read_posint(rest[len(operator):]) if rest.startswith(operator) else None
-        if number is not None:
-            return (name.group(), (operator, number))
-    return None
-
-
-def read_veqpkg(text):
-    vpkg = read_vpkg(text)
-    return vpkg if vpkg and (vpkg[1] is None or vpkg[1][0] == "=") else None
-
-
-def read_list(text, read):
-    if text.strip(BLANKS) == "":
-        return []
-    entries = [read(piece) for piece in text.split(",")]
-    return None if None in entries else entries
-
-
-def read_vpkglist(text):
-    return read_list(text, read_vpkg)
-
-
-def read_veqpkglist(text):
-    return read_list(text, read_veqpkg)
-
-
-def read_atom(text):
-    text = text.strip(BLANKS)
-    return text if text in ("true!", "false!") else read_vpkg(text)
-
-
-def read_clause(text):
-    atoms = [read_atom(piece) for piece in text.split("|")]
-    return None if None in atoms else atoms
-
-
-def read_formula(text):
-    return read_list(text, read_clause)
-
-
-def is_read(read):
-    return lambda text: read(text) is not None
-
-
-TYPES = {
-    "posint": is_read(read_posint),
-    "nat": lambda text: read_number(text, 0, GREATEST, "+") is not None,
-    "int": lambda text: read_number(text, -(2**63), 2**63 - 1, "+-") is not None,
-    "bool": is_read(read_bool),
-    "string": lambda text: True,
-    "pkgname": is_pkgname,
-    "ident": lambda text: IDENT.fullmatch(text.strip(BLANKS)) is not None,
-    "vpkg": is_read(read_vpkg),
-    "veqpkg": is_read(read_veqpkg),
-    "vpkgformula": is_read(read_formula),
-    "vpkglist": is_read(read_vpkglist),
-    "veqpkglist": is_read(read_veqpkglist),
-}
-BUILT_IN = {
-    "package": is_pkgname,
-    "version": is_read(read_posint),
-    "depends": is_read(read_formula),
-    "conflicts": is_read(read_vpkglist),
-    "provides": is_read(read_veqpkglist),
-    "installed": is_read(read_bool),
-    "keep": lambda text: text.strip(BLANKS) in ("version", "package", "feature", "none"),
-    "was-installed": lambda text: True,
-}
-
-
-# ---- declarations
-
-
-def cut_declarations(text):
-    """The pieces between commas outside quotes and brackets, or None where these are wrong."""
-    quoted = r'"(?:[^"\\]|\\["\\])*"'
-    token = re.compile(quoted + r'|[^"]', re.DOTALL)
-    pieces, piece, at, is_inside = [], "", 0, False
-    while at < len(text):
-        found = token.match(text, at)
-        if not found:
-            return None
-        part, at = found.group(), found.end()
-        if part == "[" and is_inside or part == "]" and not is_inside:
-            return None
-        is_inside = part == "[" or is_inside and part != "]"
-        if part == "," and not is_inside:
-            pieces.append(piece)
-            piece = ""
-        else:
-            piece += part
-    return None if is_inside else pieces + [piece]
-
-
-def read_type(text):
-    """The test of the type, the idents of an enum, and the text behind it."""
-    choice = re.match(r"enum[ \t]*\[([^\]]*)\]", text)
-    if choice:
-        idents = [ident.strip(BLANKS) for ident in choice.group(1).split(",")]
-        if not all(IDENT.fullmatch(ident) for ident in idents):
-            return None
-        return (lambda value: value.strip(BLANKS) in idents), idents, text[choice.end():]
-    word = re.match(r"[A-Za-z]*", text).group()
-    return (TYPES[word], [], text[len(word):]) if word in TYPES else None
-
-
-def is_default(text, fits, idents):
-    text = text.strip(BLANKS)
-    if len(text) > 1 and text.startswith("[") and text.endswith("]"):
-        text = text[1:-1].strip(BLANKS)
-    if text.startswith('"'):
-        quoted = re.fullmatch(r'"((?:[^"\\]|\\["\\])*)"', text, re.DOTALL)
-        return quoted is not None and (fits is TYPES["string"] or quoted.group(1) in idents)
-    return '"' not in text and fits(text)
-
-
-def read_declaration(piece):
-    """The name and the test of its type."""
-    head = re.match("(" + IDENT.pattern + r")[ \t]*:[ \t]*", piece.strip(BLANKS))
-    kind = head and read_type(piece.strip(BLANKS)[head.end():])
-    if not kind:
-        return None
-    fits, idents, rest = kind
-    rest = rest.lstrip(BLANKS)
-    if rest == "" or rest[0] == "=" and is_default(rest[1:], fits, idents):
-        return head.group(1), fits
-    return None
-
-
-def read_declarations(text, before):
-    """What one `property` value declares, or None where it is a bad declaration."""
-    if text.strip(BLANKS) == "":
-        return {}
-    pieces = cut_declarations(text)
-    declared = {}
-    for piece in pieces or [""]:
-        declaration = read_declaration(piece)
-        if not declaration or declaration[0] in RESERVED or declaration[0] in before or declaration[0] in declared:
-            return None
-        declared[declaration[0]] = declaration[1]
-    return declared
-
-
 # ---- documents
 
 
@@ -292,10 +112,19 @@ def preamble_faults(stanza, declared):
     yield from ((line, 7) for line in repeated(stanza) if line in again)
 
 
+def declared_by(stanzas):
+    """What the preamble declares, by name."""
+    declared = {}
+    if stanzas and stanzas[0].mark() == "preamble":
+        for _, name, value in stanzas[0].properties:
+            declared.update(read_declarations(value, declared) or {} if name == "property" else {})
+    return declared
+
+
 def package_faults(stanza, declared, ids):
     for line, name, value in stanza.properties:
-        fits = BUILT_IN.get(name) or declared.get(name)
-        if fits is None:
+        fits = BUILT_IN.get(name) or name in declared and declared[name].fits
+        if not fits:
             yield (line, 8)
         elif not fits(value):
             yield (line, 9)

@@ -5,7 +5,7 @@ usage: libcudf.py PROGRAM SEED COUNT
 
 Each problem has three statuses: the initial one with few, some and many packages changed. Where `PROGRAM check` and
 `cudf-check -cudf P -sol S` (Debian's cudf-tools) don't agree on whether it is a solution, both answers are printed.
-Upgrades of features and `f < 1`, which the two read differently (see README.md), aren't in the problems. Python's standard library alone.
+Upgrades of features and `f < 1`, which the two read differently (see cudf_check.1), aren't in the problems. Python's standard library alone.
 """
 import collections
 import os

@@ -1,4 +1,5 @@
-/* Refuses the growth of memory that the environment's REFUSED numbers, from 1, and only that one. For glibc. */
+/* Refuses the growth of memory that the environment's REFUSED numbers, from 1, and where LATER is 1 all behind it. For
+   glibc. */
 #include <errno.h>
 #include <stddef.h>
 #include <stdlib.h>
@@ -10,9 +11,9 @@ void *__libc_realloc(void *block, size_t size);
 static int is_refused(void)
 {
     static long calls;
-    const char *refused = getenv("REFUSED");
+    const char *refused = getenv("REFUSED"), *later = getenv("LATER");
     calls++;
-    if (refused && calls == atol(refused)) {
+    if (refused && (calls == atol(refused) || (calls > atol(refused) && later && *later == '1'))) {
         errno = ENOMEM;
         return 1;
     }

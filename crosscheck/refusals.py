@@ -1,12 +1,14 @@
 #!/usr/bin/env python3
-"""Refuses each growth of memory in turn, and says where the program doesn't survive it.
+"""Refuses each growth of memory in turn, alone and with all later ones, and says where the program doesn't survive it.
 
 usage: refusals.py PROGRAM [GROWTHS]
 
-Growth 1, growth 2 and so on (to GROWTHS, 400 if not given) is refused, each in a run of its own, for the documents of
-examples/. A run is fine where it ends with status 6 and nothing on standard output, or with the same report and status
-as with ample memory. Needs gcc and glibc; Python's standard library alone.
+Growth 1, growth 2 and so on (to GROWTHS, 400 if not given) is refused, each in two runs of its own, for the documents of
+examples/: in the second one all later growths are refused too. A run is fine where it ends within a minute with status 6
+and nothing on standard output, or with the same report and status as with ample memory. Needs gcc and glibc; Python's
+standard library alone.
 """
+import itertools
 import os
 import subprocess
 import sys
@@ -21,16 +23,24 @@ JOBS = [
     ["check", "car.problem.cudf", "car.broken.cudf"],
     ["check", "car.problem.cudf", "car.fail.cudf"],
     ["check", "car-and-wheel.cudf"],
+    ["score", "producer.problem.cudf", "producer.solution.cudf"],
+    ["score", "car.problem.cudf", "car.broken.cudf"],
 ]
 
-def answer(program, job, library=None, refused=0):
+
+def answer(program, job, library=None, refused=0, later="0"):
     """Returns the status and the standard output."""
     words = [program, job[0]] + [os.path.join(EXAMPLES, name) for name in job[1:]]
     surroundings = dict(os.environ)
     if library:
-        surroundings.update(LD_PRELOAD=library, REFUSED=str(refused))
-    ran = subprocess.run(words, stdout=subprocess.PIPE, stderr=subprocess.DEVNULL, env=surroundings)
-    return ran.returncode, ran.stdout
+        surroundings.update(LD_PRELOAD=library, REFUSED=str(refused), LATER=later)
+    try:
+        ran = subprocess.run(
+            words, stdout=subprocess.PIPE, stderr=subprocess.DEVNULL, env=surroundings, timeout=60, check=False
+        )
+        return ran.returncode, ran.stdout
+    except subprocess.TimeoutExpired:
+        return "no end", b""
 
 
 def main(program, growths="400"):
@@ -41,13 +51,13 @@ def main(program, growths="400"):
         subprocess.run(["gcc", "-O2", "-fno-builtin", "-shared", "-fPIC", "-o", library, source], check=True)
         for job in JOBS:
             ample = answer(program, job)
-            for refused in range(1, int(growths) + 1):
-                given = answer(program, job, library, refused)
+            for refused, later in itertools.product(range(1, int(growths) + 1), "01"):
+                given = answer(program, job, library, refused, later)
                 refusals += given == (6, b"")
                 survived += given == ample
                 if given not in ((6, b""), ample):
                     wrong += 1
-                    print(f"{' '.join(job)}, growth {refused}: {given}")
+                    print(f"{' '.join(job)}, growth {refused}, later ones {later}: {given}")
     print(f"status 6 and no output {refusals}, the report of ample memory {survived}, wrong {wrong}")
     return 1 if wrong or not refusals else 0
 

@@ -5,8 +5,8 @@ usage: solvers.py PROGRAM SEED COUNT
 
 Each problem is answered by mccs and by aspcud, as far as they are installed (Debian has both), and each answer is
 judged by `PROGRAM check`. It is expected that an answer is `solution yes` or FAIL; any other is printed with its
-problem. Counted alone are a solver that breaks off, and FAIL where the other solver has an answer. Python's standard
-library alone.
+problem. Counted alone are a solver that breaks off, and FAIL where the other solver has an answer. (optima.py compares
+the counts of criteria.) Python's standard library alone.
 """
 import collections
 import os
@@ -19,7 +19,7 @@ import tempfile
 NAMES = ["car", "wheel", "door", "engine", "glass", "tyre"]
 FEATURES = ["drive", "light"]
 OPERATORS = ["=", "!=", ">=", ">", "<=", "<"]
-# Where solvers read in ways of their own (see README.md), a problem is plain: each provision has a version and isn't a
+# Where solvers read in ways of their own (see cudf_check.1), a problem is plain: each provision has a version and isn't a
 # package's name, and nothing stands under `keep: feature`.
 KEEPS = ["version", "package", "none", "feature"]
 SOLVERS = {

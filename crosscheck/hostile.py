@@ -1,0 +1,295 @@
+#!/usr/bin/env python3
+"""Runs the program where things go wrong around it, and on spoilt input.
+
+usage: hostile.py PROGRAM SEED COUNT [PROBLEM..]
+
+- Input: a device that never ends, beside memory; a folder, a missing file, a closed descriptor; a pipe that gives a byte
+  at a time; a file that grows while it is read; an input at the limit of size and one byte above it.
+- Output: a pipe whose reader has gone, or goes within a long report, with SIGPIPE ignored and not; a full device; a
+  closed descriptor.
+- Limits: of memory from 4 MB up to 512 MB, each step a tenth more; of the stack, 128 KB.
+- Each front of an input with a problem and a solution.
+- COUNT mutations of problems and solutions (those of examples/, generated ones, and each PROBLEM with the status that it
+  has installed): a byte changed, a line dropped or doubled, two files spliced; and COUNT / 10 files of random bytes.
+
+Wanted is the answer of the second implementation; status 5 with nothing on standard output where an input can't be
+read; status 5 and a front of the report where the output can't be written (or an end by SIGPIPE where that isn't
+ignored); under a limit of memory also status 6 with nothing on standard output. Each run that isn't as wanted is printed,
+and then how often each status came in each trial. A program that couldn't even be loaded under a limit is counted as
+`not loaded`. For Linux; Python's standard library alone.
+"""
+import collections
+import os
+import random
+import resource
+import signal
+import subprocess
+import sys
+import tempfile
+import threading
+
+import programs
+import reports
+import spoilt
+
+ONE_INPUT = (
+    b"package: car\nversion: 1\ndepends: wheel > 2\ninstalled: true\n\npackage: wheel\nversion: 2\ninstalled: true\n\n"
+    b"request: r\n\npackage: car\nversion: 1\ninstalled: true\n"
+)
+MEGABYTE = 1 << 20
+GREATEST_MEMORY = 600 * MEGABYTE
+SMALL_STACK = 128 << 10
+SIGPIPE_ENDED = -signal.SIGPIPE
+
+
+def closing(descriptor):
+    """What a child does to have no such descriptor."""
+    return lambda: os.close(descriptor)
+
+
+def limiting(kind, amount):
+    """What a child does to have a limit."""
+    return lambda: resource.setrlimit(kind, (amount, amount))
+
+
+def output_of(answer):
+    return "".join(line + "\n" for line in answer[0]).encode()
+
+
+class Trials:
+    """Runs the program, counts its statuses by trial, and prints what isn't as wanted."""
+
+    def __init__(self, path, folder):
+        self.path, self.folder = os.path.abspath(path), folder
+        self.program = programs.Program(self.path)
+        self.told, self.wrong, self.memory = collections.Counter(), 0, 0
+
+    def note(self, trial, status, is_fine, *about):
+        self.told[trial, status] += 1
+        if not is_fine:
+            self.wrong += 1
+            print(f"{trial}: status {status}", *about, flush=True)
+
+    def run(self, words, before=None, **places):
+        """The status and the output of a run; `before` is called in the child."""
+        places = {"stdin": subprocess.DEVNULL, "stdout": subprocess.PIPE, "stderr": subprocess.DEVNULL, **places}
+        words = [self.path] + words
+        try:
+            ran = subprocess.run(words, preexec_fn=before, timeout=programs.LIMIT_SECONDS, check=False, **places)
+            return ran.returncode, ran.stdout or b""
+        except subprocess.TimeoutExpired:
+            return "no end", b""
+
+    def expect(self, trial, words, wanted, **places):
+        """A run that is to give this answer: lines and a status."""
+        status, output = self.run(words, **places)
+        is_fine = (status, output) == (wanted[1], output_of(wanted))
+        self.note(trial, status, is_fine, words, output[-200:], "wanted", wanted[1], wanted[0][-3:])
+
+    def expect_trouble(self, trial, words, **places):
+        self.expect(trial, words, ([], reports.TROUBLE), **places)
+
+    def file(self, name, data):
+        return programs.write(self.folder, name, data)
+
+
+# ---- input
+
+
+def endless(trials):
+    """A device that never ends, as either file: told as trouble, and within the memory."""
+    empty = trials.file("empty", b"request:\n")
+    zero = "/dev/zero"
+    for words in (["lint", zero], ["check", zero], ["check", empty, zero], ["check", zero, empty]):
+        sink = os.memfd_create("sink")
+        places = [(os.POSIX_SPAWN_DUP2, sink, 1), programs.QUIET]
+        child = os.posix_spawn(trials.path, [trials.path] + words, os.environ, file_actions=places)
+        _, ended, usage = os.wait4(child, 0)
+        status, memory = os.waitstatus_to_exitcode(ended), usage.ru_maxrss * 1024
+        trials.memory = max(trials.memory, memory)
+        is_fine = status == reports.TROUBLE and os.fstat(sink).st_size == 0 and memory < GREATEST_MEMORY
+        trials.note("a device that never ends", status, is_fine, words, f"{memory // MEGABYTE} MB")
+        os.close(sink)
+
+
+def sizes(trials):
+    """A comment up to the limit of size, and a byte above it. The files have holes and take no room."""
+    most = reports.GREATEST_INPUT
+    for size, wanted in ((most, (["problem ok"], 0)), (most + 1, ([], reports.TROUBLE))):
+        path = trials.file("sized", b"request:\n#")
+        os.truncate(path, size)
+        trials.expect("the limit of size", ["lint", path], wanted)
+        os.remove(path)
+
+
+def unreadable(trials):
+    path = trials.file("one-input", ONE_INPUT)
+    for name in (trials.folder, "/", os.path.join(trials.folder, "missing"), path + "/x", ""):
+        for words in (["lint", name], ["check", name], ["check", path, name], ["check", name, path]):
+            trials.expect_trouble("a file that can't be read", words)
+    with open(trials.folder + "/one-input", "ab") as written_only:
+        trials.expect_trouble("a descriptor for writing alone", ["check", "-"], stdin=written_only)
+    for words in (["lint", "-"], ["check", "-"], ["check", path, "-"], ["check", "-", path]):
+        trials.expect_trouble("a closed input", words, before=closing(0), stdin=None)
+
+
+def slow_pipe(trials):
+    """Gives the input a byte at a time."""
+    child = subprocess.Popen([trials.path, "check", "-"], stdin=subprocess.PIPE, stdout=subprocess.PIPE, bufsize=0)
+    for byte in ONE_INPUT:
+        child.stdin.write(bytes([byte]))
+    child.stdin.close()
+    output, status = child.stdout.read(), child.wait(programs.LIMIT_SECONDS)
+    wanted = reports.joined(ONE_INPUT).check()
+    trials.note("a byte at a time", status, (status, output) == (wanted[1], output_of(wanted)), output)
+
+
+def growing(trials):
+    """A file to which comments are added while it is read: each front of it has the same answer."""
+    path, has_ended = trials.file("growing", b"request:\n" + b"#\n" * MEGABYTE), threading.Event()
+
+    def grow():
+        with open(path, "ab", buffering=0) as file:
+            while not has_ended.is_set() and file.tell() < 100 * MEGABYTE:
+                file.write(b"# more\n" * 1000)
+
+    writer = threading.Thread(target=grow)
+    writer.start()
+    trials.expect("a file that grows", ["lint", path], (["problem ok"], 0))
+    has_ended.set()
+    writer.join()
+    os.remove(path)
+
+
+# ---- output
+
+
+def long_report(packages):
+    """A problem, a solution and their report."""
+    problem = "".join(f"package: p{number}\nversion: 1\ndepends: q{number}\n\n" for number in range(packages))
+    solution = "".join(f"package: p{number}\nversion: 1\ninstalled: true\n\n" for number in range(packages))
+    lines = [
+        f"p{number + 1}.depends.1 p{number} 1 line {4 * number + 1}: needs q{number}" for number in range(packages)
+    ]
+    return (problem + "request:\n").encode(), solution.encode(), (lines + ["solution no"], reports.NO)
+
+
+def run_and_leave(trials, words, taken, way):
+    """The status where the reader of the pipe takes some bytes and goes, and what it took."""
+    reader, writer = os.pipe()
+    child = subprocess.Popen(
+        [trials.path] + words, stdout=writer, stderr=subprocess.DEVNULL, restore_signals=False,
+        preexec_fn=lambda: signal.signal(signal.SIGPIPE, way),
+    )
+    os.close(writer)
+    output = b""
+    while len(output) < taken and (more := os.read(reader, taken - len(output))):
+        output += more
+    os.close(reader)
+    return child.wait(programs.LIMIT_SECONDS), output
+
+
+def broken_pipes(trials, words, report):
+    for way in (signal.SIG_IGN, signal.SIG_DFL):
+        for taken in (0, 1, 100, 4096, 65_537, 500_000):
+            status, output = run_and_leave(trials, words, taken, way)
+            is_fine = status == reports.TROUBLE or way is signal.SIG_DFL and status == SIGPIPE_ENDED
+            trials.note("a pipe that is left", status, is_fine and report.startswith(output), taken, way)
+
+
+def outputs(trials):
+    problem, solution, answer = long_report(20_000)
+    words = ["check", trials.file("long-problem", problem), trials.file("long-solution", solution)]
+    trials.expect("a long report", words, answer)
+    broken_pipes(trials, words, output_of(answer))
+    small = ["check", trials.file("one-input", ONE_INPUT)]
+    for job in (words, small, ["lint", words[1]], ["--help"]):
+        with open("/dev/full", "wb") as full:
+            trials.expect_trouble("a full device", job, stdout=full)
+        trials.expect_trouble("a closed output", job, before=closing(1), stdout=None)
+    one, known = reports.joined(ONE_INPUT).check(), ([], reports.USAGE)
+    trials.expect("a closed standard error", small, one, before=closing(2), stderr=None)
+    trials.expect("a closed standard error", ["judge"], known, before=closing(2), stderr=None)
+
+
+# ---- limits
+
+
+def limited(trials, trial, words, wanted, limit):
+    """A run with a limit of memory."""
+    try:
+        status, output = trials.run(words, before=limiting(resource.RLIMIT_AS, limit))
+    except OSError:
+        status, output = 127, b""
+    if status == 127 or status == -signal.SIGKILL and not output:
+        trials.told[trial, "not loaded"] += 1
+        return
+    is_fine = (status, output) in ((reports.NO_MEMORY, b""), (wanted[1], output_of(wanted)))
+    trials.note(trial, status, is_fine, words, f"limit {limit}", output[-200:])
+
+
+def limits(trials):
+    problem, solution, answer = long_report(20_000)
+    names = [trials.file("long-problem", problem), trials.file("long-solution", solution)]
+    small = trials.file("one-input", ONE_INPUT)
+    jobs = [
+        (["check"] + names, answer), (["lint", names[0]], (["problem ok"], 0)),
+        (["check", small], reports.joined(ONE_INPUT).check()), (["judge"], ([], reports.USAGE)),
+    ]
+    for words, wanted in jobs:
+        trials.expect("a stack of 128 KB", words, wanted, before=limiting(resource.RLIMIT_STACK, SMALL_STACK))
+        limit = 4 * MEGABYTE
+        while limit < 512 * MEGABYTE:
+            limited(trials, f"a limit of memory, {words[0]} {len(words) - 1}", words, wanted, limit)
+            limit += limit // 10
+
+
+# ---- spoilt documents
+
+
+def compare(trials, trial, problem, solution):
+    """All jobs on a problem and a solution, in two files and in one input."""
+    second, one = reports.Second(problem, solution), reports.joined(problem + solution)
+    words = [trials.file("problem", problem), trials.file("solution", solution)]
+    runs = [
+        (["lint", words[0]], b"", reports.lint(problem)), (["check"] + words, b"", second.check()),
+        (["check", "-"], problem + solution, one.check()),
+    ]
+    if trials.program.has_score:
+        runs.append((["score"] + words, b"", second.score()))
+    for job, data, wanted in runs:
+        given = trials.program.run(job, data)
+        trials.note(trial, given[1], given == wanted, job[0], problem, solution, given[0][-3:], "wanted", wanted)
+
+
+def fronts(trials):
+    for length in range(len(ONE_INPUT) + 1):
+        compare(trials, "fronts of an input", ONE_INPUT[:length], b"")
+
+
+def documents(trials, seed, count, problems):
+    bases = spoilt.bases(seed, problems)
+    for number in range(count):
+        compare(trials, "mutations", *spoilt.mutation(random.Random(f"{seed}/{number}"), bases))
+    for number in range(count // 10):
+        chance = random.Random(f"{seed} bytes {number}")
+        compare(trials, "random bytes", spoilt.noise(chance), spoilt.noise(chance))
+
+
+def main(path, seed, count, *problems):
+    with tempfile.TemporaryDirectory() as folder:
+        trials = Trials(path, folder)
+        for trial in (endless, sizes, unreadable, slow_pipe, growing, outputs, limits, fronts):
+            trial(trials)
+        documents(trials, seed, int(count), problems)
+    for (trial, status), number in sorted(trials.told.items(), key=str):
+        print(f"{trial}: status {status}, {number} runs")
+    print(f"memory beside a device that never ends: {trials.memory // MEGABYTE} MB at most")
+    print(f"runs {sum(trials.told.values())}, not as wanted {trials.wrong}; {trials.program.told()}")
+    return 1 if trials.wrong else 0
+
+
+if __name__ == "__main__":
+    if len(sys.argv) < 4:
+        sys.exit(__doc__)
+    sys.exit(main(*sys.argv[1:]))
