@@ -8,82 +8,90 @@ use Rattle.cudf_text.specs.declared.fault.Fault.{Fault}
 use Rattle.cudf_text.specs.declared.text.Text.{Text}
 use Rattle.cudf_text.specs.declared.text.TextError.{TextError}
 use Rattle.cudf_text.specs.declared.text.TextError.TheVariants as text_error
+use Rattle.cudf_document.specs.declared.error.ReadError.{ReadError}
+use Rattle.cudf_document.specs.declared.error.ReadError.TheVariants as read_error
+use Rattle.cudf_document.specs.Faults.{least, IsFirstFault}
+use Rattle.cudf_check.specs.declared.report.Refusal.{Refusal}
 use Rattle.cudf_text.specs.Stanzas.{PlainText, plain_text}
 use Rattle.cudf_text.specs.Views.{utf8_fault}
 use Rattle.std.proofs.KnownBytes.{Keeps-refl}
 use Rattle.cudf_check.specs.declared.outcome.Outcome.{Outcome}
 use Rattle.cudf_check.specs.declared.outcome.RunError.{RunError}
 use Rattle.cudf_check.specs.declared.outcome.RunError.TheVariants.{Write, Memory}
-use Rattle.cudf_check.specs.Answering.{Answers}
-use Rattle.cudf_check.specs.Report.{Report, faulty, of_bytes}
-use Rattle.cudf_check.specs.Writing.{AppendsFront, Prints}
-use Rattle.cudf_check.proofs.PaperLemmas.{Printed, Printed-flushed, Printed-cut}
+use Rattle.cudf_check.specs.Device.{SinkState}
+use Rattle.cudf_check.specs.Prefix.{AppendsPrefix}
+use Rattle.cudf_check.specs.Report.{Report, faulty, faulty_or, of_bytes}
+use Rattle.cudf_check.specs.Working.Answering.{Answers}
+use Rattle.cudf_check.specs.Working.Printing.{Writes, Prints}
+use Rattle.cudf_check.specs.Working.Refusals.{IsReportOf, text_refusal, read_refusal}
+use Rattle.cudf_check.proofs.BufferLemmas.{Printed, Printed-flushed, Printed-cut}
+use Rattle.cudf_check.proofs.PrintLemmas.{done, broken}
 
 -- no count is below itself
 none_below : (f g : ℕ) → f ≡ g → f < g → ⊥
 none_below f g same below = omega arith
 
 -- memory ran out before the first byte
-pub memory_first : (a : Option (List ℕ)) (f : ℕ) (report : Report) → Answers a a f f report (Err Memory)
-memory_first a f report = record {
+pub memory_first : (a : SinkState) (report : Report) → Answers a a report (Err Memory)
+memory_first a report = record {
   ok = tt;
-  leaves = Keeps-refl a;
-  failed = (λ e. absurd (cc e), λ below. absurd (none_below f f refl below));
+  leaves = Keeps-refl a.contents;
+  failed = (λ e. absurd (cc e), λ below. absurd (none_below a.failures a.failures refl below));
   calm = tt;
   only = tt;
 }
 
 -- a write failed
-pub write_failed : (a b : Option (List ℕ)) (f g : ℕ) (report : Report) → AppendsFront a b report.text → f < g → Answers a b f g report (Err Write)
-write_failed a b f g report front below = record {
+pub write_failed : (a b : SinkState) (report : Report) → AppendsPrefix a.contents b.contents report.text → a.failures < b.failures → Answers a b report (Err Write)
+write_failed a b report prefix below = record {
   ok = tt;
-  leaves = front;
+  leaves = prefix;
   failed = (λ e. below, λ h. refl);
   calm = tt;
   only = tt;
 }
 
 -- all was written
-pub all_written : (a b : Option (List ℕ)) (f g : ℕ) (report : Report) (outcome : Outcome) → Appends a b report.text → f ≡ g → outcome ≡ report.outcome
-    → Answers a b f g report (Ok outcome)
-all_written a b f g report outcome written calm answered = record {
+pub all_written : (a b : SinkState) (report : Report) (outcome : Outcome) → Appends a.contents b.contents report.text → a.failures ≡ b.failures
+    → outcome ≡ report.outcome → Answers a b report (Ok outcome)
+all_written a b report outcome written calm answered = record {
   ok = record { written = written; answered = answered };
   leaves = tt;
-  failed = (λ e. absurd (cc e), λ below. absurd (none_below f g calm below));
+  failed = (λ e. absurd (cc e), λ below. absurd (none_below a.failures b.failures calm below));
   calm = calm;
   only = tt;
 }
 
 -- the error that a `?` hands on
-pub handed_on : (a b : Option (List ℕ)) (f g : ℕ) (report : Report) (e : RunError) (result : Result Outcome RunError)
-    → IsErr result × IsErrAnd result (λ x. x ≡ e) → Answers a b f g report (Err e) → Answers a b f g report result
-handed_on a b f g report e (Ok outcome) same m = absurd same.1
-handed_on a b f g report e (Err x) same m = subst (λ y. Answers a b f g report (Err y)) (sym same.1) m
+pub handed_on : (a b : SinkState) (report : Report) (e : RunError) (result : Result Outcome RunError)
+    → IsErr result × IsErrAnd result (λ x. x ≡ e) → Answers a b report (Err e) → Answers a b report result
+handed_on a b report e (Ok outcome) same m = absurd same.1
+handed_on a b report e (Err x) same m = subst (λ y. Answers a b report (Err y)) (sym same.1) m
 
--- an error of paper is want of memory
-pub no_paper : (a : Option (List ℕ)) (f : ℕ) (report : Report) (e : RunError) → e ≡ Memory → Answers a a f f report (Err e)
-no_paper a f report e is = subst (λ x. Answers a a f f report (Err x)) (sym is) (memory_first a f report)
+-- an error of a buffer is out of memory
+pub no_buffer : (a : SinkState) (report : Report) (e : RunError) → e ≡ Memory → Answers a a report (Err e)
+no_buffer a report e is = subst (λ x. Answers a a report (Err x)) (sym is) (memory_first a report)
 
--- a print on new paper was broken off
-pub print_failed : (a b : Option (List ℕ)) (q : List ℕ) (f g : ℕ) (report : Report) (e : RunError) → Prints a b [] q f g (Err e) report.text → Answers a b f g report (Err e)
-print_failed a b q f g report e m = subst (λ x. Answers a b f g report (Err x)) (sym m.only)
-    (write_failed a b f g report m.front (m.failed.0 (ap Err m.only)))
+-- a print through a new buffer was broken off
+pub print_failed : (a b : SinkState) (q : List ℕ) (report : Report) (e : RunError) → Prints a b [] q (broken e) report.text → Answers a b report (Err e)
+print_failed a b q report e m = subst (λ x. Answers a b report (Err x)) (sym m.only)
+    (write_failed a b report m.prefix (m.failed.0 (ap broken m.only)))
 
--- a print on new paper went well, and the flush was broken off
-pub flush_failed : (a b c : Option (List ℕ)) (q : List ℕ) (f g h : ℕ) (report : Report) (e : RunError) → Prints a b [] q f g (Ok tt) report.text
-    → AppendsFront b c q → (IsErrOf {T = Unit {0}} (Err e) Write ↔ (g < h)) → e ≡ Write → Answers a c f h report (Err e)
-flush_failed a b c q f g h report e m front failed is =
-    let printed : Printed a b [] q report.text = record { ok = m.ok; front = m.front } in
-    let below : g < h = failed.0 (ap Err is) in
-    let calm : f ≡ g = m.calm in
-    subst (λ x. Answers a c f h report (Err x)) (sym is) (write_failed a c f h report (Printed-cut a b c [] q report.text printed front) (omega arith))
+-- a print through a new buffer went well, and the flush was broken off
+pub flush_failed : (a b c : SinkState) (q : List ℕ) (report : Report) (e : RunError) → Prints a b [] q done report.text
+    → Writes b c (broken e) q → Answers a c report (Err e)
+flush_failed a b c q report e m w =
+    let printed : Printed a.contents b.contents [] q report.text = record { ok = m.ok; prefix = m.prefix } in
+    let below : b.failures < c.failures = w.failed.0 (ap broken w.only) in
+    let calm : a.failures ≡ b.failures = m.calm in
+    subst (λ x. Answers a c report (Err x)) (sym w.only) (write_failed a c report (Printed-cut a.contents b.contents c.contents [] q report.text printed w.prefix) (omega arith))
 
--- a print on new paper went well, and so did the flush
-pub flushed : (a b c : Option (List ℕ)) (q : List ℕ) (f g h : ℕ) (report : Report) (outcome : Outcome) → Prints a b [] q f g (Ok tt) report.text
-    → Appends b c q → g ≡ h → outcome ≡ report.outcome → Answers a c f h report (Ok outcome)
-flushed a b c q f g h report outcome m written calm answered =
-    let printed : Printed a b [] q report.text = record { ok = m.ok; front = m.front } in
-    all_written a c f h report outcome (Printed-flushed a b c [] q report.text printed written) (m.calm ∙ calm) answered
+-- a print through a new buffer went well, and so did the flush
+pub flushed : (a b c : SinkState) (q : List ℕ) (report : Report) (outcome : Outcome) → Prints a b [] q done report.text
+    → Writes b c done q → outcome ≡ report.outcome → Answers a c report (Ok outcome)
+flushed a b c q report outcome m w answered =
+    let printed : Printed a.contents b.contents [] q report.text = record { ok = m.ok; prefix = m.prefix } in
+    all_written a c report outcome (Printed-flushed a.contents b.contents c.contents [] q report.text printed w.ok) (m.calm ∙ w.calm) answered
 
 -- ---- the bytes of a document
 
@@ -117,9 +125,24 @@ bytes_unread whose bytes report f e is memory not_utf8 =
     let unread : ¬ (IsUtf8 bytes) = λ utf8. absurd (apart f (sym is ∙ memory utf8)) in
     unread_case whose bytes report f (is_utf8 bytes) refl unread (same_fault f (utf8_fault bytes) (ap unread_error (sym is) ∙ not_utf8 unread))
 
+-- what refuses bytes that aren't read
+pub text_refused : (whose bytes : List ℕ) (report : PlainText → Report) (e : TextError) (refusal : Refusal) → refusal ≡ text_refusal e
+    → (IsUtf8 bytes → e ≡ text_error.Memory alloc_error) → (¬ (IsUtf8 bytes) → unread_error e ≡ unread_error (text_error.Fault (utf8_fault bytes)))
+    → IsReportOf whose refusal (of_bytes whose bytes report)
+text_refused whose bytes report (text_error.Memory m) refusal is memory not_utf8 = subst (λ r. IsReportOf whose r (of_bytes whose bytes report)) (sym is) tt
+text_refused whose bytes report (text_error.Fault f) refusal is memory not_utf8 =
+    subst (λ r. IsReportOf whose r (of_bytes whose bytes report)) (sym is) (sym (bytes_unread whose bytes report f (text_error.Fault f) refl memory not_utf8))
+
+-- what refuses a document that isn't judged
+pub document_refused : (whose : List ℕ) (faults : List Fault) (report : Report) (e : ReadError) (refusal : Refusal) → refusal ≡ read_refusal e
+    → IsFirstFault faults e → IsReportOf whose refusal (faulty_or whose (least faults) report)
+document_refused whose faults report (read_error.Memory m) refusal is first = subst (λ r. IsReportOf whose r (faulty_or whose (least faults) report)) (sym is) tt
+document_refused whose faults report (read_error.Fault f) refusal is first =
+    subst (λ r. IsReportOf whose r (faulty_or whose (least faults) report)) (sym is) (ap (λ o. faulty_or whose o report) first)
+
 -- ---- reports
 
 -- the same report in another form
-pub answers_as : (a b : Option (List ℕ)) (f g : ℕ) (report same : Report) (result : Result Outcome RunError) → report ≡ same
-    → Answers a b f g report result → Answers a b f g same result
-answers_as a b f g report same result is m = subst (λ r. Answers a b f g r result) is m
+pub answers_as : (a b : SinkState) (report same : Report) (result : Result Outcome RunError) → report ≡ same
+    → Answers a b report result → Answers a b same result
+answers_as a b report same result is m = subst (λ r. Answers a b r result) is m

@@ -1,6 +1,6 @@
 pub mod AnswerLemmas
-pub mod Examples
-pub mod PaperLemmas
+pub mod BufferLemmas
+mod Examples
+pub mod OutputLemmas
+pub mod PageLemmas
 pub mod PrintLemmas
-pub mod UnknownLemmas
-pub mod WritingLemmas

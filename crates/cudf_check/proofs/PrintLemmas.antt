@@ -5,49 +5,62 @@ use Rattle.std.proofs.lemmas.List.{take_more}
 use Rattle.std.proofs.lemmas.Grind.{flat_map-append}
 use Rattle.std.proofs.lemmas.Result.{on_ok_weaker}
 use Rattle.cudf_check.specs.declared.outcome.RunError.{RunError}
-use Rattle.cudf_check.specs.Writing.{Prints}
-use Rattle.cudf_check.proofs.PaperLemmas.{Printed, Printed-nil, Printed-front, Printed-then}
+use Rattle.cudf_check.specs.declared.outcome.RunError.TheVariants.{Write}
+use Rattle.cudf_check.specs.Device.{SinkState}
+use Rattle.cudf_check.specs.Working.Printing.{Prints}
+use Rattle.cudf_check.proofs.BufferLemmas.{Printed, Printed-nil, Printed-prefix, Printed-then}
+
+-- nothing went wrong
+abbrev pub done : Result (Unit {0}) RunError
+done = Ok tt
+
+-- an error
+abbrev pub broken : RunError → Result (Unit {0}) RunError
+broken e = Err e
 
 -- the same text in another form
-pub Prints-as : (a b : Option (List ℕ)) (p q : List ℕ) (f g : ℕ) (result : Result (Unit {0}) RunError) (t u : List ℕ) → t ≡ u
-    → Prints a b p q f g result t → Prints a b p q f g result u
-Prints-as a b p q f g result t u same m = subst (Prints a b p q f g result) same m
+pub Prints-as : {T : Type 0} (a b : SinkState) (p q : List ℕ) (result : Result T RunError) (t u : List ℕ) → t ≡ u
+    → Prints a b p q result t → Prints a b p q result u
+Prints-as a b p q result t u same m = subst (Prints a b p q result) same m
 
 -- a text, and then another
-pub Prints-then : (a b c : Option (List ℕ)) (p q r : List ℕ) (f g h : ℕ) (result : Result (Unit {0}) RunError) (t u : List ℕ)
-    → Prints a b p q f g (Ok tt) t → Prints b c q r g h result u → Prints a c p r f h result (t ++ u)
-Prints-then a b c p q r f g h result t u m n =
-    let first : Printed a b p q t = record { ok = m.ok; front = m.front } in record {
-      ok = on_ok_weaker result (λ w. (Printed-then a b c p q r t u first w n.front).ok) n.ok;
-      front = Printed-front a b c p q t u first n.front;
+pub Prints-then : {T : Type 0} (a b c : SinkState) (p q r : List ℕ) (result : Result T RunError) (t u : List ℕ)
+    → Prints a b p q done t → Prints b c q r result u → Prints a c p r result (t ++ u)
+Prints-then a b c p q r result t u m n =
+    let first : Printed a.contents b.contents p q t = record { ok = m.ok; prefix = m.prefix } in record {
+      ok = on_ok_weaker result (λ w. (Printed-then a.contents b.contents c.contents p q r t u first w n.prefix).ok) n.ok;
+      prefix = Printed-prefix a.contents b.contents c.contents p q t u first n.prefix;
       failed = rw m.calm n.failed;
       calm = on_ok_weaker result (λ e. m.calm ∙ e) n.calm;
       only = n.only;
     }
 
-stopped : (a b : Option (List ℕ)) (p q : List ℕ) (f g : ℕ) (e : RunError) (t u : List ℕ) → Prints a b p q f g (Err e) t → Prints a b p q f g (Err e) (t ++ u)
-stopped a b p q f g e t u m = record {
+-- a text, of which a prefix was written before a write failed, and what would have come behind it
+pub Prints-stop : {T : Type 0} (a b : SinkState) (p q : List ℕ) (e : RunError) (result : Result T RunError) (t u : List ℕ)
+    → IsErr result × IsErrAnd result (λ x. x ≡ e) → Prints a b p q (broken e) t → Prints a b p q result (t ++ u)
+Prints-stop a b p q e (Ok x) t u same m = absurd same.1
+Prints-stop a b p q e (Err x) t u same m = record {
   ok = tt;
-  front = record {
-    taken = m.front.taken;
-    left = m.front.left ++ u;
-    whole = sym (append_assoc m.front.taken m.front.left u) ∙ ap (λ l. l ++ u) m.front.whole ∙ append_assoc p t u;
-    appended = m.front.appended;
+  prefix = record {
+    taken = m.prefix.taken;
+    left = m.prefix.left ++ u;
+    whole = sym (append_assoc m.prefix.taken m.prefix.left u) ∙ ap (λ l. l ++ u) m.prefix.whole ∙ append_assoc p t u;
+    appended = m.prefix.appended;
   };
-  failed = m.failed;
+  failed = (λ h. m.failed.0 (ap broken m.only), λ below. ap Err (same.1 ∙ m.only));
   calm = tt;
-  only = m.only;
+  only = same.1 ∙ m.only;
 }
 
--- a text, of which a front was written before a write failed, and what would have come behind it
-pub Prints-stop : (a b : Option (List ℕ)) (p q : List ℕ) (f g : ℕ) (e : RunError) (result : Result (Unit {0}) RunError) (t u : List ℕ)
-    → IsErr result × IsErrAnd result (λ x. x ≡ e) → Prints a b p q f g (Err e) t → Prints a b p q f g result (t ++ u)
-Prints-stop a b p q f g e (Ok x) t u same m = absurd same.1
-Prints-stop a b p q f g e (Err x) t u same m = subst (λ x. Prints a b p q f g (Err x) (t ++ u)) (sym same.1) (stopped a b p q f g e t u m)
-
--- nothing went wrong
-abbrev pub done : Result (Unit {0}) RunError
-done = Ok tt
+-- a text was printed, and something answered
+pub Prints-answer : {T : Type 0} (a b : SinkState) (p q : List ℕ) (x : T) (t : List ℕ) → Prints a b p q done t → Prints a b p q (Ok x) t
+Prints-answer a b p q x t m = record {
+  ok = m.ok;
+  prefix = m.prefix;
+  failed = (λ h. absurd (cc h), λ below. absurd (cc (m.failed.1 below)));
+  calm = m.calm;
+  only = tt;
+}
 
 -- ---- texts, grouped as they are printed and as they are defined
 
@@ -81,34 +94,63 @@ texts-all f xs i d end below =
 -- ---- a listing, as far as it is printed
 
 -- this much was printed, and what is left makes it whole
-pub record PrintsSoFar (a b : Option (List ℕ)) (p q : List ℕ) (f g : ℕ) (all left : List ℕ) : Type 0 where
+pub record PrintsSoFar (a b : SinkState) (p q all left : List ℕ) : Type 0 where
   pub text : List ℕ
   pub whole : text ++ left ≡ all
-  pub prints : Prints a b p q f g done text
+  pub prints : Prints a b p q done text
 
-pub SoFar-start : (a : Option (List ℕ)) (p : List ℕ) (f : ℕ) (all : List ℕ) → PrintsSoFar a a p p f f all all
-SoFar-start a p f all = let none = Printed-nil a p in record {
+pub SoFar-start : (a : SinkState) (p all : List ℕ) → PrintsSoFar a a p p all all
+SoFar-start a p all = let none = Printed-nil a.contents p in record {
   text = [];
   whole = refl;
-  prints = record { ok = none.ok; front = none.front; failed = (λ e. absurd (cc e), λ below. absurd (none_below f below)); calm = refl; only = tt };
+  prints = record { ok = none.ok; prefix = none.prefix; failed = (λ e. absurd (cc e), λ below. absurd (none_below a.failures below)); calm = refl; only = tt };
 }
   where
     none_below : (f : ℕ) → f < f → ⊥
     none_below f below = omega arith
 
-pub SoFar-more : (a b c : Option (List ℕ)) (p q r : List ℕ) (f g h : ℕ) (all left line left' : List ℕ) → left ≡ line ++ left'
-    → PrintsSoFar a b p q f g all left → Prints b c q r g h done line → PrintsSoFar a c p r f h all left'
-SoFar-more a b c p q r f g h all left line left' is m n = record {
+pub SoFar-more : (a b c : SinkState) (p q r all left line left' : List ℕ) → left ≡ line ++ left'
+    → PrintsSoFar a b p q all left → Prints b c q r done line → PrintsSoFar a c p r all left'
+SoFar-more a b c p q r all left line left' is m n = record {
   text = m.text ++ line;
   whole = append_assoc m.text line left' ∙ ap (λ l. m.text ++ l) (sym is) ∙ m.whole;
-  prints = Prints-then a b c p q r f g h done m.text line m.prints n;
+  prints = Prints-then a b c p q r done m.text line m.prints n;
 }
 
-pub SoFar-stop : (a b c : Option (List ℕ)) (p q r : List ℕ) (f g h : ℕ) (all left line left' : List ℕ) (e : RunError) (result : Result (Unit {0}) RunError)
-    → left ≡ line ++ left' → PrintsSoFar a b p q f g all left → IsErr result × IsErrAnd result (λ x. x ≡ e) → Prints b c q r g h (Err e) line → Prints a c p r f h result all
-SoFar-stop a b c p q r f g h all left line left' e result is m same n =
-    Prints-as a c p r f h result (m.text ++ (line ++ left')) all (ap (λ l. m.text ++ l) (sym is) ∙ m.whole)
-    (Prints-then a b c p q r f g h result m.text (line ++ left') m.prints (Prints-stop b c q r g h e result line left' same n))
+pub SoFar-stop : {T : Type 0} (a b c : SinkState) (p q r all left line left' : List ℕ) (e : RunError) (result : Result T RunError)
+    → left ≡ line ++ left' → PrintsSoFar a b p q all left → IsErr result × IsErrAnd result (λ x. x ≡ e) → Prints b c q r (broken e) line → Prints a c p r result all
+SoFar-stop a b c p q r all left line left' e result is m same n =
+    Prints-as a c p r result (m.text ++ (line ++ left')) all (ap (λ l. m.text ++ l) (sym is) ∙ m.whole)
+    (Prints-then a b c p q r result m.text (line ++ left') m.prints (Prints-stop b c q r e result line left' same n))
 
-pub SoFar-end : (a b : Option (List ℕ)) (p q : List ℕ) (f g : ℕ) (all left : List ℕ) → left ≡ [] → PrintsSoFar a b p q f g all left → Prints a b p q f g done all
-SoFar-end a b p q f g all left is m = Prints-as a b p q f g done m.text all (sym (append-nil m.text) ∙ ap (λ l. m.text ++ l) (sym is) ∙ m.whole) m.prints
+pub SoFar-end : (a b : SinkState) (p q all left : List ℕ) → left ≡ [] → PrintsSoFar a b p q all left → Prints a b p q done all
+SoFar-end a b p q all left is m = Prints-as a b p q done m.text all (sym (append-nil m.text) ∙ ap (λ l. m.text ++ l) (sym is) ∙ m.whole) m.prints
+
+-- what was printed so far is all, and something is answered
+pub SoFar-answer : {T : Type 0} (a b : SinkState) (p q all left : List ℕ) (x : T) → left ≡ [] → PrintsSoFar a b p q all left → Prints a b p q (Ok x) all
+SoFar-answer a b p q all left x is m = Prints-answer a b p q x all (SoFar-end a b p q all left is m)
+
+-- what was printed, whatever is answered beside it
+pub Prints-quiet : {T : Type 0} (a b : SinkState) (p q : List ℕ) (x : T) (t : List ℕ) → Prints a b p q (Ok x) t → Prints a b p q done t
+Prints-quiet a b p q x t m = record {
+  ok = m.ok;
+  prefix = m.prefix;
+  failed = (λ h. absurd (cc h), λ below. absurd (cc (m.failed.1 below)));
+  calm = m.calm;
+  only = tt;
+}
+
+pub Prints-broken : {T : Type 0} (a b : SinkState) (p q : List ℕ) (e : RunError) (result : Result T RunError) (t : List ℕ) → result ≡ Err e
+    → Prints a b p q result t → Prints a b p q (broken e) t
+Prints-broken a b p q e (Ok x) t is m = absurd (cc is)
+Prints-broken a b p q e (Err x) t is m =
+    let same : x ≡ e = cc is in record {
+      ok = tt;
+      prefix = m.prefix;
+      failed = (λ h. m.failed.0 (ap Err (same ∙ wrote e h)), λ below. ap Err (sym same ∙ m.only));
+      calm = tt;
+      only = sym same ∙ m.only;
+    }
+  where
+    wrote : (e : RunError) → broken e ≡ broken Write → e ≡ Write
+    wrote e h = cc h

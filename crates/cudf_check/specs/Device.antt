@@ -1,7 +1,25 @@
--- How one answer of a device changes the counts that contracts see. (own)
-use Rattle.std.specs.Prelude.{ℕ, zero, suc, Result, Ok, Err}
+-- What contracts see of readers and writers, and how one answer changes it.
+use Rattle.std.specs.Prelude.{ℕ, zero, suc, List, Option, Result, Ok, Err}
+use Rattle.std.specs.declared.io.Error.{Error}
+use Rattle.std.specs.declared.io.ErrorKind.{ErrorKind}
+use Rattle.std.specs.declared.io.ErrorKind.TheVariants as error_kinds
+use Rattle.std.specs.IoError.{error_kind}
 use Rattle.cudf_check.specs.declared.device.Trouble.{Trouble}
 use Rattle.cudf_check.specs.declared.device.Trouble.TheVariants.{Interrupted, Failed}
+
+-- a source: the bytes that it will still give, where it tells them; how many calls of `read` it has had, how many of
+-- them answered `Failed`, and how many answered 0 bytes; how many bytes it has given
+pub record SourceState : Type 0 where
+  pub remaining : Option (List ℕ)
+  pub calls : ℕ
+  pub failures : ℕ
+  pub ends : ℕ
+  pub given : ℕ
+
+-- a sink: the bytes that it has taken, where it tells them; how many calls of `write` answered a trouble or took no byte
+pub record SinkState : Type 0 where
+  pub contents : Option (List ℕ)
+  pub failures : ℕ
 
 -- one failure where the read failed; an interrupted read is none
 abbrev pub failed_reads : Result ℕ Trouble → ℕ
@@ -25,3 +43,13 @@ abbrev pub failed_writes : Result ℕ Trouble → ℕ
 failed_writes (Ok zero) = 1
 failed_writes (Ok (suc n)) = 0
 failed_writes (Err trouble) = 1
+
+-- an error of a std reader or writer, by its kind
+abbrev pub trouble_of : ErrorKind → Trouble
+trouble_of error_kinds.Interrupted = Interrupted
+trouble_of kind = Failed
+
+-- what a std reader or writer answered, as a source or sink answers it
+abbrev pub device_answer : Result ℕ Error → Result ℕ Trouble
+device_answer (Ok n) = Ok n
+device_answer (Err error) = Err (trouble_of (error_kind error))

@@ -1,4 +1,4 @@
--- What a device is made of. (own)
+-- What a device is made of.
 use Rattle.std.specs.Prelude.{◌≡◌}
 use Rattle.cudf_check.specs.declared.device.Device.{Device}
 

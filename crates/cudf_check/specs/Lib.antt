@@ -1,10 +1,8 @@
-pub mod Answering
-pub mod Command
 pub mod Device
 pub mod DeviceInside
-pub mod Failure
-pub mod Job
+pub mod Limits
 pub mod Outcome
+pub mod Prefix
 pub mod Report
-pub mod Running
-pub mod Writing
+pub mod Runs
+pub mod Working

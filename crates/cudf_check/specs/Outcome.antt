@@ -1,4 +1,4 @@
--- The exit statuses of answers. (own)
+-- The exit statuses of answers.
 use Rattle.std.specs.Prelude.{ℕ}
 use Rattle.cudf_check.specs.declared.outcome.Outcome.{Outcome}
 use Rattle.cudf_check.specs.declared.outcome.Outcome.TheVariants.{Yes, No, Faulty, Fail}

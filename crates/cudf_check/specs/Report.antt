@@ -1,5 +1,5 @@
 -- The report of a run: a function of the job and the inputs to a text and an outcome. Own.
-use Rattle.std.specs.Prelude.{ℕ, ◌-◌, Bool, List, [], ◌∷◌, ◌++◌, codes, decimal, slice_get, Option, Some, None, if◌then◌else◌}
+use Rattle.std.specs.Prelude.{ℕ, ◌-◌, Bool, List, [], ◌∷◌, ◌++◌, take, codes, decimal, slice_get, Option, Some, None, option_map, if◌then◌else◌}
 use Rattle.std.specs.List.{flat_map}
 use Rattle.std.specs.Str.{is_utf8}
 use Rattle.cudf_text.specs.declared.fault.Fault.{Fault}
@@ -17,13 +17,17 @@ use Rattle.cudf_document.specs.Statuses.{is_initial, is_proposed, unknown_stanza
 use Rattle.cudf_universe.specs.Satisfaction.{Pair}
 use Rattle.cudf_referee.specs.declared.key.Aspect.{Aspect}
 use Rattle.cudf_referee.specs.declared.key.Aspect.TheVariants.{Unsatisfied, Many, Lower}
-use Rattle.cudf_referee.specs.Keys.{key_text}
+use Rattle.cudf_referee.specs.declared.criteria.Criteria.{Criteria}
+use Rattle.cudf_referee.specs.Criteria.{criteria, paranoid, trendy}
+use Rattle.cudf_referee.specs.Entries.{is_empty}
+use Rattle.cudf_referee.specs.Keys.{PlainKey, key_text}
+use Rattle.cudf_referee.specs.KeyViews.{key_view}
 use Rattle.cudf_referee.specs.Instances.{PlainWhat, needs, conflicts_with, keep_version, keep_package, keep_feature, install, remove, upgrade, unknown, PlainInstance}
 use Rattle.cudf_referee.specs.Proposals.{Proposal, proposal}
-use Rattle.cudf_referee.specs.Violations.{listing, met_by}
+use Rattle.cudf_referee.specs.Violations.{listing, rest, met_by}
 use Rattle.cudf_referee.specs.Solutions.{is_solution}
 use Rattle.cudf_check.specs.declared.job.Job.{Job}
-use Rattle.cudf_check.specs.declared.job.Job.TheVariants.{Lint, Check}
+use Rattle.cudf_check.specs.declared.job.Job.TheVariants.{Lint, Check, Score}
 use Rattle.cudf_check.specs.declared.outcome.Outcome.{Outcome}
 use Rattle.cudf_check.specs.declared.outcome.Outcome.TheVariants.{Yes, No, Faulty, Fail}
 
@@ -104,15 +108,75 @@ met_line i met = line (key_text i.key ++ place_text i.subject i.line ++ what_tex
 abbrev pub instance_line : Proposal → PlainInstance → List ℕ
 instance_line s i = met_line i (package_at s.packages (met_by s.proposed i))
 
+-- ---- pages of the listing
+
+-- the violated instances whose keys come after this one; all of them where there is none
+abbrev pub listed : Option PlainKey → Proposal → List PlainInstance
+listed None s = listing s
+listed (Some key) s = rest key s
+
+-- the first of them, where there is a limit
+abbrev pub limited : Option ℕ → List PlainInstance → List PlainInstance
+limited None instances = instances
+limited (Some limit) instances = take limit instances
+
+-- the key of the last one
+abbrev pub last_key : List PlainInstance → Option PlainKey
+last_key [] = None
+last_key (i ∷ []) = Some i.key
+last_key (i ∷ j ∷ instances) = last_key (j ∷ instances)
+
+-- `more after p1.depends.1`, where the listing has a greater key than the last one of the page
+abbrev pub more_text : Proposal → Option PlainKey → List ℕ
+more_text s None = []
+more_text s (Some key) = if is_empty (rest key s) then [] else line (codes "more after " ++ key_text key)
+
+abbrev pub page_text : Proposal → List PlainInstance → List ℕ
+page_text s page = flat_map (instance_line s) page ++ more_text s (last_key page)
+
+-- a line for each violated instance of the page, and where the next page begins
+abbrev pub check_text : Option PlainKey → Option ℕ → Proposal → List ℕ
+check_text after limit s = page_text s (limited limit (listed after s))
+
+-- ---- scores
+
+-- `removed 2`
+abbrev pub count_line : List ℕ → ℕ → List ℕ
+count_line name count = line (name ++ codes " " ++ decimal count)
+
+-- `paranoid 2 3`
+abbrev pub vector_line : List ℕ → List ℕ → List ℕ
+vector_line name counts = line (name ++ flat_map (λ count. codes " " ++ decimal count) counts)
+
+-- the counts by their names
+abbrev pub named_counts : Criteria → List (List ℕ × ℕ)
+named_counts c =
+    (codes "removed", c.removed)
+    ∷ (codes "new", c.new)
+    ∷ (codes "changed", c.changed)
+    ∷ (codes "notuptodate", c.notuptodate)
+    ∷ (codes "unsat_recommends", c.unsat_recommends)
+    ∷ []
+
+-- a line for each count, and one for each vector
+abbrev pub criteria_text : Criteria → List ℕ
+criteria_text c =
+    flat_map (λ count. count_line count.0 count.1) (named_counts c)
+    ++ vector_line (codes "paranoid") (paranoid c)
+    ++ vector_line (codes "trendy") (trendy c)
+
+abbrev pub score_text : Proposal → List ℕ
+score_text s = criteria_text (criteria s)
+
 -- ---- judging
 
 abbrev pub verdict_text : Bool → List ℕ
 verdict_text is_yes = if is_yes then codes "solution yes" else codes "solution no"
 
--- a line for each violated instance, and the verdict
-abbrev pub judged_report : Proposal → Report
-judged_report s = record {
-  text = flat_map (instance_line s) (listing s) ++ line (verdict_text (is_solution s));
+-- what was found, and the verdict
+abbrev pub judged_report : (Proposal → List ℕ) → Proposal → Report
+judged_report found s = record {
+  text = found s ++ line (verdict_text (is_solution s));
   outcome = if is_solution s then Yes else No;
 }
 
@@ -123,20 +187,21 @@ proposal_of problem text = proposal problem (is_initial problem) (is_proposed pr
 -- ---- documents
 
 -- a solution that doesn't say FAIL
-abbrev pub solution_text_report : PlainProblem → PlainText → Report
-solution_text_report problem text = faulty_or (codes "solution") (least (solution_faults text)) (judged_report (proposal_of problem text))
+abbrev pub solution_text_report : (Proposal → List ℕ) → PlainProblem → PlainText → Report
+solution_text_report found problem text = faulty_or (codes "solution") (least (solution_faults text)) (judged_report found (proposal_of problem text))
 
 -- a solution, beside a problem without fault
-abbrev pub solution_report : PlainProblem → List ℕ → Report
-solution_report problem bytes = of_bytes (codes "solution") bytes
-    (λ text. if is_fail bytes then alone (codes "solution FAIL") Fail else solution_text_report problem text)
+abbrev pub solution_report : (Proposal → List ℕ) → PlainProblem → List ℕ → Report
+solution_report found problem bytes = of_bytes (codes "solution") bytes
+    (λ text. if is_fail bytes then alone (codes "solution FAIL") Fail else solution_text_report found problem text)
 
 -- a problem's text, and a solution
-abbrev pub problem_text_report : List ℕ → PlainText → Report
-problem_text_report solution text = faulty_or (codes "problem") (least (problem_faults text)) (solution_report (plain_problem text) solution)
+abbrev pub problem_text_report : (Proposal → List ℕ) → List ℕ → PlainText → Report
+problem_text_report found solution text = faulty_or (codes "problem") (least (problem_faults text)) (solution_report found (plain_problem text) solution)
 
-abbrev pub check_report : List ℕ → List ℕ → Report
-check_report problem solution = of_bytes (codes "problem") problem (problem_text_report solution)
+-- a problem and a solution
+abbrev pub pair_report : (Proposal → List ℕ) → List ℕ → List ℕ → Report
+pair_report found problem solution = of_bytes (codes "problem") problem (problem_text_report found solution)
 
 -- a problem's text alone
 abbrev pub lint_text_report : PlainText → Report
@@ -148,10 +213,11 @@ lint_report problem = of_bytes (codes "problem") problem lint_text_report
 -- ---- the report
 
 -- the second input is the solution; where there is none, the first one is cut
-abbrev pub inputs_report : List ℕ → Option (List ℕ) → Report
-inputs_report input None = check_report (problem_part input) (solution_part input)
-inputs_report input (Some solution) = check_report input solution
+abbrev pub inputs_report : (Proposal → List ℕ) → List ℕ → Option (List ℕ) → Report
+inputs_report found input None = pair_report found (problem_part input) (solution_part input)
+inputs_report found input (Some solution) = pair_report found input solution
 
 unfoldable pub report : Job → List ℕ → Option (List ℕ) → Report
 report Lint input solution = lint_report input
-report (Check after limit) input solution = inputs_report input solution
+report (Check after limit) input solution = inputs_report (check_text (option_map key_view after) limit) input solution
+report Score input solution = inputs_report score_text input solution

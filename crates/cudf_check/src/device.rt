@@ -1,9 +1,8 @@
-//! What the checker reads from and writes to. Contracts see the bytes where the device tells them,
-//! and always the counts of its calls. (own)
-ghost use Rattle.std.specs.Prelude.{◌≡◌, ℕ, ◌+◌, ◌<◌, ◌≤◌, ◌↔◌, List, Option, None, length, IfOk};
-ghost use Rattle.std.specs.IoError.{error_kind};
+//! What a run reads from and writes to. Contracts see of each device one state: its bytes, where it tells them, and
+//! always the counts of its calls.
+ghost use Rattle.std.specs.Prelude.{◌≡◌, ◌+◌, ◌<◌, ◌≤◌, length, IfOk};
 ghost use Rattle.std.specs.Io.KnownBytes.{ReadConsumes, WriteAppends};
-ghost use Rattle.cudf_check.specs.Device.{failed_reads, ended_reads, bytes_given, failed_writes};
+ghost use Rattle.cudf_check.specs.Device.{SourceState, SinkState, failed_reads, ended_reads, bytes_given, failed_writes, device_answer};
 
 use cudf_universe::Steps;
 use std::io::{self, ErrorKind, Read, Write};
@@ -19,20 +18,8 @@ pub enum Trouble {
 
 /// Something that gives bytes.
 pub trait Source {
-    /// The bytes that it will still give, where it tells them.
-    ghost remaining: { Self → Option (List ℕ) };
-
-    /// How many calls of `read` it has had.
-    ghost calls: { Self → ℕ };
-
-    /// How many of them answered `Failed`.
-    ghost failures: { Self → ℕ };
-
-    /// How many of them answered 0 bytes.
-    ghost ends: { Self → ℕ };
-
-    /// How many bytes it has given.
-    ghost given: { Self → ℕ };
+    /// The bytes that it will still give, where it tells them, and the counts of its calls and bytes.
+    ghost state: { Self → SourceState };
 
     /// Writes the next bytes to the front of `buffer` and answers how many. 0 bytes are the end of
     /// the input. After a `Trouble` no byte was given.
@@ -40,30 +27,27 @@ pub trait Source {
         requires { 0 < length buffer.old }
 
         ensures bound { IfOk result (λ n. n ≤ length buffer.new) }
-        ensures bytes { ReadConsumes (remaining self.old) (remaining self.new) result buffer.new }
+        ensures bytes { ReadConsumes (state self.old).remaining (state self.new).remaining result buffer.new }
 
         // Each count grows by what the answer says.
-        ensures called { calls self.new ≡ calls self.old + 1 }
-        ensures failed { failures self.new ≡ failures self.old + failed_reads result }
-        ensures ended { ends self.new ≡ ends self.old + ended_reads result }
-        ensures gave { given self.new ≡ given self.old + bytes_given result };
+        ensures called { (state self.new).calls ≡ (state self.old).calls + 1 }
+        ensures failed { (state self.new).failures ≡ (state self.old).failures + failed_reads result }
+        ensures ended { (state self.new).ends ≡ (state self.old).ends + ended_reads result }
+        ensures gave { (state self.new).given ≡ (state self.old).given + bytes_given result };
 }
 
 /// Something that takes bytes.
 pub trait Sink {
-    /// The bytes that it has taken, where it tells them.
-    ghost contents: { Self → Option (List ℕ) };
-
-    /// How many calls of `write` answered a `Trouble` or took no byte.
-    ghost failures: { Self → ℕ };
+    /// The bytes that it has taken, where it tells them, and the count of its failed calls.
+    ghost state: { Self → SinkState };
 
     /// Takes bytes from the front of `bytes` and answers how many. After a `Trouble` none was taken.
     fn write(&mut self, bytes: &[u8]) -> Result<usize, Trouble>
         requires { 0 < length bytes.now }
 
         ensures bound { IfOk result (λ n. n ≤ length bytes.now) }
-        ensures bytes { WriteAppends (contents self.old) (contents self.new) result bytes.now }
-        ensures failed { failures self.new ≡ failures self.old + failed_writes result };
+        ensures bytes { WriteAppends (state self.old).contents (state self.new).contents result bytes.now }
+        ensures failed { (state self.new).failures ≡ (state self.old).failures + failed_writes result };
 }
 
 /// A reader or a writer of std, as a `Source` or a `Sink`. It tells its bytes where the reader or
@@ -109,66 +93,50 @@ impl<T> Device<T> {
     }
 }
 
-/// An error of a std reader or writer as a trouble.
-fn trouble_of(error: &io::Error) -> Trouble
-    ensures { (result ≡ Trouble.Interrupted) ↔ (error_kind error.now ≡ ErrorKind.Interrupted) }
+/// What a std reader or writer answered, as a source or sink answers it.
+fn answer_of(answer: io::Result<usize>) -> Result<usize, Trouble>
+    ensures { result ≡ device_answer answer }
 {
-    if error.kind() == ErrorKind::Interrupted {
-        Trouble::Interrupted
-    } else {
-        Trouble::Failed
+    match answer {
+        Ok(n) => Ok(n),
+        Err(error) => match error.kind() {
+            ErrorKind::Interrupted => Err(Trouble::Interrupted),
+            _ => Err(Trouble::Failed),
+        },
     }
 }
 
 impl<R: Read> Source for Device<R> {
-    ghost remaining = { λ d. R.remaining d.inner };
-
-    ghost calls = { λ d. d.calls };
-
-    ghost failures = { λ d. d.failures };
-
-    ghost ends = { λ d. d.ends };
-
-    ghost given = { λ d. d.given };
+    ghost state = { λ d. record {
+      remaining = R.remaining d.inner;
+      calls = d.calls;
+      failures = d.failures;
+      ends = d.ends;
+      given = d.given;
+    } };
 
     fn read(&mut self, buffer: &mut [u8]) -> Result<usize, Trouble> {
         self.calls.tick();
-        match self.inner.read(buffer) {
-            Ok(n) => {
-                if n == 0 {
-                    self.ends.tick();
-                }
-                self.given.grow_by(n);
-                Ok(n)
-            }
-            Err(error) => {
-                let trouble = trouble_of(&error);
-                if let Trouble::Failed = trouble {
-                    self.failures.tick();
-                }
-                Err(trouble)
-            }
+        let answer = answer_of(self.inner.read(buffer));
+        match answer {
+            Ok(0) => self.ends.tick(),
+            Ok(n) => self.given.grow_by(n),
+            Err(Trouble::Failed) => self.failures.tick(),
+            Err(Trouble::Interrupted) => {}
         }
+        answer
     }
 }
 
 impl<W: Write> Sink for Device<W> {
-    ghost contents = { λ d. W.contents d.inner };
-
-    ghost failures = { λ d. d.failures };
+    ghost state = { λ d. record { contents = W.contents d.inner; failures = d.failures } };
 
     fn write(&mut self, bytes: &[u8]) -> Result<usize, Trouble> {
-        match self.inner.write(bytes) {
-            Ok(n) => {
-                if n == 0 {
-                    self.failures.tick();
-                }
-                Ok(n)
-            }
-            Err(error) => {
-                self.failures.tick();
-                Err(trouble_of(&error))
-            }
+        let answer = answer_of(self.inner.write(bytes));
+        match answer {
+            Ok(n) if n > 0 => {}
+            _ => self.failures.tick(),
         }
+        answer
     }
 }

@@ -1,4 +1,4 @@
-//! What a run is asked to do. (own)
+//! What a run is asked to do.
 use cudf_referee::Key;
 
 /// One run's task.
@@ -6,10 +6,12 @@ use cudf_referee::Key;
 pub enum Job {
     /// Say whether the input is a problem without fault. No solution is read.
     Lint,
-    /// Judge the solution and list the violated instances: those after the key `after`, where it is
-    /// given, and at most `limit` of them, which is at least 1.
+    /// Judge the solution and list the violated instances: those whose keys come behind `after`, where
+    /// it is given, and at most `limit` of them, which is at least 1. The verdict is of all instances.
     Check {
         after: Option<Key>,
         limit: Option<u64>,
     },
+    /// Judge the solution and count what it changes and lacks, by the criteria of the MISC competition.
+    Score,
 }

@@ -1,4 +1,4 @@
-//! What a run answers, and the exit status of each answer. (own)
+//! What a run answers, and the exit status of each answer.
 ghost use Rattle.std.specs.Prelude.{◌≡◌};
 
 use thiserror::Error;
@@ -25,7 +25,7 @@ pub enum RunError {
     /// An input has more than 268435456 bytes. Nothing was written.
     #[error("an input is longer than 268435456 bytes; give a shorter one")]
     TooLong,
-    /// A write failed. What was written before is the front of the report.
+    /// A write failed. What was written before is a prefix of the report.
     #[error("the report could not be written to its end; make room for the output, and run again")]
     Write,
     /// Memory ran out. Nothing was written.

@@ -1,4 +1,4 @@
--- Declarations, one behind the other.
+-- Declarations, one after the other.
 use Rattle.std.proofs.Common.{◌≡◌, ℕ, ◌≤◌, Bool, true, false, ◌&&◌, List, [], ◌∷◌, ◌++◌, map, length, take, Some, find, refl, sym, ap, ◌∙◌, arith, if◌then◌else◌, option_map, bytes_eq}
 use Rattle.std.proofs.lemmas.List.{append_assoc, append-nil, take-append-le, length-take, take_all}
 use Rattle.std.proofs.lemmas.List.Folds.{list_all-append}
@@ -42,7 +42,7 @@ pub record Added (before now ds : List PlainDeclaration) (all : Bool) : Type 0 w
 pub Added-none : (before : List PlainDeclaration) → Added before before [] true
 Added-none before = record { are_all = refl; added = λ _. sym (append-nil before); kept = take_all (length before) before (omega arith) }
 
--- one more, where it can stand behind those that are there
+-- one more, where it can stand after those that are there
 pub Added-next : (before now ds : List PlainDeclaration) (d : PlainDeclaration) (all is_added : Bool) (new : List PlainDeclaration)
     → Added before now ds all → is_added ≡ is_declarable (now, d) → new ≡ (if is_added then now ++ d ∷ [] else now)
     → Added before new (ds ++ d ∷ []) (all && is_added)

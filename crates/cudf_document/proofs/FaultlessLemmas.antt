@@ -46,24 +46,24 @@ all_without faults test passes (x ∷ xs) none =
     let parts = nil_parts (faults x) (flat_map faults xs) none in
     (λ i. passes x parts.0 i && all_without faults test passes xs parts.1 i)
 
-all_behind : {A : Type 0} (test : A → Bool) (before xs : List A) → list_all (λ x. test x.1) (with_earlier before xs) ≡ list_all test xs
-all_behind test before [] = refl
-all_behind test before (x ∷ xs) = ap (λ b. test x && b) (all_behind test (before ++ x ∷ []) xs)
+all_after : {A : Type 0} (test : A → Bool) (before xs : List A) → list_all (λ x. test x.1) (with_earlier before xs) ≡ list_all test xs
+all_after test before [] = refl
+all_after test before (x ∷ xs) = ap (λ b. test x && b) (all_after test (before ++ x ∷ []) xs)
 
 -- ---- a stanza without faults
 
 record IsClean (before : List PlainStanza) (s : PlainStanza) : Type 0 where
   not_late : list_any is_request before ≡ false
-  well_typed : list_all (λ p. not (fails (test_of p.name (tests (declared before) (postmark s))) p.value.bytes)) s.properties ≡ true
+  well_typed : list_all (λ p. not (fails (test_of p.name (tests (declared before) (postmark s))) p.value)) s.properties ≡ true
   fresh : is_known (filter_map id_of before) (id_of s) ≡ false
   versioned : (marks_package (postmark s) && is_none (version_property s)) ≡ false
 
 typed_property : (ds : List PlainDeclaration) (mark : Option Postmark) (x : List PlainProperty × PlainProperty) → property_faults ds mark x ≡ []
-    → not (fails (test_of x.1.name (tests ds mark)) x.1.value.bytes) ≡ true
+    → not (fails (test_of x.1.name (tests ds mark)) x.1.value) ≡ true
 typed_property ds mark (before, p) none =
     let front = nil_parts (repeated_faults mark (before, p) ++ undeclared_faults ds mark p ++ mistyped_faults ds mark p) (misdeclared_faults mark (before, p)) none in
     let typed = nil_parts (repeated_faults mark (before, p) ++ undeclared_faults ds mark p) (mistyped_faults ds mark p) front.0 in
-    ap not (none_of (fails (test_of p.name (tests ds mark)) p.value.bytes) p.line E9 typed.1)
+    ap not (none_of (fails (test_of p.name (tests ds mark)) p.value) p.line E9 typed.1)
 
 clean : (before : List PlainStanza) (s : PlainStanza) → stanza_faults (before, s) ≡ [] → IsClean before s
 clean before s none =
@@ -75,8 +75,8 @@ clean before s none =
     record {
       not_late = none_of (list_any is_request before) s.line E6 place.1;
       well_typed =
-          sym (all_behind (λ p. not (fails (test_of p.name (tests (declared before) (postmark s))) p.value.bytes)) [] s.properties)
-          ∙ all_without (property_faults (declared before) (postmark s)) (λ x. not (fails (test_of x.1.name (tests (declared before) (postmark s))) x.1.value.bytes))
+          sym (all_after (λ p. not (fails (test_of p.name (tests (declared before) (postmark s))) p.value)) [] s.properties)
+          ∙ all_without (property_faults (declared before) (postmark s)) (λ x. not (fails (test_of x.1.name (tests (declared before) (postmark s))) x.1.value))
           (typed_property (declared before) (postmark s)) (with_earlier [] s.properties) front.0;
       fresh = none_of (is_known (filter_map id_of before) (id_of s)) (line_of (version_property s)) E11 front.1;
       versioned = none_of (marks_package (postmark s) && is_none (version_property s)) s.last E12 inner.1;
@@ -181,8 +181,8 @@ one_passes p before [] all none one = absurd (true≢false (sym one))
 one_passes {A} p before (x ∷ xs) all none one =
     by (p x) refl (one_passes p (before ++ x ∷ []) xs)
   where
-    behind : list_all (λ y. not (list_any p y.0)) (with_earlier (before ++ x ∷ []) xs) ≡ true
-    behind = (and_parts (not (list_any p before)) (list_all (λ y. not (list_any p y.0)) (with_earlier (before ++ x ∷ []) xs)) all).1
+    after : list_all (λ y. not (list_any p y.0)) (with_earlier (before ++ x ∷ []) xs) ≡ true
+    after = (and_parts (not (list_any p before)) (list_all (λ y. not (list_any p y.0)) (with_earlier (before ++ x ∷ []) xs)) all).1
 
     so_far : (b : Bool) → p x ≡ b → list_any p (before ++ x ∷ []) ≡ b
     so_far true is = list_any-append p before (x ∷ []) ∙ (λ i. none i || (is i || false))
@@ -197,8 +197,8 @@ one_passes {A} p before (x ∷ xs) all none one =
     by : (b : Bool) → p x ≡ b
         → (list_all (λ y. not (list_any p y.0)) (with_earlier (before ++ x ∷ []) xs) ≡ true → list_any p (before ++ x ∷ []) ≡ false → list_any p xs ≡ true → length (filter p xs) ≡ 1)
         → length (if b then x ∷ filter p xs else filter p xs) ≡ 1
-    by true is rest = ap (λ l. length (x ∷ filter p l)) (nothing xs (so_far true is) behind)
-    by false is rest = rest behind (so_far false is) (ap (λ b. b || list_any p xs) (sym is) ∙ one)
+    by true is rest = ap (λ l. length (x ∷ filter p l)) (nothing xs (so_far true is) after)
+    by false is rest = rest after (so_far false is) (ap (λ b. b || list_any p xs) (sym is) ∙ one)
 
 -- there is one request
 one_request : (text : PlainText) → problem_faults text ≡ [] → count_by is_request text.stanzas ≡ 1
@@ -212,24 +212,24 @@ one_request text none =
 
 -- a property that is there and of its type has a value
 value_there : {A : Type 0} (read : List ℕ → Option A) (name : List ℕ) (known : List (List ℕ × Test)) (ps : List PlainProperty)
-    → test_of name known ≡ Some (can_be read) → list_all (λ p. not (fails (test_of p.name known) p.value.bytes)) ps ≡ true
+    → test_of name known ≡ Some (can_be read) → list_all (λ p. not (fails (test_of p.name known) p.value)) ps ≡ true
     → list_any (has_name name) ps ≡ true → is_some (value_of read name ps) ≡ true
 value_there read name known [] test typed there = absurd (true≢false (sym there))
 value_there {A} read name known (p ∷ ps) test typed there =
     by (bytes_eq p.name name) refl there (value_there read name known ps test parts.1)
   where
-    parts : (not (fails (test_of p.name known) p.value.bytes) ≡ true) × (list_all (λ q. not (fails (test_of q.name known) q.value.bytes)) ps ≡ true)
-    parts = and_parts (not (fails (test_of p.name known) p.value.bytes)) (list_all (λ q. not (fails (test_of q.name known) q.value.bytes)) ps) typed
+    parts : (not (fails (test_of p.name known) p.value) ≡ true) × (list_all (λ q. not (fails (test_of q.name known) q.value)) ps ≡ true)
+    parts = and_parts (not (fails (test_of p.name known) p.value)) (list_all (λ q. not (fails (test_of q.name known) q.value)) ps) typed
 
     twice : (b : Bool) → not (not b) ≡ b
     twice true = refl
     twice false = refl
 
     by : (b : Bool) → bytes_eq p.name name ≡ b → (b || list_any (has_name name) ps) ≡ true → (list_any (has_name name) ps ≡ true → is_some (value_of read name ps) ≡ true)
-        → is_some (option_and_then (λ q. read q.value.bytes) (if b then Some p else find (has_name name) ps)) ≡ true
+        → is_some (option_and_then (λ q. read q.value) (if b then Some p else find (has_name name) ps)) ≡ true
     by true is there rest =
-        sym (twice (is_some (read p.value.bytes)))
-        ∙ ap (λ t. not (fails t p.value.bytes)) (sym (ap (λ n. test_of n known) (same_bytes p.name name is) ∙ test))
+        sym (twice (is_some (read p.value)))
+        ∙ ap (λ t. not (fails t p.value)) (sym (ap (λ n. test_of n known) (same_bytes p.name name is) ∙ test))
         ∙ parts.0
     by false is there rest = rest there
 
@@ -257,8 +257,8 @@ id_there before s (Some Preamble) marked c = refl
 id_there before s (Some Request) marked c = refl
 id_there before s (Some Package) marked c =
     let known = tests (declared before) (Some Package) in
-    let typed : list_all (λ p. not (fails (test_of p.name known) p.value.bytes)) s.properties ≡ true =
-    ap (λ m. list_all (λ p. not (fails (test_of p.name (tests (declared before) m)) p.value.bytes)) s.properties) (sym marked) ∙ c.well_typed in
+    let typed : list_all (λ p. not (fails (test_of p.name known) p.value)) s.properties ≡ true =
+    ap (λ m. list_all (λ p. not (fails (test_of p.name (tests (declared before) m)) p.value)) s.properties) (sym marked) ∙ c.well_typed in
     let version : is_none (version_property s) ≡ false = ap (λ m. marks_package m && is_none (version_property s)) (sym marked) ∙ c.versioned in
     both_there (value_of name_value (codes "package") s.properties) (value_of version_value (codes "version") s.properties)
     (value_there name_value (codes "package") known s.properties refl typed (named_package s.properties marked))
@@ -272,7 +272,7 @@ id_there before s (Some Package) marked c =
 pub faultless_is_sound : (text : PlainText) → problem_faults text ≡ [] → IsSound text
 faultless_is_sound text none = record {
   described =
-      sym (all_behind (λ s. not (is_package s) || is_some (package_of (declared text.stanzas) s)) [] text.stanzas)
+      sym (all_after (λ s. not (is_package s) || is_some (package_of (declared text.stanzas) s)) [] text.stanzas)
       ∙ all_without stanza_faults (λ x. not (is_package x.1) || is_some (package_of (declared text.stanzas) x.1))
       (λ x clean_x.
       ap (λ b. not (is_package x.1) || b) (is_some-option_map (package_with (declared text.stanzas) x.1.line x.1.properties) (id_of x.1))

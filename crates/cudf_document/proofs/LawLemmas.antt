@@ -49,8 +49,8 @@ same_fault f g p q =
 
 -- ---- the least is the first
 
-head_or_behind : (x g : Fault) (xs : List Fault) → Contains (x ∷ xs) g → (g ≡ x) ⊎ Contains xs g
-head_or_behind x g xs there = elim (Contains-append_cases (x ∷ []) xs g there) [ inl one ↦ inl (alone one) | inr more ↦ inr more ]
+head_or_after : (x g : Fault) (xs : List Fault) → Contains (x ∷ xs) g → (g ≡ x) ⊎ Contains xs g
+head_or_after x g xs there = elim (Contains-append_cases (x ∷ []) xs g there) [ inl one ↦ inl (alone one) | inr more ↦ inr more ]
   where
     alone : Contains (x ∷ []) g → g ≡ x
     alone (zero, lt, is) = sym is
@@ -67,30 +67,30 @@ module _ (x m : Fault) (xs : List Fault) (first : IsFirst xs m) where
   still_first : precedes m x ≡ true → IsFirst (x ∷ xs) m
   still_first before = (
     Contains-append_right (x ∷ []) xs m first.0,
-    λ g there. elim (head_or_behind x g xs there) [
+    λ g there. elim (head_or_after x g xs there) [
       | inl one ↦ inr (ap (precedes m) one ∙ before)
       | inr more ↦ first.1 g more
     ],
   )
 
   now_first : precedes m x ≡ false → IsFirst (x ∷ xs) x
-  now_first behind = (at_head x xs, λ g there. elim (head_or_behind x g xs there) [ inl one ↦ inl one | inr more ↦ by (precedes x m) refl g (first.1 g more) ])
+  now_first after = (at_head x xs, λ g there. elim (head_or_after x g xs there) [ inl one ↦ inl one | inr more ↦ by (precedes x m) refl g (first.1 g more) ])
     where
       by : (b : Bool) → precedes x m ≡ b → (g : Fault) → (g ≡ m) ⊎ IsTrue (precedes m g) → (g ≡ x) ⊎ IsTrue (precedes x g)
       by true before g (inl one) = inr (ap (precedes x) one ∙ before)
       by true before g (inr more) = inr (precedes_along x m g before more)
-      by false not_before g (inl one) = inl (one ∙ sym (same_fault x m not_before behind))
-      by false not_before g (inr more) = inr (ap (λ f. precedes f g) (same_fault x m not_before behind) ∙ more)
+      by false not_before g (inl one) = inl (one ∙ sym (same_fault x m not_before after))
+      by false not_before g (inr more) = inr (ap (λ f. precedes f g) (same_fault x m not_before after) ∙ more)
 
 alone_first : (x : Fault) → IsFirst (x ∷ []) x
-alone_first x = (at_head x [], λ g there. elim (head_or_behind x g [] there) [ inl one ↦ inl one | inr more ↦ absurd (none_in_nil g more) ])
+alone_first x = (at_head x [], λ g there. elim (head_or_after x g [] there) [ inl one ↦ inl one | inr more ↦ absurd (none_in_nil g more) ])
 
-first_behind : (x : Fault) (xs : List Fault) (f : Fault) → lesser (Some x) (least xs) ≡ Some f → ((m : Fault) → least xs ≡ Some m → IsFirst xs m) → IsFirst (x ∷ xs) f
-first_behind x xs f is rest = by (least xs) refl is
+first_after : (x : Fault) (xs : List Fault) (f : Fault) → lesser (Some x) (least xs) ≡ Some f → ((m : Fault) → least xs ≡ Some m → IsFirst xs m) → IsFirst (x ∷ xs) f
+first_after x xs f is rest = by (least xs) refl is
   where
     choose : (m : Fault) → IsFirst xs m → (b : Bool) → precedes m x ≡ b → Some (if b then m else x) ≡ Some f → IsFirst (x ∷ xs) f
     choose m first true before chosen = subst (IsFirst (x ∷ xs)) (same_Some m f chosen) (still_first x m xs first before)
-    choose m first false behind chosen = subst (IsFirst (x ∷ xs)) (same_Some x f chosen) (now_first x m xs first behind)
+    choose m first false after chosen = subst (IsFirst (x ∷ xs)) (same_Some x f chosen) (now_first x m xs first after)
 
     by : (o : Option Fault) → least xs ≡ o → lesser (Some x) o ≡ Some f → IsFirst (x ∷ xs) f
     by None none chosen = subst (IsFirst (x ∷ xs)) (same_Some x f chosen) (subst (λ l. IsFirst (x ∷ l) x) (sym (least-none xs none)) (alone_first x))
@@ -98,7 +98,7 @@ first_behind x xs f is rest = by (least xs) refl is
 
 least_is_first : (faults : List Fault) (f : Fault) → least faults ≡ Some f → IsFirst faults f
 least_is_first [] f is = absurd cc
-least_is_first (x ∷ xs) f is = first_behind x xs f is (least_is_first xs)
+least_is_first (x ∷ xs) f is = first_after x xs f is (least_is_first xs)
 
 first_is_least : (faults : List Fault) (f : Fault) → IsFirst faults f → least faults ≡ Some f
 first_is_least faults f first = by (least faults) refl

@@ -4,15 +4,14 @@ pub mod FlagLemmas
 pub mod DeclarationLemmas
 pub mod NameLemmas
 pub mod PropertyLemmas
-pub mod FieldLemmas
-pub mod WishLemmas
+pub mod PackageLemmas
+pub mod RequestLemmas
 pub mod PreambleLemmas
-pub mod GatheredLemmas
+pub mod BuilderLemmas
 pub mod FaultlessLemmas
 pub mod LawLemmas
-pub mod EntryLemmas
-pub mod IdLemmas
-pub mod ProposalLemmas
+pub mod SolutionPackageLemmas
+pub mod SolutionBuilderLemmas
 mod Examples
 pub mod StatusLemmas
-mod KnownLemmas
+mod LintLemmas

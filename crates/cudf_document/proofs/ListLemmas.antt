@@ -66,8 +66,8 @@ pub lookup-find : {K V W : Type 0} (key : K → List ℕ) (view : V → W) (name
 lookup-find key view name wanted [] same = refl
 lookup-find {K} {V} {W} key view name wanted (e ∷ es) same =
     let here : key e.0 ≡ name (view e.1) = cc in
-    let behind : map (λ e. key e.0) es ≡ map (λ e. name (view e.1)) es = cc in
-    by (bytes_eq wanted (key e.0)) (lookup-find key view name wanted es behind)
+    let after : map (λ e. key e.0) es ≡ map (λ e. name (view e.1)) es = cc in
+    by (bytes_eq wanted (key e.0)) (lookup-find key view name wanted es after)
     ∙ ap (λ n. if bytes_eq wanted n then Some (view e.1) else find (λ w. bytes_eq wanted (name w)) (map (λ e. view e.1) es)) here
   where
     by : (b : Bool) → option_map view (lookup (λ k. bytes_eq wanted (key k)) es) ≡ find (λ w. bytes_eq wanted (name w)) (map (λ e. view e.1) es)

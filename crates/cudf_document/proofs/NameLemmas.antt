@@ -8,7 +8,7 @@ use Rattle.std.specs.List.{list_any}
 use Rattle.std.specs.Option.{option_or}
 use Rattle.indexmap.specs.IndexSet.{insert_key}
 use Rattle.cudf_text.specs.Stanzas.{PlainProperty}
-use Rattle.cudf_document.specs.Working.Names.{AreNames}
+use Rattle.cudf_document.specs.Working.SeenNames.{AreNames}
 use Rattle.cudf_document.specs.Documents.{has_name, same_name, value_of}
 use Rattle.cudf_document.proofs.ListLemmas.{or_false, is_some-find, find_none, list_any-map, list_any-insert_key}
 
@@ -53,7 +53,7 @@ has_same_name name p (q ∷ ps) same =
 pub value_of-other : {A : Type 0} (read : List ℕ → Option A) (name : List ℕ) (ps : List PlainProperty) (p : PlainProperty)
     → bytes_eq p.name name ≡ false → value_of read name (ps ++ p ∷ []) ≡ value_of read name ps
 value_of-other read name ps p other =
-    ap (option_and_then (λ q. read q.value.bytes))
+    ap (option_and_then (λ q. read q.value))
     (find-append (has_name name) ps (p ∷ []) ∙ ap (λ b. option_or (find (has_name name) ps) (if b then Some p else None)) other ∙ or_none (find (has_name name) ps))
   where
     or_none : {B : Type 0} (x : Option B) → option_or x None ≡ x
@@ -62,10 +62,10 @@ value_of-other read name ps p other =
 
 -- the first of its name does
 pub value_of-new : {A : Type 0} (read : List ℕ → Option A) (name : List ℕ) (ps : List PlainProperty) (p : PlainProperty)
-    → bytes_eq p.name name ≡ true → list_any (same_name p) ps ≡ false → value_of read name (ps ++ p ∷ []) ≡ read p.value.bytes
+    → bytes_eq p.name name ≡ true → list_any (same_name p) ps ≡ false → value_of read name (ps ++ p ∷ []) ≡ read p.value
 value_of-new read name ps p same new =
     let none : find (has_name name) ps ≡ None = find_none (has_name name) ps (sym (has_same_name name p ps same) ∙ new) in
-    ap (option_and_then (λ q. read q.value.bytes))
+    ap (option_and_then (λ q. read q.value))
     (find-append (has_name name) ps (p ∷ []) ∙ (λ i. option_or (none i) (if same i then Some p else None)))
 
 -- a repeated one says nothing
@@ -79,52 +79,52 @@ value_of-repeated {A} read name ps p again = by (bytes_eq p.name name) refl
 
     by : (b : Bool) → bytes_eq p.name name ≡ b → value_of read name (ps ++ p ∷ []) ≡ value_of read name ps
     by false other = value_of-other read name ps p other
-    by true same = ap (option_and_then (λ q. read q.value.bytes))
+    by true same = ap (option_and_then (λ q. read q.value))
         (find-append (has_name name) ps (p ∷ [])
         ∙ or_some (find (has_name name) ps) (find (has_name name) (p ∷ [])) (is_some-find (has_name name) ps ∙ sym (has_same_name name p ps same) ∙ again))
 
 -- the value of a name, with what a property says that is the first of its own
 pub value_next : {A : Type 0} (read : List ℕ → Option A) (name : List ℕ) (ps : List PlainProperty) (p : PlainProperty) → list_any (same_name p) ps ≡ false
-    → value_of read name (ps ++ p ∷ []) ≡ (if bytes_eq p.name name then read p.value.bytes else value_of read name ps)
+    → value_of read name (ps ++ p ∷ []) ≡ (if bytes_eq p.name name then read p.value else value_of read name ps)
 value_next {A} read name ps p new = by (bytes_eq p.name name) refl
   where
-    by : (b : Bool) → bytes_eq p.name name ≡ b → value_of read name (ps ++ p ∷ []) ≡ (if b then read p.value.bytes else value_of read name ps)
+    by : (b : Bool) → bytes_eq p.name name ≡ b → value_of read name (ps ++ p ∷ []) ≡ (if b then read p.value else value_of read name ps)
     by true same = value_of-new read name ps p same new
     by false other = value_of-other read name ps p other
 
 -- ---- the names of a set, the first of them in a list
 
 -- a name is among them where it is among the first or among the others
-any_kept : (name : List ℕ) (few more : List (Bor (List ℕ))) → list_any (bytes_eq name) (map (λ n. n.now) (few ++ more))
-    ≡ (list_any (λ n. bytes_eq name n.now) few || list_any (λ n. bytes_eq name n.now) more)
-any_kept name few more = list_any-map (λ n. n.now) (bytes_eq name) (few ++ more) ∙ list_any-append (λ n. bytes_eq name n.now) few more
+any_kept : (name : List ℕ) (first rest : List (Bor (List ℕ))) → list_any (bytes_eq name) (map (λ n. n.now) (first ++ rest))
+    ≡ (list_any (λ n. bytes_eq name n.now) first || list_any (λ n. bytes_eq name n.now) rest)
+any_kept name first rest = list_any-map (λ n. n.now) (bytes_eq name) (first ++ rest) ∙ list_any-append (λ n. bytes_eq name n.now) first rest
 
 -- a name of the first is one of all
-pub any_few : (name : List ℕ) (few more : List (Bor (List ℕ))) → list_any (λ n. bytes_eq name n.now) few ≡ true
-    → list_any (bytes_eq name) (map (λ n. n.now) (few ++ more)) ≡ true
-any_few name few more known = any_kept name few more ∙ ap (λ b. b || list_any (λ n. bytes_eq name n.now) more) known
+pub any_first : (name : List ℕ) (first rest : List (Bor (List ℕ))) → list_any (λ n. bytes_eq name n.now) first ≡ true
+    → list_any (bytes_eq name) (map (λ n. n.now) (first ++ rest)) ≡ true
+any_first name first rest known = any_kept name first rest ∙ ap (λ b. b || list_any (λ n. bytes_eq name n.now) rest) known
 
 -- any other name is one of all where it is among the others
-pub any_more : (name : List ℕ) (few more : List (Bor (List ℕ))) → list_any (λ n. bytes_eq name n.now) few ≡ false
-    → list_any (bytes_eq name) (map (λ n. n.now) (few ++ more)) ≡ list_any (λ n. bytes_eq name n.now) more
-any_more name few more unknown = any_kept name few more ∙ ap (λ b. b || list_any (λ n. bytes_eq name n.now) more) unknown
+pub any_rest : (name : List ℕ) (first rest : List (Bor (List ℕ))) → list_any (λ n. bytes_eq name n.now) first ≡ false
+    → list_any (bytes_eq name) (map (λ n. n.now) (first ++ rest)) ≡ list_any (λ n. bytes_eq name n.now) rest
+any_rest name first rest unknown = any_kept name first rest ∙ ap (λ b. b || list_any (λ n. bytes_eq name n.now) rest) unknown
 
 pub insert_known : (names : List (List ℕ)) (name : List ℕ) → list_any (bytes_eq name) names ≡ true → names ≡ insert_key bytes_eq names name
 insert_known names name known = ap (λ b. if b then names else names ++ name ∷ []) (sym known)
 
 -- a new name goes among the others
-pub insert_more : (few more : List (Bor (List ℕ))) (name : Bor (List ℕ)) → list_any (λ n. bytes_eq name.now n.now) few ≡ false
-    → map (λ n. n.now) (few ++ insert_key (λ x y. bytes_eq x.now y.now) more name) ≡ insert_key bytes_eq (map (λ n. n.now) (few ++ more)) name.now
-insert_more few more name unknown =
-    by (list_any (λ n. bytes_eq name.now n.now) more)
-    ∙ ap (λ b. if b then map (λ n. n.now) (few ++ more) else map (λ n. n.now) (few ++ more) ++ name.now ∷ []) (sym (any_more name.now few more unknown))
+pub insert_rest : (first rest : List (Bor (List ℕ))) (name : Bor (List ℕ)) → list_any (λ n. bytes_eq name.now n.now) first ≡ false
+    → map (λ n. n.now) (first ++ insert_key (λ x y. bytes_eq x.now y.now) rest name) ≡ insert_key bytes_eq (map (λ n. n.now) (first ++ rest)) name.now
+insert_rest first rest name unknown =
+    by (list_any (λ n. bytes_eq name.now n.now) rest)
+    ∙ ap (λ b. if b then map (λ n. n.now) (first ++ rest) else map (λ n. n.now) (first ++ rest) ++ name.now ∷ []) (sym (any_rest name.now first rest unknown))
   where
-    by : (b : Bool) → map (λ n. n.now) (few ++ (if b then more else more ++ name ∷ []))
-        ≡ (if b then map (λ n. n.now) (few ++ more) else map (λ n. n.now) (few ++ more) ++ name.now ∷ [])
+    by : (b : Bool) → map (λ n. n.now) (first ++ (if b then rest else rest ++ name ∷ []))
+        ≡ (if b then map (λ n. n.now) (first ++ rest) else map (λ n. n.now) (first ++ rest) ++ name.now ∷ [])
     by true = refl
-    by false = ap (map (λ n. n.now)) (sym (append_assoc few more (name ∷ []))) ∙ map_push (λ n. n.now) (few ++ more) name
+    by false = ap (map (λ n. n.now)) (sym (append_assoc first rest (name ∷ []))) ∙ map_push (λ n. n.now) (first ++ rest) name
 
--- or behind the first, where there are no others
-pub insert_few : (few : List (Bor (List ℕ))) (name : Bor (List ℕ)) → list_any (λ n. bytes_eq name.now n.now) few ≡ false
-    → map (λ n. n.now) ((few ++ name ∷ []) ++ []) ≡ insert_key bytes_eq (map (λ n. n.now) (few ++ [])) name.now
-insert_few few name unknown = ap (map (λ n. n.now)) (append_assoc few (name ∷ []) []) ∙ insert_more few [] name unknown
+-- or after the first, where there are no others
+pub insert_first : (first : List (Bor (List ℕ))) (name : Bor (List ℕ)) → list_any (λ n. bytes_eq name.now n.now) first ≡ false
+    → map (λ n. n.now) ((first ++ name ∷ []) ++ []) ≡ insert_key bytes_eq (map (λ n. n.now) (first ++ [])) name.now
+insert_first first name unknown = ap (map (λ n. n.now)) (append_assoc first (name ∷ []) []) ∙ insert_rest first [] name unknown

@@ -9,32 +9,32 @@ use Rattle.cudf_value.specs.Declarations.{PlainDeclaration}
 use Rattle.cudf_document.specs.declared.postmark.Postmark.TheVariants.{Preamble as PreambleMark}
 use Rattle.cudf_document.specs.Faults.{lesser, least}
 use Rattle.cudf_document.specs.Documents.{with_earlier, has_name, same_name}
-use Rattle.cudf_document.specs.Preamble.{declared_by, is_bad_declaration, added_by, declared_behind}
+use Rattle.cudf_document.specs.Preamble.{declared_by, is_bad_declaration, added_by, declared_after}
 use Rattle.cudf_document.specs.ProblemFaults.{property_faults}
-use Rattle.cudf_document.specs.Working.Fields.{fault_on}
-use Rattle.cudf_document.specs.Working.Gathered.{preamble_kind_behind}
+use Rattle.cudf_document.specs.Working.PackageFields.{fault_on}
+use Rattle.cudf_document.specs.Working.ProblemBuilders.{preamble_kind_after}
 use Rattle.cudf_document.proofs.FaultLemmas.{faults-next}
 use Rattle.cudf_document.proofs.NameLemmas.{AreNames-more}
-use Rattle.cudf_document.specs.Working.Names.{AreNames}
+use Rattle.cudf_document.specs.Working.SeenNames.{AreNames}
 use Rattle.cudf_document.proofs.PropertyLemmas.{preamble_property}
 
--- what is declared behind one more property
-pub declared_behind-push : (before : List PlainDeclaration) (ps : List PlainProperty) (p : PlainProperty)
-    → declared_behind before (ps ++ p ∷ []) ≡ declared_behind before ps ++ added_by (declared_behind before ps) p
-declared_behind-push before [] p = refl
-declared_behind-push before (q ∷ ps) p = declared_behind-push (before ++ added_by before q) ps p
+-- what is declared after one more property
+pub declared_after-push : (before : List PlainDeclaration) (ps : List PlainProperty) (p : PlainProperty)
+    → declared_after before (ps ++ p ∷ []) ≡ declared_after before ps ++ added_by (declared_after before ps) p
+declared_after-push before [] p = refl
+declared_after-push before (q ∷ ps) p = declared_after-push (before ++ added_by before q) ps p
 
 -- what is known of the properties so far
 pub record IsDeclaredTo (ps : List PlainProperty) (names : List (List ℕ)) (first : Option Fault) (ds : List PlainDeclaration) : Type 0 where
   pub names_are : AreNames names ps
   pub first_is : first ≡ least (flat_map (property_faults [] (Some PreambleMark)) (with_earlier [] ps))
-  pub declared_are : ds ≡ declared_behind [] ps
+  pub declared_are : ds ≡ declared_after [] ps
 
 -- one more property
 pub IsDeclaredTo-next : (ps : List PlainProperty) (names : List (List ℕ)) (first : Option Fault) (ds : List PlainDeclaration) (p : PlainProperty)
     (more : List PlainProperty) (new_names : List (List ℕ)) (fault new_first : Option Fault) (new_ds : List PlainDeclaration)
     → IsDeclaredTo ps names first ds → more ≡ ps ++ p ∷ [] → new_names ≡ insert_key bytes_eq names p.name
-    → fault ≡ fault_on p.line (preamble_kind_behind ds names p) → new_first ≡ lesser first fault → new_ds ≡ ds ++ added_by ds p
+    → fault ≡ fault_on p.line (preamble_kind_after ds names p) → new_first ≡ lesser first fault → new_ds ≡ ds ++ added_by ds p
     → IsDeclaredTo more new_names new_first new_ds
 IsDeclaredTo-next ps names first ds p more new_names fault new_first new_ds so_far more_is names_is fault_is lesser_is ds_is = record {
   names_are = AreNames-more names ps p more new_names so_far.names_are more_is names_is;
@@ -42,7 +42,7 @@ IsDeclaredTo-next ps names first ds p more new_names fault new_first new_ds so_f
       (fault_is
       ∙ ap (fault_on p.line) (λ i. if has_name (codes "property") p then (if is_bad_declaration (so_far.declared_are i) p then Some E10 else None)
       else (if so_far.names_are p.name i then Some E7 else None))
-      ∙ sym (preamble_property p.line (list_any (same_name p) ps) (has_name (codes "property") p) (is_none (declared_by (declared_behind [] ps) p.value.bytes))))
+      ∙ sym (preamble_property p.line (list_any (same_name p) ps) (has_name (codes "property") p) (is_none (declared_by (declared_after [] ps) p.value))))
       ∙ ap (λ qs. least (flat_map (property_faults [] (Some PreambleMark)) (with_earlier [] qs))) (sym more_is);
-  declared_are = ds_is ∙ ap (λ l. l ++ added_by l p) so_far.declared_are ∙ sym (declared_behind-push [] ps p) ∙ ap (declared_behind []) (sym more_is);
+  declared_are = ds_is ∙ ap (λ l. l ++ added_by l p) so_far.declared_are ∙ sym (declared_after-push [] ps p) ∙ ap (declared_after []) (sym more_is);
 }

@@ -38,13 +38,13 @@ ascending problem m n (s ∷ stanzas) lt = by (installed_id s) (ascending proble
   where
     by : (o : Option Id) → ascend_above m (unknown_from problem (n + 1) stanzas) ≡ true → ascend_above n (unknown_from problem (n + 1) stanzas) ≡ true
         → ascend_above m (cons_option (option_and_then (unknown_with problem n s.line) o) (unknown_from problem (n + 1) stanzas)) ≡ true
-    by None before behind = before
-    by (Some id) before behind = at (is_among (map package_id problem.packages) (id.0, id.1))
+    by None before after = before
+    by (Some id) before after = at (is_among (map package_id problem.packages) (id.0, id.1))
       where
         at : (b : Bool) → ascend_above m (cons_option (if b then None else Some (record { stanza = n; line = s.line; name = id.0; version = id.1 }))
             (unknown_from problem (n + 1) stanzas)) ≡ true
         at true = before
-        at false = λ i. lt-ltb m n lt i && behind i
+        at false = λ i. lt-ltb m n lt i && after i
 
 pub unknown_ascend : (problem : PlainProblem) (stanzas : List PlainStanza) → ascend_above 0 (unknown_stanzas problem stanzas) ≡ true
 unknown_ascend problem stanzas = ascending problem 0 1 stanzas (omega arith)

@@ -1,5 +1,4 @@
 -- Stanzas, by their first property, and the properties in them: CUDF 2.0, syntax of stanzas and properties.
--- Own: of several properties of one name the first is the stanza's.
 use Rattle.std.specs.Prelude.{ℕ, Bool, true, false, List, [], ◌∷◌, ◌++◌, Option, Some, None, find, option_and_then, bytes_eq, codes, if◌then◌else◌}
 use Rattle.cudf_text.specs.Stanzas.{PlainProperty, PlainStanza}
 use Rattle.cudf_document.specs.declared.postmark.Postmark.{Postmark}
@@ -61,9 +60,9 @@ has_name name p = bytes_eq p.name name
 abbrev pub same_name : PlainProperty → PlainProperty → Bool
 same_name p q = bytes_eq p.name q.name
 
--- what the first property of this name says
+-- what the first property of this name says; later ones say nothing (own)
 abbrev pub value_of : {A : Type 0} → (List ℕ → Option A) → List ℕ → List PlainProperty → Option A
-value_of read name ps = option_and_then (λ p. read p.value.bytes) (find (has_name name) ps)
+value_of read name ps = option_and_then (λ p. read p.value) (find (has_name name) ps)
 
 -- the line of the first property of this name, or 0
 abbrev pub line_of : Option PlainProperty → ℕ

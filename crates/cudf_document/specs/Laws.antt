@@ -1,4 +1,4 @@
--- What follows from the definitions alone: own.
+-- What follows from the definitions alone.
 use Rattle.std.specs.Prelude.{◌≡◌, ◌≢◌, ◌⊎◌, true, not, ◌||◌, List, [], Some, is_some, IsTrue, Contains, AllPairs, count_by}
 use Rattle.std.specs.List.{list_all}
 use Rattle.cudf_text.specs.declared.fault.Fault.{Fault}

@@ -1,9 +1,8 @@
--- The extra package properties that a document declares: CUDF 2.0, the preamble. Own: several `property` lines, and the
--- reserved names.
+-- The extra package properties that a document declares: CUDF 2.0, the preamble.
 use Rattle.std.specs.Prelude.{ℕ, Bool, true, false, not, ◌&&◌, ◌||◌, List, [], ◌∷◌, ◌++◌, Option, Some, None, find, is_none, unwrap_or, option_and_then, bytes_eq, codes, if◌then◌else◌}
 use Rattle.std.specs.List.{list_any, list_all}
 use Rattle.cudf_text.specs.Stanzas.{PlainProperty, PlainStanza}
-use Rattle.cudf_value.specs.Chars.{trim}
+use Rattle.cudf_text.specs.Chars.{trim}
 use Rattle.cudf_value.specs.Formulas.{PlainAtom}
 use Rattle.cudf_value.specs.Types.{PlainType, vpkgformula_type}
 use Rattle.cudf_value.specs.Declarations.{PlainDeclaration, declarations}
@@ -12,7 +11,7 @@ use Rattle.cudf_document.specs.declared.postmark.Postmark.TheVariants.{Preamble}
 use Rattle.cudf_document.specs.Documents.{with_earlier, has_name, postmark}
 use Rattle.cudf_document.specs.Values.{formula_value}
 
--- the names that can't be declared
+-- the names that can't be declared (own)
 abbrev pub reserved_names : List (List ℕ)
 reserved_names = codes "package" ∷ codes "version" ∷ codes "depends" ∷ codes "conflicts" ∷ codes "provides" ∷ codes "installed"
     ∷ codes "was-installed" ∷ codes "keep" ∷ codes "preamble" ∷ codes "request" ∷ []
@@ -24,37 +23,37 @@ is_reserved name = list_any (bytes_eq name) reserved_names
 abbrev pub is_declared : List PlainDeclaration → List ℕ → Bool
 is_declared ds name = list_any (λ d. bytes_eq name d.name) ds
 
--- a declaration that may stand behind these: of a name that is neither reserved nor declared before
+-- a declaration that may stand after these: of a name that is neither reserved nor declared before
 abbrev pub is_declarable : List PlainDeclaration × PlainDeclaration → Bool
 is_declarable (before, d) = not (is_reserved d.name || is_declared before d.name)
 
--- each may stand behind those before, and behind those that stand before it
+-- each may stand after those before, and after those that stand before it
 abbrev pub all_declarable : List PlainDeclaration → List PlainDeclaration → Bool
 all_declarable before ds = list_all is_declarable (with_earlier before ds)
 
--- the declarations, where all of them may stand behind those before
+-- the declarations, where all of them may stand after those before
 abbrev pub if_declarable : List PlainDeclaration → List PlainDeclaration → Option (List PlainDeclaration)
 if_declarable before ds = if all_declarable before ds then Some ds else None
 
--- what a `property` value declares behind those before, None where it is a bad declaration
+-- what a `property` value declares after those before, None where it is a bad declaration
 abbrev pub declared_by : List PlainDeclaration → List ℕ → Option (List PlainDeclaration)
 declared_by before text = option_and_then (if_declarable before) (declarations (trim text))
 
 -- a `property` with a bad declaration
 abbrev pub is_bad_declaration : List PlainDeclaration → PlainProperty → Bool
-is_bad_declaration before p = has_name (codes "property") p && is_none (declared_by before p.value.bytes)
+is_bad_declaration before p = has_name (codes "property") p && is_none (declared_by before p.value)
 
 -- what a property of the preamble adds to those before: a bad declaration adds nothing
 abbrev pub added_by : List PlainDeclaration → PlainProperty → List PlainDeclaration
-added_by before p = if has_name (codes "property") p then unwrap_or (declared_by before p.value.bytes) [] else []
+added_by before p = if has_name (codes "property") p then unwrap_or (declared_by before p.value) [] else []
 
--- those before, and those that the properties add
-abbrev pub declared_behind : List PlainDeclaration → List PlainProperty → List PlainDeclaration
-declared_behind before [] = before
-declared_behind before (p ∷ ps) = declared_behind (before ++ added_by before p) ps
+-- those before, and those that the properties add, on several lines too (own)
+abbrev pub declared_after : List PlainDeclaration → List PlainProperty → List PlainDeclaration
+declared_after before [] = before
+declared_after before (p ∷ ps) = declared_after (before ++ added_by before p) ps
 
 abbrev pub declared_under : Option Postmark → PlainStanza → List PlainDeclaration
-declared_under (Some Preamble) s = declared_behind [] s.properties
+declared_under (Some Preamble) s = declared_after [] s.properties
 declared_under _ s = []
 
 -- what a document declares: what its first stanza does, where that is a preamble

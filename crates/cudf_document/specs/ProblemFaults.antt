@@ -1,6 +1,5 @@
--- What is wrong with a problem: a clause for each kind of fault. The rules that they break are those of CUDF 2.0, syntax of
--- documents and of stanzas, the preamble, package and request properties. Own: the kinds and their lines, and that a stanza
--- in a wrong place has no other fault.
+-- What is wrong with a problem: a definition for each kind of fault, with its line (own). The rules that they break are
+-- those of CUDF 2.0, syntax of documents and of stanzas, the preamble, package and request properties.
 use Rattle.std.specs.Prelude.{ℕ, Bool, not, ◌&&◌, max, List, [], ◌++◌, map, is_none, Option, Some, find, filter_map, option_to_list, if◌then◌else◌, codes}
 use Rattle.std.specs.List.{list_any, flat_map}
 use Rattle.cudf_text.specs.declared.fault.Fault.{Fault}
@@ -13,7 +12,7 @@ use Rattle.cudf_document.specs.Faults.{fault_if}
 use Rattle.cudf_document.specs.Documents.{is_empty, with_earlier, postmark, marks_preamble, marks_package, is_request, has_name, same_name, line_of}
 use Rattle.cudf_document.specs.Ids.{Id, id_of, is_known}
 use Rattle.cudf_document.specs.Values.{Test, package_tests, request_tests, declared_test, test_of, fails}
-use Rattle.cudf_document.specs.Preamble.{is_bad_declaration, declared_behind, declared}
+use Rattle.cudf_document.specs.Preamble.{is_bad_declaration, declared_after, declared}
 
 -- ---- where a stanza stands
 
@@ -33,7 +32,7 @@ abbrev pub place_faults : Bool → Bool → Option Postmark → ℕ → List Fau
 place_faults is_first is_after_request mark line =
     unmarked_faults mark line ++ late_preamble_faults is_first mark line ++ late_stanza_faults is_after_request line
 
--- ---- properties, each behind those before it in its stanza
+-- ---- properties, each after those before it in its stanza
 
 -- a name that may stand more than once: `property` in a preamble
 abbrev pub is_repeatable : Option Postmark → PlainProperty → Bool
@@ -55,11 +54,11 @@ undeclared_faults ds mark p = fault_if (marks_package mark && is_none (test_of p
 
 -- E9, value is not of its type
 abbrev pub mistyped_faults : List PlainDeclaration → Option Postmark → PlainProperty → List Fault
-mistyped_faults ds mark p = fault_if (fails (test_of p.name (tests ds mark)) p.value.bytes) p.line E9
+mistyped_faults ds mark p = fault_if (fails (test_of p.name (tests ds mark)) p.value) p.line E9
 
 -- E10, bad declaration
 abbrev pub misdeclared_faults : Option Postmark → List PlainProperty × PlainProperty → List Fault
-misdeclared_faults mark (before, p) = fault_if (marks_preamble mark && is_bad_declaration (declared_behind [] before) p) p.line E10
+misdeclared_faults mark (before, p) = fault_if (marks_preamble mark && is_bad_declaration (declared_after [] before) p) p.line E10
 
 abbrev pub property_faults : List PlainDeclaration → Option Postmark → List PlainProperty × PlainProperty → List Fault
 property_faults ds mark (before, p) =
@@ -82,14 +81,14 @@ repeated_package_faults ids s = fault_if (is_known ids (id_of s)) (line_of (vers
 abbrev pub unversioned_faults : PlainStanza → List Fault
 unversioned_faults s = fault_if (marks_package (postmark s) && is_none (version_property s)) s.last E12
 
--- ---- a stanza behind those before it, and a problem
+-- ---- a stanza after those before it, and a problem
 
 abbrev pub inner_faults : List PlainStanza → PlainStanza → List Fault
 inner_faults before s =
     properties_faults (declared before) (postmark s) s.properties
     ++ repeated_package_faults (filter_map id_of before) s ++ unversioned_faults s
 
--- a stanza in a wrong place has no other fault
+-- a stanza in a wrong place has no other fault (own)
 abbrev pub faults_or : List Fault → List Fault → List Fault
 faults_or place inner = if is_empty place then inner else place
 

@@ -17,7 +17,7 @@ repeated_value_faults (before, p) = fault_if (list_any (same_name p) before && i
 
 -- E9, value is not of its type
 abbrev pub mistyped_value_faults : PlainProperty → List Fault
-mistyped_value_faults p = fault_if (fails (test_of p.name solution_tests) p.value.bytes) p.line E9
+mistyped_value_faults p = fault_if (fails (test_of p.name solution_tests) p.value) p.line E9
 
 abbrev pub value_faults : List PlainProperty × PlainProperty → List Fault
 value_faults (before, p) = repeated_value_faults (before, p) ++ mistyped_value_faults p

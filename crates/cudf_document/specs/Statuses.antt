@@ -1,5 +1,4 @@
--- The initial and the proposed status, and what is proposed but isn't in the universe: CUDF 2.0, installations. Own: repeated
--- pairs mean the same pair, and `installed: false` takes nothing back.
+-- The initial and the proposed status, and what is proposed but isn't in the universe: CUDF 2.0, installations.
 use Rattle.std.specs.Prelude.{ℕ, Bool, false, List, map, Option, Some, None, filter_map, option_and_then, codes, if◌then◌else◌, ◌<◌, ◌≤◌, nat_lt, true, not, ◌&&◌, [], ◌∷◌, length, IsTrue}
 use Rattle.std.specs.FinSet as set
 use Rattle.std.specs.Ordering.{nat_cmp}
@@ -19,7 +18,7 @@ is_initial problem place = option_map_or (λ p. p.installed) (package_at problem
 abbrev pub is_installed : List PlainProperty → Bool
 is_installed ps = or_default false (value_of truth_value (codes "installed") ps)
 
--- the pair that a stanza of a solution installs, if it installs one
+-- the pair that a stanza of a solution installs, if it installs one: none takes back what another installs (own)
 abbrev pub installed_id : PlainStanza → Option Id
 installed_id s = if is_installed s.properties then id_of s else None
 

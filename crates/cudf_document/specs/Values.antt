@@ -1,7 +1,6 @@
--- The types of the properties that CUDF knows: CUDF 2.0, package and request properties. How a keep is written is CUDF's;
--- that `was-installed` may be anything is own.
+-- The types of the properties that CUDF knows: CUDF 2.0, package and request properties.
 use Rattle.std.specs.Prelude.{ℕ, Bool, true, false, not, List, [], ◌∷◌, Option, Some, None, is_some, bytes_eq, codes, if◌then◌else◌}
-use Rattle.cudf_value.specs.Chars.{trim}
+use Rattle.cudf_text.specs.Chars.{trim}
 use Rattle.cudf_value.specs.Words.{truth, is_pkgname}
 use Rattle.cudf_value.specs.Numbers.{positive}
 use Rattle.cudf_value.specs.Vpkgs.{PlainVpkg}
@@ -50,7 +49,7 @@ can_be read = λ text. is_some (read text)
 abbrev pub is_anything : Test
 is_anything text = true
 
--- the properties of a package, and what each has to be
+-- the properties of a package, and what each has to be; `was-installed` may be anything (own)
 abbrev pub package_tests : List (List ℕ × Test)
 package_tests =
     (codes "package", can_be name_value)

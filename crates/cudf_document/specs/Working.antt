@@ -1,8 +1,8 @@
-pub mod Entries
-pub mod Fields
 pub mod Flags
-pub mod Gathered
-pub mod Known
-pub mod Names
-pub mod Proposals
-pub mod Wishes
+pub mod Linters
+pub mod PackageFields
+pub mod ProblemBuilders
+pub mod RequestFields
+pub mod SeenNames
+pub mod SolutionBuilders
+pub mod SolutionPackages

@@ -5,7 +5,7 @@ ghost use Rattle.cudf_value.specs.Types.{type_view};
 ghost use Rattle.cudf_value.specs.Declarations.{declaration_view};
 ghost use Rattle.cudf_document.specs.Values.{declared_test, test_of};
 ghost use Rattle.cudf_document.specs.Preamble.{is_reserved, is_declared, is_declarable, all_declarable, if_declarable, declared_by, is_formula_type, recommends_in, formula_default, recommends_default};
-ghost use Rattle.cudf_document.specs.Working.Fields.{wrong_kind};
+ghost use Rattle.cudf_document.specs.Working.PackageFields.{wrong_kind};
 
 use cudf_text::Kind;
 use cudf_value::{Declaration, Formula, ValueType, fits, read_declarations, read_formula};

@@ -1,7 +1,7 @@
 //! Faults, alone and compared.
 ghost use Rattle.std.specs.Prelude.{◌≡◌};
 ghost use Rattle.cudf_document.specs.Faults.{precedes, lesser, least, fault_if};
-ghost use Rattle.cudf_document.specs.Working.Fields.{fault_on};
+ghost use Rattle.cudf_document.specs.Working.PackageFields.{fault_on};
 
 use cudf_text::{Fault, Kind};
 

@@ -3,35 +3,33 @@
 #![tactic(auto)]
 
 mod declarations;
-mod entry;
 mod error;
 mod fault;
-mod field;
-mod judging;
-mod gathered;
+mod fields;
 mod ids;
 pub mod laws;
-mod names;
+mod lint;
 mod package;
+mod package_fields;
+mod package_property;
 mod postmark;
 mod preamble;
 mod problem;
-mod proposal;
-mod reading;
+mod problem_builder;
+mod problem_reader;
 mod request;
-mod sink;
+mod request_fields;
+mod seen_names;
 mod solution;
+mod solution_builder;
+mod solution_package;
 mod status;
-#[cfg(test)]
-mod tests;
-mod values;
-mod wishes;
 
 pub use error::ReadError;
+pub use lint::first_fault;
 pub use package::{Keep, Package};
 pub use problem::Problem;
-pub use judging::first_fault;
-pub use reading::read_problem;
+pub use problem_reader::read_problem;
 pub use request::Request;
 pub use solution::{Solution, Unknown, read_solution};
 pub use status::{Status, initial};

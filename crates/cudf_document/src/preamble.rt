@@ -3,15 +3,15 @@ ghost use Rattle.std.specs.Prelude.{◌≡◌, [], ◌++◌, bytes_eq, Some, Non
 ghost use Rattle.indexmap.specs.IndexSet.{insert_key};
 ghost use Rattle.cudf_text.specs.Views.{property_view, stanza_view};
 ghost use Rattle.cudf_document.specs.Faults.{least};
-ghost use Rattle.cudf_document.specs.Preamble.{added_by, declared_behind};
+ghost use Rattle.cudf_document.specs.Preamble.{added_by, declared_after};
 ghost use Rattle.cudf_document.specs.ProblemFaults.{properties_faults};
-ghost use Rattle.cudf_document.specs.Working.Fields.{fault_on};
-ghost use Rattle.cudf_document.specs.Working.Gathered.{preamble_kind_behind};
+ghost use Rattle.cudf_document.specs.Working.PackageFields.{fault_on};
+ghost use Rattle.cudf_document.specs.Working.ProblemBuilders.{preamble_kind_after};
 ghost use Rattle.cudf_document.specs.declared.postmark.Postmark.TheVariants.{Preamble as PreambleMark};
 
 use crate::declarations::Declarations;
 use crate::fault::lesser;
-use crate::names::Names;
+use crate::seen_names::SeenNames;
 use cudf_text::{Fault, Kind, Property, Stanza};
 use std::alloc::{AllocError, Global};
 
@@ -19,14 +19,14 @@ use std::alloc::{AllocError, Global};
 /// declared before.
 pub(crate) fn read_preamble<'t, 'a>(
     alloc: Global,
-    names: &mut Names<'t>,
+    names: &mut SeenNames<'t>,
     declarations: &mut Declarations<'t>,
     stanza: &'t Stanza<'a>,
 ) -> Result<Option<Fault>, AllocError>
     ensures fault { IfOk result (λ fault.
         fault ≡ least (properties_faults [] (Some PreambleMark) (stanza_view stanza.now).properties)) }
     ensures declared { OnOk result (declarations.new
-        ≡ declared_behind [] (stanza_view stanza.now).properties) }
+        ≡ declared_after [] (stanza_view stanza.now).properties) }
 {
     names.clear(alloc);
     declarations.clear();
@@ -41,13 +41,13 @@ pub(crate) fn read_preamble<'t, 'a>(
 /// Adds what a property declares, and answers its fault.
 fn read_property<'t, 'a>(
     alloc: Global,
-    names: &mut Names<'t>,
+    names: &mut SeenNames<'t>,
     declarations: &mut Declarations<'t>,
     property: &'t Property<'a>,
 ) -> Result<Option<Fault>, AllocError>
     ensures fault { IfOk result (λ fault.
         fault
-        ≡ fault_on property.now.line (preamble_kind_behind declarations.old names.old (property_view property.now))) }
+        ≡ fault_on property.now.line (preamble_kind_after declarations.old names.old (property_view property.now))) }
     ensures names { OnOk result (names.new ≡ insert_key bytes_eq names.old property.now.name.now) }
     ensures declared { OnOk result (declarations.new
         ≡ declarations.old ++ added_by declarations.old (property_view property.now)) }

@@ -1,13 +1,8 @@
 //! Problems: a universe and a request.
-ghost use Rattle.std.specs.Prelude.{◌≡◌, true, map, IfOk};
-ghost use Rattle.cudf_document.specs.Ids.{are_distinct};
-ghost use Rattle.cudf_document.specs.Universe.{package_view, package_id};
-
 use crate::ids::Ids;
 use crate::package::Package;
 use crate::request::Request;
 use cudf_value::Formula;
-use std::alloc::{AllocError, Global};
 use std::marker::Model;
 
 /// The packages and the request of a document without fault (CUDF 2.0, universes).
@@ -42,31 +37,33 @@ impl<'t> Problem<'t> {
     ghost use Rattle.cudf_document.specs.Ids.{is_id, are_distinct};
     ghost use Rattle.cudf_document.specs.Universe.{package_view, request_view, package_id, recommends_at};
 
+    /// The problem of these, where `ids` are the names and versions of the packages.
     pub(crate) fn new(
-        alloc: Global,
         packages: Vec<Package<'t>>,
         request: Request<'t>,
         recommends: Option<Formula<'t>>,
-    ) -> Result<Self, AllocError>
-        requires { are_distinct (map package_id (map package_view packages.items)) ≡ true }
-        ensures { IfOk result (λ p. p ≡ record {
+        ids: Ids<'t>,
+    ) -> Self
+        requires ids { ids ≡ map package_id (map package_view packages.items) }
+        requires distinct { are_distinct ids ≡ true }
+        ensures { result ≡ record {
           packages = map package_view packages.entry.items;
           request = request_view request.entry;
           recommends = option_map formula_view recommends.entry;
-        }) }
+        } }
     {
-        let ids = ids_of(alloc, &packages)?;
-        Ok(Problem {
+        Problem {
             packages,
             request,
             recommends,
             ids,
-        })
+        }
     }
 
-    /// The universe: the packages in document order.
+    /// The universe: the packages in document order. No two have the same name and version.
     pub fn packages(&self) -> &[Package<'t>]
-        ensures { map package_view result.now ≡ self.now.packages }
+        ensures packages { map package_view result.now ≡ self.now.packages }
+        ensures distinct { are_distinct (map package_id self.now.packages) ≡ true }
     {
         self.packages.as_slice()
     }
@@ -100,16 +97,4 @@ impl<'t> Problem<'t> {
     {
         self.ids.index_of(name, version)
     }
-}
-
-/// The names and versions of the packages.
-fn ids_of<'t>(alloc: Global, packages: &[Package<'t>]) -> Result<Ids<'t>, AllocError>
-    requires { are_distinct (map package_id (map package_view packages.now)) ≡ true }
-    ensures { IfOk result (λ ids. ids ≡ map package_id (map package_view packages.now)) }
-{
-    let mut ids = Ids::new(alloc);
-    for package in packages {
-        ids.insert(package.name, package.version)?;
-    }
-    Ok(ids)
 }

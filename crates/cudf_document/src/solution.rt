@@ -6,15 +6,15 @@ ghost use Rattle.cudf_text.specs.Joined.{is_fail};
 ghost use Rattle.cudf_document.specs.Faults.{least, IsFirstFault};
 ghost use Rattle.cudf_document.specs.SolutionFaults.{solution_stanza_faults, solution_faults};
 ghost use Rattle.cudf_document.specs.Ids.{is_among};
-ghost use Rattle.cudf_document.specs.Working.Proposals.{ids_of};
+ghost use Rattle.cudf_document.specs.Working.SolutionBuilders.{ids_of};
 ghost use Rattle.cudf_document.specs.Statuses.{installed_id, installed_ids, is_proposed, unknown_view, unknown_stanzas, IsStatusOf, ascend_above, are_outside};
 
-use crate::entry::read_entry;
 use crate::error::ReadError;
 use crate::fault::{fault_if, lesser};
 use crate::postmark::{Postmark, postmark_of};
 use crate::problem::Problem;
-use crate::proposal::Proposal;
+use crate::solution_builder::SolutionBuilder;
+use crate::solution_package::read_solution_package;
 use crate::status::Status;
 use cudf_text::{Fault, Kind, Stanza, Text};
 use std::alloc::{AllocError, Global};
@@ -43,7 +43,7 @@ pub struct Unknown<'t> {
 
 /// Reads a solution of the problem. Of its packages `package`, `version` and `installed` count,
 /// other stanzas are skipped, repeated pairs mean the same pair, and a stanza with
-/// `installed: false` takes nothing back (own).
+/// `installed: false` takes nothing back.
 ///
 /// # Errors
 ///
@@ -71,11 +71,11 @@ pub fn read_solution<'t, 'a, 'p>(
     // The fault is the first of its faults.
     ensures fault { IfErr result (IsFirstFault (solution_faults (text_view text.now))) }
 {
-    let (fault, proposal) = judge(alloc, text, problem)?;
+    let (fault, builder) = collect(alloc, text, problem)?;
     if let Some(fault) = fault {
         return Err(ReadError::Fault(fault));
     }
-    let Proposal { flags, unknown } = proposal;
+    let SolutionBuilder { flags, unknown } = builder;
     Ok(Solution {
         status: Status::from_flags(flags),
         unknown,
@@ -84,11 +84,11 @@ pub fn read_solution<'t, 'a, 'p>(
 
 /// The first fault, and what the stanzas propose.
 #[tactic(auto, unfolding(crate::specs::SolutionFaults::solution_faults))]
-fn judge<'t, 'a, 'p>(
+fn collect<'t, 'a, 'p>(
     alloc: Global,
     text: &'t Text<'a>,
     problem: &Problem<'p>,
-) -> Result<(Option<Fault>, Proposal<'t>), AllocError>
+) -> Result<(Option<Fault>, SolutionBuilder<'t>), AllocError>
     ensures fault { IfOk result (λ r. r.0 ≡ least (solution_faults (text_view text.now))) }
     ensures flags { IfOk result (λ r.
         r.1.flags.items
@@ -97,15 +97,15 @@ fn judge<'t, 'a, 'p>(
         map unknown_view r.1.unknown.items ≡ unknown_stanzas problem.now (text_view text.now).stanzas) }
 {
     let mut first = text.fault;
-    let mut proposal = Proposal::new(alloc, problem)?;
+    let mut builder = SolutionBuilder::new(alloc, problem)?;
     let mut number = 0;
     for stanza in &text.stanzas {
         let (fault, id) = read_stanza(stanza);
         first = lesser(first, fault);
         number += 1;
-        proposal.add(problem, number, stanza.line, id)?;
+        builder.add(problem, number, stanza.line, id)?;
     }
-    Ok((first, proposal))
+    Ok((first, builder))
 }
 
 /// The first fault of a stanza, and the pair that it installs, if it installs one.
@@ -116,7 +116,7 @@ fn read_stanza<'t, 'a>(stanza: &'t Stanza<'a>) -> (Option<Fault>, Option<(&'t st
 {
     match postmark_of(stanza) {
         Some(Postmark::Package) => {
-            let (fault, entry) = read_entry(stanza);
+            let (fault, entry) = read_solution_package(stanza);
             let unversioned = fault_if(!entry.has_version, stanza.last, Kind::E12);
             (lesser(fault, unversioned), entry.installed_id())
         }

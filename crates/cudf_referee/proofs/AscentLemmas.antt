@@ -25,7 +25,7 @@ use Rattle.cudf_referee.proofs.ListLemmas.{and_left, and_right}
 -- ---- ranks
 
 -- a list of ranks comes before another: a list comes before those that go on from it
-abbrev Below : List ℕ → List ℕ → Type 0
+abbrev pub Below : List ℕ → List ℕ → Type 0
 Below xs ys = slice_cmp nat_cmp xs ys ≡ Less
 
 same_first : (n : ℕ) (xs ys : List ℕ) → Below xs ys → Below (n ∷ xs) (n ∷ ys)
@@ -37,7 +37,7 @@ less_first m n xs ys h = ap (λ o. ordering_then o (slice_cmp nat_cmp xs ys)) (s
 next_first : (n : ℕ) (xs ys : List ℕ) → Below (n ∷ xs) ((n + 1) ∷ ys)
 next_first n xs ys = less_first n (n + 1) xs ys (omega arith)
 
-chained : (a b c : List ℕ) → Below a b → Below b c → Below a c
+pub chained : (a b c : List ℕ) → Below a b → Below b c → Below a c
 chained a b c = nat_list_cmp_total.trans a b c
 
 -- ---- instances that climb

@@ -1,12 +1,16 @@
 -- What the search for instances finds is the listing.
-use Rattle.std.proofs.Common.{◌≡◌, ℕ, Bool, List, [], ◌++◌, map, ap, sym, ◌∙◌}
+use Rattle.std.proofs.Common.{◌≡◌, ℕ, zero, suc, ◌<◌, Bool, true, nat_lt, List, [], ◌∷◌, ◌++◌, map, refl, ap, sym, ◌∙◌, arith}
+use Rattle.std.specs.List.{All}
+use Rattle.std.proofs.lemmas.Bool.{ltb-true}
 use Rattle.std.specs.List.{flat_map, enumerate_from}
 use Rattle.cudf_document.specs.Universe.{PlainPackage, PlainProblem}
-use Rattle.cudf_document.specs.Statuses.{PlainUnknown}
+use Rattle.cudf_document.specs.Statuses.{PlainUnknown, ascend_above}
 use Rattle.cudf_universe.specs.Satisfaction.{Placed, members}
+use Rattle.cudf_referee.specs.Criteria.{criteria}
 use Rattle.cudf_referee.specs.Instances.{PlainInstance}
 use Rattle.cudf_referee.specs.Proposals.{holds_place, put_forward}
 use Rattle.cudf_referee.specs.Violations.{package_rules, violated_install, violated_remove, violated_upgrade, unknown_instance, listing}
+use Rattle.cudf_referee.proofs.ListLemmas.{and_left, and_right}
 use Rattle.cudf_referee.proofs.StatusLemmas.{holds-filter, holds-own, flat_map-held}
 
 -- the packages are judged by what their statuses hold
@@ -34,3 +38,14 @@ listed problem was is unknown before status none packages requests all before_is
     all_is ∙ ap (λ xs. xs ++ map unknown_instance unknown) (requests_is ∙ ap (λ xs. xs ++ request) (found
     ∙ sym (rules_of_members was is problem.packages status)
     ∙ (λ i. flat_map (λ p. package_rules (holds_place (sym before_is i) p.0) (holds_place (sym status_is i) p.0) status p) places)))
+
+-- the criteria don't depend on unknown stanzas
+pub criteria_known : (problem : PlainProblem) (before status : List Placed) (unknown : List PlainUnknown) → criteria (put_forward problem before status []) ≡ criteria (put_forward problem before status unknown)
+unfolding criteria
+criteria_known problem before status unknown = refl
+
+-- numbers that ascend are from 1
+pub all_numbered : (n : ℕ) (unknown : List PlainUnknown) → ascend_above n unknown ≡ true → All (λ u. 0 < u.stanza) unknown
+all_numbered n [] h i d inside = absurd (omega arith)
+all_numbered n (u ∷ us) h zero d inside = omega (arith, ltb-true n u.stanza (and_left (nat_lt n u.stanza) (ascend_above u.stanza us) h))
+all_numbered n (u ∷ us) h (suc i) d inside = all_numbered u.stanza us (and_right (nat_lt n u.stanza) (ascend_above u.stanza us) h) i d (omega arith)

@@ -1,5 +1,5 @@
 -- Keys of violated instances, their order and their texts: own.
-use Rattle.std.specs.Prelude.{ℕ, Bool, true, false, ◌&&◌, nat_lt, List, [], ◌∷◌, ◌++◌, codes, decimal, Option, Some, None}
+use Rattle.std.specs.Prelude.{ℕ, Bool, true, false, ◌&&◌, nat_lt, ◌<◌, ◌^◌, IsTrue, List, [], ◌∷◌, ◌++◌, codes, decimal, Option, Some, None}
 use Rattle.std.specs.Cmp.Lexicographic.{slice_cmp}
 use Rattle.std.specs.List.{list_all}
 use Rattle.std.specs.Ordering.{nat_cmp, is_lt}
@@ -58,6 +58,10 @@ is_counted part = true
 
 abbrev pub is_key : Part → Rule → ℕ → Option Aspect → Bool
 is_key part rule place aspect = fits_part part rule && is_counted part && nat_lt 0 place && fits_aspect rule aspect
+
+-- the parts fit each other
+abbrev pub is_fitting : PlainKey → Bool
+is_fitting key = is_key key.part key.rule key.place key.aspect
 
 -- ---- order
 
@@ -134,3 +138,9 @@ aspect_text (Some aspect) = codes "." ++ aspect_word aspect
 -- a key, as `p1.depends.2` or `r.upgrade.1.many`
 abbrev pub key_text : PlainKey → List ℕ
 key_text key = part_text key.part ++ codes "." ++ rule_text key.rule ++ codes "." ++ decimal key.place ++ aspect_text key.aspect
+
+-- the keys that can be written: their parts fit each other, and their numbers are those of a `u64`
+pub record IsWritable (key : PlainKey) : Type 0 where
+  pub fits : IsTrue (is_fitting key)
+  pub number : part_place key.part < 2 ^ 64
+  pub place : key.place < 2 ^ 64

@@ -1,9 +1,13 @@
+pub mod Criteria
 pub mod Entries
 pub mod Instances
 pub mod KeyViews
 pub mod Keys
 pub mod Laws
+pub mod Pages
 pub mod Proposals
+pub mod Sites
 pub mod Solutions
 pub mod Views
 pub mod Violations
+pub mod Working

@@ -1,8 +1,9 @@
 -- The violated instances of each rule, and all of them in key order.
 -- CUDF 2.0: consistent installations (depends, conflicts, keep), semantics of requests. Own: keep of features, numbers
 -- of features in upgrade, unknown stanzas.
-use Rattle.std.specs.Prelude.{ℕ, Bool, not, ◌==◌, nat_lt, List, [], ◌∷◌, ◌++◌, map, bytes_eq, Option, Some, None, if◌then◌else◌}
+use Rattle.std.specs.Prelude.{ℕ, Bool, not, ◌==◌, nat_lt, List, [], ◌∷◌, ◌++◌, map, filter, bytes_eq, Option, Some, None, if◌then◌else◌}
 use Rattle.std.specs.List.{list_any, flat_map, enumerate_from}
+use Rattle.std.specs.Ordering.{is_lt}
 use Rattle.cudf_value.specs.Vpkgs.{PlainVpkg}
 use Rattle.cudf_document.specs.declared.package.Keep.{Keep}
 use Rattle.cudf_document.specs.declared.package.Keep.TheVariants.{Version, Package, Feature, Nothing}
@@ -17,6 +18,7 @@ use Rattle.cudf_referee.specs.declared.key.Aspect.{Aspect}
 use Rattle.cudf_referee.specs.declared.key.Aspect.TheVariants.{Unsatisfied, Many, Lower}
 use Rattle.cudf_referee.specs.Entries.{those}
 use Rattle.cudf_referee.specs.Instances.{PlainWhat, needs, conflicts_with, keep_version, keep_package, keep_feature, install, remove, upgrade, unknown, PlainInstance}
+use Rattle.cudf_referee.specs.Keys.{PlainKey, key_cmp}
 use Rattle.cudf_referee.specs.Proposals.{holds_place, Proposal}
 
 -- ---- packages
@@ -132,6 +134,10 @@ listing s =
     flat_map (package_instances s) (enumerate_from 1 s.packages)
     ++ request_instances s
     ++ map unknown_instance s.unknown
+
+-- the violated instances whose keys come behind this one, which needn't be the key of an instance
+abbrev pub rest : PlainKey → Proposal → List PlainInstance
+rest key s = filter (λ i. is_lt (key_cmp key i.key)) (listing s)
 
 -- ---- the package that meets an entry
 

@@ -6,7 +6,7 @@ use crate::instance::Instance;
 use std::alloc::AllocError;
 
 /// Adds the instance where it is violated.
-pub(crate) fn note<'p, 't>(
+pub(crate) fn push_if<'p, 't>(
     found: &mut Vec<Instance<'p, 't>>,
     is_violated: bool,
     instance: Instance<'p, 't>,

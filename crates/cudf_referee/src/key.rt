@@ -1,6 +1,8 @@
 ghost use Rattle.std.specs.Prelude.{◌≡◌, ℕ, ◌<◌, IsTrue};
 ghost use Rattle.cudf_referee.specs.Keys.{is_key};
 
+mod reading;
+
 use itoa::Buffer;
 use std::fmt;
 
@@ -46,7 +48,8 @@ pub struct Key {
 
 impl Key {
     ghost use Rattle.std.specs.Prelude.{◌≡◌, ◌<◌, IsTrue};
-    ghost use Rattle.cudf_referee.specs.Keys.{is_key};
+    ghost use Rattle.std.specs.Ordering.{is_lt};
+    ghost use Rattle.cudf_referee.specs.Keys.{is_key, is_fitting, key_cmp};
     ghost use Rattle.cudf_referee.specs.KeyViews.{key_view};
 
     /// The key of these parts.
@@ -64,7 +67,8 @@ impl Key {
 
     /// The part that it is about.
     pub fn part(self) -> Part
-        ensures { result ≡ (key_view self).part }
+        ensures value { result ≡ (key_view self).part }
+        ensures fits { IsTrue (is_fitting (key_view self)) }
     {
         self.part
     }
@@ -89,6 +93,13 @@ impl Key {
         ensures { result ≡ (key_view self).aspect }
     {
         self.aspect
+    }
+
+    /// Whether it comes before the other.
+    pub(crate) fn precedes(self, other: Key) -> bool
+        ensures { result ≡ is_lt (key_cmp (key_view self) (key_view other)) }
+    {
+        self.cmp(&other).is_lt()
     }
 }
 

@@ -2,7 +2,7 @@
 ghost use Rattle.std.specs.Prelude.{◌≡◌, ◌↔◌, true};
 ghost use Rattle.cudf_referee.specs.KeyViews.{key_view};
 ghost use Rattle.cudf_referee.specs.Keys.{key_cmp};
-ghost use Rattle.cudf_referee.specs.Laws.{SolutionIsEmpty, ListingAscends};
+ghost use Rattle.cudf_referee.specs.Laws.{SolutionIsEmpty, ListingAscends, TextsTellKeys, PagesJoin, PagesSuffice, PagesAreBound};
 
 use crate::key::Key;
 
@@ -22,4 +22,18 @@ pub fn order(left: Key, right: Key)
 /// instance stands once, in key order.
 pub fn ascending()
     ensures { ListingAscends }
+{}
+
+/// Keys are equal where their texts are. So what `Key::parse` reads of a printed key is that key, and no text has two.
+pub fn key()
+    ensures { TextsTellKeys }
+{}
+
+/// A listing may be shown by pages of any sizes, each continued after the last key of the one before (an empty page
+/// keeps the key), as it is read of the text that was printed. The pages joined are the listing's beginning, and the
+/// whole of it where the sizes suffice; and the calls for a page cost no more than the stops that it goes by.
+pub fn pages()
+    ensures joined { PagesJoin }
+    ensures whole { PagesSuffice }
+    ensures price { PagesAreBound }
 {}

@@ -1,7 +1,9 @@
-//! The rules of CUDF over a problem and a proposed status: which instances are violated, in key order, and whether the
-//! status is a solution.
+//! The rules of CUDF over a problem and a proposed status: which instances are violated, in key order, whether the
+//! status is a solution, and what it changes, counted.
 #![tactic(auto)]
 
+mod counting;
+mod criteria;
 mod found;
 mod instance;
 mod key;
@@ -9,6 +11,7 @@ pub mod laws;
 mod referee;
 mod rules;
 
+pub use criteria::Criteria;
 pub use instance::{Instance, What};
 pub use key::{Aspect, Key, Part, Rule};
 pub use referee::{Instances, Referee};

@@ -2,6 +2,7 @@
 use Rattle.std.proofs.Common.{◌≡◌, true, false, [], ◌∷◌, ◌++◌, codes, refl}
 use Rattle.std.specs.Prelude.{Some, None}
 use Rattle.cudf_text.specs.declared.fault.Kind.TheVariants.{E1, E2, E3}
+use Rattle.cudf_text.specs.Chars.{is_ident}
 use Rattle.cudf_text.specs.Lines.{lines, raw_lines, class, comment, blank, continuation, named, faulty}
 use Rattle.cudf_text.specs.Stanzas.{plain_text}
 use Rattle.cudf_text.specs.Views.{utf8_fault}
@@ -45,50 +46,57 @@ a_continuation : class (9 ∷ codes " a b ") ≡ continuation (codes "a b")
 a_continuation = refl
 
 a_name_line : class (codes "was-installed:  a: b ") ≡ named (codes "was-installed") (codes "a: b")
+unfolding is_ident
 a_name_line = refl
 
 a_name_without_value : class (codes "a_1:") ≡ named (codes "a_1") []
+unfolding is_ident
 a_name_without_value = refl
 
 a_name_with_a_blank : class (codes "a : b") ≡ faulty
+unfolding is_ident
 a_name_with_a_blank = refl
 
 a_digit_first : class (codes "1a: b") ≡ faulty
+unfolding is_ident
 a_digit_first = refl
 
 no_name : class (codes ": b") ≡ faulty
+unfolding is_ident
 no_name = refl
 
 no_colon : class (codes "request r") ≡ faulty
+unfolding is_ident
 no_colon = refl
 
 a_letter_beyond_ascii : class (codes "a" ++ 195 ∷ 169 ∷ codes ": b") ≡ faulty
+unfolding is_ident
 a_letter_beyond_ascii = refl
 
 two_carriage_returns : plain_text (13 ∷ 13 ∷ 10 ∷ []) ≡ record { stanzas = []; fault = Some (record { line = 1; kind = E2 }); lines = 1 }
-unfolding plain_text
+unfolding plain_text is_ident
 two_carriage_returns = refl
 
 a_last_part_of_one_carriage_return : plain_text (codes "a:" ++ 10 ∷ 13 ∷ []) ≡ record {
-  stanzas = record { line = 1; last = 1; properties = record { line = 1; name = codes "a"; value = record { bytes = []; owned = false } } ∷ [] } ∷ [];
+  stanzas = record { line = 1; last = 1; properties = record { line = 1; name = codes "a"; value = [] } ∷ [] } ∷ [];
   fault = None;
   lines = 2;
 }
-unfolding plain_text
+unfolding plain_text is_ident
 a_last_part_of_one_carriage_return = refl
 
 a_continuation_of_one_carriage_return : plain_text (codes "a:" ++ 10 ∷ 32 ∷ 13 ∷ 13 ∷ []) ≡ record {
-  stanzas = record { line = 1; last = 2; properties = record { line = 1; name = codes "a"; value = record { bytes = 13 ∷ []; owned = false } } ∷ [] } ∷ [];
+  stanzas = record { line = 1; last = 2; properties = record { line = 1; name = codes "a"; value = 13 ∷ [] } ∷ [] } ∷ [];
   fault = None;
   lines = 2;
 }
-unfolding plain_text
+unfolding plain_text is_ident
 a_continuation_of_one_carriage_return = refl
 
 -- ---- properties and stanzas
 
 an_empty_text : plain_text [] ≡ record { stanzas = []; fault = None; lines = 0 }
-unfolding plain_text
+unfolding plain_text is_ident
 an_empty_text = refl
 
 -- a comment before a continuation, and a faulty line that ends the stanza
@@ -96,37 +104,37 @@ a_stanza_cut_short : plain_text (codes "package: a" ++ 10 ∷ codes "depends:" +
   stanzas = record {
     line = 1;
     last = 6;
-    properties = record { line = 1; name = codes "package"; value = record { bytes = codes "a"; owned = false } }
-        ∷ record { line = 2; name = codes "depends"; value = record { bytes = codes "b, c"; owned = true } } ∷ [];
+    properties = record { line = 1; name = codes "package"; value = codes "a" }
+        ∷ record { line = 2; name = codes "depends"; value = codes "b, c" } ∷ [];
   } ∷ [];
   fault = Some (record { line = 6; kind = E2 });
   lines = 6;
 }
-unfolding plain_text
+unfolding plain_text is_ident
 a_stanza_cut_short = refl
 
--- two stanzas, with a comment that is no blank line, and a continuation of nothing behind a blank line
+-- two stanzas, with a comment that is no blank line, and a continuation of nothing after a blank line
 a_continuation_of_nothing : plain_text (codes "a: b" ++ 10 ∷ codes "#" ++ 10 ∷ codes "c:d" ++ 10 ∷ 10 ∷ 10 ∷ codes "e:" ++ 10 ∷ 10 ∷ codes " x" ++ 10 ∷ codes "f:" ++ 10 ∷ codes "g:") ≡ record {
   stanzas = record {
     line = 1;
     last = 3;
-    properties = record { line = 1; name = codes "a"; value = record { bytes = codes "b"; owned = false } }
-        ∷ record { line = 3; name = codes "c"; value = record { bytes = codes "d"; owned = false } } ∷ [];
+    properties = record { line = 1; name = codes "a"; value = codes "b" }
+        ∷ record { line = 3; name = codes "c"; value = codes "d" } ∷ [];
   }
-      ∷ record { line = 6; last = 6; properties = record { line = 6; name = codes "e"; value = record { bytes = []; owned = false } } ∷ [] } ∷ [];
+      ∷ record { line = 6; last = 6; properties = record { line = 6; name = codes "e"; value = [] } ∷ [] } ∷ [];
   fault = Some (record { line = 8; kind = E3 });
   lines = 10;
 }
-unfolding plain_text
+unfolding plain_text is_ident
 a_continuation_of_nothing = refl
 
 -- a run whose first line is faulty is no stanza
 a_faulty_first_line : plain_text (codes "a:" ++ 10 ∷ 10 ∷ codes "junk" ++ 10 ∷ codes "b:" ++ 10 ∷ []) ≡ record {
-  stanzas = record { line = 1; last = 1; properties = record { line = 1; name = codes "a"; value = record { bytes = []; owned = false } } ∷ [] } ∷ [];
+  stanzas = record { line = 1; last = 1; properties = record { line = 1; name = codes "a"; value = [] } ∷ [] } ∷ [];
   fault = Some (record { line = 3; kind = E2 });
   lines = 4;
 }
-unfolding plain_text
+unfolding plain_text is_ident
 a_faulty_first_line = refl
 
 -- ---- bytes that aren't UTF-8
@@ -159,13 +167,13 @@ no_blank_line = refl
 
 -- ---- FAIL
 
-fail_behind_a_blank : is_fail (codes " FAIL" ++ 13 ∷ 10 ∷ codes "x") ≡ true
+fail_after_a_blank : is_fail (codes " FAIL" ++ 13 ∷ 10 ∷ codes "x") ≡ true
 unfolding is_fail
-fail_behind_a_blank = refl
+fail_after_a_blank = refl
 
-fail_behind_a_comment : is_fail (codes "#" ++ 10 ∷ 10 ∷ codes "FAIL") ≡ true
+fail_after_a_comment : is_fail (codes "#" ++ 10 ∷ 10 ∷ codes "FAIL") ≡ true
 unfolding is_fail
-fail_behind_a_comment = refl
+fail_after_a_comment = refl
 
 more_than_fail : is_fail (codes "FAIL x") ≡ false
 unfolding is_fail
@@ -179,6 +187,6 @@ no_line_says_fail : is_fail [] ≡ false
 unfolding is_fail
 no_line_says_fail = refl
 
-fail_behind_two_carriage_returns : is_fail (codes "FAIL" ++ 13 ∷ 13 ∷ 10 ∷ []) ≡ false
+fail_after_two_carriage_returns : is_fail (codes "FAIL" ++ 13 ∷ 13 ∷ 10 ∷ []) ≡ false
 unfolding is_fail
-fail_behind_two_carriage_returns = refl
+fail_after_two_carriage_returns = refl

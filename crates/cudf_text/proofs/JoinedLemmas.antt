@@ -4,24 +4,25 @@ use Rattle.std.specs.List.{concat, onto_first, position_or_len}
 use Rattle.std.proofs.lemmas.List.{append_assoc, append_cancel_right, drop-drop, drop-map, drop_all, length-drop, nil_from_length, take-append-drop}
 use Rattle.std.proofs.lemmas.Bool.{cases_Bool}
 use Rattle.cudf_text.specs.Joined.{len_through, begins_request, problem_len, problem_part, solution_part}
-use Rattle.cudf_text.specs.Lines.{is_lf, is_blank_text, line_text, lines, raw_lines}
+use Rattle.cudf_text.specs.Chars.{is_blank_text}
+use Rattle.cudf_text.specs.Lines.{is_lf, line_text, lines, raw_lines}
 
 -- ---- one search for a line
 
-pub behind-found : (test : List ℕ → Bool) (rest line after raw : List ℕ) → raw_lines rest ≡ raw ∷ raw_lines after → line ≡ line_text raw → test line ≡ true
+pub after-found : (test : List ℕ → Bool) (rest line after raw : List ℕ) → raw_lines rest ≡ raw ∷ raw_lines after → line ≡ line_text raw → test line ≡ true
     → raw_lines after ≡ drop (len_through test (lines rest)) (raw_lines rest)
-behind-found test rest line after raw e is t = let passes : test (line_text raw) ≡ true = rw (← is) t in rw e (rw passes refl)
+after-found test rest line after raw e is t = let passes : test (line_text raw) ≡ true = rw (← is) t in rw e (rw passes refl)
 
-pub behind-passed : (test : List ℕ → Bool) (rest line after raw : List ℕ) → raw_lines rest ≡ raw ∷ raw_lines after → line ≡ line_text raw → test line ≡ false
+pub after-passed : (test : List ℕ → Bool) (rest line after raw : List ℕ) → raw_lines rest ≡ raw ∷ raw_lines after → line ≡ line_text raw → test line ≡ false
     → drop (len_through test (lines after)) (raw_lines after) ≡ drop (len_through test (lines rest)) (raw_lines rest)
-behind-passed test rest line after raw e is t =
+after-passed test rest line after raw e is t =
     let fails : test (line_text raw) ≡ false = rw (← is) t in
     let n : ℕ = position_or_len test (lines after) in
     let next : 1 + n + 1 ≡ suc (n + 1) = omega arith in
     rw e (rw fails (rw next refl))
 
-pub behind-end : (n : ℕ) (rest : List ℕ) → length rest ≡ 0 → raw_lines rest ≡ drop n (raw_lines rest)
-behind-end n rest e = rw (nil_from_length rest e) (sym (drop_all n [] (omega arith)))
+pub after-end : (n : ℕ) (rest : List ℕ) → length rest ≡ 0 → raw_lines rest ≡ drop n (raw_lines rest)
+after-end n rest e = rw (nil_from_length rest e) (sym (drop_all n [] (omega arith)))
 
 pub suffix-next : (text rest after : List ℕ) (n : ℕ) → length rest ≤ length text → n ≤ length rest → drop (length text - length rest) text ≡ rest → after ≡ drop n rest
     → drop (length text - length after) text ≡ after
@@ -42,7 +43,7 @@ concat-append : (xs ys : List (List ℕ)) → concat (xs ++ ys) ≡ concat xs ++
 concat-append [] ys = refl
 concat-append (x ∷ xs) ys = ap (λ t. x ++ t) (concat-append xs ys) ∙ sym (append_assoc x (concat xs) (concat ys))
 
--- the lines behind both searches are those of the solution
+-- the lines after both searches are those of the solution
 raw_lines-rest : (text mid rest : List ℕ) → raw_lines mid ≡ drop (len_through begins_request (lines text)) (raw_lines text)
     → raw_lines rest ≡ drop (len_through is_blank_text (lines mid)) (raw_lines mid) → raw_lines rest ≡ drop (problem_len (lines text)) (raw_lines text)
 raw_lines-rest text mid rest e f =

@@ -2,7 +2,9 @@ mod Examples
 mod JoinedLemmas
 mod LawLemmas
 mod LineLemmas
+mod OrderLemmas
 mod ReadLemmas
 mod RunLemmas
 mod StepLemmas
+mod TrackedLemmas
 mod ValueLemmas

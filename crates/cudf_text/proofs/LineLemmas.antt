@@ -9,9 +9,9 @@ use Rattle.memchr.specs.Find.{IsFirstByte, is_byte}
 use Rattle.std.specs.Str.Lines.{strip_carriage_return}
 use Rattle.cudf_text.specs.Lines.{is_lf, raw_lines, line_text}
 
--- behind an ASCII byte a character begins
-pub boundary_behind : (bs : List ℕ) (n : ℕ) → IsUtf8 bs → 0 < n → (n < length bs → get_or bs (n - 1) 0 < 128) → n < length bs → 128 ≤ get_or bs n 0 → 192 ≤ get_or bs n 0
-boundary_behind bs n u pos ascii l =
+-- after an ASCII byte a character begins
+pub boundary_after : (bs : List ℕ) (n : ℕ) → IsUtf8 bs → 0 < n → (n < length bs → get_or bs (n - 1) 0 < 128) → n < length bs → 128 ≤ get_or bs n 0 → 192 ≤ get_or bs n 0
+boundary_after bs n u pos ascii l =
     let e : n - 1 + 1 ≡ n = omega arith in
     let P : ℕ → Type 0 = λ m. 128 ≤ get_or bs m 0 → 192 ≤ get_or bs m 0 in
     subst P e (lead_after_ascii bs (n - 1) u (ascii l) (omega arith))

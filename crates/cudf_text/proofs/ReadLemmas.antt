@@ -1,4 +1,4 @@
--- What a cursor has read behind each line.
+-- What a cursor has read after each line.
 use Rattle.std.proofs.Common.{◌≡◌, ℕ, ◌+◌, ◌≤◌, Bool, true, false, not, is_some, List, [], ◌∷◌, length, map, Option, Some, None, refl, sym, ap, ◌∙◌, arith}
 use Rattle.std.specs.List.{enumerate_from}
 use Rattle.cudf_text.specs.declared.cursor.Place.{Place}
@@ -6,17 +6,17 @@ use Rattle.cudf_text.specs.declared.fault.Fault.{Fault}
 use Rattle.cudf_text.specs.declared.text.Property.{Property}
 use Rattle.cudf_text.specs.Lines.{class, lines, NumberedLine}
 use Rattle.cudf_text.specs.Working.Left.{left, numbered_from, text_left}
-use Rattle.cudf_text.specs.Stanzas.{PlainStanza, PlainText}
+use Rattle.cudf_text.specs.Working.Tracked.{TrackedStanza, TrackedText}
 use Rattle.cudf_text.specs.Working.Steps.{State, open_state, step}
 use Rattle.cudf_text.proofs.RunLemmas.{outcome, closed_is, state}
 
 -- from the first place the lines up to the other were read, and this is what they gave
 pub record SoFar (start : Place) (s : State) (place : Place) : Type 0 where
-  pub run : ◌≡◌ {A = List PlainStanza × Option Fault} (outcome s place.fault (numbered_from (place.lines + 1) place.rest.now)) (left start.fault (numbered_from (start.lines + 1) start.rest.now))
+  pub run : ◌≡◌ {A = List TrackedStanza × Option Fault} (outcome s place.fault (numbered_from (place.lines + 1) place.rest.now)) (left start.fault (numbered_from (start.lines + 1) start.rest.now))
   pub count : place.lines + length (lines place.rest.now) ≡ start.lines + length (lines start.rest.now)
   pub bound : place.lines + length place.rest.now ≤ start.lines + length start.rest.now
 
-left-start : (last : ℕ) (fault : Option Fault) (ls : List NumberedLine) → ◌≡◌ {A = List PlainStanza × Option Fault} (outcome (state [] [] last) fault ls) (left fault ls)
+left-start : (last : ℕ) (fault : Option Fault) (ls : List NumberedLine) → ◌≡◌ {A = List TrackedStanza × Option Fault} (outcome (state [] [] last) fault ls) (left fault ls)
 left-start last None ls = closed_is [] last ls
 left-start last (Some f) ls = refl
 
@@ -29,17 +29,17 @@ SoFar-start place ps none = record {
 }
 
 -- a line has ended a stanza, which stands before what is left
-pub SoFar-stanza : (start place : Place) (s : State) (line rest : List ℕ) (st : PlainStanza) (last : ℕ) → SoFar start s place → place.fault ≡ None → lines place.rest.now ≡ line ∷ lines rest
+pub SoFar-stanza : (start place : Place) (s : State) (line rest : List ℕ) (st : TrackedStanza) (last : ℕ) → SoFar start s place → place.fault ≡ None → lines place.rest.now ≡ line ∷ lines rest
     → ◌≡◌ {A = State × Option Fault} (step s (place.lines + 1) (class line)) (state (st ∷ []) [] last, None)
-    → let t : PlainText = record { stanzas = st ∷ (left place.fault (numbered_from (place.lines + 1 + 1) rest)).0; fault = (left place.fault (numbered_from (place.lines + 1 + 1) rest)).1; lines = place.lines + 1 + length (lines rest) } in
+    → let t : TrackedText = record { stanzas = st ∷ (left place.fault (numbered_from (place.lines + 1 + 1) rest)).0; fault = (left place.fault (numbered_from (place.lines + 1 + 1) rest)).1; lines = place.lines + 1 + length (lines rest) } in
     text_left start ≡ t
 SoFar-stanza start place s line rest st last so_far none e taken =
     let ls : List NumberedLine = numbered_from (place.lines + 1 + 1) rest in
-    let said : ◌≡◌ {A = List PlainStanza × Option Fault} (left start.fault (numbered_from (start.lines + 1) start.rest.now)) (st ∷ (left place.fault ls).0, (left place.fault ls).1) =
+    let said : ◌≡◌ {A = List TrackedStanza × Option Fault} (left start.fault (numbered_from (start.lines + 1) start.rest.now)) (st ∷ (left place.fault ls).0, (left place.fault ls).1) =
     sym so_far.run ∙ (λ i. outcome s (none i) (enumerate_from (place.lines + 1) (map class (e i)))) ∙ ap (λ (r : State × Option Fault). outcome r.0 r.1 ls) taken
     ∙ closed_is (st ∷ []) last ls ∙ (λ i. (st ∷ (left (sym none i) ls).0, (left (sym none i) ls).1)) in
     let all : start.lines + length (lines start.rest.now) ≡ place.lines + 1 + length (lines rest) = omega (arith, so_far.count, ap length e) in
-    λ i. let t : PlainText = record { stanzas = (said i).0; fault = (said i).1; lines = all i } in t
+    λ i. let t : TrackedText = record { stanzas = (said i).0; fault = (said i).1; lines = all i } in t
 
 pub no_fault : (fault : Option Fault) (none : Bool) → is_some fault ≡ not none → none ≡ true → fault ≡ None
 no_fault None none h e = refl

@@ -1,22 +1,24 @@
 -- All the steps over the lines of a text lead to what the text says.
-use Rattle.std.proofs.Common.{◌≡◌, ℕ, ◌+◌, ◌<◌, suc, true, false, List, [], ◌∷◌, ◌++◌, length, filter, Option, Some, None, refl, sym, ◌∙◌, ap, arith}
+use Rattle.std.proofs.Common.{◌≡◌, ℕ, ◌<◌, suc, true, false, List, [], ◌∷◌, ◌++◌, length, filter, Option, Some, None, refl, sym, ◌∙◌, ap, arith}
 use Rattle.std.specs.List.{cons_option, onto_first, slice_split}
 use Rattle.std.proofs.lemmas.List.{append_assoc, append-nil, length_push}
 use Rattle.std.proofs.lemmas.Bool.{ne_eqb}
 use Rattle.cudf_text.specs.declared.fault.Fault.{Fault}
 use Rattle.cudf_text.specs.Lines.{Class, comment, blank, continuation, named, faulty, NumberedLine, is_no_comment}
-use Rattle.cudf_text.specs.LineFaults.{is_open, line_fault, sound_len, fault_after, read_after}
-use Rattle.cudf_text.specs.Stanzas.{PlainProperty, PlainStanza, PlainValue, continuations, joined, properties, last_number, stanza_with, is_blank_line, stanzas_of}
+use Rattle.cudf_text.specs.LineFaults.{is_open, line_fault}
+use Rattle.cudf_text.specs.Working.Reading.{fault_after, read_after}
+use Rattle.cudf_text.specs.Stanzas.{continuations, last_number, is_blank_line}
+use Rattle.cudf_text.specs.Working.Tracked.{TrackedProperty, TrackedStanza, TrackedValue, joined, properties, stanza_with, stanzas_of}
 use Rattle.cudf_text.specs.Working.Steps.{State, continued, ended, extend_last, step, with_stanza}
 use Rattle.cudf_text.proofs.ValueLemmas.{joined-push, joined-one}
 
 -- ---- the run
 
-abbrev pub state : List PlainStanza → List PlainProperty → ℕ → State
+abbrev pub state : List TrackedStanza → List TrackedProperty → ℕ → State
 state stanzas ps last = record { stanzas = stanzas; properties = ps; last = last }
 
 -- the stanzas and the first fault, once the lines are taken from this state on
-abbrev pub outcome : State → Option Fault → List NumberedLine → List PlainStanza × Option Fault
+abbrev pub outcome : State → Option Fault → List NumberedLine → List TrackedStanza × Option Fault
 outcome s (Some f) ls = ((ended s).stanzas, Some f)
 outcome s None [] = ((ended s).stanzas, None)
 outcome s None ((n, c) ∷ ls) = outcome (step s n c).0 (step s n c).1 ls
@@ -26,11 +28,11 @@ pair p q = λ i. (p i, q i)
 
 -- ---- where reading ends
 
-read_after-sound : (before : Class) (l : NumberedLine) (ls : List NumberedLine) → line_fault (before, l) ≡ None → read_after before (l ∷ ls) ≡ l ∷ read_after l.1 ls
-read_after-sound before l ls e = let next : 1 + sound_len l.1 ls + 1 ≡ suc (sound_len l.1 ls + 1) = omega arith in rw e (rw next refl)
+read_after-sound : (before : Class) (l : NumberedLine) (ls : List NumberedLine) → line_fault before l ≡ None → read_after before (l ∷ ls) ≡ l ∷ read_after l.1 ls
+read_after-sound before (n, c) ls e = rw e refl
 
-fault_after-sound : (before : Class) (l : NumberedLine) (ls : List NumberedLine) → line_fault (before, l) ≡ None → fault_after before (l ∷ ls) ≡ fault_after l.1 ls
-fault_after-sound before l ls e = let next : 1 + sound_len l.1 ls ≡ suc (sound_len l.1 ls) = omega arith in rw e (rw next refl)
+fault_after-sound : (before : Class) (l : NumberedLine) (ls : List NumberedLine) → line_fault before l ≡ None → fault_after before (l ∷ ls) ≡ fault_after l.1 ls
+fault_after-sound before (n, c) ls e = rw e refl
 
 -- ---- the lines of an open stanza
 
@@ -65,7 +67,7 @@ continuations-push_other ((m, blank) ∷ ls) l other = refl
 continuations-push_other ((m, named name text) ∷ ls) l other = refl
 continuations-push_other ((m, faulty) ∷ ls) l other = refl
 
-abbrev property : ℕ → List ℕ → PlainValue → PlainProperty
+abbrev property : ℕ → List ℕ → TrackedValue → TrackedProperty
 property n name value = record { line = n; name = name; value = value }
 
 properties-push_other : (ls : List NumberedLine) (l : NumberedLine) → IsNoContinuation l → properties (ls ++ l ∷ []) ≡ properties ls ++ properties (l ∷ [])
@@ -80,7 +82,7 @@ properties-push_other ((m, faulty) ∷ ls) l other = properties-push_other ls l 
 properties-push_named : (ls : List NumberedLine) (n : ℕ) (name text : List ℕ)
     → properties (ls ++ (n, named name text) ∷ []) ≡ properties ls ++ property n name (record { bytes = text; owned = false }) ∷ []
 properties-push_named ls n name text =
-    properties-push_other ls (n, named name text) refl ∙ ap (λ (v : PlainValue). properties ls ++ property n name v ∷ []) (joined-one text)
+    properties-push_other ls (n, named name text) refl ∙ ap (λ (v : TrackedValue). properties ls ++ property n name v ∷ []) (joined-one text)
 
 properties-push_faulty : (ls : List NumberedLine) (n : ℕ) → properties (ls ++ (n, faulty) ∷ []) ≡ properties ls
 properties-push_faulty ls n = properties-push_other ls (n, faulty) refl ∙ append-nil (properties ls)
@@ -98,7 +100,7 @@ continuations-push_none ((m, blank) ∷ ls) n text opens none = let never = open
 continuations-push_none ((m, faulty) ∷ ls) n text opens none = let never = opens.0 in cc
 
 -- and else it does not
-continuations-push_some : (ls : List NumberedLine) (l : NumberedLine) (p : PlainProperty) (ps : List PlainProperty) → properties ls ≡ p ∷ ps
+continuations-push_some : (ls : List NumberedLine) (l : NumberedLine) (p : TrackedProperty) (ps : List TrackedProperty) → properties ls ≡ p ∷ ps
     → continuations (ls ++ l ∷ []) ≡ continuations ls
 continuations-push_some [] l p ps some = cc
 continuations-push_some ((m, continuation t) ∷ ls) l p ps some = ap (λ texts. t ∷ texts) (continuations-push_some ls l p ps some)
@@ -107,26 +109,26 @@ continuations-push_some ((m, comment) ∷ ls) l p ps some = refl
 continuations-push_some ((m, blank) ∷ ls) l p ps some = refl
 continuations-push_some ((m, faulty) ∷ ls) l p ps some = refl
 
--- behind a name line it is the last property's, or another's behind that
-push_behind_name : (m : ℕ) (name t : List ℕ) (ls : List NumberedLine) (n : ℕ) (text : List ℕ) → AllOpen ls → (ps : List PlainProperty) → properties ls ≡ ps
+-- after a name line it is the last property's, or another's after that
+push_after_name : (m : ℕ) (name t : List ℕ) (ls : List NumberedLine) (n : ℕ) (text : List ℕ) → AllOpen ls → (ps : List TrackedProperty) → properties ls ≡ ps
     → properties (ls ++ (n, continuation text) ∷ []) ≡ extend_last ps text
     → property m name (joined (t ∷ continuations (ls ++ (n, continuation text) ∷ []))) ∷ properties (ls ++ (n, continuation text) ∷ [])
     ≡ extend_last (property m name (joined (t ∷ continuations ls)) ∷ ps) text
-push_behind_name m name t ls n text opens [] e h =
-    rw (h, continuations-push_none ls n text opens e) (ap (λ (v : PlainValue). property m name v ∷ []) (joined-push (t ∷ continuations ls) text))
-push_behind_name m name t ls n text opens (p ∷ ps) e h = rw (h, continuations-push_some ls (n, continuation text) p ps e) refl
+push_after_name m name t ls n text opens [] e h =
+    rw (h, continuations-push_none ls n text opens e) (ap (λ (v : TrackedValue). property m name v ∷ []) (joined-push (t ∷ continuations ls) text))
+push_after_name m name t ls n text opens (p ∷ ps) e h = rw (h, continuations-push_some ls (n, continuation text) p ps e) refl
 
 properties-push_continuation : (ls : List NumberedLine) (n : ℕ) (text : List ℕ) → AllOpen ls
     → properties (ls ++ (n, continuation text) ∷ []) ≡ extend_last (properties ls) text
 properties-push_continuation [] n text opens = refl
 properties-push_continuation ((m, continuation t) ∷ ls) n text opens = properties-push_continuation ls n text opens.1
 properties-push_continuation ((m, named name t) ∷ ls) n text opens =
-    push_behind_name m name t ls n text opens.1 (properties ls) refl (properties-push_continuation ls n text opens.1)
+    push_after_name m name t ls n text opens.1 (properties ls) refl (properties-push_continuation ls n text opens.1)
 properties-push_continuation ((m, comment) ∷ ls) n text opens = let never = opens.0 in cc
 properties-push_continuation ((m, blank) ∷ ls) n text opens = let never = opens.0 in cc
 properties-push_continuation ((m, faulty) ∷ ls) n text opens = let never = opens.0 in cc
 
-length-extend_last : (ps : List PlainProperty) (text : List ℕ) → length (extend_last ps text) ≡ length ps
+length-extend_last : (ps : List TrackedProperty) (text : List ℕ) → length (extend_last ps text) ≡ length ps
 length-extend_last [] text = refl
 length-extend_last (p ∷ []) text = refl
 length-extend_last (p ∷ q ∷ ps) text = ap suc (length-extend_last (q ∷ ps) text)
@@ -145,24 +147,24 @@ slice_split-part : (part ls x : List NumberedLine) (xs : List (List NumberedLine
 slice_split-part [] ls x xs opens e = e
 slice_split-part (l ∷ part) ls x xs opens e = rw (open-not_blank l opens.0) (ap (onto_first l) (slice_split-part part ls x xs opens.1 e))
 
-with_stanza-is : (stanzas : List PlainStanza) (last : ℕ) (ps : List PlainProperty) (rest : List PlainStanza)
+with_stanza-is : (stanzas : List TrackedStanza) (last : ℕ) (ps : List TrackedProperty) (rest : List TrackedStanza)
     → with_stanza stanzas last ps ++ rest ≡ stanzas ++ cons_option (stanza_with last ps) rest
 with_stanza-is stanzas last [] rest = refl
 with_stanza-is stanzas last (p ∷ ps) rest = append_assoc stanzas _ rest
 
-part-blank : (stanzas : List PlainStanza) (part : List NumberedLine) (n : ℕ) (ls : List NumberedLine) → AllOpen part
+part-blank : (stanzas : List TrackedStanza) (part : List NumberedLine) (n : ℕ) (ls : List NumberedLine) → AllOpen part
     → with_stanza stanzas (last_number part) (properties part) ++ stanzas_of ls ≡ stanzas ++ stanzas_of (part ++ (n, blank) ∷ ls)
 part-blank stanzas part n ls opens =
     let split = slice_split-part part ((n, blank) ∷ ls) [] (slice_split is_blank_line ls) opens refl in
     rw split (rw (append-nil part) (with_stanza-is stanzas (last_number part) (properties part) (stanzas_of ls)))
 
-part-end : (stanzas : List PlainStanza) (part : List NumberedLine) → AllOpen part
+part-end : (stanzas : List TrackedStanza) (part : List NumberedLine) → AllOpen part
     → with_stanza stanzas (last_number part) (properties part) ≡ stanzas ++ stanzas_of (part ++ [])
 part-end stanzas part opens =
     let split = slice_split-part part [] [] [] opens refl in
     rw split (rw (append-nil part) (sym (append-nil _) ∙ with_stanza-is stanzas (last_number part) (properties part) []))
 
-part-faulty : (stanzas : List PlainStanza) (part : List NumberedLine) (n : ℕ) → AllOpen part
+part-faulty : (stanzas : List TrackedStanza) (part : List NumberedLine) (n : ℕ) → AllOpen part
     → with_stanza stanzas n (properties part) ≡ stanzas ++ stanzas_of (part ++ (n, faulty) ∷ [])
 part-faulty stanzas part n opens =
     let split = slice_split-part part ((n, faulty) ∷ []) ((n, faulty) ∷ []) [] opens refl in
@@ -174,16 +176,16 @@ abbrev judged : List NumberedLine → List NumberedLine
 judged ls = filter is_no_comment ls
 
 record Runs (ls : List NumberedLine) : Type 0 where
-  closed : (stanzas : List PlainStanza) (last : ℕ) → ◌≡◌ {A = List PlainStanza × Option Fault} (outcome (state stanzas [] last) None ls)
+  closed : (stanzas : List TrackedStanza) (last : ℕ) → ◌≡◌ {A = List TrackedStanza × Option Fault} (outcome (state stanzas [] last) None ls)
       (stanzas ++ stanzas_of (read_after blank (judged ls)), fault_after blank (judged ls))
-  within : (stanzas : List PlainStanza) (part : List NumberedLine) (before : Class) → IsPart part → is_open before ≡ true
-      → ◌≡◌ {A = List PlainStanza × Option Fault} (outcome (state stanzas (properties part) (last_number part)) None ls)
+  within : (stanzas : List TrackedStanza) (part : List NumberedLine) (before : Class) → IsPart part → is_open before ≡ true
+      → ◌≡◌ {A = List TrackedStanza × Option Fault} (outcome (state stanzas (properties part) (last_number part)) None ls)
       (stanzas ++ stanzas_of (part ++ read_after before (judged ls)), fault_after before (judged ls))
 
--- a line joins the open stanza, and the lines behind it are read on
-joins : (stanzas : List PlainStanza) (part : List NumberedLine) (before : Class) (n : ℕ) (c : Class) (ls : List NumberedLine) (ps : List PlainProperty)
-    → Runs ls → IsPart (part ++ (n, c) ∷ []) → is_open c ≡ true → line_fault (before, (n, c)) ≡ None → properties (part ++ (n, c) ∷ []) ≡ ps
-    → ◌≡◌ {A = List PlainStanza × Option Fault} (outcome (state stanzas ps n) None ls)
+-- a line joins the open stanza, and the lines after it are read on
+joins : (stanzas : List TrackedStanza) (part : List NumberedLine) (before : Class) (n : ℕ) (c : Class) (ls : List NumberedLine) (ps : List TrackedProperty)
+    → Runs ls → IsPart (part ++ (n, c) ∷ []) → is_open c ≡ true → line_fault before (n, c) ≡ None → properties (part ++ (n, c) ∷ []) ≡ ps
+    → ◌≡◌ {A = List TrackedStanza × Option Fault} (outcome (state stanzas ps n) None ls)
     (stanzas ++ stanzas_of (part ++ read_after before ((n, c) ∷ judged ls)), fault_after before ((n, c) ∷ judged ls))
 joins stanzas part before n c ls ps runs is o sound e =
     let more = runs.within stanzas (part ++ (n, c) ∷ []) c is o in
@@ -201,15 +203,13 @@ runs-comment n ls runs = record { closed = runs.closed; within = runs.within }
 
 runs-blank : (n : ℕ) (ls : List NumberedLine) → Runs ls → Runs ((n, blank) ∷ ls)
 runs-blank n ls runs = record {
-  closed = λ stanzas last.
-      rw (read_after-sound blank (n, blank) (judged ls) refl, fault_after-sound blank (n, blank) (judged ls) refl) (runs.closed stanzas last);
+  closed = λ stanzas last. runs.closed stanzas last;
   within = λ stanzas part before is o.
-      rw (read_after-sound before (n, blank) (judged ls) refl, fault_after-sound before (n, blank) (judged ls) refl)
-      (runs.closed (with_stanza stanzas (last_number part) (properties part)) (last_number part)
-      ∙ pair (part-blank stanzas part n (read_after blank (judged ls)) is.opens) refl);
+      runs.closed (with_stanza stanzas (last_number part) (properties part)) (last_number part)
+      ∙ pair (part-blank stanzas part n (read_after blank (judged ls)) is.opens) refl;
 }
 
-continued-some : (stanzas : List PlainStanza) (ps : List PlainProperty) (last n : ℕ) (text : List ℕ) → 0 < length ps
+continued-some : (stanzas : List TrackedStanza) (ps : List TrackedProperty) (last n : ℕ) (text : List ℕ) → 0 < length ps
     → ◌≡◌ {A = State × Option Fault} (continued (state stanzas ps last) n text) (state stanzas (extend_last ps text) n, None)
 continued-some stanzas ps last n text some = rw (ne_eqb (length ps) 0 (λ e. omega arith)) refl
 
@@ -255,7 +255,7 @@ runs ((n, continuation text) ∷ ls) = runs-continuation n text ls (runs ls)
 runs ((n, named name text) ∷ ls) = runs-named n name text ls (runs ls)
 runs ((n, faulty) ∷ ls) = runs-faulty n ls
 
--- from a state where no stanza is open, behind these stanzas
-pub closed_is : (stanzas : List PlainStanza) (last : ℕ) (ls : List NumberedLine) → ◌≡◌ {A = List PlainStanza × Option Fault} (outcome (state stanzas [] last) None ls)
+-- from a state where no stanza is open, after these stanzas
+pub closed_is : (stanzas : List TrackedStanza) (last : ℕ) (ls : List NumberedLine) → ◌≡◌ {A = List TrackedStanza × Option Fault} (outcome (state stanzas [] last) None ls)
     (stanzas ++ stanzas_of (read_after blank (filter is_no_comment ls)), fault_after blank (filter is_no_comment ls))
 closed_is stanzas last ls = (runs ls).closed stanzas last

@@ -5,7 +5,8 @@ use Rattle.std.specs.List.{join_with_byte}
 use Rattle.std.proofs.lemmas.List.{append_assoc, append-nil, length-append, length_push}
 use Rattle.std.proofs.lemmas.List.Elements.{filter-append}
 use Rattle.std.proofs.lemmas.Bool.{cases_Bool, eqb-false, ne_eqb, lt-ltb}
-use Rattle.cudf_text.specs.Stanzas.{PlainValue, joined, some_texts}
+use Rattle.cudf_text.specs.Stanzas.{some_texts}
+use Rattle.cudf_text.specs.Working.Tracked.{TrackedValue, joined}
 use Rattle.cudf_text.specs.Working.Steps.{value_onto}
 
 join-push : (x : List ℕ) (xs : List (List ℕ)) (text : List ℕ) → join_with_byte 32 (x ∷ xs ++ text ∷ []) ≡ join_with_byte 32 (x ∷ xs) ++ 32 ∷ text
@@ -29,7 +30,7 @@ some_texts-first (t ∷ texts) x xs e =
           rw (← h) (omega (arith, ne))
     ]
 
-abbrev value_of : List (List ℕ) → PlainValue
+abbrev value_of : List (List ℕ) → TrackedValue
 value_of some = record { bytes = join_with_byte 32 some; owned = nat_lt 1 (length some) }
 
 value_of-push : (some : List (List ℕ)) (text : List ℕ) → ((x : List ℕ) (xs : List (List ℕ)) → some ≡ x ∷ xs → 0 < length x) → (length text == 0) ≡ false
@@ -40,7 +41,7 @@ value_of-push (x ∷ xs) text first z =
     let y : (length (join_with_byte 32 (x ∷ xs)) == 0) ≡ false = ne_eqb _ 0 (λ e. omega arith) in
     let b = join-push x xs text in
     let o : nat_lt 1 (length (x ∷ xs ++ text ∷ [])) ≡ true = lt-ltb 1 _ (omega (arith, length_push xs text)) in
-    rw (z, y) (λ i. let v : PlainValue = record { bytes = b i; owned = o i } in v)
+    rw (z, y) (λ i. let v : TrackedValue = record { bytes = b i; owned = o i } in v)
 
 -- one more text at the end is put onto the value
 pub joined-push : (texts : List (List ℕ)) (text : List ℕ) → joined (texts ++ text ∷ []) ≡ value_onto (joined texts) text
@@ -53,6 +54,6 @@ joined-push texts text =
           ap value_of (parts ∙ ap (λ last. some_texts texts ++ last) one) ∙ value_of-push (some_texts texts) text (some_texts-first texts) z
     ]
 
-pub joined-one : (text : List ℕ) → let v : PlainValue = record { bytes = text; owned = false } in joined (text ∷ []) ≡ v
+pub joined-one : (text : List ℕ) → let v : TrackedValue = record { bytes = text; owned = false } in joined (text ∷ []) ≡ v
 joined-one [] = refl
 joined-one (b ∷ bs) = rw (ne_eqb (length (b ∷ bs)) 0 (λ e. omega arith)) refl

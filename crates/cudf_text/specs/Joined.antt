@@ -1,7 +1,8 @@
--- A problem and a solution in one input, and the solution FAIL: own.
+-- A problem and a solution in one input, and the solution FAIL.
 use Rattle.std.specs.Prelude.{ℕ, ◌+◌, Bool, false, not, ◌||◌, List, take, drop, codes, nat_eq, bytes_eq, find, Option, Some, None}
 use Rattle.std.specs.List.{concat, position_or_len, starts_with}
-use Rattle.cudf_text.specs.Lines.{is_blank_text, is_comment_text, trim, raw_lines, lines}
+use Rattle.cudf_text.specs.Chars.{is_blank_text, trim}
+use Rattle.cudf_text.specs.Lines.{is_comment_text, raw_lines, lines}
 
 -- ---- the cut
 
@@ -22,7 +23,7 @@ problem_len ls = let request = len_through begins_request ls in request + len_th
 unfoldable pub problem_part : List ℕ → List ℕ
 problem_part text = concat (take (problem_len (lines text)) (raw_lines text))
 
--- the lines behind the problem, with their ends
+-- the lines after the problem, with their ends
 unfoldable pub solution_part : List ℕ → List ℕ
 solution_part text = concat (drop (problem_len (lines text)) (raw_lines text))
 

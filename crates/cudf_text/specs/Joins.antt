@@ -1,12 +1,13 @@
--- Values that are texts of their own: own.
+-- What is known of a value that is a text of its own, and no part of the source.
 use Rattle.std.specs.Prelude.{ℕ, Bool, true, false, not, ◌||◌, List, IsTrue}
 use Rattle.std.specs.List.{list_any}
 use Rattle.std.specs.Cow.{cow_str_bytes}
 use Rattle.std.specs.declared.alloc.Global.{Global}
 use Rattle.std.specs.declared.borrow.CowStr.{CowStr}
 use Rattle.std.specs.declared.borrow.CowStr.TheVariants as value
-use Rattle.cudf_text.specs.Lines.{is_blank}
+use Rattle.cudf_text.specs.Chars.{is_blank}
 
+-- the value is a text of its own
 abbrev pub is_owned : CowStr Global → Bool
 is_owned (value.Borrowed r) = false
 is_owned (value.Owned s) = true

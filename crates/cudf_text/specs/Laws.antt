@@ -9,7 +9,7 @@ use Rattle.cudf_text.specs.Stanzas.{PlainStanza, plain_text}
 abbrev pub HasNoLf : List ℕ → Type 0
 HasNoLf bytes = list_any is_lf bytes ≡ false
 
--- the lines with their ends, one behind the other, are the text
+-- the lines with their ends, one after the other, are the text
 abbrev pub LinesJoinToText : List ℕ → Type 0
 LinesJoinToText text = concat (raw_lines text) ≡ text
 

@@ -1,3 +1,4 @@
+pub mod Chars
 pub mod Lines
 pub mod LineFaults
 pub mod Stanzas
@@ -6,4 +7,6 @@ pub mod Joined
 pub mod Faults
 pub mod Laws
 pub mod Joins
+pub mod Borrows
+pub mod Cursor
 pub mod Working

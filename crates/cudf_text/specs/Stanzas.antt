@@ -1,23 +1,18 @@
--- Properties and stanzas: CUDF 2.0, syntax of stanzas and properties.
--- Own: how the lines of a value are joined, and where reading ends.
-use Rattle.std.specs.Prelude.{ℕ, Bool, true, false, not, ◌==◌, nat_lt, List, [], ◌∷◌, length, filter, filter_map, Option, Some, None}
+-- What a text says, its properties and stanzas: CUDF 2.0, syntax of stanzas and properties.
+use Rattle.std.specs.Prelude.{ℕ, Bool, true, false, not, ◌==◌, List, [], ◌∷◌, length, filter, filter_map, Option, Some, None}
 use Rattle.std.specs.List.{join_with_byte, slice_split}
+use Rattle.std.specs.Str.{byte}
 use Rattle.cudf_text.specs.declared.fault.Fault.{Fault}
 use Rattle.cudf_text.specs.Lines.{blank, continuation, named, NumberedLine, lines}
 use Rattle.cudf_text.specs.LineFaults.{first_fault, read_lines}
 
--- ---- what a text says, wherever it lies in memory
-
--- a value, and whether it is a text of its own and no part of the source
-pub record PlainValue : Type 0 where
-  pub bytes : List ℕ
-  pub owned : Bool
+-- ---- what a text says
 
 -- a name and its value, with the number of the name line
 pub record PlainProperty : Type 0 where
   pub line : ℕ
   pub name : List ℕ
-  pub value : PlainValue
+  pub value : List ℕ
 
 -- properties with no blank line between, with the number of the first one's line and of the last line
 pub record PlainStanza : Type 0 where
@@ -33,7 +28,7 @@ pub record PlainText : Type 0 where
 
 -- ---- properties
 
--- the texts of the continuations in front
+-- the texts of the continuations that come first
 abbrev pub continuations : List NumberedLine → List (List ℕ)
 continuations [] = []
 continuations ((n, continuation text) ∷ ls) = text ∷ continuations ls
@@ -43,9 +38,9 @@ continuations (l ∷ ls) = []
 abbrev pub some_texts : List (List ℕ) → List (List ℕ)
 some_texts texts = filter (λ text. not (length text == 0)) texts
 
--- the texts that aren't empty, with one space between each two; where there are two it is a text of its own
-abbrev pub joined : List (List ℕ) → PlainValue
-joined texts = record { bytes = join_with_byte 32 (some_texts texts); owned = nat_lt 1 (length (some_texts texts)) }
+-- the texts that aren't empty, with one space between each two (own)
+abbrev pub joined : List (List ℕ) → List ℕ
+joined texts = join_with_byte (byte " ") (some_texts texts)
 
 -- each name line, with the continuations that directly follow it
 abbrev pub properties : List NumberedLine → List PlainProperty

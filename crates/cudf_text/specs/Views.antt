@@ -1,9 +1,8 @@
--- What contracts see of a `Text`: own.
-use Rattle.std.specs.Prelude.{◌≡◌, ℕ, ◌+◌, List, map, take, count_by}
+-- What contracts see of a `Text`.
+use Rattle.std.specs.Prelude.{◌≡◌, ℕ, ◌+◌, Bool, List, map, take, count_by}
+use Rattle.std.specs.List.{flat_map}
 use Rattle.std.specs.Str.Lossy.{utf8_valid_len}
 use Rattle.std.specs.Cow.{cow_str_bytes}
-use Rattle.std.specs.declared.alloc.Global.{Global}
-use Rattle.std.specs.declared.borrow.CowStr.{CowStr}
 use Rattle.cudf_text.specs.declared.fault.Fault.{Fault}
 use Rattle.cudf_text.specs.declared.fault.Kind.TheVariants.{E1}
 use Rattle.cudf_text.specs.declared.text.Property.{Property}
@@ -11,14 +10,11 @@ use Rattle.cudf_text.specs.declared.text.Stanza.{Stanza}
 use Rattle.cudf_text.specs.declared.text.Text.{Text}
 use Rattle.cudf_text.specs.Lines.{is_lf}
 use Rattle.cudf_text.specs.Joins.{is_owned}
-use Rattle.cudf_text.specs.Stanzas.{PlainValue, PlainProperty, PlainStanza, PlainText, plain_text}
+use Rattle.cudf_text.specs.Stanzas.{PlainProperty, PlainStanza, PlainText, plain_text}
 
--- a value by its bytes
-abbrev pub value_view : CowStr Global → PlainValue
-value_view v = record { bytes = cow_str_bytes v; owned = is_owned v }
-
+-- a property, its value by its bytes
 abbrev pub property_view : Property → PlainProperty
-property_view p = record { line = p.line; name = p.name.now; value = value_view p.value }
+property_view p = record { line = p.line; name = p.name.now; value = cow_str_bytes p.value }
 
 abbrev pub stanza_view : Stanza → PlainStanza
 stanza_view s = record { line = s.line; last = s.last; properties = map property_view s.properties.items }
@@ -30,6 +26,14 @@ text_view t = record { stanzas = map stanza_view t.stanzas.items; fault = t.faul
 -- t says what its source says
 abbrev pub IsText : Text → Type 0
 IsText t = text_view t ≡ plain_text t.source.now
+
+-- for each of these properties, whether its value is a text of its own
+abbrev pub owned_in : List Property → List Bool
+owned_in ps = map (λ p. is_owned p.value) ps
+
+-- for each property of a text, in order, whether its value is a text of its own
+abbrev pub owned_values : Text → List Bool
+owned_values t = flat_map (λ s. owned_in s.properties.items) t.stanzas.items
 
 -- the fault of bytes that aren't UTF-8, on the line at which their longest UTF-8 prefix ends
 abbrev pub utf8_fault : List ℕ → Fault

@@ -1,8 +1,8 @@
 ghost use Rattle.std.specs.Prelude.{◌≡◌, map, IfOk};
 ghost use Rattle.cudf_text.specs.Lines.{class};
-ghost use Rattle.cudf_text.specs.Working.Left.{text_left, with_next, IsCounted};
+ghost use Rattle.cudf_text.specs.Working.Left.{text_left, with_tracked, IsCounted};
 ghost use Rattle.cudf_text.specs.Working.Steps.{open_state, step, stepped, extend_last, value_onto};
-ghost use Rattle.cudf_text.specs.Views.{property_view, value_view};
+ghost use Rattle.cudf_text.specs.Working.Tracked.{tracked_property, tracked_value};
 
 use crate::fault::{Fault, Kind};
 use crate::line::{Line, classify};
@@ -21,19 +21,20 @@ pub enum Next {
     End { fault: Option<Fault>, lines: u64 },
 }
 
-/// A text's stanzas, of which each is read as it is asked for.
+/// A text's stanzas, each of which is read as it is asked for.
 #[derive(Drop)]
 pub struct Stanzas<'a> {
     place: Place<'a>,
 }
 
 impl<'a> Model for Stanzas<'a> {
-    ghost use Rattle.cudf_text.specs.Stanzas.{PlainText};
+    ghost use Rattle.cudf_text.specs.Cursor.{Left};
     ghost use Rattle.cudf_text.specs.Working.Left.{text_left, IsCounted};
+    ghost use Rattle.cudf_text.specs.Working.Tracked.{plain_left};
 
-    ghost Value = { PlainText };
+    ghost Value = { Left };
 
-    ghost view = { λ s. text_left s.place };
+    ghost view = { λ s. plain_left (text_left s.place) };
 
     ghost invariant = { λ s. IsCounted s.place };
 }
@@ -41,11 +42,13 @@ impl<'a> Model for Stanzas<'a> {
 impl<'a> Stanzas<'a> {
     ghost use Rattle.std.specs.Prelude.{◌≡◌, IfOk, IfErr};
     ghost use Rattle.cudf_text.specs.Stanzas.{plain_text};
-    ghost use Rattle.cudf_text.specs.Working.Left.{with_next};
+    ghost use Rattle.cudf_text.specs.Borrows.{joined_values};
+    ghost use Rattle.cudf_text.specs.Cursor.{with_next};
 
     /// All stanzas of a text.
     pub fn new(source: &'a str) -> Self
-        ensures { result ≡ plain_text source.now }
+        ensures text { result.text ≡ plain_text source.now }
+        ensures joins { result.joins ≡ joined_values source.now }
     {
         Stanzas {
             place: Place {
@@ -62,7 +65,7 @@ impl<'a> Stanzas<'a> {
         alloc: Global,
         properties: &mut Vec<Property<'a>>,
     ) -> Result<Next, AllocError>
-        // What was left is what was read, and behind it what is left now.
+        // What was left is what was read, then what is left now.
         ensures read { IfOk result (λ next.
             self.old ≡ with_next next properties.new.items self.new) }
         // Without memory nothing is passed over.
@@ -93,7 +96,7 @@ fn read_stanza<'a>(
 ) -> Result<(Next, Place<'a>), AllocError>
     requires { IsCounted place }
     ensures read { IfOk result (λ r.
-        text_left place.entry ≡ with_next r.0 properties.new.items (text_left r.1)) }
+        text_left place.entry ≡ with_tracked r.0 properties.new.items (text_left r.1)) }
     ensures counted { IfOk result (λ r. IsCounted r.1) }
 {
     let mut place = place;
@@ -188,8 +191,8 @@ fn continue_property<'a>(
     text: &'a str,
 ) -> Result<(), AllocError>
     ensures { IfOk result (λ _.
-        map property_view properties.new.items
-        ≡ extend_last (map property_view properties.old.items) text.now) }
+        map tracked_property properties.new.items
+        ≡ extend_last (map tracked_property properties.old.items) text.now) }
 {
     let Some(Property { line, name, value }) = properties.pop() else {
         return Ok(());
@@ -199,10 +202,10 @@ fn continue_property<'a>(
     Ok(())
 }
 
-/// The value with one more text, behind a space where both have bytes. Only a value of two texts
+/// The value with one more text, after a space where both have bytes. Only a value of two texts
 /// is a text of its own.
 fn with_text<'a>(alloc: Global, value: CowStr<'a>, text: &'a str) -> Result<CowStr<'a>, AllocError>
-    ensures { IfOk result (λ joined. value_view joined ≡ value_onto (value_view value.entry) text.now) }
+    ensures { IfOk result (λ joined. tracked_value joined ≡ value_onto (tracked_value value.entry) text.now) }
 {
     if text.is_empty() {
         return Ok(value);

@@ -1,8 +1,8 @@
 ghost use Rattle.std.specs.Prelude.{◌≡◌};
 ghost use Rattle.cudf_text.specs.Joined.{is_fail, says_something};
 
+use crate::blanks::{is_blank_text, trim};
 use crate::lines::first_line;
-use crate::trim::{is_blank_text, trim};
 
 /// Whether a solution says `FAIL` (own): its first line that is neither blank nor a comment is
 /// that word, between blanks. What follows doesn't matter. Takes no memory.

@@ -55,7 +55,7 @@ impl Kind {
     }
 }
 
-/// What is wrong and where (own). Faults are ordered by line, then by kind.
+/// What is wrong and where. Faults are ordered by line, then by kind.
 #[derive(Clone, Copy, Debug, PartialEq, Eq, PartialOrd, Ord, Hash)]
 pub struct Fault {
     /// The line, from 1.

@@ -4,18 +4,18 @@ ghost use Rattle.cudf_text.specs.Joined.{begins_request, len_through, problem_pa
 ghost use Rattle.cudf_text.specs.Lines.{lines, raw_lines};
 ghost use Rattle.cudf_text.specs.Working.Marks.{marks};
 
+use crate::blanks::is_blank_text;
 use crate::lines::line_end;
-use crate::trim::is_blank_text;
 
 /// Cuts one input into the problem and the solution (own). The problem goes through the first
-/// blank line behind the first line that begins with the bytes `request:`. Where there is no
-/// such line, or no blank line behind it, all is the problem. Takes no memory.
+/// blank line after the first line that begins with the bytes `request:`. Where there is no
+/// such line, or no blank line after it, all is the problem. Takes no memory.
 pub fn cut_joined(bytes: &[u8]) -> (&[u8], &[u8])
     ensures problem { result.0.now ≡ problem_part bytes.now }
     ensures solution { result.1.now ≡ solution_part bytes.now }
     ensures joined { result.0.now ++ result.1.now ≡ bytes.now }
 {
-    let rest = behind(behind(bytes, Mark::Request), Mark::Blank);
+    let rest = after_mark(after_mark(bytes, Mark::Request), Mark::Blank);
     bytes.split_at(bytes.len() - rest.len())
 }
 
@@ -40,7 +40,7 @@ impl Mark {
 }
 
 /// What follows the first line with the mark.
-fn behind(bytes: &[u8], mark: Mark) -> &[u8]
+fn after_mark(bytes: &[u8], mark: Mark) -> &[u8]
     ensures inside { length result.now ≤ length bytes.now }
     ensures end { drop (length bytes.now - length result.now) bytes.now ≡ result.now }
     ensures lines { raw_lines result.now ≡ drop (len_through (marks mark) (lines bytes.now)) (raw_lines bytes.now) }

@@ -3,7 +3,7 @@
 
 ghost use Rattle.cudf_text.specs.Laws.{LastLineNeedsNoLf, LineEndsAtLf, LinesJoinToText, StanzasHaveProperties};
 
-/// Lines are the text cut behind each LF, and a last part without LF is a line where it isn't
+/// Lines are the text cut after each LF, and a last part without LF is a line where it isn't
 /// empty (CUDF 2.0, syntax of stanzas and properties).
 pub fn lines(line: &[u8], rest: &[u8])
     ensures joined { LinesJoinToText rest.now }

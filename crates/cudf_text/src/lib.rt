@@ -2,24 +2,24 @@
 //! solution in one input, and the solution `FAIL`.
 #![tactic(auto)]
 
+mod blanks;
 mod cursor;
 mod cut;
 mod fail;
 mod fault;
+mod ident;
 mod joined;
 pub mod laws;
 mod line;
 mod lines;
 mod reading;
 mod text;
-mod trim;
 
+pub use blanks::trim;
 pub use cursor::{Next, Stanzas};
 pub use fail::is_fail;
 pub use fault::{Fault, Kind};
+pub use ident::is_ident;
 pub use joined::cut_joined;
 pub use reading::{read, stanzas};
 pub use text::{Property, Stanza, Text, TextError};
-
-#[cfg(test)]
-mod tests;

@@ -1,10 +1,10 @@
 ghost use Rattle.std.specs.Prelude.{◌≡◌, ◌<◌, length, slice_index, position, IfSome};
-ghost use Rattle.std.specs.List.{list_all};
-ghost use Rattle.cudf_text.specs.Lines.{class, class_by_colon, is_colon, is_letter, is_name, is_name_byte};
+ghost use Rattle.cudf_text.specs.Lines.{class, class_by_colon, is_colon};
 ghost use Rattle.cudf_text.specs.Working.LineView.{line_view};
 
+use crate::blanks::{is_blank, is_blank_text, trim};
 use crate::cut::{after, before};
-use crate::trim::{is_blank, is_blank_text, trim};
+use crate::ident::is_ident;
 use memchr::memchr;
 
 /// What a line is, with its texts trimmed.
@@ -12,7 +12,7 @@ pub(crate) enum Line<'a> {
     Comment,
     Blank,
     Continuation(&'a str),
-    /// A name, and the text behind its colon.
+    /// A name, and the text after its colon.
     Named(&'a str, &'a str),
     Faulty,
 }
@@ -42,7 +42,7 @@ fn name_line(line: &str) -> Line<'_>
         return Line::Faulty;
     };
     let name = before(line, colon);
-    if is_name(name.as_bytes()) {
+    if is_ident(name) {
         Line::Named(name, trim(after(line, colon + 1)))
     } else {
         Line::Faulty
@@ -54,28 +54,4 @@ fn colon_place(line: &[u8]) -> Option<usize>
     ensures here { IfSome result (λ k. (k < length line.now) × (slice_index line.now k ≡ 58)) }
 {
     memchr(b':', line)
-}
-
-fn is_name(bytes: &[u8]) -> bool
-    ensures { result ≡ is_name bytes.now }
-{
-    is_letter(bytes.first().copied().unwrap_or(0)) && are_name_bytes(bytes)
-}
-
-fn are_name_bytes(bytes: &[u8]) -> bool
-    ensures { result ≡ list_all is_name_byte bytes.now }
-{
-    bytes.iter().all(|byte| is_name_byte(*byte))
-}
-
-fn is_letter(byte: u8) -> bool
-    ensures { result ≡ is_letter byte }
-{
-    byte.is_ascii_alphabetic()
-}
-
-fn is_name_byte(byte: u8) -> bool
-    ensures { result ≡ is_name_byte byte }
-{
-    byte.is_ascii_alphanumeric() || byte == b'-' || byte == b'_'
 }

@@ -1,7 +1,8 @@
 ghost use Rattle.std.specs.Prelude.{◌≡◌, ◌+◌, IfErr, IfOk, IsUtf8, alloc_error, count_by};
 ghost use Rattle.cudf_text.specs.Lines.{is_lf};
 ghost use Rattle.cudf_text.specs.Stanzas.{plain_text};
-ghost use Rattle.cudf_text.specs.Views.{IsText, utf8_fault};
+ghost use Rattle.cudf_text.specs.Borrows.{joined_values};
+ghost use Rattle.cudf_text.specs.Views.{IsText, owned_values, utf8_fault};
 
 use crate::cursor::{Next, Stanzas};
 use crate::fault::{Fault, Kind};
@@ -19,32 +20,41 @@ pub fn read<'a>(alloc: Global, bytes: &'a [u8]) -> Result<Text<'a>, TextError>
     ensures utf8 { IfOk result (λ t. IsUtf8 bytes.now × (t.source.now ≡ bytes.now)) }
     ensures text { IfOk result IsText }
 
+    // A value is a part of the source, unless it is joined of two texts or more.
+    ensures borrowed { IfOk result (λ t. owned_values t ≡ joined_values bytes.now) }
+
     // A text that is UTF-8 is read, unless memory runs out.
     ensures memory { IsUtf8 bytes.now → IfErr result (λ e. e ≡ TextError.Memory alloc_error) }
 
     // One that isn't takes no memory.
     ensures not_utf8 { ¬ (IsUtf8 bytes.now) → result ≡ Err (TextError.Fault (utf8_fault bytes.now)) }
 {
-    match str::from_utf8(bytes) {
+    match source_of(bytes) {
         Ok(source) => read_text(alloc, source).map_err(TextError::Memory),
-        Err(error) => {
-            let line = 1 + lf_count(&bytes[..error.valid_up_to()]);
-            Err(TextError::Fault(Fault {
-                line,
-                kind: Kind::E1,
-            }))
-        }
+        Err(fault) => Err(TextError::Fault(fault)),
     }
 }
 
-/// The stanzas of a document, of which each is read as it is asked for, or E1 where the bytes
-/// aren't UTF-8. It takes no memory.
+/// The stanzas of a document, each of which is read as it is asked for, or E1 where the bytes
+/// aren't UTF-8. Takes no memory.
 pub fn stanzas(bytes: &[u8]) -> Result<Stanzas<'_>, Fault>
-    ensures utf8 { IfOk result (λ s. IsUtf8 bytes.now × (s ≡ plain_text bytes.now)) }
+    ensures utf8 { IfOk result (λ s. IsUtf8 bytes.now × (s.text ≡ plain_text bytes.now)) }
+    ensures joins { IfOk result (λ s. s.joins ≡ joined_values bytes.now) }
+    ensures fault { IfErr result (λ f. (¬ (IsUtf8 bytes.now)) × (f ≡ utf8_fault bytes.now)) }
+{
+    match source_of(bytes) {
+        Ok(source) => Ok(Stanzas::new(source)),
+        Err(fault) => Err(fault),
+    }
+}
+
+/// The bytes as a text, or E1 on the line at which their longest UTF-8 prefix ends.
+fn source_of(bytes: &[u8]) -> Result<&str, Fault>
+    ensures utf8 { IfOk result (λ source. IsUtf8 bytes.now × (source.now ≡ bytes.now)) }
     ensures fault { IfErr result (λ f. (¬ (IsUtf8 bytes.now)) × (f ≡ utf8_fault bytes.now)) }
 {
     match str::from_utf8(bytes) {
-        Ok(source) => Ok(Stanzas::new(source)),
+        Ok(source) => Ok(source),
         Err(error) => {
             let line = 1 + lf_count(&bytes[..error.valid_up_to()]);
             Err(Fault {
@@ -58,6 +68,7 @@ pub fn stanzas(bytes: &[u8]) -> Result<Stanzas<'_>, Fault>
 fn read_text<'a>(alloc: Global, source: &'a str) -> Result<Text<'a>, AllocError>
     ensures source { IfOk result (λ t. t.source.now ≡ source.now) }
     ensures text { IfOk result IsText }
+    ensures borrowed { IfOk result (λ t. owned_values t ≡ joined_values source.now) }
 {
     let mut cursor = Stanzas::new(source);
     let mut stanzas = Vec::new(alloc);

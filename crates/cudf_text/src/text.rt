@@ -6,7 +6,7 @@ use std::borrow::CowStr;
 use thiserror::Error;
 
 /// A document as its stanzas (CUDF 2.0, syntax of stanzas and properties), each part with its
-/// line. Reading ends at the first line that is faulty; only `lines` counts those behind it.
+/// line. Reading ends at the first line that is faulty; only `lines` counts those after it.
 #[derive(Debug, Drop)]
 pub struct Text<'a> {
     /// The bytes that were read.
@@ -15,7 +15,7 @@ pub struct Text<'a> {
     pub stanzas: Vec<Stanza<'a>>,
     /// The first line of kind E2 or E3, if there is one.
     pub fault: Option<Fault>,
-    /// The number of all lines, comments and those behind the fault too.
+    /// The number of all lines, comments and those after the fault too.
     pub lines: u64,
 }
 
@@ -38,7 +38,7 @@ pub struct Property<'a> {
     /// The text before the colon: an ASCII letter, then letters, digits, `-` and `_`.
     pub name: &'a str,
     /// The text after the colon and the texts of the continuations, trimmed of spaces and tabs;
-    /// those that aren't empty are joined by one space (own). A part of the source, unless two
+    /// those that aren't empty are joined by one space. A part of the source, unless two
     /// texts are joined.
     pub value: CowStr<'a>,
     pub ghost joined: { IsJoined value },

@@ -1,7 +1,6 @@
 -- How many items pass a test.
-use Rattle.std.proofs.Common.{◌≡◌, ℕ, ◌+◌, ◌<◌, ◌≤◌, zero, suc, Bool, true, false, not, cond, ◌||◌, ◌&&◌, ◌==◌, List, [], ◌∷◌, ◌++◌, length, ◌-◌, get_or, take, map, refl, sym, ap, ◌∙◌, arith, nat_lt, nat_le, add-one}
-use Rattle.std.specs.Prelude.{filter}
-use Rattle.std.specs.List.{count_by, sum_by, list_any, flat_map}
+use Rattle.std.proofs.Common.{◌≡◌, ℕ, ◌+◌, ◌<◌, ◌≤◌, zero, suc, Bool, true, false, not, cond, ◌||◌, ◌==◌, List, [], ◌∷◌, ◌++◌, length, ◌-◌, get_or, take, refl, sym, ap, ◌∙◌, arith, nat_lt, nat_le, add-one}
+use Rattle.std.specs.List.{count_by, list_any}
 use Rattle.std.specs.List.Sorted.{IsPartitionPoint}
 use Rattle.std.proofs.lemmas.List.{take_all}
 use Rattle.std.proofs.lemmas.List.Sums.{count_by_more_yes, count_by_more_no, sum_by-cons, sum_by-append}

@@ -1,6 +1,7 @@
 -- Lists with the same counts have the same ends.
-use Rattle.std.proofs.Common.{◌≡◌, ℕ, ◌<◌, ◌≤◌, zero, suc, Bool, true, false, ◌==◌, List, [], ◌∷◌, ◌++◌, length, get_or, Option, Some, None, refl, sym, ap, ◌∙◌, subst, arith, nat_lt, inl, inr}
-use Rattle.std.specs.Prelude.{Contains, All}
+use Rattle.std.proofs.Common.{◌≡◌, ℕ, ◌<◌, ◌≤◌, ◌-◌, Bool, true, ◌==◌, List, [], ◌∷◌, length, get_or, Option, Some, None, refl, sym, ap, ◌∙◌, subst, arith, nat_lt, inl, inr}
+use Rattle.std.specs.Prelude.{Contains, All, IsNone, ◌↔◌}
+use Rattle.std.specs.List.Sorted.{IsNonDecreasing}
 use Rattle.std.specs.List.{count_by, list_any}
 use Rattle.std.proofs.lemmas.Bool.{eqb-true, eq-eqb, true≢false, or_cases}
 use Rattle.std.proofs.lemmas.List.{get_or_default}
@@ -62,3 +63,27 @@ least_none = record { none = (λ _. refl, λ _. refl); among = tt; bound = tt }
 
 pub greatest_none : IsGreatest [] None
 greatest_none = record { none = (λ _. refl, λ _. refl); among = tt; bound = tt }
+
+-- ---- the ends of an ascending list
+
+module _ (xs : List ℕ) (ordered : IsNonDecreasing xs) (n : ℕ) where
+  ends_some : 0 < length xs → IsNone (Some n) ↔ (xs ≡ [])
+  ends_some some = (λ e. absurd (true≢false e), λ e. absurd (omega (arith, ap length e)))
+
+  pub least_first : 0 < length xs → ((d : ℕ) → n ≡ get_or xs 0 d) → IsLeast xs (Some n)
+  least_first some first = record {
+    none = ends_some some;
+    among = (0, some, sym (first n));
+    bound = λ k d inside. omega (arith, first d, ordered 0 k d (omega arith) inside);
+  }
+
+  pub greatest_last : 0 < length xs → ((d : ℕ) → n ≡ get_or xs (length xs - 1) d) → IsGreatest xs (Some n)
+  greatest_last some last = record {
+    none = ends_some some;
+    among = (length xs - 1, omega arith, sym (last n));
+    bound = λ k d inside. omega (arith, last d, ordered k (length xs - 1) d (omega arith) (omega arith));
+  }
+
+pub nil_from_len : {X : Type 0} (xs : List X) → length xs ≡ 0 → xs ≡ []
+nil_from_len [] e = refl
+nil_from_len (x ∷ xs) e = absurd (omega arith)

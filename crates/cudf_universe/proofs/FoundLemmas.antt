@@ -1,5 +1,5 @@
 -- The row of a key.
-use Rattle.std.proofs.Common.{◌≡◌, ℕ, ◌+◌, ◌<◌, zero, suc, Bool, true, false, cond, List, [], ◌∷◌, ◌++◌, length, get_or, map, Option, Some, None, refl, sym, ap, ◌∙◌, arith, nat_lt, bytes_eq, not, Bor}
+use Rattle.std.proofs.Common.{◌≡◌, ℕ, ◌+◌, ◌<◌, suc, Bool, true, false, cond, List, [], ◌∷◌, ◌++◌, length, get_or, Option, Some, None, refl, sym, ap, ◌∙◌, arith, nat_lt, bytes_eq, not, Bor}
 use Rattle.std.proofs.Math.ListN.{set}
 use Rattle.std.specs.Prelude.{option_and_then, position, slice_get}
 use Rattle.std.specs.List.{position_or_len, list_any}
@@ -95,13 +95,13 @@ row_set name f (k ∷ ks) (r' ∷ rs) r d p same within more = by (bytes_eq name
     by : (b : Bool) → bytes_eq name k.now ≡ b → cond (not b) (1 + position_or_len (λ j. bytes_eq name j.now) ks) 0 < suc (length ks)
         → r.items ≡ (get_or (r' ∷ rs) (cond (not b) (1 + position_or_len (λ j. bytes_eq name j.now) ks) 0) d).items ++ p ∷ []
         → (position_or_len (λ j. bytes_eq name j.now) ks < length ks → r.items ≡ (get_or rs (position_or_len (λ j. bytes_eq name j.now) ks) d).items ++ p ∷ []
-            → abbrev_row (set rs (position_or_len (λ j. bytes_eq name j.now) ks) r) ≡ abbrev_row rs ++ cond (bytes_eq name f) (p ∷ []) [])
+        → abbrev_row (set rs (position_or_len (λ j. bytes_eq name j.now) ks) r) ≡ abbrev_row rs ++ cond (bytes_eq name f) (p ∷ []) [])
         → row_items (found (λ j. bytes_eq f j.now) (k ∷ ks) (set (r' ∷ rs) (cond (not b) (1 + position_or_len (λ j. bytes_eq name j.now) ks) 0) r)) ≡ row_items (found (λ j. bytes_eq f j.now) (k ∷ ks) (r' ∷ rs)) ++ cond (bytes_eq name f) (p ∷ []) []
     by true e low items rest = here (bytes_eq f k.now) refl e items
     by false e low items rest =
         let one : 1 + position_or_len (λ j. bytes_eq name j.now) ks ≡ suc (position_or_len (λ j. bytes_eq name j.now) ks) = omega arith in
         rw one (later (bytes_eq f k.now) (set rs (position_or_len (λ j. bytes_eq name j.now) ks) r) refl e
-            (rest (omega arith) (rw one at items)))
+        (rest (omega arith) (rw one at items)))
 
 -- the same, where the number is the place of the name
 pub row_grown : (name f : List ℕ) (keys : List (Bor (List ℕ))) (rows : List (Vec Provision)) (n : ℕ) (old r : Vec Provision) (p : Provision) → length rows ≡ length keys

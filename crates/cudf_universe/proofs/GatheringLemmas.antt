@@ -1,8 +1,8 @@
 -- What packages give, gathered by name.
-use Rattle.std.proofs.Common.{◌≡◌, ℕ, ◌+◌, ◌<◌, zero, suc, Bool, true, false, cond, List, [], ◌∷◌, ◌++◌, length, get_or, take, map, Option, Some, None, refl, sym, ap, ◌∙◌, arith, bytes_eq, subst, Bor}
+use Rattle.std.proofs.Common.{◌≡◌, ℕ, ◌+◌, ◌<◌, zero, suc, Bool, true, false, cond, ◌||◌, List, [], ◌∷◌, ◌++◌, length, get_or, take, map, Option, Some, None, refl, sym, ap, ◌∙◌, arith, bytes_eq, subst, Bor}
 use Rattle.std.specs.Prelude.{filter, filter_map, option_map, slice_get, option_to_list, option_and_then, position}
-use Rattle.std.specs.Option.{is_none}
-use Rattle.std.specs.List.{count_by, flat_map, cons_option}
+use Rattle.std.specs.Option.{is_none, IfSome}
+use Rattle.std.specs.List.{count_by, cons_option, list_any}
 use Rattle.std.specs.Global.{Vec}
 use Rattle.std.proofs.lemmas.List.{map-append}
 use Rattle.std.proofs.lemmas.List.Elements.{filter-append}
@@ -11,13 +11,15 @@ use Rattle.cudf_universe.specs.declared.index.entries.Entries.{Entries}
 use Rattle.cudf_universe.specs.declared.index.gathered_names.Provision.{Provision}
 use Rattle.std.proofs.lemmas.List.{append-nil}
 use Rattle.std.proofs.lemmas.List.Concat.{flat_map-append}
+use Rattle.std.proofs.lemmas.List.Folds.{list_any-append}
 use Rattle.cudf_value.specs.declared.relop.Relop.{Relop}
 use Rattle.cudf_document.specs.Universe.{PlainPackage}
 use Rattle.cudf_universe.specs.Satisfaction.{Placed, Pair, members, entry_pair, unversioned_name, name_unless, package_pairs, gives, gives_all_versions, numbers_of}
-use Rattle.cudf_universe.specs.Working.Kept.{Keeps, found, places_of}
-use Rattle.cudf_universe.specs.Working.Gathering.{row_items, provisions_of, own_entry, given_by, given_of, Completes, CompletesAt}
+use Rattle.cudf_universe.specs.Working.Kept.{Keeps, IsSole, found, names_given, places_of}
+use Rattle.cudf_universe.specs.Working.Gathering.{row_items, provisions_of, own_entry, given_by, given_of, sole_place, Completes, CompletesAt}
 use Rattle.cudf_universe.proofs.MemberLemmas.{members-more}
 use Rattle.cudf_universe.proofs.FoundLemmas.{found_at}
+use Rattle.cudf_universe.proofs.FirstLemmas.{sole_same}
 use Rattle.cudf_universe.proofs.CountLemmas.{count-cons, count-append}
 
 -- ---- rows that are completed in turn
@@ -43,15 +45,15 @@ numbers_and_none (g ∷ gs) =
     by (Some n) = omega arith
 
 -- one entry more
-pub provisions-push : (f : List ℕ) (place : ℕ) (xs : List PlainVpkg) (e : PlainVpkg)
-    → provisions_of f place (xs ++ e ∷ []) ≡ provisions_of f place xs ++ cond (bytes_eq e.name f) (record { number = option_map (λ b. b.1) e.bound; place = place } ∷ []) []
-provisions-push f place xs e =
+pub provisions-push : (v : Bool) (f : List ℕ) (place : ℕ) (xs : List PlainVpkg) (e : PlainVpkg)
+    → provisions_of v f place (xs ++ e ∷ []) ≡ provisions_of v f place xs ++ cond (bytes_eq e.name f) (record { number = option_map (λ b. b.1) e.bound; place = place; is_version = v } ∷ []) []
+provisions-push v f place xs e =
     ap (map given) (filter-append (λ entry. bytes_eq entry.name f) xs (e ∷ []))
     ∙ map-append given (filter (λ entry. bytes_eq entry.name f) xs) (cond (bytes_eq e.name f) (e ∷ []) [])
-    ∙ ap (λ ys. provisions_of f place xs ++ ys) (by (bytes_eq e.name f))
+    ∙ ap (λ ys. provisions_of v f place xs ++ ys) (by (bytes_eq e.name f))
   where
     given : PlainVpkg → Provision
-    given entry = record { number = option_map (λ b. b.1) entry.bound; place = place }
+    given entry = record { number = option_map (λ b. b.1) entry.bound; place = place; is_version = v }
 
     by : (b : Bool) → map given (cond b (e ∷ []) []) ≡ cond b (given e ∷ []) []
     by true = refl
@@ -70,14 +72,14 @@ filter_map_push {Y = Y} h (y ∷ ys) x = by (h y) (filter_map_push h ys x)
     by (Some z) rest = ap (λ zs. z ∷ zs) rest
 
 -- one entry first
-pub provisions-cons : (f : List ℕ) (place : ℕ) (e : PlainVpkg) (es : List PlainVpkg)
-    → provisions_of f place (e ∷ es) ≡ cond (bytes_eq e.name f) (record { number = option_map (λ b. b.1) e.bound; place = place } ∷ []) [] ++ provisions_of f place es
-provisions-cons f place e es = by (bytes_eq e.name f)
+pub provisions-cons : (v : Bool) (f : List ℕ) (place : ℕ) (e : PlainVpkg) (es : List PlainVpkg)
+    → provisions_of v f place (e ∷ es) ≡ cond (bytes_eq e.name f) (record { number = option_map (λ b. b.1) e.bound; place = place; is_version = v } ∷ []) [] ++ provisions_of v f place es
+provisions-cons v f place e es = by (bytes_eq e.name f)
   where
     given : PlainVpkg → Provision
-    given entry = record { number = option_map (λ b. b.1) entry.bound; place = place }
+    given entry = record { number = option_map (λ b. b.1) entry.bound; place = place; is_version = v }
 
-    by : (b : Bool) → map given (cond b (e ∷ filter (λ entry. bytes_eq entry.name f) es) (filter (λ entry. bytes_eq entry.name f) es)) ≡ cond b (given e ∷ []) [] ++ provisions_of f place es
+    by : (b : Bool) → map given (cond b (e ∷ filter (λ entry. bytes_eq entry.name f) es) (filter (λ entry. bytes_eq entry.name f) es)) ≡ cond b (given e ∷ []) [] ++ provisions_of v f place es
     by true = refl
     by false = refl
 
@@ -86,7 +88,7 @@ provisions-cons f place e es = by (bytes_eq e.name f)
 module _ {A : Type 0} (view : A → PlainPackage) (f : List ℕ) (holds : ℕ → Bool) (xs : List A) (i : ℕ) (d : A) (inside : i < length xs) where
   given_more : (b : Bool) → holds (i + 1) ≡ b → given_of f (members holds (map view (take (i + 1) xs))) ≡ given_of f (members holds (map view (take i xs))) ++ given_of f (cond b ((i + 1, view (get_or xs i d)) ∷ []) [])
   given_more b e =
-      ap (given_of f) (members-more {B = Placed} view (λ p. p) holds xs i d inside ∙ ap (λ c. members holds (map view (take i xs)) ++ cond c ((i + 1, view (get_or xs i d)) ∷ []) []) e)
+      ap (given_of f) (members-more view holds xs i d inside ∙ ap (λ c. members holds (map view (take i xs)) ++ cond c ((i + 1, view (get_or xs i d)) ∷ []) []) e)
       ∙ flat_map-append (given_by f) (members holds (map view (take i xs))) (cond b ((i + 1, view (get_or xs i d)) ∷ []) [])
 
   pub given_kept : (done now : List Provision) → holds (i + 1) ≡ true → done ≡ given_of f (members holds (map view (take i xs))) → now ≡ done ++ given_by f (i + 1, view (get_or xs i d)) → now ≡ given_of f (members holds (map view (take (i + 1) xs)))
@@ -100,8 +102,8 @@ module _ {A : Type 0} (view : A → PlainPackage) (f : List ℕ) (holds : ℕ �
 -- ---- what is gathered is what the status gives
 
 -- the provisions of an entry
-abbrev one_given : Bool → Option ℕ → ℕ → List Provision
-one_given b number place = cond b (record { number = number; place = place } ∷ []) []
+abbrev one_given : Bool → Bool → Option ℕ → ℕ → List Provision
+one_given v b number place = cond b (record { number = number; place = place; is_version = v } ∷ []) []
 
 module _ (f : List ℕ) where
   abbrev named_numbers : List Pair → List ℕ
@@ -120,85 +122,137 @@ module _ (f : List ℕ) where
       by None rest = rest
       by (Some n) rest = ap (λ ns. n ∷ ns) rest
 
-  entry_numbers : (place : ℕ) (es : List PlainVpkg) → named_numbers (filter_map entry_pair es) ≡ filter_map (λ g. g.number) (provisions_of f place es)
-  entry_numbers place [] = refl
-  entry_numbers place (e ∷ es) =
-      by e.bound (entry_numbers place es)
-      ∙ sym (filter_map_append (one_given (bytes_eq e.name f) (option_map (λ b. b.1) e.bound) place) (provisions_of f place es))
-      ∙ ap (filter_map (λ g. g.number)) (sym (provisions-cons f place e es))
+  entry_numbers : (v : Bool) (place : ℕ) (es : List PlainVpkg) → named_numbers (filter_map entry_pair es) ≡ filter_map (λ g. g.number) (provisions_of v f place es)
+  entry_numbers v place [] = refl
+  entry_numbers v place (e ∷ es) =
+      by e.bound (entry_numbers v place es)
+      ∙ sym (filter_map_append (one_given v (bytes_eq e.name f) (option_map (λ b. b.1) e.bound) place) (provisions_of v f place es))
+      ∙ ap (filter_map (λ g. g.number)) (sym (provisions-cons v f place e es))
     where
-      with_number : (b : Bool) (n : ℕ) (rest : named_numbers (filter_map entry_pair es) ≡ filter_map (λ g. g.number) (provisions_of f place es))
+      with_number : (b : Bool) (n : ℕ) (rest : named_numbers (filter_map entry_pair es) ≡ filter_map (λ g. g.number) (provisions_of v f place es))
           → map (λ pair. pair.1) (cond b ((e.name, n) ∷ filter (λ pair. bytes_eq pair.0 f) (filter_map entry_pair es)) (filter (λ pair. bytes_eq pair.0 f) (filter_map entry_pair es)))
-          ≡ filter_map (λ g. g.number) (one_given b (Some n) place) ++ filter_map (λ g. g.number) (provisions_of f place es)
+          ≡ filter_map (λ g. g.number) (one_given v b (Some n) place) ++ filter_map (λ g. g.number) (provisions_of v f place es)
       with_number true n rest = ap (λ ns. n ∷ ns) rest
       with_number false n rest = rest
 
-      without_number : (b : Bool) → filter_map (λ g. g.number) (provisions_of f place es) ≡ filter_map (λ g. g.number) (one_given b None place) ++ filter_map (λ g. g.number) (provisions_of f place es)
+      without_number : (b : Bool) → filter_map (λ g. g.number) (provisions_of v f place es) ≡ filter_map (λ g. g.number) (one_given v b None place) ++ filter_map (λ g. g.number) (provisions_of v f place es)
       without_number true = refl
       without_number false = refl
 
-      by : (o : Option (Relop × ℕ)) → named_numbers (filter_map entry_pair es) ≡ filter_map (λ g. g.number) (provisions_of f place es)
-          → named_numbers (cons_option (option_map (λ bound. (e.name, bound.1)) o) (filter_map entry_pair es)) ≡ filter_map (λ g. g.number) (one_given (bytes_eq e.name f) (option_map (λ b. b.1) o) place) ++ filter_map (λ g. g.number) (provisions_of f place es)
+      by : (o : Option (Relop × ℕ)) → named_numbers (filter_map entry_pair es) ≡ filter_map (λ g. g.number) (provisions_of v f place es)
+          → named_numbers (cons_option (option_map (λ bound. (e.name, bound.1)) o) (filter_map entry_pair es)) ≡ filter_map (λ g. g.number) (one_given v (bytes_eq e.name f) (option_map (λ b. b.1) o) place) ++ filter_map (λ g. g.number) (provisions_of v f place es)
       by None rest = rest ∙ without_number (bytes_eq e.name f)
       by (Some bound) rest = with_number (bytes_eq e.name f) bound.1 rest
 
-  entry_names : (place : ℕ) (es : List PlainVpkg) → count_by (λ given. bytes_eq given f) (filter_map unversioned_name es) ≡ count_by (λ g. is_none g.number) (provisions_of f place es)
-  entry_names place [] = refl
-  entry_names place (e ∷ es) =
-      by e.bound (entry_names place es)
-      ∙ sym (count-append (λ g. is_none g.number) (one_given (bytes_eq e.name f) (option_map (λ b. b.1) e.bound) place) (provisions_of f place es))
-      ∙ ap (count_by (λ g. is_none g.number)) (sym (provisions-cons f place e es))
+  entry_names : (v : Bool) (place : ℕ) (es : List PlainVpkg) → count_by (λ given. bytes_eq given f) (filter_map unversioned_name es) ≡ count_by (λ g. is_none g.number) (provisions_of v f place es)
+  entry_names v place [] = refl
+  entry_names v place (e ∷ es) =
+      by e.bound (entry_names v place es)
+      ∙ sym (count-append (λ g. is_none g.number) (one_given v (bytes_eq e.name f) (option_map (λ b. b.1) e.bound) place) (provisions_of v f place es))
+      ∙ ap (count_by (λ g. is_none g.number)) (sym (provisions-cons v f place e es))
     where
-      all_versions : (b : Bool) → cond b 1 0 ≡ count_by (λ g. is_none g.number) (one_given b None place)
+      all_versions : (b : Bool) → cond b 1 0 ≡ count_by (λ g. is_none g.number) (one_given v b None place)
       all_versions true = refl
       all_versions false = refl
 
-      number : (b : Bool) (n : ℕ) → 0 ≡ count_by (λ g. is_none g.number) (one_given b (Some n) place)
+      number : (b : Bool) (n : ℕ) → 0 ≡ count_by (λ g. is_none g.number) (one_given v b (Some n) place)
       number true n = refl
       number false n = refl
 
-      by : (o : Option (Relop × ℕ)) → count_by (λ given. bytes_eq given f) (filter_map unversioned_name es) ≡ count_by (λ g. is_none g.number) (provisions_of f place es)
-          → count_by (λ given. bytes_eq given f) (cons_option (name_unless e.name o) (filter_map unversioned_name es)) ≡ count_by (λ g. is_none g.number) (one_given (bytes_eq e.name f) (option_map (λ b. b.1) o) place) + count_by (λ g. is_none g.number) (provisions_of f place es)
+      by : (o : Option (Relop × ℕ)) → count_by (λ given. bytes_eq given f) (filter_map unversioned_name es) ≡ count_by (λ g. is_none g.number) (provisions_of v f place es)
+          → count_by (λ given. bytes_eq given f) (cons_option (name_unless e.name o) (filter_map unversioned_name es)) ≡ count_by (λ g. is_none g.number) (one_given v (bytes_eq e.name f) (option_map (λ b. b.1) o) place) + count_by (λ g. is_none g.number) (provisions_of v f place es)
       by None rest = omega (arith, count-cons (λ given. bytes_eq given f) e.name (filter_map unversioned_name es), rest, all_versions (bytes_eq e.name f))
       by (Some bound) rest = omega (arith, rest, number (bytes_eq e.name f) bound.1)
 
-  entry_places : (place : ℕ) (es : List PlainVpkg) → map (λ n. place) (filter (λ given. bytes_eq given f) (map (λ entry. entry.name) es)) ≡ map (λ g. g.place) (provisions_of f place es)
-  entry_places place [] = refl
-  entry_places place (e ∷ es) =
-      by (bytes_eq e.name f) (entry_places place es) ∙ sym (map-append (λ (g : Provision). g.place) (one_given (bytes_eq e.name f) (option_map (λ b. b.1) e.bound) place) (provisions_of f place es)) ∙ ap (map (λ g. g.place)) (sym (provisions-cons f place e es))
+  entry_places : (v : Bool) (place : ℕ) (es : List PlainVpkg) → map (λ n. place) (filter (λ given. bytes_eq given f) (map (λ entry. entry.name) es)) ≡ map (λ g. g.place) (provisions_of v f place es)
+  entry_places v place [] = refl
+  entry_places v place (e ∷ es) =
+      by (bytes_eq e.name f) (entry_places v place es) ∙ sym (map-append (λ (g : Provision). g.place) (one_given v (bytes_eq e.name f) (option_map (λ b. b.1) e.bound) place) (provisions_of v f place es)) ∙ ap (map (λ g. g.place)) (sym (provisions-cons v f place e es))
     where
-      by : (b : Bool) → map (λ n. place) (filter (λ given. bytes_eq given f) (map (λ entry. entry.name) es)) ≡ map (λ g. g.place) (provisions_of f place es)
-          → map (λ n. place) (cond b (e.name ∷ filter (λ given. bytes_eq given f) (map (λ entry. entry.name) es)) (filter (λ given. bytes_eq given f) (map (λ entry. entry.name) es))) ≡ map (λ g. g.place) (one_given b (option_map (λ k. k.1) e.bound) place) ++ map (λ g. g.place) (provisions_of f place es)
+      by : (b : Bool) → map (λ n. place) (filter (λ given. bytes_eq given f) (map (λ entry. entry.name) es)) ≡ map (λ g. g.place) (provisions_of v f place es)
+          → map (λ n. place) (cond b (e.name ∷ filter (λ given. bytes_eq given f) (map (λ entry. entry.name) es)) (filter (λ given. bytes_eq given f) (map (λ entry. entry.name) es))) ≡ map (λ g. g.place) (one_given v b (option_map (λ k. k.1) e.bound) place) ++ map (λ g. g.place) (provisions_of v f place es)
       by true rest = ap (λ ns. place ∷ ns) rest
       by false rest = rest
 
   -- the same of a status
+  pairs_numbers : (p : Placed) → named_numbers (package_pairs p.1) ≡ filter_map (λ g. g.number) (given_by f p)
+  pairs_numbers p =
+      numbers-append ((p.1.name, p.1.version) ∷ []) (filter_map entry_pair p.1.provides)
+      ∙ ap (λ ns. ns ++ named_numbers (filter_map entry_pair p.1.provides)) (entry_numbers true p.0 (own_entry p.1 ∷ []))
+      ∙ ap (λ ns. filter_map (λ g. g.number) (provisions_of true f p.0 (own_entry p.1 ∷ [])) ++ ns) (entry_numbers false p.0 p.1.provides)
+      ∙ sym (filter_map_append (provisions_of true f p.0 (own_entry p.1 ∷ [])) (provisions_of false f p.0 p.1.provides))
+
   numbers_given : (status : List Placed) → numbers_of f status ≡ filter_map (λ g. g.number) (given_of f status)
   numbers_given [] = refl
   numbers_given (p ∷ ps) =
       numbers-append (package_pairs p.1) (gives ps)
-      ∙ ap (λ ns. ns ++ numbers_of f ps) (entry_numbers p.0 (own_entry p.1 ∷ p.1.provides))
+      ∙ ap (λ ns. ns ++ numbers_of f ps) (pairs_numbers p)
       ∙ ap (λ ns. filter_map (λ g. g.number) (given_by f p) ++ ns) (numbers_given ps)
       ∙ sym (filter_map_append (given_by f p) (given_of f ps))
 
   names_given_all : (status : List Placed) → count_by (λ given. bytes_eq given f) (gives_all_versions status) ≡ count_by (λ g. is_none g.number) (given_of f status)
   names_given_all [] = refl
   names_given_all (p ∷ ps) =
-      omega (arith, count-append (λ given. bytes_eq given f) (filter_map unversioned_name p.1.provides) (gives_all_versions ps), entry_names p.0 (own_entry p.1 ∷ p.1.provides), names_given_all ps, count-append (λ g. is_none g.number) (given_by f p) (given_of f ps))
+      omega (
+        arith,
+        count-append (λ given. bytes_eq given f) (filter_map unversioned_name p.1.provides) (gives_all_versions ps),
+        entry_names true p.0 (own_entry p.1 ∷ []),
+        entry_names false p.0 p.1.provides,
+        names_given_all ps,
+        count-append (λ g. is_none g.number) (provisions_of true f p.0 (own_entry p.1 ∷ [])) (provisions_of false f p.0 p.1.provides),
+        count-append (λ g. is_none g.number) (given_by f p) (given_of f ps),
+      )
+
+  package_places : (p : Placed) → map (λ n. p.0) (filter (λ given. bytes_eq given f) (names_given p.1)) ≡ map (λ g. g.place) (given_by f p)
+  package_places p =
+      ap (map (λ n. p.0)) (filter-append (λ given. bytes_eq given f) (p.1.name ∷ []) (map (λ entry. entry.name) p.1.provides))
+      ∙ map-append (λ (n : List ℕ). p.0) (filter (λ given. bytes_eq given f) (p.1.name ∷ [])) (filter (λ given. bytes_eq given f) (map (λ entry. entry.name) p.1.provides))
+      ∙ ap (λ ns. ns ++ map (λ n. p.0) (filter (λ given. bytes_eq given f) (map (λ entry. entry.name) p.1.provides))) (entry_places true p.0 (own_entry p.1 ∷ []))
+      ∙ ap (λ ns. map (λ g. g.place) (provisions_of true f p.0 (own_entry p.1 ∷ [])) ++ ns) (entry_places false p.0 p.1.provides)
+      ∙ sym (map-append (λ (g : Provision). g.place) (provisions_of true f p.0 (own_entry p.1 ∷ [])) (provisions_of false f p.0 p.1.provides))
 
   places_given : (status : List Placed) → places_of f status ≡ map (λ g. g.place) (given_of f status)
   places_given [] = refl
   places_given (p ∷ ps) =
-      ap (λ ns. ns ++ places_of f ps) (entry_places p.0 (own_entry p.1 ∷ p.1.provides))
+      ap (λ ns. ns ++ places_of f ps) (package_places p)
       ∙ ap (λ ns. map (λ g. g.place) (given_by f p) ++ ns) (places_given ps)
       ∙ sym (map-append (λ (g : Provision). g.place) (given_by f p) (given_of f ps))
+
+  -- a package of the name, and only it, gives a version
+  no_version : (place : ℕ) (es : List PlainVpkg) → list_any (λ g. g.is_version) (provisions_of false f place es) ≡ false
+  no_version place [] = refl
+  no_version place (e ∷ es) =
+      ap (list_any (λ g. g.is_version)) (provisions-cons false f place e es) ∙ by (bytes_eq e.name f) (no_version place es)
+    where
+      by : (b : Bool) → list_any (λ g. g.is_version) (provisions_of false f place es) ≡ false → list_any (λ g. g.is_version) (one_given false b (option_map (λ k. k.1) e.bound) place ++ provisions_of false f place es) ≡ false
+      by true rest = rest
+      by false rest = rest
+
+  package_version : (p : Placed) → bytes_eq p.1.name f ≡ list_any (λ g. g.is_version) (given_by f p)
+  package_version p = by (bytes_eq p.1.name f) (no_version p.0 p.1.provides)
+    where
+      given : PlainVpkg → Provision
+      given entry = record { number = option_map (λ b. b.1) entry.bound; place = p.0; is_version = true }
+
+      by : (b : Bool) → list_any (λ g. g.is_version) (provisions_of false f p.0 p.1.provides) ≡ false
+          → b ≡ list_any (λ g. g.is_version) (map given (cond b (own_entry p.1 ∷ []) []) ++ provisions_of false f p.0 p.1.provides)
+      by true rest = refl
+      by false rest = sym rest
+
+  versions_given : (status : List Placed) → list_any (λ p. bytes_eq p.1.name f) status ≡ list_any (λ g. g.is_version) (given_of f status)
+  versions_given [] = refl
+  versions_given (p ∷ ps) =
+      ap (λ b. b || list_any (λ q. bytes_eq q.1.name f) ps) (package_version p)
+      ∙ ap (λ b. list_any (λ g. g.is_version) (given_by f p) || b) (versions_given ps)
+      ∙ sym (list_any-append (λ g. g.is_version) (given_by f p) (given_of f ps))
 
   keeps_row : (status : List Placed) (o : Option (Vec Provision)) (e : Option Entries) → CompletesAt o e → row_items o ≡ given_of f status → Keeps f status e
   keeps_row status None None whole same = record {
     ascending = λ i j d up inside. absurd (omega arith);
     numbers = λ p. ap (λ row. count_by p (filter_map (λ g. g.number) row)) same ∙ ap (count_by p) (sym (numbers_given status));
     unversioned = ap (count_by (λ g. is_none g.number)) same ∙ sym (names_given_all status);
-    places = ap (map (λ g. g.place)) same ∙ sym (places_given status);
+    sole = tt;
+    is_package = ap (list_any (λ g. g.is_version)) same ∙ sym (versions_given status);
   }
   keeps_row status (Some row) None whole same = absurd whole
   keeps_row status None (Some e) whole same = absurd whole
@@ -206,7 +260,8 @@ module _ (f : List ℕ) where
     ascending = whole.ascending;
     numbers = λ p. whole.numbers p ∙ ap (λ r. count_by p (filter_map (λ g. g.number) r)) same ∙ ap (count_by p) (sym (numbers_given status));
     unversioned = whole.unversioned ∙ ap (count_by (λ g. is_none g.number)) same ∙ sym (names_given_all status);
-    places = whole.places ∙ ap (map (λ g. g.place)) same ∙ sym (places_given status);
+    sole = subst (λ o. IfSome o (IsSole f status)) (sym (whole.sole ∙ ap (λ r. sole_place (map (λ g. g.place) r)) same)) (sole_same (map (λ g. g.place) (given_of f status)) f status (sym (places_given status)));
+    is_package = whole.is_package ∙ ap (list_any (λ g. g.is_version)) same ∙ sym (versions_given status);
   }
 
   completes_found : (rows : List (Vec Provision)) (entries : List Entries) (o : Option ℕ) → ((k : ℕ) → CompletesAt (slice_get rows k) (slice_get entries k)) → CompletesAt (option_and_then (slice_get rows) o) (option_and_then (slice_get entries) o)
@@ -217,7 +272,7 @@ module _ (f : List ℕ) where
       → Keeps f status (found (λ k. bytes_eq f k.now) keys entries)
   keeps_found status keys rows entries whole same =
       keeps_row status (found (λ k. bytes_eq f k.now) keys rows) (found (λ k. bytes_eq f k.now) keys entries)
-        (subst (λ o. CompletesAt o (found (λ k. bytes_eq f k.now) keys entries)) (sym (found_at (λ k. bytes_eq f k.now) keys rows))
-          (subst (CompletesAt (option_and_then (slice_get rows) (position (λ k. bytes_eq f k.now) keys))) (sym (found_at (λ k. bytes_eq f k.now) keys entries))
-            (completes_found rows entries (position (λ k. bytes_eq f k.now) keys) whole)))
-        same
+      (subst (λ o. CompletesAt o (found (λ k. bytes_eq f k.now) keys entries)) (sym (found_at (λ k. bytes_eq f k.now) keys rows))
+      (subst (CompletesAt (option_and_then (slice_get rows) (position (λ k. bytes_eq f k.now) keys))) (sym (found_at (λ k. bytes_eq f k.now) keys entries))
+      (completes_found rows entries (position (λ k. bytes_eq f k.now) keys) whole)))
+      same

@@ -7,6 +7,8 @@ pub mod EndLemmas
 pub mod GatheringLemmas
 pub mod FoundLemmas
 pub mod FirstLemmas
+pub mod TreeLemmas
 pub mod PriceLemmas
 pub mod SearchedLemmas
 mod SatisfactionExamples
+mod PriceExamples

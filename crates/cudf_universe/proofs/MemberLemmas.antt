@@ -1,8 +1,8 @@
 -- The packages that a status holds, one after the other.
-use Rattle.std.proofs.Common.{◌≡◌, ℕ, ◌+◌, ◌<◌, Bool, true, false, cond, List, [], ◌∷◌, ◌++◌, length, get_or, take, map, sym, ap, ◌∙◌, arith}
+use Rattle.std.proofs.Common.{◌≡◌, ℕ, ◌+◌, ◌<◌, Bool, cond, List, [], ◌∷◌, ◌++◌, length, get_or, take, map, ap, ◌∙◌, arith}
 use Rattle.std.specs.Prelude.{filter}
 use Rattle.std.specs.List.{enumerate_from}
-use Rattle.std.proofs.lemmas.List.{append-nil, length-map, length-take-le, map_push, take_more}
+use Rattle.std.proofs.lemmas.List.{length-map, length-take-le, map_push, take_more}
 use Rattle.std.proofs.lemmas.List.Elements.{filter-append}
 use Rattle.cudf_document.specs.Universe.{PlainPackage}
 use Rattle.cudf_universe.specs.Satisfaction.{Placed, members}
@@ -19,7 +19,7 @@ members-push holds xs x =
     ap (filter (λ (p : Placed). holds p.0)) (enumerate-push 1 xs x)
     ∙ filter-append (λ (p : Placed). holds p.0) (enumerate_from 1 xs) ((1 + length xs, x) ∷ [])
 
-module _ {A B : Type 0} (view : A → PlainPackage) (member : B → Placed) (holds : ℕ → Bool) (xs : List A) (i : ℕ) (d : A) (inside : i < length xs) where
+module _ {A : Type 0} (view : A → PlainPackage) (holds : ℕ → Bool) (xs : List A) (i : ℕ) (d : A) (inside : i < length xs) where
   pub members-more : members holds (map view (take (i + 1) xs)) ≡ members holds (map view (take i xs)) ++ cond (holds (i + 1)) ((i + 1, view (get_or xs i d)) ∷ []) []
   members-more =
       let place : 1 + length (map view (take i xs)) ≡ i + 1 = omega (arith, length-map (take i xs) view, length-take-le i xs (omega arith)) in
@@ -27,20 +27,3 @@ module _ {A B : Type 0} (view : A → PlainPackage) (member : B → Placed) (hol
       ∙ ap (members holds) (map_push view (take i xs) (get_or xs i d))
       ∙ members-push holds (map view (take i xs)) (view (get_or xs i d))
       ∙ ap (λ n. members holds (map view (take i xs)) ++ cond (holds n) ((n, view (get_or xs i d)) ∷ []) []) place
-
-  -- the status holds the place
-  pub members_kept : (ms : List B) (m : B) → map member ms ≡ members holds (map view (take i xs)) → holds (i + 1) ≡ true → member m ≡ (i + 1, view (get_or xs i d)) → map member (ms ++ m ∷ []) ≡ members holds (map view (take (i + 1) xs))
-  members_kept ms m before held same =
-      map_push member ms m
-      ∙ ap (λ done. done ++ member m ∷ []) before
-      ∙ ap (λ p. members holds (map view (take i xs)) ++ p ∷ []) same
-      ∙ ap (λ b. members holds (map view (take i xs)) ++ cond b ((i + 1, view (get_or xs i d)) ∷ []) []) (sym held)
-      ∙ sym members-more
-
-  -- the status doesn't hold it
-  pub members_left_out : (ms : List B) → map member ms ≡ members holds (map view (take i xs)) → holds (i + 1) ≡ false → map member ms ≡ members holds (map view (take (i + 1) xs))
-  members_left_out ms before left_out =
-      before
-      ∙ sym (append-nil (members holds (map view (take i xs))))
-      ∙ ap (λ b. members holds (map view (take i xs)) ++ cond b ((i + 1, view (get_or xs i d)) ∷ []) []) (sym left_out)
-      ∙ sym members-more

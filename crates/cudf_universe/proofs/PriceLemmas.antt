@@ -1,5 +1,5 @@
 -- Binary digits of halves.
-use Rattle.std.proofs.Common.{◌≡◌, ℕ, zero, suc, ◌+◌, ◌<◌, ◌≤◌, ◌/◌, refl, ap, sym, ◌∙◌, arith}
+use Rattle.std.proofs.Common.{◌≡◌, ℕ, zero, suc, ◌+◌, ◌<◌, ◌≤◌, ◌/◌, refl, ap, arith}
 use Rattle.cudf_universe.specs.Prices.{digits_within, digits}
 
 digits_within-fuel : (f g n : ℕ) → n ≤ f → n ≤ g → digits_within f n ≡ digits_within g n
@@ -18,10 +18,6 @@ digits_within-mono zero m n h = omega arith
 digits_within-mono (suc f) zero n h = omega arith
 digits_within-mono (suc f) (suc m) zero h = absurd (omega arith)
 digits_within-mono (suc f) (suc m) (suc n) h = omega (arith, digits_within-mono f (suc m / 2) (suc n / 2) (omega arith))
-
-pub digits-mono : (m n : ℕ) → m ≤ n → digits m ≤ digits n
-unfolding digits
-digits-mono m n h = omega (arith, digits_within-fuel m n m (omega arith) h, digits_within-mono n m n h)
 
 pub digits-halved : (m n : ℕ) → 0 < n → m + m ≤ n → digits m + 1 ≤ digits n
 unfolding digits digits_within

@@ -1,15 +1,14 @@
 -- A status satisfies what one of its packages satisfies, and a package what its name and version or one of its entries meets.
-use Rattle.std.proofs.Common.{◌≡◌, ℕ, Bool, true, false, not, ◌&&◌, ◌||◌, List, [], ◌∷◌, ◌++◌, Option, Some, None, refl, sym, ap, ◌∙◌, bytes_eq}
-use Rattle.std.specs.Prelude.{map, find, filter_map, option_map}
+use Rattle.std.proofs.Common.{◌≡◌, ℕ, Bool, true, false, not, ◌&&◌, ◌||◌, List, [], ◌∷◌, ◌++◌, Option, Some, None, refl, ap, ◌∙◌, bytes_eq}
+use Rattle.std.specs.Prelude.{filter_map, option_map}
 use Rattle.std.specs.List.{list_any, cons_option}
 use Rattle.std.proofs.lemmas.List.Folds.{list_any-append}
 use Rattle.std.proofs.lemmas.List.Concat.{flat_map-append}
 use Rattle.std.proofs.lemmas.List.{append-nil}
 use Rattle.cudf_value.specs.declared.relop.Relop.{Relop}
 use Rattle.cudf_value.specs.Vpkgs.{PlainVpkg, meets}
-use Rattle.cudf_universe.specs.Satisfaction.{Placed, Pair, MemberAlone, without, other_than, entry_pair, name_unless, unversioned_name, package_pairs, gives, gives_all_versions, is_met_by, is_below_one, satisfies, meets_alone, first_meeting}
-use Rattle.cudf_universe.specs.Working.Members.{provision_meets, entry_meets, is_other}
-use Rattle.cudf_universe.proofs.SearchLemmas.{list_any-map, list_any-filter, find-map, find-filter}
+use Rattle.cudf_universe.specs.Satisfaction.{Placed, Pair, MemberAlone, entry_pair, name_unless, unversioned_name, package_pairs, gives, gives_all_versions, is_met_by, is_below_one, satisfies, meets_alone}
+use Rattle.cudf_universe.specs.Working.Members.{provision_meets, entry_meets}
 
 or_assoc : (a b c : Bool) → ((a || b) || c) ≡ (a || (b || c))
 or_assoc true b c = refl
@@ -69,36 +68,3 @@ meets_alone-parts v p =
     ∙ ap (λ names. (is_met_by v (p.1.name, p.1.version) || list_any (is_met_by v) (filter_map entry_pair p.1.provides)) || (list_any (is_named v) names && not (is_below_one v.bound))) (append-nil (filter_map unversioned_name p.1.provides))
     ∙ or_assoc (is_met_by v (p.1.name, p.1.version)) (list_any (is_met_by v) (filter_map entry_pair p.1.provides)) (list_any (is_named v) (filter_map unversioned_name p.1.provides) && not (is_below_one v.bound))
     ∙ ap (λ b. is_met_by v (p.1.name, p.1.version) || b) (entries_meet v p.1.provides)
-
--- ---- the packages of a status, seen through h
-
-module _ {A : Type 0} (h : A → Placed) (v : PlainVpkg) where
-  pub satisfies-map : (xs : List A) → satisfies (map h xs) v ≡ list_any (λ x. meets_alone v (h x)) xs
-  satisfies-map xs = member_alone (map h xs) v ∙ list_any-map (meets_alone v) h xs
-
-  pub satisfies-without : (place : ℕ) (xs : List A) → satisfies (without place (map h xs)) v ≡ list_any (λ x. is_other (Some place) (h x).0 && meets_alone v (h x)) xs
-  satisfies-without place xs =
-      member_alone (without place (map h xs)) v
-      ∙ list_any-filter (meets_alone v) (λ p. is_other (Some place) p.0) (map h xs)
-      ∙ list_any-map (λ p. is_other (Some place) p.0 && meets_alone v p) h xs
-
-  find-other : (except : Option ℕ) (status : List Placed) → find (meets_alone v) (other_than except status) ≡ find (λ p. is_other except p.0 && meets_alone v p) status
-  find-other None status = refl
-  find-other (Some place) status = find-filter (meets_alone v) (λ p. is_other (Some place) p.0) status
-
-  -- the place of the package that was found, behind a reference or not
-  pub first_meeting-found : {R : Type 0} (now : R → A) (except : Option ℕ) (xs : List A) (found : Option R) → option_map now found ≡ find (λ x. is_other except (h x).0 && meets_alone v (h x)) xs → option_map (λ r. (h (now r)).0) found ≡ first_meeting (other_than except (map h xs)) v
-  first_meeting-found {R = R} now except xs found same =
-      placed found
-      ∙ ap (λ o. option_map (λ p. p.0) (option_map h o)) same
-      ∙ sym (ap (option_map (λ p. p.0)) (find-other except (map h xs) ∙ find-map (λ p. is_other except p.0 && meets_alone v p) h xs))
-    where
-      placed : (o : Option R) → option_map (λ r. (h (now r)).0) o ≡ option_map (λ p. p.0) (option_map h (option_map now o))
-      placed None = refl
-      placed (Some r) = refl
-
--- where the name and version don't meet it, an entry has to
-pub entries_decide : {A : Type 0} (h : A → PlainVpkg) (entries : List A) (v : PlainVpkg) (p : Placed) (r : Bool) → p.1.provides ≡ map h entries → is_met_by v (p.1.name, p.1.version) ≡ false → r ≡ list_any (λ e. entry_meets v (h e)) entries → r ≡ meets_alone v p
-entries_decide h entries v p r provides own met =
-    met ∙ sym (list_any-map (entry_meets v) h entries) ∙ ap (list_any (entry_meets v)) (sym provides)
-    ∙ ap (λ b. b || list_any (entry_meets v) p.1.provides) (sym own) ∙ sym (meets_alone-parts v p)

@@ -1,6 +1,6 @@
 -- Searches through mapped and filtered lists.
 use Rattle.std.proofs.Common.{◌≡◌, Bool, true, false, cond, ◌&&◌, ◌||◌, List, [], ◌∷◌, map, Option, Some, refl, ap}
-use Rattle.std.specs.Prelude.{filter, find, option_map}
+use Rattle.std.specs.Prelude.{filter, find}
 use Rattle.std.specs.List.{list_any}
 
 pub list_any-map : {A B : Type 0} (p : B → Bool) (h : A → B) (xs : List A) → list_any p (map h xs) ≡ list_any (λ x. p (h x)) xs
@@ -14,14 +14,6 @@ or_kept false p x xs rest e = e
 pub list_any-filter : {A : Type 0} (p q : A → Bool) (xs : List A) → list_any p (filter q xs) ≡ list_any (λ x. q x && p x) xs
 list_any-filter p q [] = refl
 list_any-filter p q (x ∷ xs) = or_kept (q x) p x (filter q xs) _ (list_any-filter p q xs)
-
-pub find-map : {A B : Type 0} (p : B → Bool) (h : A → B) (xs : List A) → find p (map h xs) ≡ option_map h (find (λ x. p (h x)) xs)
-find-map p h [] = refl
-find-map p h (x ∷ xs) = found_first (p (h x)) h x _ _ (find-map p h xs)
-  where
-    found_first : {A B : Type 0} (b : Bool) (h : A → B) (x : A) (r : Option B) (s : Option A) → r ≡ option_map h s → cond b (Some (h x)) r ≡ option_map h (cond b (Some x) s)
-    found_first true h x r s e = refl
-    found_first false h x r s e = e
 
 found_kept : {A : Type 0} (b : Bool) (p : A → Bool) (x : A) (xs : List A) (rest : Option A) → find p xs ≡ rest → find p (cond b (x ∷ xs) xs) ≡ cond (b && p x) (Some x) rest
 found_kept true p x xs rest e = ap (λ r. cond (p x) (Some x) r) e

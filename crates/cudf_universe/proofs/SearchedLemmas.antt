@@ -1,12 +1,12 @@
 -- How far a binary search has come, and what it took.
-use Rattle.std.proofs.Common.{◌≡◌, ℕ, zero, suc, ◌+◌, ◌-◌, ◌<◌, ◌≤◌, ◌/◌, true, false, List, [], length, get_or, refl, ap, sym, ◌∙◌, arith, nat_lt}
+use Rattle.std.proofs.Common.{◌≡◌, ℕ, ◌+◌, ◌-◌, ◌<◌, ◌≤◌, ◌/◌, List, length, get_or, ap, arith, nat_lt}
 use Rattle.std.specs.List.{count_by}
 use Rattle.std.specs.List.Sorted.{IsNonDecreasing}
 use Rattle.std.proofs.lemmas.Bool.{lt-ltb, le-ltb}
 use Rattle.std.proofs.lemmas.List.{get_or_default}
 use Rattle.cudf_universe.specs.Prices.{digits}
 use Rattle.cudf_universe.proofs.CountLemmas.{count-point}
-use Rattle.cudf_universe.proofs.PriceLemmas.{digits-mono, digits-halved}
+use Rattle.cudf_universe.proofs.PriceLemmas.{digits-halved}
 
 pub record Searched (xs : List ℕ) (bound low high from to : ℕ) : Type 0 where
   pub ordered : IsNonDecreasing xs
@@ -19,19 +19,24 @@ pub record Searched (xs : List ℕ) (bound low high from to : ℕ) : Type 0 wher
 module _ (xs : List ℕ) (bound : ℕ) where
   pub searched_start : (from : ℕ) → IsNonDecreasing xs → Searched xs bound 0 (length xs) from from
   searched_start from ordered =
-    let whole : length xs - 0 ≡ length xs = omega arith in
-    let same : digits (length xs - 0) ≡ digits (length xs) = ap digits whole in
-    record {
-    ordered = ordered; order = omega arith; within = omega arith;
-    below = λ k h. absurd (omega arith); above = λ k h l. absurd (omega arith);
-    price = omega (arith, same);
-  }
+      let whole : length xs - 0 ≡ length xs = omega arith in
+      let same : digits (length xs - 0) ≡ digits (length xs) = ap digits whole in
+      record {
+        ordered = ordered;
+        order = omega arith;
+        within = omega arith;
+        below = λ k h. absurd (omega arith);
+        above = λ k h l. absurd (omega arith);
+        price = omega (arith, same);
+      }
 
   pub searched_right : (low high from to next n middle : ℕ) → Searched xs bound low high from to → low < high → middle ≡ low + (high - low) / 2 → next ≡ to + 1 → ((d : ℕ) → n ≡ get_or xs middle d) → n < bound → Searched xs bound (middle + 1) high from next
   searched_right low high from to next n middle s open_yet mid one is less =
       let fewer = digits-halved (high - (middle + 1)) (high - low) (omega arith) (omega arith) in
       record {
-        ordered = s.ordered; order = omega arith; within = s.within;
+        ordered = s.ordered;
+        order = omega arith;
+        within = s.within;
         below = λ k h. omega (arith, s.ordered k middle 0 (omega arith) (omega (arith, s.within)), is 0);
         above = s.above;
         price = omega (arith, s.price, fewer);
@@ -41,7 +46,9 @@ module _ (xs : List ℕ) (bound : ℕ) where
   searched_left low high from to next n middle s open_yet mid one is more =
       let fewer = digits-halved (middle - low) (high - low) (omega arith) (omega arith) in
       record {
-        ordered = s.ordered; order = omega arith; within = omega (arith, s.within);
+        ordered = s.ordered;
+        order = omega arith;
+        within = omega (arith, s.within);
         below = s.below;
         above = λ k h l. omega (arith, s.ordered middle k 0 h l, is 0);
         price = omega (arith, s.price, fewer);
@@ -49,6 +56,7 @@ module _ (xs : List ℕ) (bound : ℕ) where
 
   pub searched_end : (low high from to : ℕ) → Searched xs bound low high from to → high ≤ low → low ≡ count_by (λ n. nat_lt n bound) xs
   searched_end low high from to s closed =
-      count-point (λ n. nat_lt n bound) xs 0 low (omega (arith, s.order, s.within))
-        ( (λ k d a b. lt-ltb (get_or xs k d) bound (omega (arith, s.below k b, get_or_default xs k d 0 (omega (arith, s.order, s.within)))))
-        , (λ k d a b. le-ltb (get_or xs k d) bound (omega (arith, s.above k (omega arith) b, get_or_default xs k d 0 b))) )
+      count-point (λ n. nat_lt n bound) xs 0 low (omega (arith, s.order, s.within)) (
+        (λ k d a b. lt-ltb (get_or xs k d) bound (omega (arith, s.below k b, get_or_default xs k d 0 (omega (arith, s.order, s.within))))),
+        (λ k d a b. le-ltb (get_or xs k d) bound (omega (arith, s.above k (omega arith) b, get_or_default xs k d 0 b))),
+      )

@@ -1,6 +1,6 @@
 -- Counts of what a status gives, and of what it gives without one package.
-use Rattle.std.proofs.Common.{◌≡◌, ℕ, ◌+◌, ◌-◌, ◌<◌, ◌≤◌, zero, suc, Bool, true, false, not, cond, ◌||◌, ◌&&◌, ◌==◌, List, [], ◌∷◌, ◌++◌, length, get_or, map, Option, Some, None, refl, sym, ap, ◌∙◌, arith, nat_lt, bytes_eq, subst, inl, inr, ◌⊎◌}
-use Rattle.std.specs.Prelude.{filter, filter_map, find, option_map, slice_get}
+use Rattle.std.proofs.Common.{◌≡◌, ℕ, ◌+◌, ◌<◌, zero, suc, Bool, true, false, not, cond, ◌||◌, ◌&&◌, ◌==◌, List, [], ◌∷◌, length, get_or, map, Option, Some, None, refl, sym, ap, ◌∙◌, arith, nat_lt, bytes_eq, subst}
+use Rattle.std.specs.Prelude.{filter, filter_map, find, option_map, slice_get, if◌then◌else◌}
 use Rattle.std.specs.Option.{option_map_or, is_some, IfSome}
 use Rattle.std.proofs.lemmas.Option.{slice_get_past, slice_get_read}
 use Rattle.std.proofs.Common.{Bor}
@@ -13,8 +13,10 @@ use Rattle.cudf_value.specs.Vpkgs.{PlainVpkg, meets}
 use Rattle.cudf_universe.specs.declared.index.entries.Entries.{Entries}
 use Rattle.cudf_universe.specs.Working.Kept.{Keeps, kept_numbers, kept_unversioned, is_met_by_entry, gives_all_of}
 use Rattle.cudf_document.specs.Universe.{PlainPackage}
-use Rattle.cudf_universe.specs.Satisfaction.{Placed, Pair, entry_pair, members, without, gives, gives_all_versions, package_pairs, unversioned_name, numbers_of, is_met_by, is_below_one, satisfies}
-use Rattle.cudf_universe.proofs.CountLemmas.{count-cons, count-append, count-same, any-count}
+use Rattle.cudf_universe.specs.Satisfaction.{Placed, Pair, entry_pair, members, without, gives, gives_all_versions, package_pairs, unversioned_name, numbers_of, is_met_by, is_below_one, satisfies, meets_alone}
+use Rattle.cudf_universe.proofs.SatisfactionLemmas.{member_alone}
+use Rattle.cudf_universe.proofs.SearchLemmas.{list_any-filter}
+use Rattle.cudf_universe.proofs.CountLemmas.{count-cons, count-append, any-count}
 
 -- ---- counts of mapped and filtered lists
 
@@ -49,7 +51,7 @@ count-numbers v status =
 pub satisfies-counted : (status : List Placed) (v : PlainVpkg)
     → satisfies status v
     ≡ (nat_lt 0 (count_by (meets v.bound) (numbers_of v.name status))
-        || (nat_lt 0 (count_by (λ given. bytes_eq given v.name) (gives_all_versions status)) && not (is_below_one v.bound)))
+    || (nat_lt 0 (count_by (λ given. bytes_eq given v.name) (gives_all_versions status)) && not (is_below_one v.bound)))
 satisfies-counted status v =
     ap (λ b. b || (list_any (λ given. bytes_eq given v.name) (gives_all_versions status) && not (is_below_one v.bound))) (any-count (is_met_by v) (gives status) ∙ ap (nat_lt 0) (sym (count-numbers v status)))
     ∙ ap (λ b. nat_lt 0 (count_by (meets v.bound) (numbers_of v.name status)) || (b && not (is_below_one v.bound))) (any-count (λ given. bytes_eq given v.name) (gives_all_versions status))
@@ -137,6 +139,17 @@ module _ (holds : ℕ → Bool) where
     pub split_members : (place : ℕ) (packages : List PlainPackage) → counted (members holds packages) ≡ counted (without place (members holds packages)) + own_count (find (λ q. q.0 == place) (members holds packages))
     split_members place packages = split_from place 1 packages
 
+none_below : (u : ℕ) → nat_lt u 0 ≡ false
+none_below u = grind (arith, nat_tests)
+
+and_true : (b : Bool) → (b && true) ≡ b
+and_true true = refl
+and_true false = refl
+
+and_false : (b : Bool) → (b && false) ≡ false
+and_false true = refl
+and_false false = refl
+
 -- ---- what is kept
 
 module _ (name : List ℕ) (status : List Placed) (kept : Option Entries) (keeps : Keeps name status kept) where
@@ -147,8 +160,43 @@ module _ (name : List ℕ) (status : List Placed) (kept : Option Entries) (keeps
       ap (λ k. nat_lt n k || (nat_lt u (kept_unversioned kept) && not (is_below_one bound))) (keeps.numbers (meets bound))
       ∙ ap (λ k. nat_lt n (count_by (meets bound) (numbers_of name status)) || (nat_lt u k && not (is_below_one bound))) keeps.unversioned
 
-pub none_beside : (n u : ℕ) (b : Bool) → false ≡ (nat_lt n 0 || (nat_lt u 0 && b))
-none_beside n u b = grind (arith, nat_tests)
+  -- so many numbers and unversioned provisions that are kept meet a bound
+  pub kept_exceeds : (n u m w : ℕ) (bound : Option (Relop × ℕ)) → m ≡ count_by (meets bound) (kept_numbers kept) → w ≡ (if is_below_one bound then 0 else kept_unversioned kept)
+      → (nat_lt n m || nat_lt u w)
+      ≡ (nat_lt n (count_by (meets bound) (numbers_of name status)) || (nat_lt u (count_by (λ given. bytes_eq given name) (gives_all_versions status)) && not (is_below_one bound)))
+  kept_exceeds n u m w bound met all =
+      ap (λ k. nat_lt n k || nat_lt u w) met
+      ∙ ap (λ b. nat_lt n (count_by (meets bound) (kept_numbers kept)) || b) (ap (nat_lt u) all ∙ unless (is_below_one bound) (kept_unversioned kept))
+      ∙ beside_kept n u bound
+    where
+      unless : (b : Bool) (k : ℕ) → nat_lt u (if b then 0 else k) ≡ (nat_lt u k && not b)
+      unless true k = none_below u ∙ sym (and_false (nat_lt u k))
+      unless false k = sym (and_true (nat_lt u k))
+
+-- a name of which nothing is kept
+pub none_kept : (v : PlainVpkg) (status : List Placed) → Keeps v.name status None → satisfies status v ≡ false
+none_kept v status keeps =
+    satisfies-counted status v ∙ sym (kept_exceeds v.name status None keeps 0 0 0 0 v.bound refl (by (is_below_one v.bound)))
+  where
+    by : (b : Bool) → ◌≡◌ {A = ℕ} 0 (if b then 0 else 0)
+    by true = refl
+    by false = refl
+
+-- fewer packages satisfy less
+pub unsatisfied_without : (status : List Placed) (v : PlainVpkg) (place : ℕ) → satisfies status v ≡ false → satisfies (without place status) v ≡ false
+unsatisfied_without status v place none =
+    member_alone (without place status) v ∙ list_any-filter (meets_alone v) (λ p. not (p.0 == place)) status
+    ∙ fewer status (sym (member_alone status v) ∙ none)
+  where
+    fewer : (ps : List Placed) → list_any (meets_alone v) ps ≡ false → list_any (λ p. not (p.0 == place) && meets_alone v p) ps ≡ false
+    fewer [] e = refl
+    fewer (p ∷ ps) e = by (meets_alone v p) (not (p.0 == place)) e (fewer ps)
+      where
+        by : (b other : Bool) → (b || list_any (meets_alone v) ps) ≡ false → (list_any (meets_alone v) ps ≡ false → list_any (λ q. not (q.0 == place) && meets_alone v q) ps ≡ false)
+            → ((other && b) || list_any (λ q. not (q.0 == place) && meets_alone v q) ps) ≡ false
+        by true other e rest = absurd (true≢false e)
+        by false true e rest = rest e
+        by false false e rest = rest e
 
 -- ---- what is read of a list
 
@@ -163,7 +211,7 @@ module _ (holds : ℕ → Bool) (packages : List PlainPackage) (status : List Pl
       → count_by (meets v.bound) (numbers_of v.name status) ≡ count_by (meets v.bound) (numbers_of v.name (without place status)) + own_count holds (λ q. package_pairs q.1) (is_met_by v) o
   numbers_split v place o e =
       let split : count_by (is_met_by v) (gives status) ≡ count_by (is_met_by v) (gives (without place status)) + own_count holds (λ q. package_pairs q.1) (is_met_by v) (find (λ q. q.0 == place) status)
-            = subst (λ s. count_by (is_met_by v) (gives s) ≡ count_by (is_met_by v) (gives (without place s)) + own_count holds (λ q. package_pairs q.1) (is_met_by v) (find (λ q. q.0 == place) s)) view (split_members holds (λ q. package_pairs q.1) (is_met_by v) place packages) in
+      = subst (λ s. count_by (is_met_by v) (gives s) ≡ count_by (is_met_by v) (gives (without place s)) + own_count holds (λ q. package_pairs q.1) (is_met_by v) (find (λ q. q.0 == place) s)) view (split_members holds (λ q. package_pairs q.1) (is_met_by v) place packages) in
       count-numbers v status ∙ split
       ∙ ap (λ n. n + own_count holds (λ q. package_pairs q.1) (is_met_by v) (find (λ q. q.0 == place) status)) (sym (count-numbers v (without place status)))
       ∙ ap (λ p. count_by (meets v.bound) (numbers_of v.name (without place status)) + own_count holds (λ q. package_pairs q.1) (is_met_by v) p) (sym e)

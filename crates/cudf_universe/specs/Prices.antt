@@ -1,5 +1,7 @@
--- What counted calls cost (own).
+-- What the counted calls cost (own): each look-up by name, each reading of an entry, and each own entry that is judged.
 use Rattle.std.specs.Prelude.{ℕ, zero, suc, ◌+◌, ◌*◌, ◌/◌, List, length, Option, Some, None, find, ◌==◌}
+use Rattle.std.specs.List.{sum_by}
+use Rattle.cudf_value.specs.Formulas.{PlainAtom, truth_atom, falsehood_atom, named}
 use Rattle.cudf_universe.specs.Satisfaction.{Placed, numbers_of}
 
 unfoldable pub digits_within : ℕ → ℕ → ℕ
@@ -11,19 +13,34 @@ digits_within (suc fuel) (suc n) = digits_within fuel (suc n / 2) + 1
 unfoldable pub digits : ℕ → ℕ
 digits n = digits_within n n
 
--- one look-up, and two binary searches among the numbers of the name
-abbrev pub search_cost : List ℕ → List Placed → ℕ
-search_cost name status = 1 + 2 * digits (length (numbers_of name status))
+-- how many packages of a status have the name, and how many entries `f = n` of their `provides`, with repeats
+abbrev pub entries : List Placed → List ℕ → ℕ
+entries status name = length (numbers_of name status)
 
--- the own entries of the package at a place, where the status holds it
+-- one look-up, and two binary searches among the entries of the name
+abbrev pub search_cost : List Placed → List ℕ → ℕ
+search_cost status name = 1 + 2 * digits (entries status name)
+
+-- a vpkg costs a search, a constant nothing
+abbrev pub atom_cost : List Placed → PlainAtom → ℕ
+atom_cost status truth_atom = 0
+atom_cost status falsehood_atom = 0
+atom_cost status (named v) = search_cost status v.name
+
+-- the atoms of a clause together
+abbrev pub clause_cost : List Placed → List PlainAtom → ℕ
+clause_cost status clause = sum_by (atom_cost status) clause
+
+-- a package and each entry of its `provides`
 abbrev pub own_entries : Option Placed → ℕ
 own_entries None = 0
 own_entries (Some p) = length p.1.provides + 1
 
-abbrev pub own_cost : ℕ → List Placed → ℕ
-own_cost place status = own_entries (find (λ p. p.0 == place) status)
+-- those of the package at a place: none where the status doesn't hold the place
+abbrev pub own_cost : List Placed → ℕ → ℕ
+own_cost status place = own_entries (find (λ p. p.0 == place) status)
 
--- an index that is asked, and the steps taken
+-- an index that is asked, and the steps that were taken in it
 pub record Metering : Type 0 where
   pub status : List Placed
   pub steps : ℕ

@@ -1,3 +1,6 @@
 pub mod Members
 pub mod Kept
 pub mod Gathering
+pub mod FirstPlaces
+pub mod Trees
+pub mod TreeFalls

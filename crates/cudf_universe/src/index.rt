@@ -1,37 +1,34 @@
 //! What a status gives and satisfies: CUDF 2.0, installations and features.
-ghost use Rattle.std.specs.Prelude.{◌≡◌, IfOk};
-ghost use Rattle.cudf_value.specs.Vpkgs.{vpkg_view};
-ghost use Rattle.cudf_value.specs.Formulas.{atom_view, clause_view};
+ghost use Rattle.std.specs.Prelude.{◌≡◌, ◌≤◌, ◌+◌, ◌&&◌, ◌==◌, ◌*◌, ℕ, List, Some, length, bytes_eq, option_map, find, IfOk};
+ghost use Rattle.std.specs.List.{count_by, list_any};
 ghost use Rattle.std.specs.FinSet as set;
-ghost use Rattle.cudf_universe.specs.Satisfaction.{members, satisfies, satisfies_atom, satisfies_clause, without, first_meeting, other_than, numbers_of, IsLeast, IsGreatest};
-ghost use Rattle.std.specs.Prelude.{nat_lt, not, ◌&&◌, ◌||◌, ◌==◌, ◌+◌, bytes_eq, option_map, find};
-ghost use Rattle.std.specs.List.{count_by};
-ghost use Rattle.cudf_value.specs.Vpkgs.{meets};
-ghost use Rattle.cudf_universe.specs.Satisfaction.{gives_all_versions, is_below_one};
-ghost use Rattle.std.specs.Prelude.{ℕ, List};
-ghost use Rattle.cudf_universe.specs.Working.Kept.{Keeps, meets_at};
+ghost use Rattle.cudf_value.specs.Formulas.{atom_view, clause_view};
+ghost use Rattle.cudf_value.specs.Vpkgs.{vpkg_view, meets};
+ghost use Rattle.cudf_universe.specs.Prices.{digits, search_cost, atom_cost, clause_cost, own_cost};
+ghost use Rattle.cudf_universe.specs.Satisfaction.{members, satisfies, satisfies_atom, satisfies_clause, without, first_meeting, other_than, numbers_of, gives_all_versions, IsLeast, IsGreatest};
 ghost use Rattle.cudf_universe.specs.Working.Gathering.{row_of, given_of};
+ghost use Rattle.cudf_universe.specs.Working.Kept.{Keeps};
 ghost use Rattle.cudf_universe.specs.Working.Members.{member_view};
-ghost use Rattle.cudf_universe.specs.Prices.{search_cost, own_cost};
-ghost use Rattle.std.specs.Prelude.{◌≤◌};
-ghost use Rattle.cudf_universe.specs.Working.Members.{is_other};
+ghost use Rattle.cudf_universe.specs.Working.FirstPlaces.{tree_items};
 
 mod entries;
 mod gathered_names;
 mod member;
 pub(crate) mod metered;
 mod sorted;
+mod tree;
 
 use crate::steps::Steps;
 use cudf_document::{Problem, Status};
 use cudf_value::{Atom, Clause, Vpkg};
-use entries::{Entries, Own, is_below_one};
+use entries::{Entries, Met};
 use gathered_names::{GatheredNames, entries_of};
 use indexmap::IndexSet;
 use member::Member;
 use metered::Metered;
 use std::alloc::{AllocError, Global};
 use std::marker::Model;
+use tree::{ProvisionTree, trees_of};
 
 /// The packages of a status, to be asked what they give and satisfy.
 ///
@@ -43,19 +40,23 @@ pub struct Index<'p, 't> {
     names: IndexSet<&'t str>,
     /// What the status gives of each name.
     entries: Vec<Entries>,
+    /// The same, in the order of the places.
+    trees: Vec<ProvisionTree>,
 }
 
 impl<'p, 't> Model for Index<'p, 't> {
-    ghost use Rattle.std.specs.Prelude.{List, ℕ, bytes_eq};
+    ghost use Rattle.std.specs.Prelude.{◌≡◌, List, ℕ, bytes_eq};
     ghost use Rattle.std.specs.FinSet as set;
     ghost use Rattle.cudf_universe.specs.Satisfaction.{Placed, members};
+    ghost use Rattle.cudf_universe.specs.Working.Gathering.{given_of};
     ghost use Rattle.cudf_universe.specs.Working.Kept.{Keeps, found};
+    ghost use Rattle.cudf_universe.specs.Working.FirstPlaces.{tree_items};
 
     ghost Value = { List Placed };
 
     ghost view = { λ i. members (set.contains i.status) i.problem.now.packages };
 
-    ghost invariant = { λ i. (name : List ℕ) → Keeps name (members (set.contains i.status) i.problem.now.packages) (found (λ k. bytes_eq name k.now) i.names.keys i.entries.items) };
+    ghost invariant = { λ i. (name : List ℕ) → (Keeps name (members (set.contains i.status) i.problem.now.packages) (found (λ k. bytes_eq name k.now) i.names.keys i.entries.items)) × (tree_items (found (λ k. bytes_eq name k.now) i.names.keys i.trees.items) ≡ given_of name (members (set.contains i.status) i.problem.now.packages)) };
 }
 
 impl<'p, 't> Index<'p, 't> {
@@ -73,11 +74,13 @@ impl<'p, 't> Index<'p, 't> {
     {
         let gathered = gathered(alloc, problem, status)?;
         let entries = entries_of(alloc, &gathered.rows)?;
+        let trees = trees_of(alloc, &gathered.rows)?;
         Ok(Index {
             problem,
             status: status.copy(alloc)?,
             names: gathered.names,
             entries,
+            trees,
         })
     }
 
@@ -93,14 +96,14 @@ impl<'p, 't> Index<'p, 't> {
     pub fn satisfies(&self, vpkg: &Vpkg<'_>) -> bool
         ensures { result ≡ satisfies self.now (vpkg_view vpkg.now) }
     {
-        self.satisfies_beside(vpkg, Own { numbers: 0, unversioned: 0 }, &mut Steps::new())
+        self.satisfies_counting(vpkg, &mut Steps::new())
     }
 
     /// Whether one of the clause's atoms is `true!`, or a vpkg that the status satisfies.
     pub fn satisfies_clause(&self, clause: &Clause<'_>) -> bool
         ensures { result ≡ satisfies_clause self.now (clause_view clause.now) }
     {
-        clause.atoms.iter().any(|atom| self.satisfies_atom(atom))
+        self.satisfies_clause_counting(clause, &mut Steps::new())
     }
 
     /// Whether the status satisfies the vpkg without the package at this place and all that it
@@ -108,7 +111,7 @@ impl<'p, 't> Index<'p, 't> {
     pub fn satisfies_without(&self, vpkg: &Vpkg<'_>, place: u64) -> bool
         ensures { result ≡ satisfies (without place self.now) (vpkg_view vpkg.now) }
     {
-        self.satisfies_without_in(vpkg, place, &mut Steps::new())
+        self.satisfies_without_counting(vpkg, place, &mut Steps::new())
     }
 
     /// The least place of the status, other than `except`, whose package alone satisfies the vpkg.
@@ -116,9 +119,8 @@ impl<'p, 't> Index<'p, 't> {
     pub fn first_meeting(&self, vpkg: &Vpkg<'_>, except: Option<u64>) -> Option<u64>
         ensures { result ≡ first_meeting (other_than except self.now) (vpkg_view vpkg.now) }
     {
-        let _ = &self.problem;
-        match self.kept(vpkg.name) {
-            Some(entries) => self.first_of(&entries.places, vpkg, except),
+        match self.tree(vpkg.name) {
+            Some(tree) => tree.first(vpkg.bound, except),
             None => None,
         }
     }
@@ -128,10 +130,7 @@ impl<'p, 't> Index<'p, 't> {
     pub fn least(&self, name: &str) -> Option<u64>
         ensures { IsLeast (numbers_of name.now self.now) result }
     {
-        match self.kept(name) {
-            Some(entries) => entries.numbers.least(),
-            None => None,
-        }
+        self.least_counting(name, &mut Steps::new())
     }
 
     /// The greatest number that the status gives of the name, as a version or by a versioned
@@ -139,19 +138,117 @@ impl<'p, 't> Index<'p, 't> {
     pub fn greatest(&self, name: &str) -> Option<u64>
         ensures { IsGreatest (numbers_of name.now self.now) result }
     {
+        self.greatest_counting(name, &mut Steps::new())
+    }
+
+    /// Whether a package of the status has this name; features don't count.
+    pub fn has_package(&self, name: &str) -> bool
+        ensures { result ≡ list_any (λ p. bytes_eq p.1.name name.now) self.now }
+    {
         match self.kept(name) {
-            Some(entries) => entries.numbers.greatest(),
-            None => None,
+            Some(entries) => entries.is_package,
+            None => false,
         }
     }
 
-    fn satisfies_atom(&self, atom: &Atom<'_>) -> bool
-        ensures { result ≡ satisfies_atom self.now (atom_view atom.now) }
+    /// `satisfies`, with its steps counted.
+    pub(crate) fn satisfies_counting(&self, vpkg: &Vpkg<'_>, steps: &mut Steps) -> bool
+        ensures answer { result ≡ satisfies self.now (vpkg_view vpkg.now) }
+        ensures price { steps.new ≤ steps.old + search_cost self.now vpkg.now.name.now }
+    {
+        steps.tick();
+        match self.kept(vpkg.name) {
+            Some(entries) => entries.met(vpkg.bound, steps).exceeds(Met::none()),
+            None => false,
+        }
+    }
+
+    /// `satisfies_clause`, with its steps counted.
+    pub(crate) fn satisfies_clause_counting(&self, clause: &Clause<'_>, steps: &mut Steps) -> bool
+        ensures answer { result ≡ satisfies_clause self.now (clause_view clause.now) }
+        ensures price { steps.new ≤ steps.old + clause_cost self.now (clause_view clause.now) }
+    {
+        for atom in &clause.atoms {
+            if self.satisfies_atom_counting(atom, steps) {
+                return true;
+            }
+        }
+        false
+    }
+
+    fn satisfies_atom_counting(&self, atom: &Atom<'_>, steps: &mut Steps) -> bool
+        ensures answer { result ≡ satisfies_atom self.now (atom_view atom.now) }
+        ensures price { steps.new ≤ steps.old + atom_cost self.now (atom_view atom.now) }
     {
         match atom {
             Atom::Yes => true,
             Atom::No => false,
-            Atom::Is(vpkg) => self.satisfies(vpkg),
+            Atom::Is(vpkg) => self.satisfies_counting(vpkg, steps),
+        }
+    }
+
+    /// `satisfies_without`, with its steps counted.
+    pub(crate) fn satisfies_without_counting(
+        &self,
+        vpkg: &Vpkg<'_>,
+        place: u64,
+        steps: &mut Steps,
+    ) -> bool
+        ensures answer { result ≡ satisfies (without place self.now) (vpkg_view vpkg.now) }
+        ensures price { steps.new ≤ steps.old + (search_cost self.now vpkg.now.name.now + own_cost self.now place) }
+    {
+        steps.tick();
+        match self.kept(vpkg.name) {
+            Some(entries) => {
+                if entries.sole == Some(place) {
+                    return false;
+                }
+                self.meet_without(entries, vpkg, place, steps)
+            }
+            None => false,
+        }
+    }
+
+    /// Whether more of the name's entries meet the vpkg than those of the package at this place.
+    fn meet_without(
+        &self,
+        entries: &Entries,
+        vpkg: &Vpkg<'_>,
+        place: u64,
+        steps: &mut Steps,
+    ) -> bool
+        requires { Keeps vpkg.now.name.now self.now (Some entries.now) }
+        ensures answer { result ≡ satisfies (without place self.now) (vpkg_view vpkg.now) }
+        ensures price { steps.new ≤ steps.old + (2 * digits (length entries.now.numbers) + own_cost self.now place) }
+    {
+        let all = entries.met(vpkg.bound, steps);
+        if all.exceeds(Met::none()) {
+            return all.exceeds(self.own(vpkg, place, steps));
+        }
+        false
+    }
+
+    /// `least`, with its steps counted.
+    pub(crate) fn least_counting(&self, name: &str, steps: &mut Steps) -> Option<u64>
+        ensures least { IsLeast (numbers_of name.now self.now) result }
+        ensures price { steps.new ≤ steps.old + 2 }
+    {
+        steps.tick();
+        match self.kept(name) {
+            Some(entries) => entries.numbers.least(steps),
+            None => None,
+        }
+    }
+
+    /// `greatest`, with its steps counted.
+    pub(crate) fn greatest_counting(&self, name: &str, steps: &mut Steps) -> Option<u64>
+        ensures greatest { IsGreatest (numbers_of name.now self.now) result }
+        ensures price { steps.new ≤ steps.old + 2 }
+    {
+        steps.tick();
+        match self.kept(name) {
+            Some(entries) => entries.numbers.greatest(steps),
+            None => None,
         }
     }
 
@@ -165,35 +262,13 @@ impl<'p, 't> Index<'p, 't> {
         }
     }
 
-    /// Whether the status satisfies the vpkg by more than the entries of a package.
-    fn satisfies_beside(&self, vpkg: &Vpkg<'_>, own: Own, steps: &mut Steps) -> bool
-        ensures answer { result ≡ (nat_lt own.numbers (count_by (meets vpkg.now.bound) (numbers_of vpkg.now.name.now self.now))
-            || (nat_lt own.unversioned (count_by (λ given. bytes_eq given vpkg.now.name.now) (gives_all_versions self.now)) && not (is_below_one vpkg.now.bound))) }
-        ensures price { steps.new ≤ steps.old + search_cost vpkg.now.name.now self.now }
+    /// What the status gives of a name, in the order of the places.
+    fn tree(&self, name: &str) -> Option<&ProvisionTree>
+        ensures { tree_items (option_map (λ t. t.now) result) ≡ given_of name.now self.now }
     {
-        steps.tick();
-        match self.kept(vpkg.name) {
-            Some(entries) => entries.meet_beside(own, vpkg.bound, steps),
-            None => false,
-        }
-    }
-
-    /// The first of these places, other than `except`, whose package alone satisfies the vpkg.
-    fn first_of(&self, places: &[u64], vpkg: &Vpkg<'_>, except: Option<u64>) -> Option<u64>
-        ensures { result ≡ find (λ place. is_other except place && meets_at self.now (vpkg_view vpkg.now) place) places.now }
-    {
-        places
-            .iter()
-            .find(|place| is_other(except, **place) && self.meets_at(**place, vpkg))
-            .copied()
-    }
-
-    fn meets_at(&self, place: u64, vpkg: &Vpkg<'_>) -> bool
-        ensures { result ≡ meets_at self.now (vpkg_view vpkg.now) place }
-    {
-        match self.member(place) {
-            Some(member) => member.meets(vpkg),
-            None => false,
+        match self.names.get_index_of(&name) {
+            Some(number) => self.trees.get(number),
+            None => None,
         }
     }
 
@@ -214,42 +289,35 @@ impl<'p, 't> Index<'p, 't> {
         }
     }
 
-    pub(crate) fn satisfies_without_in(&self, vpkg: &Vpkg<'_>, place: u64, steps: &mut Steps) -> bool
-        ensures answer { result ≡ satisfies (without place self.now) (vpkg_view vpkg.now) }
-        ensures price { steps.new ≤ steps.old + (search_cost vpkg.now.name.now self.now + own_cost place self.now) }
-    {
-        let own = self.own(vpkg, place, steps);
-        self.satisfies_beside(vpkg, own, steps)
-    }
-
     /// How many of the entries that meet the vpkg are those of the package at this place.
-    fn own(&self, vpkg: &Vpkg<'_>, place: u64, steps: &mut Steps) -> Own
+    fn own(&self, vpkg: &Vpkg<'_>, place: u64, steps: &mut Steps) -> Met
         ensures numbers { count_by (meets vpkg.now.bound) (numbers_of vpkg.now.name.now self.now)
             ≡ count_by (meets vpkg.now.bound) (numbers_of vpkg.now.name.now (without place self.now)) + result.numbers }
         ensures unversioned { count_by (λ given. bytes_eq given vpkg.now.name.now) (gives_all_versions self.now)
             ≡ count_by (λ given. bytes_eq given vpkg.now.name.now) (gives_all_versions (without place self.now)) + result.unversioned }
-        ensures price { steps.new ≤ steps.old + own_cost place self.now }
+        ensures price { steps.new ≤ steps.old + own_cost self.now place }
     {
         let _ = &self.problem;
         match self.member(place) {
             Some(member) => {
                 steps.tick();
                 steps.grow_by(member.package.provides.len());
-                Own {
+                Met {
                     numbers: member.numbers_met(vpkg),
                     unversioned: member.unversioned(vpkg.name),
                 }
             }
-            None => Own {
-                numbers: 0,
-                unversioned: 0,
-            },
+            None => Met::none(),
         }
     }
 }
 
 /// What the packages of the status give, by name.
-fn gathered<'t>(alloc: Global, problem: &Problem<'t>, status: &Status) -> Result<GatheredNames<'t>, AllocError>
+fn gathered<'t>(
+    alloc: Global,
+    problem: &Problem<'t>,
+    status: &Status,
+) -> Result<GatheredNames<'t>, AllocError>
     ensures { IfOk result (λ g. (f : List ℕ) → row_of f g ≡ given_of f (members (set.contains status.now) problem.now.packages)) }
 {
     let mut gathered = GatheredNames::new(alloc);
@@ -260,14 +328,4 @@ fn gathered<'t>(alloc: Global, problem: &Problem<'t>, status: &Status) -> Result
         }
     }
     Ok(gathered)
-}
-
-/// Whether the place is another one than `except`.
-fn is_other(except: Option<u64>, place: u64) -> bool
-    ensures { result ≡ is_other except place }
-{
-    match except {
-        Some(left_out) => place != left_out,
-        None => true,
-    }
 }

@@ -1,5 +1,5 @@
 -- The atoms of a formula, cut at commas and bars alike.
-use Rattle.std.proofs.Common.{◌≡◌, ℕ, Bool, true, false, ◌&&◌, ◌||◌, ◌==◌, List, [], ◌∷◌, ◌++◌, map, Option, Some, None, is_some, option_map, ◌+◌, ◌≤◌, nat_lt, length, take, drop, position, refl, sym, ap, ◌∙◌, arith}
+use Rattle.std.proofs.Common.{◌≡◌, ℕ, Bool, true, false, ◌&&◌, ◌==◌, List, [], ◌∷◌, ◌++◌, map, Option, Some, None, is_some, option_map, ◌+◌, ◌≤◌, nat_lt, length, take, drop, position, refl, sym, ap, ◌∙◌, arith}
 use Rattle.std.specs.List.{slice_split, list_all, flat_map, onto_first, position_or_len}
 use Rattle.std.proofs.lemmas.Bool.{ltb-true, ltb-false}
 use Rattle.std.proofs.lemmas.Option.{cond_some}
@@ -9,7 +9,8 @@ use Rattle.std.proofs.lemmas.List.Splits.{slice_split_first, slice_split_none}
 use Rattle.cudf_value.proofs.PartsLemmas.{cond_none}
 use Rattle.std.specs.Str.{byte}
 use Rattle.cudf_value.specs.Parts.{parts, all_some, read_parts}
-use Rattle.cudf_value.specs.Formulas.{atom_part, clause, ends_atom, atoms}
+use Rattle.cudf_value.specs.Formulas.{atom_part, clause}
+use Rattle.cudf_value.specs.Working.Rests.{ends_atom, atoms}
 
 -- those of each clause, one after the other
 abbrev flat : List (List ℕ) → List (List ℕ)

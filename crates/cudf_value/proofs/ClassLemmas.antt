@@ -1,10 +1,10 @@
 -- The table of classes, looked over once.
-use Rattle.std.proofs.Common.{◌≡◌, ℕ, ◌+◌, ◌<◌, suc, Bool, true, false, not, ◌&&◌, nat_eq, List, [], ◌∷◌, length, get_or, bit_and, refl, sym, ap, ◌∙◌, subst, arith}
+use Rattle.std.proofs.Common.{◌≡◌, ℕ, ◌+◌, ◌<◌, suc, Bool, true, false, not, ◌&&◌, nat_eq, List, [], ◌∷◌, length, get_or, bit_and, refl, sym, ap, ◌∙◌, arith}
 use Rattle.std.proofs.lemmas.Bool.{and_parts}
 use Rattle.std.specs.Prelude.{IsTrue, nat_lt}
 use Rattle.std.proofs.lemmas.Bool.{ltb-true}
 use Prim.Native.Nat.{zero}
-use Rattle.cudf_value.specs.Chars.{is_in_class, class_bit}
+use Rattle.cudf_value.specs.Working.Classes.{is_in_class, class_bit}
 use Rattle.cudf_value.specs.declared.class.Class.{Class}
 use Rattle.cudf_value.specs.declared.class.Class.TheVariants.{Blank, Letter, Ident, Name, Operator}
 use Rattle.cudf_value.specs.declared.class.TheConstants.{CLASSES}

@@ -3,8 +3,8 @@ use Rattle.std.proofs.Common.{◌≡◌, refl, ℕ, pos, negsuc, true, false, Li
 use Rattle.std.specs.Fmt.{digits}
 use Rattle.cudf_value.specs.declared.relop.Relop.{Relop}
 use Rattle.cudf_value.specs.declared.relop.Relop.TheVariants.{Eq, Neq, Geq, Gt}
-use Rattle.cudf_value.specs.Chars.{trim}
-use Rattle.cudf_value.specs.Words.{truth, is_ident, is_pkgname}
+use Rattle.cudf_text.specs.Chars.{trim, is_ident}
+use Rattle.cudf_value.specs.Words.{truth, is_pkgname}
 use Rattle.cudf_value.specs.Numbers.{natural, positive, signed}
 use Rattle.cudf_value.specs.Vpkgs.{PlainVpkg, vpkg, veqpkg}
 use Rattle.cudf_value.specs.Formulas.{truth_atom, falsehood_atom, named, formula, vpkglist, veqpkglist}
@@ -323,9 +323,9 @@ declared_quoted_int : declarations (codes "a: int = [\"1\"]") ≡ None
 unfolding declarations is_ident
 declared_quoted_int = refl
 
-declared_behind_quotes : declarations (codes "s: string = \"a\" b") ≡ None
+declared_after_quotes : declarations (codes "s: string = \"a\" b") ≡ None
 unfolding declarations is_ident
-declared_behind_quotes = refl
+declared_after_quotes = refl
 
 declared_ends_in_comma : declarations (codes "a: int,") ≡ None
 unfolding declarations is_ident

@@ -5,7 +5,8 @@ pub mod Boundary
 pub mod NumberLemmas
 pub mod PartsLemmas
 pub mod PiecesLemmas
-pub mod PlacesLemmas
+pub mod LexStatesLemmas
 pub mod PrintingLemmas
 pub mod ReadBack
+mod TokenLemmas
 pub mod TypeLemmas

@@ -7,11 +7,11 @@ use Rattle.cudf_value.specs.declared.formula.Atom.{Atom}
 use Rattle.cudf_value.specs.Formulas.{atom_view}
 use Rattle.cudf_value.specs.Printing.{atom_text, clause_text}
 
--- an atom behind the first
+-- an atom after the first
 abbrev pub next_atom_text : Atom → List ℕ
 next_atom_text atom = codes " | " ++ atom_text (atom_view atom)
 
--- all atoms behind the first were printed
+-- all atoms after the first were printed
 pub clause_text_whole : (atoms : List Atom) (first : Atom) (rest : List Atom) (n : ℕ) → atoms ≡ first ∷ rest → length rest ≤ n
     → atom_text (atom_view first) ++ flat_map next_atom_text (take n rest) ≡ clause_text (map atom_view atoms)
 clause_text_whole atoms first rest n is all =

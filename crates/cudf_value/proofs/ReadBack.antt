@@ -7,10 +7,11 @@ use Rattle.std.proofs.lemmas.Bool.{and_parts, lt-ltb, ltb-true, ne_eqb}
 use Rattle.std.proofs.lemmas.Fmt.{first_decimal, digits_decimal, digits_value-decimal, decimal_nonempty}
 use Rattle.cudf_value.specs.declared.relop.Relop.{Relop}
 use Rattle.cudf_value.specs.declared.relop.Relop.TheVariants.{Eq, Neq, Geq, Gt, Leq, Lt}
-use Rattle.cudf_value.specs.Chars.{is_blank, is_pkgname_char, trim_start}
+use Rattle.cudf_text.specs.Chars.{is_blank, trim_start}
+use Rattle.cudf_value.specs.Chars.{is_pkgname_char}
 use Rattle.cudf_value.specs.Words.{is_pkgname}
 use Rattle.cudf_value.specs.Numbers.{natural, positive}
-use Rattle.cudf_value.specs.Vpkgs.{vpkg, vpkg_behind}
+use Rattle.cudf_value.specs.Vpkgs.{vpkg, vpkg_after}
 use Rattle.cudf_value.specs.Printing.{bound_text}
 use Rattle.cudf_value.specs.Laws.{IsPosintBound, IsReadBack}
 use Rattle.cudf_value.proofs.NumberLemmas.{own, test_true}
@@ -27,8 +28,8 @@ no_prefix : (test : ℕ → Bool) (xs : List ℕ) → 0 < length xs → test (ge
 no_prefix test [] some fails = absurd (omega arith)
 no_prefix test (x ∷ xs) some fails = rw fails refl
 
--- a vpkg is cut behind its name
-cut_at_name : (name rest : List ℕ) → is_pkgname name ≡ true → prefix_len is_pkgname_char rest ≡ 0 → vpkg (name ++ rest) ≡ vpkg_behind name (trim_start rest)
+-- a vpkg is cut after its name
+cut_at_name : (name rest : List ℕ) → is_pkgname name ≡ true → prefix_len is_pkgname_char rest ≡ 0 → vpkg (name ++ rest) ≡ vpkg_after name (trim_start rest)
 unfolding vpkg is_pkgname
 cut_at_name name rest is_name none =
     let parts = and_parts (nat_lt 0 (length name)) (list_all is_pkgname_char name) is_name in
@@ -71,7 +72,7 @@ some_byte : (b : ℕ) (text : List ℕ) → (length (b ∷ text) == 0) ≡ false
 some_byte b text = ne_eqb (length (b ∷ text)) 0 (λ e. omega arith)
 
 bound_back : (name : List ℕ) (r : Relop) (n : ℕ) → 0 < n → n < 2 ^ 64
-    → vpkg_behind name (trim_start (bound_text (Some (r, n)))) ≡ Some (record { name = name; bound = Some (r, n) })
+    → vpkg_after name (trim_start (bound_text (Some (r, n)))) ≡ Some (record { name = name; bound = Some (r, n) })
 bound_back name Eq n above below = rw (some_byte 61 (32 ∷ decimal n), number_back n above below) refl
 bound_back name Neq n above below = rw (some_byte 33 (61 ∷ 32 ∷ decimal n), number_back n above below) refl
 bound_back name Geq n above below = rw (some_byte 62 (61 ∷ 32 ∷ decimal n), number_back n above below) refl

@@ -1,13 +1,11 @@
--- The types `vpkgformula`, `vpkglist` and `veqpkglist` (the type library). Constants beside other atoms, and the empty
--- text as the formula of no clauses, are own.
-use Rattle.std.specs.Prelude.{ℕ, Bool, true, false, List, [], ◌||◌, ◌==◌, map, Option, Some, None, option_map, bytes_eq, codes, if◌then◌else◌}
-use Rattle.std.specs.List.{slice_split}
+-- The types `vpkgformula`, `vpkglist` and `veqpkglist` (the type library).
+use Rattle.std.specs.Prelude.{ℕ, Bool, true, false, List, map, Option, Some, option_map, bytes_eq, codes, if◌then◌else◌}
 use Rattle.std.specs.Str.{byte}
 use Rattle.cudf_value.specs.declared.formula.Atom.{Atom}
 use Rattle.cudf_value.specs.declared.formula.Atom.TheVariants.{Yes, No, Is}
 use Rattle.cudf_value.specs.declared.formula.Clause.{Clause}
 use Rattle.cudf_value.specs.declared.formula.Formula.{Formula}
-use Rattle.cudf_value.specs.Chars.{trim}
+use Rattle.cudf_text.specs.Chars.{trim}
 use Rattle.cudf_value.specs.Parts.{read_parts, comma_list}
 use Rattle.cudf_value.specs.Vpkgs.{PlainVpkg, vpkg_view, vpkg, veqpkg}
 
@@ -37,11 +35,11 @@ atom text = if bytes_eq text (codes "true!") then Some truth_atom
 abbrev pub atom_part : List ℕ → Option PlainAtom
 atom_part part = atom (trim part)
 
--- a clause: atoms between `|`
+-- a clause: atoms between `|`; a constant may stand beside other atoms (own)
 abbrev pub clause : List ℕ → Option (List PlainAtom)
 clause text = read_parts (byte "|") atom_part text
 
--- a formula: clauses between commas
+-- a formula: clauses between commas; the empty text has none (own)
 unfoldable pub formula : List ℕ → Option (List (List PlainAtom))
 formula text = comma_list clause text
 
@@ -57,16 +55,3 @@ vpkglist text = comma_list (vpkg_part false) text
 -- a list of veqpkgs between commas
 unfoldable pub veqpkglist : List ℕ → Option (List PlainVpkg)
 veqpkglist text = comma_list (vpkg_part true) text
-
--- ---- atoms of all clauses
-
-abbrev pub ends_atom : ℕ → Bool
-ends_atom b = b == byte "," || b == byte "|"
-
--- the parts of a text, cut at each comma and each bar
-abbrev pub atoms : List ℕ → List (List ℕ)
-atoms text = slice_split ends_atom text
-
-abbrev pub atoms_behind : Option (List ℕ) → List (List ℕ)
-atoms_behind None = []
-atoms_behind (Some text) = atoms text

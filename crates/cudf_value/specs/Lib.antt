@@ -6,6 +6,8 @@ pub mod Vpkgs
 pub mod Formulas
 pub mod Printing
 pub mod Types
-pub mod Places
+pub mod LexStates
 pub mod Declarations
+pub mod Tokens
 pub mod Laws
+pub mod Working

@@ -1,10 +1,10 @@
--- The types `posint`, `nat` and `int` (the type library). The ranges are own, and so is that leading zeros are accepted.
+-- The types `posint`, `nat` and `int` (the type library).
 use Rattle.std.specs.Prelude.{ℕ, ◌+◌, ◌^◌, ℤ, pos, neg_ℤ, Bool, ◌&&◌, nat_lt, List, length, drop, Option, option_map, option_and_then, if◌then◌else◌}
 use Rattle.std.specs.Str.{all_ascii_digits}
 use Rattle.std.specs.Str.Parse.{digits_value, without_leading_plus, starts_with_minus}
 use Rattle.cudf_value.specs.Parts.{some_if}
 
--- one or more digits, of a value below the limit
+-- one or more digits, zeros at the front too, of a value below the limit (own)
 abbrev pub is_number_below : ℕ → List ℕ → Bool
 is_number_below limit text = all_ascii_digits text && nat_lt 0 (length text) && nat_lt (digits_value 10 text) limit
 

@@ -1,4 +1,4 @@
--- Values made of parts (own): a text is cut at each separator, and each part has to have a value.
+-- Values made of parts: a text is cut at each separator, and each part has to have a value.
 use Rattle.std.specs.Prelude.{ℕ, Bool, ◌==◌, List, [], ◌∷◌, length, map, Option, Some, None, option_map, if◌then◌else◌}
 use Rattle.std.specs.List.{slice_split}
 use Rattle.std.specs.Str.{byte}
@@ -16,11 +16,6 @@ all_some (Some value ∷ rest) = option_map (λ values. value ∷ values) (all_s
 -- the parts of a text, cut at each separator
 abbrev pub parts : ℕ → List ℕ → List (List ℕ)
 parts separator text = slice_split (λ b. b == separator) text
-
--- the parts of what stands behind a separator, if there is one
-abbrev pub parts_behind : ℕ → Option (List ℕ) → List (List ℕ)
-parts_behind separator None = []
-parts_behind separator (Some text) = parts separator text
 
 -- the values of the parts
 abbrev pub read_parts : {A : Type 0} → ℕ → (List ℕ → Option A) → List ℕ → Option (List A)

@@ -2,8 +2,9 @@
 use Rattle.std.specs.Prelude.{ℕ, Bool, true, List, map, is_some, bytes_eq}
 use Rattle.std.specs.List.{list_any}
 use Rattle.cudf_value.specs.declared.value_type.ValueType.{ValueType}
+use Rattle.cudf_text.specs.Chars.{is_ident}
 use Rattle.cudf_value.specs.declared.value_type.ValueType.TheVariants.{Positive, Natural, Signed, Truth, Words, Name, Ident, Choice, Versioned, Exact, Formula, List as VpkgList, ExactList}
-use Rattle.cudf_value.specs.Words.{truth, is_ident, is_pkgname}
+use Rattle.cudf_value.specs.Words.{truth, is_pkgname}
 use Rattle.cudf_value.specs.Numbers.{positive, natural, signed}
 use Rattle.cudf_value.specs.Vpkgs.{vpkg, veqpkg}
 use Rattle.cudf_value.specs.Formulas.{formula, vpkglist, veqpkglist}

@@ -3,7 +3,8 @@ use Rattle.std.specs.Prelude.{ℕ, Bool, true, false, not, ◌==◌, nat_lt, nat
 use Rattle.cudf_value.specs.declared.relop.Relop.{Relop}
 use Rattle.cudf_value.specs.declared.relop.Relop.TheVariants.{Eq, Neq, Geq, Gt, Leq, Lt}
 use Rattle.cudf_value.specs.declared.vpkg.Vpkg.{Vpkg}
-use Rattle.cudf_value.specs.Chars.{is_pkgname_char, is_operator_char, behind, trim_start}
+use Rattle.cudf_text.specs.Chars.{trim_start}
+use Rattle.cudf_value.specs.Chars.{is_pkgname_char, is_operator_char, rest_after}
 use Rattle.cudf_value.specs.Parts.{some_if}
 use Rattle.cudf_value.specs.Numbers.{positive}
 
@@ -31,15 +32,15 @@ bounded name None n = None
 bounded name (Some r) None = None
 bounded name (Some r) (Some n) = Some (record { name = name; bound = Some (r, n) })
 
--- the vpkg of a name and what stands behind it: nothing, or an operator, blanks or none, and a posint
-abbrev pub vpkg_behind : List ℕ → List ℕ → Option PlainVpkg
-vpkg_behind name rest = if length rest == 0 then Some (record { name = name; bound = None })
-    else bounded name (relop (take_while is_operator_char rest)) (positive (trim_start (behind is_operator_char rest)))
+-- the vpkg of a name and what stands after it: nothing, or an operator, blanks or none, and a posint
+abbrev pub vpkg_after : List ℕ → List ℕ → Option PlainVpkg
+vpkg_after name rest = if length rest == 0 then Some (record { name = name; bound = None })
+    else bounded name (relop (take_while is_operator_char rest)) (positive (trim_start (rest_after is_operator_char rest)))
 
--- a vpkg begins with its name, the longest there is, with blanks or none behind it
+-- a vpkg begins with its name, the longest there is, with blanks or none after it
 unfoldable pub vpkg : List ℕ → Option PlainVpkg
 vpkg text = if length (take_while is_pkgname_char text) == 0 then None
-    else vpkg_behind (take_while is_pkgname_char text) (trim_start (behind is_pkgname_char text))
+    else vpkg_after (take_while is_pkgname_char text) (trim_start (rest_after is_pkgname_char text))
 
 -- no bound, or one by `=`
 abbrev pub is_exact : Option (Relop × ℕ) → Bool

@@ -1,6 +1,6 @@
 //! Declarations of extra package properties, the values of the preamble's `property`.
 ghost use Rattle.std.specs.Prelude.{◌≡◌, map, option_map, IfOk};
-ghost use Rattle.cudf_value.specs.Chars.{trim};
+ghost use Rattle.cudf_text.specs.Chars.{trim};
 ghost use Rattle.cudf_value.specs.Types.{type_view};
 ghost use Rattle.cudf_value.specs.Declarations.{declaration_view, with_kind, declaration_piece, read_pieces, declarations};
 
@@ -8,9 +8,9 @@ use crate::class::Class;
 use crate::default::{is_default, without_brackets};
 use crate::kind::type_of;
 use crate::piece::cut_piece;
-use crate::text::{after, first_byte, split_run, trimmed, trimmed_start};
+use crate::text::{after, first_byte, split_run, trim_start};
 use crate::value_type::ValueType;
-use crate::word::is_ident;
+use cudf_text::{is_ident, trim};
 use std::alloc::{AllocError, Global};
 
 /// The declaration of a package property.
@@ -39,7 +39,7 @@ pub fn read_declarations(
 ) -> Result<Option<Vec<Declaration<'_>>>, AllocError>
     ensures { IfOk result (λ r. option_map (λ v. map declaration_view v.items) r ≡ declarations (trim text.now)) }
 {
-    declarations_of(alloc, trimmed(text))
+    declarations_of(alloc, trim(text))
 }
 
 #[tactic(auto, unfolding(crate::specs::Declarations::declarations))]
@@ -59,14 +59,14 @@ fn pieces_of(alloc: Global, text: &str) -> Result<Option<Vec<Declaration<'_>>>, 
     let mut declarations = Vec::new(alloc);
     let mut rest = text;
     loop {
-        let Some((piece, behind)) = cut_piece(rest) else {
+        let Some((piece, next)) = cut_piece(rest) else {
             return Ok(None);
         };
         match declaration_of(alloc, piece)? {
             Some(declaration) => declarations.push(declaration)?,
             None => return Ok(None),
         }
-        match behind {
+        match next {
             Some(more) => rest = more,
             None => return Ok(Some(declarations)),
         }
@@ -77,18 +77,18 @@ fn pieces_of(alloc: Global, text: &str) -> Result<Option<Vec<Declaration<'_>>>, 
 fn declaration_of(alloc: Global, piece: &str) -> Result<Option<Declaration<'_>>, AllocError>
     ensures { IfOk result (λ r. option_map declaration_view r ≡ declaration_piece piece.now) }
 {
-    let (name, rest) = split_run(trimmed(piece), Class::Ident);
-    let rest = trimmed_start(rest);
+    let (name, rest) = split_run(trim(piece), Class::Ident);
+    let rest = trim_start(rest);
     if !is_ident(name) || first_byte(rest) != b':' {
         return Ok(None);
     }
-    match type_of(alloc, trimmed_start(after(rest, 1)))? {
-        Some((kind, rest)) => with_kind(alloc, name, kind, trimmed_start(rest)),
+    match type_of(alloc, trim_start(after(rest, 1)))? {
+        Some((kind, rest)) => with_kind(alloc, name, kind, trim_start(rest)),
         None => Ok(None),
     }
 }
 
-/// The declaration of a name and a type, with `rest` behind them: nothing, or `=` and a default.
+/// The declaration of a name and a type, with `rest` after them: nothing, or `=` and a default.
 fn with_kind<'t>(
     alloc: Global,
     name: &'t str,
@@ -107,7 +107,7 @@ fn with_kind<'t>(
     if first_byte(rest) != b'=' {
         return Ok(None);
     }
-    let default = without_brackets(trimmed(after(rest, 1)));
+    let default = without_brackets(trim(after(rest, 1)));
     if is_default(alloc, &kind, default)? {
         Ok(Some(Declaration {
             name,

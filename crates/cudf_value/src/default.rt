@@ -1,12 +1,13 @@
 //! Defaults of declarations.
 ghost use Rattle.std.specs.Prelude.{◌≡◌, IfOk};
 ghost use Rattle.cudf_value.specs.Types.{type_view};
-ghost use Rattle.cudf_value.specs.Places.{is_quotable};
+ghost use Rattle.cudf_value.specs.LexStates.{is_quotable};
 ghost use Rattle.cudf_value.specs.Declarations.{without_brackets, takes_quoted, is_default};
 
-use crate::place::Place;
-use crate::text::{between, first_byte, trimmed};
+use crate::lex_state::LexState;
+use crate::text::{between, first_byte};
 use crate::value_type::{ValueType, is_of_type, is_one_of};
+use cudf_text::trim;
 use std::alloc::{AllocError, Global};
 
 /// The text without brackets round it.
@@ -14,7 +15,7 @@ pub(crate) fn without_brackets(text: &str) -> &str
     ensures { result.now ≡ without_brackets text.now }
 {
     match between(text, b'[', b']') {
-        Some(inner) => trimmed(inner),
+        Some(inner) => trim(inner),
         None => text,
     }
 }
@@ -55,12 +56,12 @@ fn is_quotable(text: &str) -> bool
     ensures { result ≡ is_quotable text.now }
 {
     let bytes = text.as_bytes();
-    let mut place = Place::Quotes;
+    let mut state = LexState::Quotes;
     for byte in bytes {
-        if place.is_outside() {
+        if state.is_outside() {
             return false;
         }
-        place = place.next(*byte);
+        state = state.next(*byte);
     }
-    place.is_in_quotes()
+    state.is_in_quotes()
 }

@@ -1,12 +1,14 @@
 //! The type `vpkgformula`.
 ghost use Rattle.std.specs.Prelude.{◌≡◌, option_map, option_copied, is_some, ◌∷◌, ◌<◌, length, position, slice_index, IfSome, IfOk};
 ghost use Rattle.std.specs.Str.{byte};
-ghost use Rattle.cudf_value.specs.Chars.{trim};
+ghost use Rattle.cudf_text.specs.Chars.{trim};
 ghost use Rattle.cudf_value.specs.Parts.{read_parts};
-ghost use Rattle.cudf_value.specs.Formulas.{atom_view, clause_view, formula_view, atom_part, clause, formula, ends_atom, atoms, atoms_behind};
+ghost use Rattle.cudf_value.specs.Formulas.{atom_view, clause_view, formula_view, atom_part, clause, formula};
+ghost use Rattle.cudf_value.specs.Working.Rests.{ends_atom, atoms, atoms_after};
 
-use crate::text::{after, before, cut, room_for, trimmed};
+use crate::text::{after, before, cut, room_for};
 use crate::vpkg::{Vpkg, vpkg_of};
+use cudf_text::trim;
 use std::alloc::{AllocError, Global};
 
 /// An atom of a clause.
@@ -27,7 +29,7 @@ pub struct Clause<'t> {
     pub atoms: Vec<Atom<'t>>,
 }
 
-/// A conjunction; without clauses it holds always (own).
+/// A conjunction; without clauses it holds always.
 #[derive(Debug, Drop)]
 pub struct Formula<'t> {
     /// In the order of the text.
@@ -44,7 +46,7 @@ pub struct Formula<'t> {
 pub fn read_formula(alloc: Global, text: &str) -> Result<Option<Formula<'_>>, AllocError>
     ensures { IfOk result (λ r. option_map formula_view r ≡ formula (trim text.now)) }
 {
-    formula_of(alloc, trimmed(text))
+    formula_of(alloc, trim(text))
 }
 
 #[tactic(auto, unfolding(crate::specs::Formulas::formula))]
@@ -66,12 +68,12 @@ fn clauses_of(alloc: Global, text: &str) -> Result<Option<Formula<'_>>, AllocErr
     let mut clauses = Vec::with_capacity(alloc, room_for(text))?;
     let mut rest = text;
     loop {
-        let (part, behind) = cut(rest, b',');
+        let (part, next) = cut(rest, b',');
         match clause_of(alloc, part)? {
             Some(clause) => clauses.push(clause)?,
             None => return Ok(None),
         }
-        match behind {
+        match next {
             Some(more) => rest = more,
             None => {
                 clauses.shrink_to_fit();
@@ -88,12 +90,12 @@ fn clause_of(alloc: Global, text: &str) -> Result<Option<Clause<'_>>, AllocError
     let mut atoms = Vec::with_capacity(alloc, 1)?;
     let mut rest = text;
     loop {
-        let (part, behind) = cut(rest, b'|');
+        let (part, next) = cut(rest, b'|');
         match atom_of(part) {
             Some(atom) => atoms.push(atom)?,
             None => return Ok(None),
         }
-        match behind {
+        match next {
             Some(more) => rest = more,
             None => return Ok(Some(Clause { atoms })),
         }
@@ -104,7 +106,7 @@ fn clause_of(alloc: Global, text: &str) -> Result<Option<Clause<'_>>, AllocError
 pub fn is_formula(text: &str) -> bool
     ensures { result ≡ is_some (formula (trim text.now)) }
 {
-    is_formula_text(trimmed(text))
+    is_formula_text(trim(text))
 }
 
 #[tactic(auto, unfolding(crate::specs::Formulas::formula))]
@@ -120,20 +122,20 @@ fn are_atoms(text: &str) -> bool
 {
     let mut rest = text;
     'atoms: loop {
-        let (part, behind) = cut_atom(rest);
+        let (part, next) = cut_atom(rest);
         if atom_of(part).is_none() {
             return false;
         }
-        match behind {
+        match next {
             Some(more) => rest = more,
             None => return true,
         }
     }
 }
 
-/// The text of the first atom, and what stands behind its comma or bar, if there is one.
+/// The text of the first atom, and what stands after its comma or bar, if there is one.
 fn cut_atom(text: &str) -> (&str, Option<&str>)
-    ensures atoms { atoms text.now ≡ result.0.now ∷ atoms_behind (option_copied result.1) }
+    ensures atoms { atoms text.now ≡ result.0.now ∷ atoms_after (option_copied result.1) }
     ensures shorter { IfSome result.1 (λ rest. length rest.now < length text.now) }
 {
     match atom_end(text.as_bytes()) {
@@ -153,7 +155,7 @@ fn atom_end(bytes: &[u8]) -> Option<usize>
 fn atom_of(part: &str) -> Option<Atom<'_>>
     ensures { option_map atom_view result ≡ atom_part part.now }
 {
-    match trimmed(part) {
+    match trim(part) {
         "true!" => Some(Atom::Yes),
         "false!" => Some(Atom::No),
         text => vpkg_of(text).map(Atom::Is),

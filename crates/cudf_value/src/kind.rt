@@ -6,12 +6,12 @@ ghost use Rattle.cudf_value.specs.Types.{type_view};
 ghost use Rattle.cudf_value.specs.Declarations.{type_word, ident_part, enum_at, type_at};
 
 use crate::class::Class;
-use crate::text::{after, before, cut, find, first_byte, split_run, trimmed, trimmed_start};
+use crate::text::{after, before, cut, find, first_byte, split_run, trim_start};
 use crate::value_type::ValueType;
-use crate::word::is_ident;
+use cudf_text::{is_ident, trim};
 use std::alloc::{AllocError, Global};
 
-/// The type at the front of the text, and what stands behind it.
+/// The type at the front of the text, and what stands after it.
 pub(crate) fn type_of(
     alloc: Global,
     text: &str,
@@ -20,7 +20,7 @@ pub(crate) fn type_of(
 {
     let (word, rest) = split_run(text, Class::Letter);
     if word == "enum" {
-        return enum_of(alloc, trimmed_start(rest));
+        return enum_of(alloc, trim_start(rest));
     }
     Ok(match kind_of_word(word) {
         Some(kind) => Some((kind, rest)),
@@ -49,7 +49,7 @@ fn kind_of_word<'t>(word: &str) -> Option<ValueType<'t>>
     }
 }
 
-/// The enum of the idents in the brackets at the front, and what stands behind them.
+/// The enum of the idents in the brackets at the front, and what stands after them.
 fn enum_of(alloc: Global, text: &str) -> Result<Option<(ValueType<'_>, &str)>, AllocError>
     ensures { IfOk result (λ r. option_map (λ found. (type_view found.0, found.1.now)) r ≡ enum_at text.now) }
 {
@@ -73,12 +73,12 @@ fn idents_of(alloc: Global, text: &str) -> Result<Option<Vec<&str>>, AllocError>
     let mut idents = Vec::new(alloc);
     let mut rest = text;
     loop {
-        let (part, behind) = cut(rest, b',');
+        let (part, next) = cut(rest, b',');
         match ident_of(part) {
             Some(ident) => idents.push(ident)?,
             None => return Ok(None),
         }
-        match behind {
+        match next {
             Some(more) => rest = more,
             None => return Ok(Some(idents)),
         }
@@ -89,6 +89,6 @@ fn idents_of(alloc: Global, text: &str) -> Result<Option<Vec<&str>>, AllocError>
 fn ident_of(part: &str) -> Option<&str>
     ensures { option_copied result ≡ ident_part part.now }
 {
-    let text = trimmed(part);
+    let text = trim(part);
     if is_ident(text) { Some(text) } else { None }
 }

@@ -1,7 +1,7 @@
 //! Laws over the definitions alone, each the contract of a function without effect.
 ghost use Rattle.std.specs.Prelude.{IsTrue};
 ghost use Rattle.cudf_value.specs.Words.{is_pkgname};
-ghost use Rattle.cudf_value.specs.Laws.{IsPosintBound, IsReadBack};
+ghost use Rattle.cudf_value.specs.Laws.{IsCutAtCommas, IsPosintBound, IsReadBack, PiecesJoinToText};
 
 use crate::relop::Relop;
 
@@ -10,4 +10,11 @@ pub fn read_back(_name: &str, _bound: Option<(Relop, u64)>)
     requires name { IsTrue (is_pkgname _name.now) }
     requires bound { IsPosintBound _bound }
     ensures { IsReadBack _name.now _bound }
+{}
+
+/// A declaration's pieces, with commas between them, are its text; and a text of characters, quoted texts and texts in
+/// brackets is cut at the commas among its characters, never inside quotes or brackets.
+pub fn cut(text: &[u8])
+    ensures joined { PiecesJoinToText text.now }
+    ensures commas { IsCutAtCommas }
 {}

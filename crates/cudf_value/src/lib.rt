@@ -7,19 +7,18 @@ mod default;
 mod formula;
 mod kind;
 pub mod laws;
+mod lex_state;
 mod number;
 mod piece;
-mod place;
 mod printing;
 mod relop;
-#[cfg(test)]
-mod tests;
 mod text;
 mod value_type;
 mod vpkg;
 mod vpkglist;
 mod word;
 
+pub use cudf_text::is_ident;
 pub use declaration::{Declaration, read_declarations};
 pub use formula::{Atom, Clause, Formula, is_formula, read_formula};
 pub use number::{read_int, read_nat, read_posint};
@@ -27,4 +26,4 @@ pub use relop::{Relop, meets};
 pub use value_type::{ValueType, fits};
 pub use vpkg::{Vpkg, read_veqpkg, read_vpkg};
 pub use vpkglist::{is_veqpkglist, is_vpkglist, read_veqpkglist, read_vpkglist};
-pub use word::{is_ident, is_pkgname, read_bool};
+pub use word::{is_pkgname, read_bool};

@@ -1,9 +1,9 @@
-//! Numbers: the types `posint`, `nat` and `int`. Their ranges are own, and so is that leading zeros are accepted.
+//! The types `posint`, `nat` and `int`.
 ghost use Rattle.std.specs.Prelude.{◌≡◌};
-ghost use Rattle.cudf_value.specs.Chars.{trim};
+ghost use Rattle.cudf_text.specs.Chars.{trim};
 ghost use Rattle.cudf_value.specs.Numbers.{positive, natural, signed};
 
-use crate::text::trimmed;
+use cudf_text::trim;
 
 /// Reads a `posint`, with blanks or none round it: an optional `+`, then digits, of a value from 1 to `u64::MAX`.
 ///
@@ -11,7 +11,7 @@ use crate::text::trimmed;
 pub fn read_posint(text: &str) -> Option<u64>
     ensures { result ≡ positive (trim text.now) }
 {
-    posint_of(trimmed(text))
+    posint_of(trim(text))
 }
 
 /// Reads a `nat`, with blanks or none round it: an optional `+`, then digits, of a value from 0 to `u64::MAX`.
@@ -20,7 +20,7 @@ pub fn read_posint(text: &str) -> Option<u64>
 pub fn read_nat(text: &str) -> Option<u64>
     ensures { result ≡ natural (trim text.now) }
 {
-    nat_of(trimmed(text))
+    nat_of(trim(text))
 }
 
 /// Reads an `int`, with blanks or none round it: an optional `+` or `-`, then digits, of a value from `i64::MIN` to
@@ -30,7 +30,7 @@ pub fn read_nat(text: &str) -> Option<u64>
 pub fn read_int(text: &str) -> Option<i64>
     ensures { result ≡ signed (trim text.now) }
 {
-    int_of(trimmed(text))
+    int_of(trim(text))
 }
 
 #[tactic(auto, unfolding(crate::specs::Numbers::positive))]

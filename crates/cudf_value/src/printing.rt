@@ -1,4 +1,4 @@
-//! How vpkgs, atoms and clauses are printed (own): spaces round an operator and round `|`.
+//! How vpkgs, atoms and clauses are printed: spaces round an operator and round `|`.
 ghost use Rattle.std.specs.Prelude.{Some};
 ghost use Rattle.cudf_value.specs.Vpkgs.{vpkg_view};
 ghost use Rattle.cudf_value.specs.Formulas.{atom_view, clause_view};

@@ -1,8 +1,11 @@
 //! Cutting a text at ASCII characters.
-ghost use Rattle.std.specs.Prelude.{◌≡◌, ◌+◌, ◌-◌, ◌<◌, ◌≤◌, ◌==◌, ◌∷◌, length, take, drop, take_while, position, slice_index, IfSome, option_copied};
-ghost use Rattle.std.specs.List.{prefix_len, suffix_len};
-ghost use Rattle.cudf_value.specs.Chars.{is_blank, is_in_class, behind, between, trim_start, trim_end, trim};
-ghost use Rattle.cudf_value.specs.Parts.{parts, parts_behind};
+ghost use Rattle.std.specs.Prelude.{◌≡◌, ◌-◌, ◌<◌, ◌≤◌, ◌==◌, ◌∷◌, length, take, drop, take_while, position, slice_index, IfSome, option_copied};
+ghost use Rattle.std.specs.List.{prefix_len};
+ghost use Rattle.cudf_text.specs.Chars.{trim_start};
+ghost use Rattle.cudf_value.specs.Chars.{rest_after, between};
+ghost use Rattle.cudf_value.specs.Working.Classes.{is_in_class};
+ghost use Rattle.cudf_value.specs.Parts.{parts};
+ghost use Rattle.cudf_value.specs.Working.Rests.{parts_after};
 
 use crate::class::Class;
 
@@ -12,45 +15,17 @@ const ROOM: usize = 64;
 /// How many bytes a part usually has.
 const USUAL_LEN: usize = 16;
 
-/// The text without blanks at either end.
-pub(crate) fn trimmed(text: &str) -> &str
-    ensures { result.now ≡ trim text.now }
-{
-    trimmed_end(trimmed_start(text))
-}
-
 /// The text without blanks at its front.
-pub(crate) fn trimmed_start(text: &str) -> &str
+pub(crate) fn trim_start(text: &str) -> &str
     ensures { result.now ≡ trim_start text.now }
 {
     split_run(text, Class::Blank).1
 }
 
-/// The text without blanks at its end.
-fn trimmed_end(text: &str) -> &str
-    ensures { result.now ≡ trim_end text.now }
-{
-    before(text, blank_start(text))
-}
-
-/// Where the blanks at the text's end begin.
-fn blank_start(text: &str) -> usize
-    ensures inside { result ≤ length text.now }
-    ensures place { result ≡ length text.now - suffix_len is_blank text.now }
-    ensures ascii { result < length text.now → slice_index text.now result < 128 }
-{
-    let bytes = text.as_bytes();
-    let mut n = bytes.len();
-    while 0 < n && Class::Blank.has(bytes[n - 1]) {
-        n -= 1;
-    }
-    n
-}
-
-/// The characters of the class at the front, and what stands behind them.
+/// The characters of the class at the front, and what stands after them.
 pub(crate) fn split_run(text: &str, class: Class) -> (&str, &str)
     ensures run { result.0.now ≡ take_while (is_in_class class) text.now }
-    ensures rest { result.1.now ≡ behind (is_in_class class) text.now }
+    ensures rest { result.1.now ≡ rest_after (is_in_class class) text.now }
 {
     let n = run_len(text, class);
     (through(text, n), after(text, n))
@@ -70,10 +45,10 @@ fn run_len(text: &str, class: Class) -> usize
     n
 }
 
-/// The part before the first separator, and what stands behind it, if there is one.
+/// The part before the first separator, and what stands after it, if there is one.
 pub(crate) fn cut(text: &str, separator: u8) -> (&str, Option<&str>)
     requires { separator < 128 }
-    ensures parts { parts separator text.now ≡ result.0.now ∷ parts_behind separator (option_copied result.1) }
+    ensures parts { parts separator text.now ≡ result.0.now ∷ parts_after separator (option_copied result.1) }
     ensures shorter { IfSome result.1 (λ rest. length rest.now < length text.now) }
 {
     match find(text.as_bytes(), separator) {
@@ -118,7 +93,7 @@ pub(crate) fn first_byte(text: &str) -> u8
     text.as_bytes().first().copied().unwrap_or(0)
 }
 
-/// The first `n` bytes, with an ASCII character behind them.
+/// The first `n` bytes, with an ASCII character after them.
 pub(crate) fn before(text: &str, n: usize) -> &str
     requires inside { n ≤ length text.now }
     requires ascii { n < length text.now → slice_index text.now n < 128 }
@@ -136,7 +111,7 @@ pub(crate) fn through(text: &str, n: usize) -> &str
     &text[..n]
 }
 
-/// What stands behind the first `n` bytes, the last of them an ASCII character.
+/// What stands after the first `n` bytes, the last of them an ASCII character.
 pub(crate) fn after(text: &str, n: usize) -> &str
     requires inside { n ≤ length text.now }
     requires ascii { 0 < n → slice_index text.now (n - 1) < 128 }

@@ -1,25 +1,25 @@
 //! CUDF's types.
 ghost use Rattle.std.specs.Prelude.{◌≡◌, IfOk, bytes_eq};
 ghost use Rattle.std.specs.List.{list_any};
-ghost use Rattle.cudf_value.specs.Chars.{trim};
+ghost use Rattle.cudf_text.specs.Chars.{trim};
 ghost use Rattle.cudf_value.specs.Types.{type_view, is_of_type};
 
 use crate::formula::is_formula_text;
 use crate::number::{int_of, nat_of, posint_of};
-use crate::text::trimmed;
 use crate::vpkg::{veqpkg_of, vpkg_of};
 use crate::vpkglist::{is_veqpkglist_text, is_vpkglist_text};
-use crate::word::{bool_of, is_ident, is_pkgname};
+use crate::word::{bool_of, is_pkgname};
+use cudf_text::{is_ident, trim};
 use std::alloc::{AllocError, Global};
 
 /// A type of CUDF's type library.
 #[derive(Debug, Drop)]
 pub enum ValueType<'t> {
-    /// `posint`: 1 to `u64::MAX` (own).
+    /// `posint`: 1 to `u64::MAX`.
     Positive,
-    /// `nat`: 0 to `u64::MAX` (own).
+    /// `nat`: 0 to `u64::MAX`.
     Natural,
-    /// `int`: `i64::MIN` to `i64::MAX` (own).
+    /// `int`: `i64::MIN` to `i64::MAX`.
     Signed,
     /// `bool`: `true` and `false`.
     Truth,
@@ -51,7 +51,7 @@ pub enum ValueType<'t> {
 pub fn fits(alloc: Global, kind: &ValueType<'_>, text: &str) -> Result<bool, AllocError>
     ensures { IfOk result (λ b. b ≡ is_of_type (type_view kind.now) (trim text.now)) }
 {
-    is_of_type(alloc, kind, trimmed(text))
+    is_of_type(alloc, kind, trim(text))
 }
 
 /// Whether the whole text is of the type.

@@ -1,12 +1,13 @@
 //! The types `vpkg` and `veqpkg`.
 ghost use Rattle.std.specs.Prelude.{◌≡◌, option_map, length, ◌<◌};
-ghost use Rattle.cudf_value.specs.Chars.{trim};
-ghost use Rattle.cudf_value.specs.Vpkgs.{vpkg_view, vpkg, veqpkg, vpkg_behind, is_exact};
+ghost use Rattle.cudf_text.specs.Chars.{trim};
+ghost use Rattle.cudf_value.specs.Vpkgs.{vpkg_view, vpkg, veqpkg, vpkg_after, is_exact};
 
 use crate::class::Class;
 use crate::number::posint_of;
 use crate::relop::Relop;
-use crate::text::{split_run, trimmed, trimmed_start};
+use crate::text::{split_run, trim_start};
+use cudf_text::trim;
 
 /// A package or a feature by its name, at the versions that the bound admits, or at all.
 #[derive(Clone, Copy, Debug, PartialEq, Eq)]
@@ -17,13 +18,13 @@ pub struct Vpkg<'t> {
     pub bound: Option<(Relop, u64)>,
 }
 
-/// Reads a `vpkg`, with blanks or none round it: a `pkgname`, alone or with an operator and a `posint` behind it.
+/// Reads a `vpkg`, with blanks or none round it: a `pkgname`, alone or with an operator and a `posint` after it.
 ///
 /// `None` is answered where the whole text is no `vpkg`.
 pub fn read_vpkg(text: &str) -> Option<Vpkg<'_>>
     ensures { option_map vpkg_view result ≡ vpkg (trim text.now) }
 {
-    vpkg_of(trimmed(text))
+    vpkg_of(trim(text))
 }
 
 /// Reads a `veqpkg`, with blanks or none round it: a `vpkg` without an operator or with `=`.
@@ -32,7 +33,7 @@ pub fn read_vpkg(text: &str) -> Option<Vpkg<'_>>
 pub fn read_veqpkg(text: &str) -> Option<Vpkg<'_>>
     ensures { option_map vpkg_view result ≡ veqpkg (trim text.now) }
 {
-    veqpkg_of(trimmed(text))
+    veqpkg_of(trim(text))
 }
 
 #[tactic(auto, unfolding(crate::specs::Vpkgs::vpkg))]
@@ -43,20 +44,20 @@ pub(crate) fn vpkg_of(text: &str) -> Option<Vpkg<'_>>
     if name.is_empty() {
         None
     } else {
-        vpkg_before(name, trimmed_start(rest))
+        vpkg_before(name, trim_start(rest))
     }
 }
 
-/// The vpkg of a name, with `rest` behind it.
+/// The vpkg of a name, with `rest` after it.
 fn vpkg_before<'t>(name: &'t str, rest: &str) -> Option<Vpkg<'t>>
-    ensures { option_map vpkg_view result ≡ vpkg_behind name.now rest.now }
+    ensures { option_map vpkg_view result ≡ vpkg_after name.now rest.now }
 {
     if rest.is_empty() {
         return Some(Vpkg { name, bound: None });
     }
     let (symbol, rest) = split_run(rest, Class::Operator);
     let relop = Relop::of_symbol(symbol)?;
-    let number = posint_of(trimmed_start(rest))?;
+    let number = posint_of(trim_start(rest))?;
     Some(Vpkg {
         name,
         bound: Some((relop, number)),

@@ -1,13 +1,14 @@
 //! The types `vpkglist` and `veqpkglist`.
 ghost use Rattle.std.specs.Prelude.{◌≡◌, map, option_map, is_some, IfOk};
 ghost use Rattle.std.specs.Str.{byte};
-ghost use Rattle.cudf_value.specs.Chars.{trim};
+ghost use Rattle.cudf_text.specs.Chars.{trim};
 ghost use Rattle.cudf_value.specs.Parts.{read_parts, comma_list};
 ghost use Rattle.cudf_value.specs.Vpkgs.{vpkg_view};
 ghost use Rattle.cudf_value.specs.Formulas.{vpkg_part, vpkglist, veqpkglist};
 
-use crate::text::{cut, room_for, trimmed};
+use crate::text::{cut, room_for};
 use crate::vpkg::{Vpkg, veqpkg_of, vpkg_of};
+use cudf_text::trim;
 use std::alloc::{AllocError, Global};
 
 /// Reads a `vpkglist`, with blanks or none round it: nothing, or vpkgs between commas.
@@ -20,7 +21,7 @@ use std::alloc::{AllocError, Global};
 pub fn read_vpkglist(alloc: Global, text: &str) -> Result<Option<Vec<Vpkg<'_>>>, AllocError>
     ensures { IfOk result (λ r. option_map (λ v. map vpkg_view v.items) r ≡ vpkglist (trim text.now)) }
 {
-    vpkglist_of(alloc, trimmed(text))
+    vpkglist_of(alloc, trim(text))
 }
 
 /// Reads a `veqpkglist`, with blanks or none round it: nothing, or veqpkgs between commas.
@@ -33,7 +34,7 @@ pub fn read_vpkglist(alloc: Global, text: &str) -> Result<Option<Vec<Vpkg<'_>>>,
 pub fn read_veqpkglist(alloc: Global, text: &str) -> Result<Option<Vec<Vpkg<'_>>>, AllocError>
     ensures { IfOk result (λ r. option_map (λ v. map vpkg_view v.items) r ≡ veqpkglist (trim text.now)) }
 {
-    veqpkglist_of(alloc, trimmed(text))
+    veqpkglist_of(alloc, trim(text))
 }
 
 #[tactic(auto, unfolding(crate::specs::Formulas::vpkglist))]
@@ -67,12 +68,12 @@ fn entries_of(alloc: Global, text: &str, exact: bool) -> Result<Option<Vec<Vpkg<
     let mut vpkgs = Vec::with_capacity(alloc, room_for(text))?;
     let mut rest = text;
     loop {
-        let (part, behind) = cut(rest, b',');
+        let (part, next) = cut(rest, b',');
         match entry_of(part, exact) {
             Some(vpkg) => vpkgs.push(vpkg)?,
             None => return Ok(None),
         }
-        match behind {
+        match next {
             Some(more) => rest = more,
             None => {
                 vpkgs.shrink_to_fit();
@@ -86,14 +87,14 @@ fn entries_of(alloc: Global, text: &str, exact: bool) -> Result<Option<Vec<Vpkg<
 pub fn is_vpkglist(text: &str) -> bool
     ensures { result ≡ is_some (vpkglist (trim text.now)) }
 {
-    is_vpkglist_text(trimmed(text))
+    is_vpkglist_text(trim(text))
 }
 
 /// Whether the text is a `veqpkglist`, with blanks or none round it. Takes no memory.
 pub fn is_veqpkglist(text: &str) -> bool
     ensures { result ≡ is_some (veqpkglist (trim text.now)) }
 {
-    is_veqpkglist_text(trimmed(text))
+    is_veqpkglist_text(trim(text))
 }
 
 #[tactic(auto, unfolding(crate::specs::Formulas::vpkglist))]
@@ -121,11 +122,11 @@ fn are_entries(text: &str, exact: bool) -> bool
 {
     let mut rest = text;
     'parts: loop {
-        let (part, behind) = cut(rest, b',');
+        let (part, next) = cut(rest, b',');
         if entry_of(part, exact).is_none() {
             return false;
         }
-        match behind {
+        match next {
             Some(more) => rest = more,
             None => return true,
         }
@@ -136,7 +137,7 @@ fn are_entries(text: &str, exact: bool) -> bool
 fn entry_of(part: &str, exact: bool) -> Option<Vpkg<'_>>
     ensures { option_map vpkg_view result ≡ vpkg_part exact part.now }
 {
-    let text = trimmed(part);
+    let text = trim(part);
     if exact {
         veqpkg_of(text)
     } else {

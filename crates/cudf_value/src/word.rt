@@ -1,11 +1,12 @@
-//! The types `bool`, `ident` and `pkgname`. The characters of the last two are a superset (own).
+//! The types `bool` and `pkgname`.
 ghost use Rattle.std.specs.Prelude.{◌≡◌};
 ghost use Rattle.std.specs.List.{list_all};
-ghost use Rattle.cudf_value.specs.Chars.{trim, is_in_class};
-ghost use Rattle.cudf_value.specs.Words.{truth, is_ident, is_pkgname};
+ghost use Rattle.cudf_text.specs.Chars.{trim};
+ghost use Rattle.cudf_value.specs.Working.Classes.{is_in_class};
+ghost use Rattle.cudf_value.specs.Words.{truth, is_pkgname};
 
 use crate::class::Class;
-use crate::text::{first_byte, trimmed};
+use cudf_text::trim;
 
 /// Reads a `bool`, with blanks or none round it: `true` or `false`.
 ///
@@ -13,7 +14,7 @@ use crate::text::{first_byte, trimmed};
 pub fn read_bool(text: &str) -> Option<bool>
     ensures { result ≡ truth (trim text.now) }
 {
-    bool_of(trimmed(text))
+    bool_of(trim(text))
 }
 
 #[tactic(auto, unfolding(crate::specs::Words::truth))]
@@ -25,14 +26,6 @@ pub(crate) fn bool_of(text: &str) -> Option<bool>
         "false" => Some(false),
         _ => None,
     }
-}
-
-/// Whether the whole text, blanks and all, is an `ident`: an ASCII letter, then ASCII letters, digits, `-` and `_`.
-#[tactic(auto, unfolding(crate::specs::Words::is_ident))]
-pub fn is_ident(text: &str) -> bool
-    ensures { result ≡ is_ident text.now }
-{
-    first_byte(text).is_ascii_alphabetic() && are_all(text, Class::Ident)
 }
 
 /// Whether the whole text, blanks and all, is a `pkgname`: one or more ASCII letters, digits and characters of

@@ -1,4 +1,4 @@
--- A set of places as a list of flags: own.
+-- A set of places as a list of flags.
 use Rattle.std.specs.Prelude.{ℕ, ◌+◌, ◌-◌, ◌==◌, Bool, true, false, List, [], ◌∷◌, slice_index_or, if◌then◌else◌}
 
 -- the places of the flags that are set, where the first flag is that of place n

@@ -4,7 +4,7 @@ ghost use Rattle.cudf_document.specs.Universe.{package_view};
 ghost use Rattle.cudf_referee.specs.Views.{instances_view};
 ghost use Rattle.cudf_referee.specs.Violations.{violated_conflicts};
 
-use crate::found::note;
+use crate::found::push_if;
 use crate::instance::{Instance, What};
 use crate::key::Rule;
 use cudf_universe::{Index, Package};
@@ -25,7 +25,7 @@ pub(crate) fn find_conflicts<'p, 't>(
         let entry = index as u64 + 1;
         let what = What::ConflictsWith(vpkg);
         let instance = Instance::of_package(place, package, Rule::Conflicts, entry, what);
-        note(found, status.satisfies_without(vpkg, place), instance)?;
+        push_if(found, status.satisfies_without(vpkg, place), instance)?;
     }
     Ok(())
 }

@@ -4,7 +4,7 @@ ghost use Rattle.cudf_document.specs.Universe.{package_view};
 ghost use Rattle.cudf_referee.specs.Views.{instances_view};
 ghost use Rattle.cudf_referee.specs.Violations.{violated_depends};
 
-use crate::found::note;
+use crate::found::push_if;
 use crate::instance::{Instance, What};
 use crate::key::Rule;
 use cudf_universe::{Index, Package};
@@ -30,7 +30,7 @@ pub(crate) fn find_depends<'p, 't>(
             entry,
             What::Needs(clause),
         );
-        note(found, !status.satisfies_clause(clause), instance)?;
+        push_if(found, !status.satisfies_clause(clause), instance)?;
     }
     Ok(())
 }

@@ -4,7 +4,7 @@ ghost use Rattle.cudf_document.specs.Universe.{request_view};
 ghost use Rattle.cudf_referee.specs.Views.{instances_view};
 ghost use Rattle.cudf_referee.specs.Violations.{violated_install};
 
-use crate::found::note;
+use crate::found::push_if;
 use crate::instance::{Instance, What};
 use crate::key::Rule;
 use cudf_universe::{Index, Request};
@@ -28,7 +28,7 @@ pub(crate) fn find_install<'p, 't>(
             None,
             What::Install(vpkg),
         );
-        note(found, !status.satisfies(vpkg), instance)?;
+        push_if(found, !status.satisfies(vpkg), instance)?;
     }
     Ok(())
 }

@@ -6,7 +6,7 @@ ghost use Rattle.cudf_universe.specs.Satisfaction.{members};
 ghost use Rattle.cudf_referee.specs.Views.{instances_view};
 ghost use Rattle.cudf_referee.specs.Violations.{has_package, violated_keep, violated_features};
 
-use crate::found::note;
+use crate::found::push_if;
 use crate::instance::{Instance, What};
 use crate::key::Rule;
 use cudf_universe::{Index, Keep, Package, Problem, Status};
@@ -51,7 +51,7 @@ fn find_features<'p, 't>(
             entry,
             What::KeepFeature(vpkg),
         );
-        note(found, !status.satisfies(vpkg), instance)?;
+        push_if(found, !status.satisfies(vpkg), instance)?;
     }
     Ok(())
 }
@@ -74,11 +74,11 @@ pub(crate) fn find_keep<'p, 't>(
     match package.keep {
         Keep::Version => {
             let instance = Instance::of_package(place, package, Rule::Keep, 1, What::KeepVersion);
-            note(found, !status.holds(place), instance)
+            push_if(found, !status.holds(place), instance)
         }
         Keep::Package => {
             let instance = Instance::of_package(place, package, Rule::Keep, 1, What::KeepPackage);
-            note(found, !has_name(problem, status, package.name), instance)
+            push_if(found, !has_name(problem, status, package.name), instance)
         }
         Keep::Feature => find_features(index, place, package, found),
         Keep::Nothing => Ok(()),

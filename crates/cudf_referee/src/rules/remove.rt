@@ -4,7 +4,7 @@ ghost use Rattle.cudf_document.specs.Universe.{request_view};
 ghost use Rattle.cudf_referee.specs.Views.{instances_view};
 ghost use Rattle.cudf_referee.specs.Violations.{violated_remove};
 
-use crate::found::note;
+use crate::found::push_if;
 use crate::instance::{Instance, What};
 use crate::key::Rule;
 use cudf_universe::{Index, Request};
@@ -22,7 +22,7 @@ pub(crate) fn find_remove<'p, 't>(
     for (index, vpkg) in request.remove.iter().enumerate() {
         let entry = index as u64 + 1;
         let instance = Instance::of_request(request, Rule::Remove, entry, None, What::Remove(vpkg));
-        note(found, status.satisfies(vpkg), instance)?;
+        push_if(found, status.satisfies(vpkg), instance)?;
     }
     Ok(())
 }

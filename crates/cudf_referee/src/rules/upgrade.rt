@@ -7,7 +7,7 @@ ghost use Rattle.cudf_referee.specs.Instances.{upgrade};
 ghost use Rattle.cudf_referee.specs.Views.{instance_view, instances_view};
 ghost use Rattle.cudf_referee.specs.Violations.{at_request, are_many, are_lower, violated_entry, violated_upgrade};
 
-use crate::found::note;
+use crate::found::push_if;
 use crate::instance::{Instance, What};
 use crate::key::{Aspect, Rule};
 use cudf_universe::{Index, Request};
@@ -63,11 +63,11 @@ fn find_entry<'p, 't>(
         ++ violated_entry before.now status.now (request_view request.now) (entry, vpkg_view vpkg.now)) }
 {
     let unsatisfied = of_entry(request, entry, vpkg, Aspect::Unsatisfied);
-    note(found, !status.satisfies(vpkg), unsatisfied)?;
+    push_if(found, !status.satisfies(vpkg), unsatisfied)?;
     let many = of_entry(request, entry, vpkg, Aspect::Many);
-    note(found, has_many(status, vpkg.name), many)?;
+    push_if(found, has_many(status, vpkg.name), many)?;
     let lower = of_entry(request, entry, vpkg, Aspect::Lower);
-    note(found, has_lower(before, status, vpkg.name), lower)
+    push_if(found, has_lower(before, status, vpkg.name), lower)
 }
 
 /// Adds the violated aspects of the request's `upgrade`.

@@ -1,4 +1,4 @@
--- What the code says of a line, as its class: own.
+-- What the code says of a line, as its class.
 use Rattle.cudf_text.specs.declared.line.Line.{Line}
 use Rattle.cudf_text.specs.declared.line.Line.TheVariants as code
 use Rattle.cudf_text.specs.Lines.{Class, comment, blank, continuation, named, faulty}

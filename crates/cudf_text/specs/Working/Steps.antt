@@ -1,4 +1,4 @@
--- What one line does to what was read before it: own. The reader takes these steps; that they lead
+-- What one line does to what was read before it. The reader takes these steps; that they lead
 -- to what the text says is proved in proofs/.
 use Rattle.std.specs.Prelude.{ℕ, ◌==◌, true, false, List, [], ◌∷◌, ◌++◌, length, map, if◌then◌else◌, Option, Some, None}
 use Rattle.cudf_text.specs.declared.fault.Fault.{Fault}
@@ -7,21 +7,20 @@ use Rattle.cudf_text.specs.declared.cursor.Taken.{Taken}
 use Rattle.cudf_text.specs.declared.cursor.Taken.TheVariants as taken
 use Rattle.cudf_text.specs.declared.text.Property.{Property}
 use Rattle.cudf_text.specs.Lines.{Class, comment, blank, continuation, named, faulty}
-use Rattle.cudf_text.specs.Stanzas.{PlainValue, PlainProperty, PlainStanza}
-use Rattle.cudf_text.specs.Views.{property_view}
+use Rattle.cudf_text.specs.Working.Tracked.{TrackedValue, TrackedProperty, TrackedStanza, tracked_property}
 
 -- the stanzas that have ended, the properties of the open one, and its last line
 pub record State : Type 0 where
-  pub stanzas : List PlainStanza
-  pub properties : List PlainProperty
+  pub stanzas : List TrackedStanza
+  pub properties : List TrackedProperty
   pub last : ℕ
 
 -- no stanza has ended yet
 abbrev pub open_state : List Property → ℕ → State
-open_state ps last = record { stanzas = []; properties = map property_view ps; last = last }
+open_state ps last = record { stanzas = []; properties = map tracked_property ps; last = last }
 
--- the stanzas, and behind them the one of these properties, if there are any
-abbrev pub with_stanza : List PlainStanza → ℕ → List PlainProperty → List PlainStanza
+-- the stanzas, and after them the one of these properties, if there are any
+abbrev pub with_stanza : List TrackedStanza → ℕ → List TrackedProperty → List TrackedStanza
 with_stanza stanzas last [] = stanzas
 with_stanza stanzas last (p ∷ ps) = stanzas ++ record { line = p.line; last = last; properties = p ∷ ps } ∷ []
 
@@ -30,14 +29,14 @@ abbrev pub ended : State → State
 ended s = record { stanzas = with_stanza s.stanzas s.last s.properties; properties = []; last = s.last }
 
 -- a value with one more text
-abbrev pub value_onto : PlainValue → List ℕ → PlainValue
+abbrev pub value_onto : TrackedValue → List ℕ → TrackedValue
 value_onto value text =
     if length text == 0 then value
     else (if length value.bytes == 0 then record { bytes = text; owned = false }
     else record { bytes = value.bytes ++ 32 ∷ text; owned = true })
 
 -- one more text for the last property
-abbrev pub extend_last : List PlainProperty → List ℕ → List PlainProperty
+abbrev pub extend_last : List TrackedProperty → List ℕ → List TrackedProperty
 extend_last [] text = []
 extend_last (p ∷ []) text = record { line = p.line; name = p.name; value = value_onto p.value text } ∷ []
 extend_last (p ∷ q ∷ ps) text = p ∷ extend_last (q ∷ ps) text

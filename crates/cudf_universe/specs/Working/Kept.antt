@@ -1,11 +1,11 @@
 -- What an index keeps of each name (own).
-use Rattle.std.specs.Prelude.{◌≡◌, ℕ, Bool, false, List, [], ◌∷◌, bytes_eq, map, filter, Option, Some, None, option_map, option_and_then, position, slice_get, find, ◌==◌, if◌then◌else◌}
-use Rattle.std.specs.List.{flat_map, count_by}
+use Rattle.std.specs.Prelude.{◌≡◌, ℕ, Bool, false, List, [], ◌∷◌, bytes_eq, map, filter, Option, Some, None, if◌then◌else◌, IfSome}
+use Rattle.std.specs.List.{flat_map, count_by, list_any}
 use Rattle.std.specs.List.Sorted.{IsNonDecreasing}
 use Rattle.std.specs.Option.{option_map_or}
 use Rattle.cudf_value.specs.Vpkgs.{PlainVpkg}
 use Rattle.cudf_document.specs.Universe.{PlainPackage}
-use Rattle.cudf_universe.specs.Satisfaction.{Placed, entry_pair, unversioned_name, is_met_by, numbers_of, gives_all_versions, meets_alone}
+use Rattle.cudf_universe.specs.Satisfaction.{Placed, entry_pair, unversioned_name, is_met_by, numbers_of, gives_all_versions, satisfies, without}
 use Rattle.cudf_universe.specs.declared.index.entries.Entries.{Entries}
 
 -- the row of the first key that passes the test
@@ -22,9 +22,13 @@ abbrev pub kept_unversioned : Option Entries → ℕ
 kept_unversioned None = 0
 kept_unversioned (Some e) = e.unversioned
 
-abbrev pub kept_places : Option Entries → List ℕ
-kept_places None = []
-kept_places (Some e) = e.places.items
+abbrev pub kept_sole : Option Entries → Option ℕ
+kept_sole None = None
+kept_sole (Some e) = e.sole
+
+abbrev pub kept_is_package : Option Entries → Bool
+kept_is_package None = false
+kept_is_package (Some e) = e.is_package
 
 -- the names that a package gives, its own and those of its features, with repeats
 abbrev pub names_given : PlainPackage → List (List ℕ)
@@ -34,12 +38,17 @@ names_given p = p.name ∷ map (λ entry. entry.name) p.provides
 abbrev pub places_of : List ℕ → List Placed → List ℕ
 places_of name status = flat_map (λ p. map (λ n. p.0) (filter (λ given. bytes_eq given name) (names_given p.1))) status
 
+-- no other package of the status than the one at the place gives the name, so without it none meets a vpkg of that name
+abbrev pub IsSole : List ℕ → List Placed → ℕ → Type 0
+IsSole name status place = (v : PlainVpkg) → v.name ≡ name → satisfies (without place status) v ≡ false
+
 -- what is kept of a name is what the status gives of it; a name that isn't kept counts as one with empty lists
 pub record Keeps (name : List ℕ) (status : List Placed) (kept : Option Entries) : Type 0 where
   pub ascending : IsNonDecreasing (kept_numbers kept)
   pub numbers : (p : ℕ → Bool) → count_by p (kept_numbers kept) ≡ count_by p (numbers_of name status)
   pub unversioned : kept_unversioned kept ≡ count_by (λ given. bytes_eq given name) (gives_all_versions status)
-  pub places : kept_places kept ≡ places_of name status
+  pub sole : IfSome (kept_sole kept) (IsSole name status)
+  pub is_package : kept_is_package kept ≡ list_any (λ p. bytes_eq p.1.name name) status
 
 -- the entry has a number that meets the vpkg, and its name
 abbrev pub is_met_by_entry : PlainVpkg → PlainVpkg → Bool
@@ -48,7 +57,3 @@ is_met_by_entry v entry = option_map_or (is_met_by v) (entry_pair entry) false
 -- the entry gives all versions of the name
 abbrev pub gives_all_of : List ℕ → PlainVpkg → Bool
 gives_all_of name entry = option_map_or (λ given. bytes_eq given name) (unversioned_name entry) false
-
--- the package at the place, if the status holds it, meets the vpkg
-abbrev pub meets_at : List Placed → PlainVpkg → ℕ → Bool
-meets_at status v place = option_map_or (meets_alone v) (find (λ p. p.0 == place) status) false

@@ -1,9 +1,9 @@
 -- How an index keeps the packages of a status (own).
-use Rattle.std.specs.Prelude.{ℕ, Bool, true, not, ◌&&◌, ◌==◌, List, bytes_eq, map, filter, Option, Some, None}
+use Rattle.std.specs.Prelude.{ℕ, Bool, true, not, ◌&&◌, ◌==◌, bytes_eq, Option, Some, None}
 use Rattle.cudf_value.specs.declared.relop.Relop.{Relop}
 use Rattle.cudf_value.specs.Vpkgs.{PlainVpkg, meets}
 use Rattle.cudf_document.specs.Universe.{package_view}
-use Rattle.cudf_universe.specs.Satisfaction.{Placed, Pair, is_below_one}
+use Rattle.cudf_universe.specs.Satisfaction.{Placed, is_below_one}
 use Rattle.cudf_universe.specs.declared.index.member.Member.{Member}
 
 -- a package of a status beside its place, as a plain pair
@@ -18,10 +18,6 @@ provision_meets bound (Some given) = meets bound given.1
 -- an entry of a package's `provides` meets the vpkg
 abbrev pub entry_meets : PlainVpkg → PlainVpkg → Bool
 entry_meets v entry = bytes_eq entry.name v.name && provision_meets v.bound entry.bound
-
--- the numbers of the pairs of a name
-abbrev pub numbers_in : List ℕ → List Pair → List ℕ
-numbers_in name pairs = map (λ pair. pair.1) (filter (λ pair. bytes_eq pair.0 name) pairs)
 
 -- the place isn't the one that is named
 abbrev pub is_other : Option ℕ → ℕ → Bool

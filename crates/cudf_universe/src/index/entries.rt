@@ -1,5 +1,5 @@
 //! What a status gives of a name.
-ghost use Rattle.std.specs.Prelude.{◌≡◌, ◌≤◌, ◌+◌, ◌*◌, length, not, ◌&&◌, ◌||◌, nat_lt};
+ghost use Rattle.std.specs.Prelude.{◌≡◌, ◌≤◌, ◌+◌, ◌*◌, length, ◌||◌, nat_lt, if◌then◌else◌};
 ghost use Rattle.std.specs.List.{count_by};
 ghost use Rattle.cudf_value.specs.Vpkgs.{meets};
 ghost use Rattle.cudf_universe.specs.Prices.{digits};
@@ -10,29 +10,58 @@ use crate::steps::Steps;
 use cudf_value::Relop;
 
 /// What a status gives of a name: the numbers, ascending and with repeats, how many unversioned
-/// provisions, and the places of the packages that give it, in their order.
+/// provisions, the place of the package that alone gives it, if one does, and whether one of the
+/// packages that give it has the name.
 #[derive(Drop)]
 pub(crate) struct Entries {
     pub(crate) numbers: Sorted,
     pub(crate) unversioned: usize,
-    pub(crate) places: Vec<u64>,
+    pub(crate) sole: Option<u64>,
+    pub(crate) is_package: bool,
 }
 
-/// How many of the entries of a package are among those that meet a vpkg.
+/// How many provisions of a name meet a bound: numbers, and unversioned provisions.
 #[derive(Clone, Copy)]
-pub(crate) struct Own {
+pub(crate) struct Met {
     pub(crate) numbers: usize,
     pub(crate) unversioned: usize,
 }
 
+impl Met {
+    pub(crate) fn none() -> Self
+        ensures { result ≡ record { numbers = 0; unversioned = 0 } }
+    {
+        Met {
+            numbers: 0,
+            unversioned: 0,
+        }
+    }
+
+    /// Whether there are more of one kind than those of a package.
+    pub(crate) fn exceeds(self, own: Met) -> bool
+        ensures { result ≡ (nat_lt own.numbers self.numbers || nat_lt own.unversioned self.unversioned) }
+    {
+        self.numbers > own.numbers || self.unversioned > own.unversioned
+    }
+}
+
 impl Entries {
-    /// Whether more of them meet the bound than those of a package.
-    pub(crate) fn meet_beside(&self, own: Own, bound: Option<(Relop, u64)>, steps: &mut Steps) -> bool
-        ensures answer { result ≡ (nat_lt own.numbers (count_by (meets bound) self.now.numbers) || (nat_lt own.unversioned self.now.unversioned && not (is_below_one bound))) }
+    /// How many of them meet the bound.
+    pub(crate) fn met(&self, bound: Option<(Relop, u64)>, steps: &mut Steps) -> Met
+        ensures numbers { result.numbers ≡ count_by (meets bound) self.now.numbers }
+        ensures unversioned { result.unversioned ≡ (if is_below_one bound then 0 else self.now.unversioned) }
         ensures price { steps.new ≤ steps.old + 2 * digits (length self.now.numbers) }
     {
-        self.numbers.count(bound, steps) > own.numbers
-            || self.unversioned > own.unversioned && !is_below_one(bound)
+        let numbers = self.numbers.count(bound, steps);
+        let unversioned = if is_below_one(bound) {
+            0
+        } else {
+            self.unversioned
+        };
+        Met {
+            numbers,
+            unversioned,
+        }
     }
 }
 

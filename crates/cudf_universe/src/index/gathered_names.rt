@@ -1,8 +1,8 @@
 //! What the packages of a status give, gathered by name.
-ghost use Rattle.std.specs.Prelude.{◌≡◌, ◌<◌, ℕ, List, [], ◌∷◌, ◌++◌, map, length, bytes_eq, cond, OnOk, IfOk, slice_get, option_map, option_to_list};
-ghost use Rattle.std.specs.List.{position_or_len};
+ghost use Rattle.std.specs.Prelude.{◌≡◌, ◌<◌, ℕ, List, [], ◌∷◌, ◌++◌, map, length, false, bytes_eq, cond, OnOk, IfOk, slice_get, option_map, option_to_list};
+ghost use Rattle.std.specs.List.{position_or_len, list_any};
 ghost use Rattle.cudf_value.specs.Vpkgs.{vpkg_view};
-ghost use Rattle.cudf_universe.specs.Working.Gathering.{row_of, given_by, given_of, provisions_of, Completes, CompletesAt};
+ghost use Rattle.cudf_universe.specs.Working.Gathering.{row_of, given_by, given_of, provisions_of, sole_place, Completes, CompletesAt};
 ghost use Rattle.cudf_universe.specs.Working.Members.{member_view};
 
 use crate::index::entries::Entries;
@@ -17,6 +17,8 @@ use std::alloc::{AllocError, Global};
 pub(crate) struct Provision {
     pub(crate) number: Option<u64>,
     pub(crate) place: u64,
+    /// Whether it is the package's own name and version, and no feature.
+    pub(crate) is_version: bool,
 }
 
 /// The provisions of each name, in the order of the places.
@@ -38,7 +40,12 @@ impl<'t> GatheredNames<'t> {
     }
 
     /// Adds one provision of the name.
-    pub(crate) fn add(&mut self, alloc: Global, name: &'t str, provision: Provision) -> Result<(), AllocError>
+    pub(crate) fn add(
+        &mut self,
+        alloc: Global,
+        name: &'t str,
+        provision: Provision,
+    ) -> Result<(), AllocError>
         requires { length self.old.rows.items ≡ length self.old.names.keys }
         ensures lengths { OnOk result (length self.new.rows.items ≡ length self.new.names.keys) }
         ensures rows { OnOk result ((f : List ℕ) → row_of f self.new ≡ row_of f self.old ++ cond (bytes_eq name.now f) (provision ∷ []) []) }
@@ -65,26 +72,45 @@ impl<'t> GatheredNames<'t> {
     }
 
     /// Adds all that the package gives.
-    pub(crate) fn add_package(&mut self, alloc: Global, member: Member<'_, 't>) -> Result<(), AllocError>
+    pub(crate) fn add_package(
+        &mut self,
+        alloc: Global,
+        member: Member<'_, 't>,
+    ) -> Result<(), AllocError>
         requires { length self.old.rows.items ≡ length self.old.names.keys }
         ensures lengths { OnOk result (length self.new.rows.items ≡ length self.new.names.keys) }
         ensures rows { OnOk result ((f : List ℕ) → row_of f self.new ≡ row_of f self.old ++ given_by f (member_view member.entry)) }
     {
         let place = member.place;
         let package = member.package;
-        self.add(alloc, package.name, Provision { number: Some(package.version), place })?;
+        let own = Provision {
+            number: Some(package.version),
+            place,
+            is_version: true,
+        };
+        self.add(alloc, package.name, own)?;
         self.add_entries(alloc, &package.provides, place)?;
         Ok(())
     }
 
-    fn add_entries(&mut self, alloc: Global, entries: &[Vpkg<'t>], place: u64) -> Result<(), AllocError>
+    fn add_entries(
+        &mut self,
+        alloc: Global,
+        entries: &[Vpkg<'t>],
+        place: u64,
+    ) -> Result<(), AllocError>
         requires { length self.old.rows.items ≡ length self.old.names.keys }
         ensures lengths { OnOk result (length self.new.rows.items ≡ length self.new.names.keys) }
-        ensures rows { OnOk result ((f : List ℕ) → row_of f self.new ≡ row_of f self.old ++ provisions_of f place (map vpkg_view entries.now)) }
+        ensures rows { OnOk result ((f : List ℕ) → row_of f self.new ≡ row_of f self.old ++ provisions_of false f place (map vpkg_view entries.now)) }
     {
         for entry in entries {
             let number = entry.bound.map(|(_, number)| number);
-            self.add(alloc, entry.name, Provision { number, place })?;
+            let feature = Provision {
+                number,
+                place,
+                is_version: false,
+            };
+            self.add(alloc, entry.name, feature)?;
         }
         Ok(())
     }
@@ -101,23 +127,46 @@ pub(crate) fn entries_of(alloc: Global, rows: &[Vec<Provision>]) -> Result<Vec<E
     Ok(entries)
 }
 
-/// What is kept of a row: its numbers in ascending order, how many provisions have none, and the
-/// places.
-fn completed(alloc: Global, row: &[Provision]) -> Result<Entries, AllocError>
+/// What is kept of a row: its numbers in ascending order, how many provisions have none, the
+/// place where it is the only one, and whether there is a package's version.
+pub(crate) fn completed(alloc: Global, row: &[Provision]) -> Result<Entries, AllocError>
     ensures { IfOk result (Completes row.now) }
 {
     let mut numbers = Vec::new(alloc);
-    let mut places = Vec::new(alloc);
     for provision in row {
-        places.push(provision.place)?;
         push_some(&mut numbers, provision.number)?;
     }
     let unversioned = row.len() - numbers.len();
     Ok(Entries {
         numbers: Sorted::new(numbers),
         unversioned,
-        places,
+        sole: sole_place(row),
+        is_package: any_version(row),
     })
+}
+
+/// The place of these provisions, where all stand at the same.
+fn sole_place(row: &[Provision]) -> Option<u64>
+    ensures { result ≡ sole_place (map (λ g. g.place) row.now) }
+{
+    match row {
+        [] => None,
+        [first, ..] => {
+            let place = first.place;
+            if row.iter().all(|provision| provision.place == place) {
+                Some(place)
+            } else {
+                None
+            }
+        }
+    }
+}
+
+/// Whether one of the provisions is a package's own version.
+fn any_version(row: &[Provision]) -> bool
+    ensures { result ≡ list_any (λ g. g.is_version) row.now }
+{
+    row.iter().any(|provision| provision.is_version)
 }
 
 fn push_some(numbers: &mut Vec<u64>, number: Option<u64>) -> Result<(), AllocError>

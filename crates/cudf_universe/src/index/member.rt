@@ -1,12 +1,11 @@
 //! A package of a status.
 ghost use Rattle.std.specs.Prelude.{◌≡◌, ◌<◌, ◌^◌, bytes_eq, filter_map, map};
-ghost use Rattle.std.specs.List.{list_any, count_by};
+ghost use Rattle.std.specs.List.{count_by};
 ghost use Rattle.cudf_value.specs.Vpkgs.{vpkg_view};
-ghost use Rattle.cudf_universe.specs.Satisfaction.{package_pairs, unversioned_name, is_met_by, meets_alone};
+ghost use Rattle.cudf_universe.specs.Satisfaction.{package_pairs, unversioned_name, is_met_by};
 ghost use Rattle.cudf_universe.specs.Working.Kept.{is_met_by_entry, gives_all_of};
-ghost use Rattle.cudf_universe.specs.Working.Members.{member_view, entry_meets};
+ghost use Rattle.cudf_universe.specs.Working.Members.{member_view};
 
-use crate::index::entries::is_below_one;
 use cudf_document::Package;
 use cudf_value::{Vpkg, meets};
 
@@ -18,19 +17,16 @@ pub(crate) struct Member<'p, 't> {
 }
 
 impl Member<'_, '_> {
-    /// Whether the package alone satisfies the vpkg.
-    pub(crate) fn meets(&self, vpkg: &Vpkg<'_>) -> bool
-        ensures { result ≡ meets_alone (vpkg_view vpkg.now) (member_view self.now) }
-    {
-        self.version_meets(vpkg) || any_entry_meets(&self.package.provides, vpkg)
-    }
-
     /// How many of the numbers that the package gives meet the vpkg.
     pub(crate) fn numbers_met(&self, vpkg: &Vpkg<'_>) -> usize
         ensures { result ≡ count_by (is_met_by (vpkg_view vpkg.now)) (package_pairs (member_view self.now).1) }
     {
         let entries = numbers_met(&self.package.provides, vpkg);
-        if self.version_meets(vpkg) { entries + 1 } else { entries }
+        if self.version_meets(vpkg) {
+            entries + 1
+        } else {
+            entries
+        }
     }
 
     /// How often the package gives all versions of the name.
@@ -46,24 +42,6 @@ impl Member<'_, '_> {
     {
         self.package.name == vpkg.name && meets(vpkg.bound, self.package.version)
     }
-}
-
-/// Whether one of the entries meets the vpkg.
-fn any_entry_meets(entries: &[Vpkg<'_>], vpkg: &Vpkg<'_>) -> bool
-    ensures { result ≡ list_any (λ entry. entry_meets (vpkg_view vpkg.now) (vpkg_view entry)) entries.now }
-{
-    entries.iter().any(|entry| entry_meets(entry, vpkg))
-}
-
-/// Whether an entry of a package's `provides` meets the vpkg.
-fn entry_meets(entry: &Vpkg<'_>, vpkg: &Vpkg<'_>) -> bool
-    ensures { result ≡ entry_meets (vpkg_view vpkg.now) (vpkg_view entry.now) }
-{
-    entry.name == vpkg.name
-        && match entry.bound {
-            None => !is_below_one(vpkg.bound),
-            Some((_, number)) => meets(vpkg.bound, number),
-        }
 }
 
 /// How many of the entries have a number that meets the vpkg.

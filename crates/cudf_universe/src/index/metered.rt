@@ -1,16 +1,19 @@
-//! An index that counts the steps of its calls.
+//! An index that counts the steps of its calls. (own)
 ghost use Rattle.std.specs.Prelude.{◌≡◌, ◌≤◌, ◌+◌};
+ghost use Rattle.cudf_value.specs.Formulas.{clause_view};
 ghost use Rattle.cudf_value.specs.Vpkgs.{vpkg_view};
-ghost use Rattle.cudf_universe.specs.Satisfaction.{satisfies, without};
-ghost use Rattle.cudf_universe.specs.Prices.{search_cost, own_cost};
+ghost use Rattle.cudf_universe.specs.Prices.{search_cost, clause_cost, own_cost};
+ghost use Rattle.cudf_universe.specs.Satisfaction.{satisfies, satisfies_clause, without, numbers_of, IsLeast, IsGreatest};
 
 use crate::index::Index;
-use crate::index::entries::Own;
 use crate::steps::Steps;
-use cudf_value::Vpkg;
+use cudf_value::{Clause, Vpkg};
 use std::marker::Model;
 
-/// An index, and the steps that were taken in it.
+/// An index, and the steps that were taken in it: each look-up by name, each reading of an entry
+/// of a sorted list, and each own entry that `satisfies_without_counted` judges. (own)
+///
+/// Contracts see the status of the index and the number of the steps, which only grows.
 #[derive(Drop)]
 pub struct Metered<'i, 'p, 't> {
     index: &'i Index<'p, 't>,
@@ -35,25 +38,51 @@ impl<'i, 'p, 't> Metered<'i, 'p, 't> {
         }
     }
 
-    /// Whether the status satisfies the vpkg.
+    /// `Index::satisfies`, for the price of one search among the entries of the name.
     pub fn satisfies_counted(&mut self, vpkg: &Vpkg<'_>) -> bool
         ensures answer { result ≡ satisfies self.old.status (vpkg_view vpkg.now) }
         ensures status { self.new.status ≡ self.old.status }
-        ensures price { self.new.steps ≤ self.old.steps + search_cost vpkg.now.name.now self.old.status }
+        ensures price { self.new.steps ≤ self.old.steps + search_cost self.old.status vpkg.now.name.now }
     {
-        let none = Own {
-            numbers: 0,
-            unversioned: 0,
-        };
-        self.index.satisfies_beside(vpkg, none, &mut self.steps)
+        self.index.satisfies_counting(vpkg, &mut self.steps)
     }
 
-    /// Whether the status satisfies the vpkg without the package at this place.
+    /// `Index::satisfies_clause`, for the price of one search for each of the clause's vpkgs.
+    pub fn satisfies_clause_counted(&mut self, clause: &Clause<'_>) -> bool
+        ensures answer { result ≡ satisfies_clause self.old.status (clause_view clause.now) }
+        ensures status { self.new.status ≡ self.old.status }
+        ensures price { self.new.steps ≤ self.old.steps + clause_cost self.old.status (clause_view clause.now) }
+    {
+        self.index
+            .satisfies_clause_counting(clause, &mut self.steps)
+    }
+
+    /// `Index::satisfies_without`, for the price of one search, the package at the place and each
+    /// entry of its `provides`.
     pub fn satisfies_without_counted(&mut self, vpkg: &Vpkg<'_>, place: u64) -> bool
         ensures answer { result ≡ satisfies (without place self.old.status) (vpkg_view vpkg.now) }
         ensures status { self.new.status ≡ self.old.status }
-        ensures price { self.new.steps ≤ self.old.steps + (search_cost vpkg.now.name.now self.old.status + own_cost place self.old.status) }
+        ensures price { self.new.steps ≤ self.old.steps + (search_cost self.old.status vpkg.now.name.now + own_cost self.old.status place) }
     {
-        self.index.satisfies_without_in(vpkg, place, &mut self.steps)
+        self.index
+            .satisfies_without_counting(vpkg, place, &mut self.steps)
+    }
+
+    /// `Index::least`, for one look-up and one reading.
+    pub fn least_counted(&mut self, name: &str) -> Option<u64>
+        ensures least { IsLeast (numbers_of name.now self.old.status) result }
+        ensures status { self.new.status ≡ self.old.status }
+        ensures price { self.new.steps ≤ self.old.steps + 2 }
+    {
+        self.index.least_counting(name, &mut self.steps)
+    }
+
+    /// `Index::greatest`, for one look-up and one reading.
+    pub fn greatest_counted(&mut self, name: &str) -> Option<u64>
+        ensures greatest { IsGreatest (numbers_of name.now self.old.status) result }
+        ensures status { self.new.status ≡ self.old.status }
+        ensures price { self.new.steps ≤ self.old.steps + 2 }
+    {
+        self.index.greatest_counting(name, &mut self.steps)
     }
 }

@@ -55,17 +55,28 @@ impl Sorted {
     }
 
     /// The least of them.
-    pub(crate) fn least(&self) -> Option<u64>
-        ensures { IsLeast self.now result }
+    pub(crate) fn least(&self, steps: &mut Steps) -> Option<u64>
+        ensures least { IsLeast self.now result }
+        ensures price { steps.new ≤ steps.old + 1 }
     {
-        self.numbers.first().copied()
+        let _ = &self.numbers;
+        if self.len() == 0 {
+            return None;
+        }
+        Some(self.at(0, steps))
     }
 
     /// The greatest of them.
-    pub(crate) fn greatest(&self) -> Option<u64>
-        ensures { IsGreatest self.now result }
+    pub(crate) fn greatest(&self, steps: &mut Steps) -> Option<u64>
+        ensures greatest { IsGreatest self.now result }
+        ensures price { steps.new ≤ steps.old + 1 }
     {
-        self.numbers.last().copied()
+        let _ = &self.numbers;
+        let len = self.len();
+        if len == 0 {
+            return None;
+        }
+        Some(self.at(len - 1, steps))
     }
 
     fn len(&self) -> usize
@@ -113,7 +124,7 @@ impl Sorted {
         low
     }
 
-    /// The only call that reads a number for a search.
+    /// The only call that reads a number.
     fn at(&self, place: usize, steps: &mut Steps) -> u64
         requires { place < length self.now }
         ensures value { (d : ℕ) → result ≡ slice_index_or self.now place d }

@@ -6,10 +6,10 @@ use Rattle.cudf_document.specs.SolutionFaults.{solution_faults}
 use Rattle.cudf_document.specs.Statuses.{installed_ids, ascend_above, are_outside}
 use Rattle.cudf_document.specs.Universe.{package_id}
 use Rattle.cudf_document.proofs.StatusLemmas.{within_universe, unknown_ascend, unknown_outside}
-use Rattle.cudf_document.specs.Working.Proposals.{ids_of}
+use Rattle.cudf_document.specs.Working.SolutionBuilders.{ids_of}
 use Rattle.cudf_document.proofs.FaultLemmas.{least-none}
 use Rattle.cudf_document.proofs.FlagLemmas.{flag_at-flags}
-use Rattle.cudf_document.proofs.ProposalLemmas.{flags_propose}
+use Rattle.cudf_document.proofs.SolutionBuilderLemmas.{flags_propose}
 use Rattle.cudf_document.proofs.solution.read_solution.Goals as goal
 
 pub returns-clause-sound : goal.returns-clause-sound

@@ -16,9 +16,9 @@ returns-in-Some-Package-clause-fault c =
     let s = stanza_view c.args.stanza.now in
     let marked : postmark s ≡ Some Package = cc in
     let inner = flat_map value_faults (with_earlier [] s.properties) in
-    let none : not c.read_entry-fault.result.1.has_version ≡ is_none (version_property s) =
-    ap (λ e. not e.has_version) c.read_entry-fault.ensures.entry ∙ sym (is_none-find (has_name (codes "version")) s.properties) in
-    c.lesser.ensures ∙ (λ i. lesser (c.read_entry-fault.ensures.fault i) (c.fault_if-unversioned.ensures i))
+    let none : not c.read_solution_package-fault.result.1.has_version ≡ is_none (version_property s) =
+    ap (λ e. not e.has_version) c.read_solution_package-fault.ensures.entry ∙ sym (is_none-find (has_name (codes "version")) s.properties) in
+    c.lesser.ensures ∙ (λ i. lesser (c.read_solution_package-fault.ensures.fault i) (c.fault_if-unversioned.ensures i))
     ∙ ap (λ b. lesser (least inner) (least (fault_if b s.last E12))) none
     ∙ sym (least-append inner (fault_if (is_none (version_property s)) s.last E12))
     ∙ ap (λ m. least (unmarked_faults m s.line ++ values_faults m s.properties ++ fault_if (marks_package m && is_none (version_property s)) s.last E12)) (sym marked)

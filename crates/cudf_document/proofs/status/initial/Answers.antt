@@ -14,7 +14,7 @@ places c =
     let items = c.packages-package-items.result.now in
     let all : take c.loop-package.package-index items ≡ items = take_all c.loop-package.package-index items (omega arith) in
     let flags : c.loop-package.flags.items ≡ map (λ p. p.installed) c.args.problem.now.packages =
-    c.loop-package.invariant ∙ ap (λ l. map (λ p. p.installed) (map package_view l)) all ∙ ap (map (λ p. p.installed)) c.packages-package-items.ensures in
+    c.loop-package.invariant ∙ ap (λ l. map (λ p. p.installed) (map package_view l)) all ∙ ap (map (λ p. p.installed)) c.packages-package-items.ensures.packages in
     λ place. contains-places c.loop-package.flags.items place ∙ ap (λ l. flag_at l place) flags
     ∙ flag_at-flags (λ p. p.installed) c.args.problem.now.packages place
 

@@ -6,11 +6,11 @@ use Rattle.cudf_text.proofs.joined.cut_joined.Goals as goal
 pub returns-clause-solution : goal.returns-clause-solution
 returns-clause-solution c =
     let text = c.args.bytes.now in
-    let mid = c.behind.result.now in
-    let rest = c.behind-rest.result.now in
+    let mid = c.after_mark.result.now in
+    let rest = c.after_mark-rest.result.now in
     c.split_at.ensures.back
-    ∙ suffix-next text mid rest (length mid - length rest) c.behind.ensures.inside (omega arith) c.behind.ensures.end (sym c.behind-rest.ensures.end)
-    ∙ solution-is text mid rest c.behind.ensures.lines c.behind-rest.ensures.lines
+    ∙ suffix-next text mid rest (length mid - length rest) c.after_mark.ensures.inside (omega arith) c.after_mark.ensures.end (sym c.after_mark-rest.ensures.end)
+    ∙ solution-is text mid rest c.after_mark.ensures.lines c.after_mark-rest.ensures.lines
 
 pub returns-clause-problem : goal.returns-clause-problem
 returns-clause-problem c =

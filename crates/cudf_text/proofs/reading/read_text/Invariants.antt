@@ -1,10 +1,15 @@
 use Rattle.std.proofs.Common.{◌≡◌, ◌++◌, length, map}
+use Rattle.std.specs.List.{flat_map}
+use Rattle.cudf_text.specs.Borrows.{joined_values}
 use Rattle.cudf_text.specs.Stanzas.{PlainText, plain_text}
-use Rattle.cudf_text.specs.Views.{stanza_view}
+use Rattle.cudf_text.specs.Views.{stanza_view, owned_in}
 use Rattle.cudf_text.proofs.reading.read_text.Given as goal
 
 abbrev pub invariant-stanzas : goal.invariant-stanzas
-invariant-stanzas l = let t : PlainText = record l.cursor { stanzas = map stanza_view l.stanzas.items ++ l.cursor.stanzas } in t ≡ plain_text l.source
+invariant-stanzas l = record {
+  text : let t : PlainText = record l.cursor.text { stanzas = map stanza_view l.stanzas.items ++ l.cursor.text.stanzas } in t ≡ plain_text l.source;
+  joins : flat_map (λ s. owned_in s.properties.items) l.stanzas.items ++ l.cursor.joins ≡ joined_values l.source;
+}
 
 abbrev pub decreases-stanzas : goal.decreases-stanzas
-decreases-stanzas l = length l.cursor.stanzas
+decreases-stanzas l = length l.cursor.text.stanzas

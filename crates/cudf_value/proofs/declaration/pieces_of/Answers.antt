@@ -8,6 +8,6 @@ loop-piece-preserved c = (
   search rules,
   rw c.in_ok-push-in-Some-2.ensures.items
       (pieces_step declaration_view declaration_piece (read_pieces declaration_piece c.args.text.now)
-      c.loop-piece.declarations.items c.in-Some-2.declaration c.loop-piece.rest.now c.in-Some.piece.now c.in-Some-behind.more.now
-      c.loop-piece.invariant.1 (rw c.in-Some-behind.is at c.in-Some.ensures.pieces) (rw c.in-Some-2.is at c.in_ok-declaration.ensures)),
+      c.loop-piece.declarations.items c.in-Some-2.declaration c.loop-piece.rest.now c.in-Some.piece.now c.in-Some-next.more.now
+      c.loop-piece.invariant.1 (rw c.in-Some-next.is at c.in-Some.ensures.pieces) (rw c.in-Some-2.is at c.in_ok-declaration.ensures)),
 )

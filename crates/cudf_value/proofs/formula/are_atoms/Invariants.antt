@@ -4,7 +4,8 @@ use Rattle.std.specs.Str.{byte}
 use denote.Text.{Utf8}
 use denote.Shadow.{shadow}
 use Rattle.cudf_value.specs.Parts.{read_parts}
-use Rattle.cudf_value.specs.Formulas.{clause, atom_part, atoms}
+use Rattle.cudf_value.specs.Formulas.{clause, atom_part}
+use Rattle.cudf_value.specs.Working.Rests.{atoms}
 use Rattle.cudf_value.proofs.formula.are_atoms.Given as goal
 
 abbrev pub invariant-atoms : goal.invariant-atoms

@@ -1,5 +1,5 @@
-use Rattle.std.proofs.Common.{◌≡◌, ◌∷◌, position, sym, ap, ◌∙◌}
-use Rattle.cudf_value.specs.Formulas.{ends_atom, atoms}
+use Rattle.std.proofs.Common.{◌∷◌, position, sym, ap, ◌∙◌}
+use Rattle.cudf_value.specs.Working.Rests.{ends_atom, atoms}
 use Rattle.cudf_value.proofs.AtomLemmas.{atoms_found, atoms_none}
 use Rattle.cudf_value.proofs.formula.cut_atom.Goals as goal
 

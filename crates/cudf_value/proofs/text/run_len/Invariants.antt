@@ -1,6 +1,6 @@
 use Rattle.std.proofs.Common.{◌≡◌, ◌+◌, ◌-◌, ◌<◌, ◌≤◌, length, drop, get_or}
 use Rattle.std.specs.List.{prefix_len}
-use Rattle.cudf_value.specs.Chars.{is_in_class}
+use Rattle.cudf_value.specs.Working.Classes.{is_in_class}
 use Rattle.cudf_value.proofs.text.run_len.Given as goal
 
 abbrev pub invariant-loop-n : goal.invariant-loop-n

@@ -20,4 +20,4 @@ loop-index-preserved c =
     let below : i < length xs = omega (arith, ap length value) in
     let make = λ (x : ℕ × PlainVpkg). at_package (c.args.place, package_view c.args.package.now) rule.Conflicts x.0 (conflicts_with x.1) in
     let test = λ (x : PlainVpkg). satisfies (without c.args.place c.args.status.now) x in
-    found_more vpkg_view make test xs i no_vpkg item _ _ _ _ _ below at c.satisfies_without.ensures c.of_package-instance.ensures c.in_ok-note.ensures c.loop-index.invariant
+    found_more vpkg_view make test xs i no_vpkg item _ _ _ _ _ below at c.satisfies_without.ensures c.of_package-instance.ensures c.in_ok-push_if.ensures c.loop-index.invariant

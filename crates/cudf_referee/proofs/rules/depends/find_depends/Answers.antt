@@ -19,4 +19,4 @@ loop-index-preserved c =
     let below : i < length xs = omega (arith, ap length value) in
     let make = λ (x : ℕ × List PlainAtom). at_package (c.args.place, package_view c.args.package.now) rule.Depends x.0 (needs x.1) in
     let test = λ (x : List PlainAtom). not (satisfies_clause c.args.status.now x) in
-    found_more clause_view make test xs i item item _ _ _ _ _ below at (ap not c.satisfies_clause.ensures) c.of_package-instance.ensures c.in_ok-note.ensures c.loop-index.invariant
+    found_more clause_view make test xs i item item _ _ _ _ _ below at (ap not c.satisfies_clause.ensures) c.of_package-instance.ensures c.in_ok-push_if.ensures c.loop-index.invariant

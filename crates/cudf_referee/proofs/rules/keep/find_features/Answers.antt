@@ -20,4 +20,4 @@ loop-index-preserved c =
     let below : i < length xs = omega (arith, ap length value) in
     let make = λ (x : ℕ × PlainVpkg). at_package (c.args.place, package_view c.args.package.now) rule.Keep x.0 (keep_feature x.1) in
     let test = λ (x : PlainVpkg). not (satisfies c.args.status.now x) in
-    found_more vpkg_view make test xs i no_vpkg item _ _ _ _ _ below at (ap not c.satisfies.ensures) c.of_package-instance.ensures c.in_ok-note.ensures c.loop-index.invariant
+    found_more vpkg_view make test xs i no_vpkg item _ _ _ _ _ below at (ap not c.satisfies.ensures) c.of_package-instance.ensures c.in_ok-push_if.ensures c.loop-index.invariant

@@ -22,6 +22,6 @@ returns-then-is_named c =
     let item = c.package-item.result in
     let named = λ (p : Placed). bytes_eq p.1.name c.args.name.now in
     let below : i < length xs = omega arith in
-    sym (ap (λ ps. has_package (members (set.contains c.args.status.now) ps) c.args.name.now) (sym c.packages-package-items.ensures)
+    sym (ap (λ ps. has_package (members (set.contains c.args.status.now) ps) c.args.name.now) (sym c.packages-package-items.ensures.packages)
     ∙ any-found_view package_view (set.contains c.args.status.now) named xs i item below
     (ap (λ y. set.contains c.args.status.now (i + 1) && bytes_eq (package_view y).name c.args.name.now) (sym c.package-item.is) ∙ sym c.if-is_named.ensures))

@@ -20,4 +20,4 @@ loop-index-preserved c =
     let below : i < length xs = omega (arith, ap length value) in
     let make = λ (x : ℕ × PlainVpkg). at_request (request_view c.args.request.now) rule.Remove x.0 None (remove x.1) in
     let test = λ (x : PlainVpkg). satisfies c.args.status.now x in
-    found_more vpkg_view make test xs i no_vpkg item _ _ _ _ _ below at c.satisfies.ensures c.of_request-instance.ensures c.in_ok-note.ensures c.loop-index.invariant
+    found_more vpkg_view make test xs i no_vpkg item _ _ _ _ _ below at c.satisfies.ensures c.of_request-instance.ensures c.in_ok-push_if.ensures c.loop-index.invariant

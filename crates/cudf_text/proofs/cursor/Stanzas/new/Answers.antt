@@ -1,11 +1,15 @@
-use Rattle.std.proofs.Common.{zero-add, length, ap}
-use Rattle.cudf_text.specs.Lines.{lines}
-use Rattle.cudf_text.specs.Stanzas.{PlainText, plain_text, stanzas_of}
-use Rattle.cudf_text.specs.LineFaults.{read_lines, first_fault}
+use Rattle.std.proofs.Common.{zero-add, length, ap, ◌∙◌}
+use Rattle.cudf_text.specs.Cursor.{Left}
+use Rattle.cudf_text.specs.Lines.{blank, lines, judged_lines}
+use Rattle.cudf_text.specs.Working.Reading.{read_after, fault_after}
+use Rattle.cudf_text.specs.Working.Tracked.{plain_left, stanzas_of}
+use Rattle.cudf_text.proofs.TrackedLemmas.{whole}
 use Rattle.cudf_text.proofs.cursor.Stanzas.new.Goals as goal
 
 pub returns : goal.returns
-unfolding plain_text
 returns c =
     let source = c.args.source.now in
-    ap (λ n. let t : PlainText = record { stanzas = stanzas_of (read_lines source); fault = first_fault source; lines = n } in t) (zero-add (length (lines source)))
+    let judged = judged_lines source in
+    let is = ap (λ n. plain_left (record { stanzas = stanzas_of (read_after blank judged); fault = fault_after blank judged; lines = n })) (zero-add (length (lines source)))
+    ∙ whole source in
+    record { text = ap (λ (l : Left). l.text) is; joins = ap (λ (l : Left). l.joins) is }

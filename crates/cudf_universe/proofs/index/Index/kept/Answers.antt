@@ -1,5 +1,5 @@
 use Rattle.std.proofs.Common.{◌≡◌, refl, ap, sym, ◌∙◌, subst, bytes_eq, Option, Some, None, List, ℕ, Bor}
-use Rattle.std.specs.Prelude.{option_map, option_and_then, position, slice_get}
+use Rattle.std.specs.Prelude.{option_and_then, position, slice_get}
 use Rattle.cudf_universe.specs.Satisfaction.{Placed}
 use Rattle.cudf_universe.specs.Working.Kept.{Keeps, found}
 use Rattle.cudf_universe.specs.declared.index.entries.Entries.{Entries}
@@ -19,10 +19,10 @@ returns-in-Some c =
     keeps_read c.args.name.now _ c.args.self.now c.self.inside.names.keys c.self.inside.entries.items (Some c.in-Some.number) _
     c.self.view_is (sym c.in-Some.is ∙ c.get_index_of.ensures.index)
     (got c.deref.result.now c.in-Some.number c.get.result c.get.ensures.lookup.0 c.get.ensures.lookup.1 ∙ ap (λ es. slice_get es c.in-Some.number) c.deref.ensures.value)
-    (c.self.invariant c.args.name.now)
+    (c.self.invariant c.args.name.now).0
 
 pub returns-in-None : goal.returns-in-None
 returns-in-None c =
     keeps_read c.args.name.now _ c.args.self.now c.self.inside.names.keys c.self.inside.entries.items None _
     c.self.view_is (sym c.in-None.is ∙ c.get_index_of.ensures.index) refl
-    (c.self.invariant c.args.name.now)
+    (c.self.invariant c.args.name.now).0

@@ -7,7 +7,6 @@ use Rattle.std.specs.FinSet as set
 use Rattle.std.proofs.lemmas.Option.{slice_get-map}
 use Rattle.cudf_document.specs.Universe.{PlainPackage, package_view}
 use Rattle.cudf_universe.specs.Satisfaction.{Placed, members}
-use Rattle.cudf_universe.specs.Working.Members.{member_view}
 use Rattle.cudf_universe.proofs.TakenOffLemmas.{got, find_below, find_unheld, find_at_place}
 use Rattle.cudf_universe.proofs.index.Index.member.Goals as goal
 
@@ -54,10 +53,10 @@ pub returns-in-Some : goal.returns-in-Some
 returns-in-Some c =
     ap (option_map {U = Placed} (λ x. (c.args.place, package_view x.now))) (sym c.in-Some.is)
     ∙ member_found (set.contains c.self.inside.status) c.self.inside.problem.now.packages c.args.self.now c.args.place c.packages.result.now c.get.result
-    c.self.view_is (omega arith) (sym c.holds.ensures ∙ c.if-not-holds.false) c.packages.ensures c.get.ensures.lookup.0 c.get.ensures.lookup.1
+    c.self.view_is (omega arith) (sym c.holds.ensures ∙ c.if-not-holds.false) c.packages.ensures.packages c.get.ensures.lookup.0 c.get.ensures.lookup.1
 
 pub returns-in-None : goal.returns-in-None
 returns-in-None c =
     ap (option_map {U = Placed} (λ x. (c.args.place, package_view x.now))) (sym c.in-None.is)
     ∙ member_found (set.contains c.self.inside.status) c.self.inside.problem.now.packages c.args.self.now c.args.place c.packages.result.now c.get.result
-    c.self.view_is (omega arith) (sym c.holds.ensures ∙ c.if-not-holds.false) c.packages.ensures c.get.ensures.lookup.0 c.get.ensures.lookup.1
+    c.self.view_is (omega arith) (sym c.holds.ensures ∙ c.if-not-holds.false) c.packages.ensures.packages c.get.ensures.lookup.0 c.get.ensures.lookup.1

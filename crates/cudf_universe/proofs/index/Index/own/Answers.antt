@@ -26,14 +26,16 @@ returns-in-Some-clause-unversioned c =
 pub returns-in-None-clause-numbers : goal.returns-in-None-clause-numbers
 returns-in-None-clause-numbers c =
     numbers_split (set.contains c.self.inside.status) c.self.inside.problem.now.packages c.args.self.now c.self.view_is (vpkg_view c.args.vpkg.now) c.args.place None (ap (option_map member_view) (sym c.in-None.is) ∙ c.member.ensures)
+    ∙ ap (λ o. count_by (meets c.args.vpkg.now.bound) (numbers_of c.args.vpkg.now.name.now (without c.args.place c.args.self.now)) + o.numbers) (sym c.none.ensures)
 
 pub returns-in-None-clause-unversioned : goal.returns-in-None-clause-unversioned
 returns-in-None-clause-unversioned c =
     names_split (set.contains c.self.inside.status) c.self.inside.problem.now.packages c.args.self.now c.self.view_is c.args.vpkg.now.name.now c.args.place None (ap (option_map member_view) (sym c.in-None.is) ∙ c.member.ensures)
+    ∙ ap (λ o. count_by (λ given. bytes_eq given c.args.vpkg.now.name.now) (gives_all_versions (without c.args.place c.args.self.now)) + o.unversioned) (sym c.none.ensures)
 
-priced : (q : Placed) (place : ℕ) (status : List Placed) (old ticked new n : ℕ) → Some q ≡ find (λ p. p.0 == place) status → ticked ≡ old + 1 → new ≡ ticked + n → n ≡ length q.1.provides → new ≤ old + own_cost place status
+priced : (q : Placed) (place : ℕ) (status : List Placed) (old ticked new n : ℕ) → Some q ≡ find (λ p. p.0 == place) status → ticked ≡ old + 1 → new ≡ ticked + n → n ≡ length q.1.provides → new ≤ old + own_cost status place
 priced q place status old ticked new n found one more all =
-    let cost : own_entries (Some q) ≡ own_cost place status = ap own_entries found in
+    let cost : own_entries (Some q) ≡ own_cost status place = ap own_entries found in
     omega (arith, cost)
 
 pub returns-in-Some-clause-price : goal.returns-in-Some-clause-price

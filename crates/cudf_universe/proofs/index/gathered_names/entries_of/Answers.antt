@@ -10,11 +10,12 @@ use Rattle.cudf_universe.proofs.index.gathered_names.entries_of.Goals as goal
 
 one_more : (rows : List (Vec Provision)) (done now : List Entries) (i : ℕ) (row : Vec Provision) (e : Entries) → i < length rows → length done ≡ i → ((k : ℕ) → CompletesAt (slice_get (take i rows) k) (slice_get done k))
     → row ≡ get_or rows i row → Completes row.items e → now ≡ done ++ e ∷ [] → (length now ≡ i + 1) × ((k : ℕ) → CompletesAt (slice_get (take (i + 1) rows) k) (slice_get now k))
-one_more rows done now i row e inside len before is whole same =
-    ( omega (arith, ap length same, length-append {A = Entries})
-    , λ k. subst (λ es. CompletesAt (slice_get (take (i + 1) rows) k) (slice_get es k)) (sym same)
-        (subst (λ rs. CompletesAt (slice_get rs k) (slice_get (done ++ e ∷ []) k)) (sym (take_more rows i row inside ∙ ap (λ r. take i rows ++ r ∷ []) (sym is)))
-          (completes_push (take i rows) done row e (omega (arith, length-take-le i rows (omega arith))) before whole k)) )
+one_more rows done now i row e inside len before is whole same = (
+  omega (arith, ap length same, length-append {A = Entries}),
+  λ k. subst (λ es. CompletesAt (slice_get (take (i + 1) rows) k) (slice_get es k)) (sym same)
+      (subst (λ rs. CompletesAt (slice_get rs k) (slice_get (done ++ e ∷ []) k)) (sym (take_more rows i row inside ∙ ap (λ r. take i rows ++ r ∷ []) (sym is)))
+      (completes_push (take i rows) done row e (omega (arith, length-take-le i rows (omega arith))) before whole k)),
+)
 
 pub loop-row-preserved : goal.loop-row-preserved
 loop-row-preserved c =

@@ -1,4 +1,3 @@
-use Rattle.std.proofs.Common.{refl}
 use Rattle.cudf_universe.proofs.FoundLemmas.{row_new}
 use Rattle.cudf_universe.proofs.index.gathered_names.GatheredNames.number_of.Goals as goal
 

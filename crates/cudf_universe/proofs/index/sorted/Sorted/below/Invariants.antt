@@ -1,6 +1,4 @@
-use Rattle.std.proofs.Common.{◌≡◌, ℕ, ◌+◌, ◌-◌, ◌<◌, ◌≤◌, length, get_or}
-use Rattle.std.specs.List.Sorted.{IsNonDecreasing}
-use Rattle.cudf_universe.specs.Prices.{digits}
+use Rattle.std.proofs.Common.{◌-◌}
 use Rattle.cudf_universe.proofs.SearchedLemmas.{Searched}
 use Rattle.cudf_universe.proofs.index.sorted.Sorted.below.Given as goal
 

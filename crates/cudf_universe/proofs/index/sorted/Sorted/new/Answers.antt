@@ -1,4 +1,4 @@
-use Rattle.std.proofs.Common.{sym, cond}
+use Rattle.std.proofs.Common.{cond}
 use Rattle.std.proofs.lemmas.List.Sorted.{IsNonDecreasingBy-from_sort, sum_by-IsPermutation}
 use Rattle.cudf_universe.proofs.index.sorted.Sorted.new.Goals as goal
 

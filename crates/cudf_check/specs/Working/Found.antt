@@ -1,0 +1,11 @@
+-- What stands before the verdict.
+use Rattle.std.specs.Prelude.{ℕ, List, option_map}
+use Rattle.cudf_referee.specs.KeyViews.{key_view}
+use Rattle.cudf_referee.specs.Proposals.{Proposal}
+use Rattle.cudf_check.specs.Report.{check_text, score_text}
+use Rattle.cudf_check.specs.declared.lines.judged.Found.{Found}
+use Rattle.cudf_check.specs.declared.lines.judged.Found.TheVariants.{Page, Score}
+
+abbrev pub found_text : Found → Proposal → List ℕ
+found_text (Page after limit) = check_text (option_map key_view after) limit
+found_text Score = score_text

@@ -1,0 +1,100 @@
+//! The report of a judged solution: what was found, and the verdict.
+ghost use Rattle.std.specs.Prelude.{◌≡◌, map, if◌then◌else◌};
+ghost use Rattle.cudf_document.specs.Universe.{package_view};
+ghost use Rattle.cudf_referee.specs.Solutions.{is_solution};
+ghost use Rattle.cudf_check.specs.Report.{verdict_text, judged_report};
+ghost use Rattle.cudf_check.specs.Working.Answering.{Answers};
+ghost use Rattle.cudf_check.specs.Working.Found.{found_text};
+ghost use Rattle.cudf_check.specs.Working.Pages.{Ascends};
+ghost use Rattle.cudf_check.specs.Working.Printing.{Prints};
+
+use crate::buffer::ReportBuffer;
+use crate::device::Sink;
+use crate::lines::page::print_page;
+use crate::lines::print;
+use crate::lines::score::print_score;
+use crate::outcome::{Outcome, RunError};
+use cudf_referee::{Key, Referee};
+use cudf_universe::Package;
+use std::alloc::Global;
+
+/// What stands before the verdict.
+#[derive(Clone, Copy, Debug)]
+pub(crate) enum Found {
+    /// A page of the listing: the instances behind the key `after`, at most `limit` of them.
+    Page {
+        after: Option<Key>,
+        limit: Option<u64>,
+    },
+    /// The counts.
+    Score,
+}
+
+/// The verdict's line, and its outcome.
+fn verdict_of(is_solution: bool) -> (&'static str, Outcome)
+    ensures text { result.0.now ≡ verdict_text is_solution }
+    ensures outcome { result.1 ≡ (if is_solution then Outcome.Yes else Outcome.No) }
+{
+    if is_solution {
+        ("solution yes", Outcome::Yes)
+    } else {
+        ("solution no", Outcome::No)
+    }
+}
+
+/// Prints what was found.
+fn print_found<W: Sink>(
+    buffer: &mut ReportBuffer,
+    out: &mut W,
+    packages: &[Package<'_>],
+    referee: &Referee<'_, '_>,
+    found: Found,
+) -> Result<(), RunError>
+    requires packages { map package_view packages.now ≡ referee.now.packages }
+    requires ascending { Ascends referee.now }
+    ensures { Prints (W.state out.old) (W.state out.new) buffer.old buffer.new result (found_text found referee.now) }
+{
+    match found {
+        Found::Page { after, limit } => print_page(buffer, out, packages, referee, after, limit),
+        Found::Score => print_score(buffer, out, referee.criteria()),
+    }
+}
+
+/// Prints what was found, and the verdict.
+fn print_judged<W: Sink>(
+    buffer: &mut ReportBuffer,
+    out: &mut W,
+    packages: &[Package<'_>],
+    referee: &Referee<'_, '_>,
+    found: Found,
+    verdict: &str,
+) -> Result<(), RunError>
+    requires packages { map package_view packages.now ≡ referee.now.packages }
+    requires ascending { Ascends referee.now }
+    requires verdict { verdict.now ≡ verdict_text (is_solution referee.now) }
+
+    ensures { Prints (W.state out.old) (W.state out.new) buffer.old buffer.new result
+        (judged_report (found_text found) referee.now).text }
+{
+    print_found(buffer, out, packages, referee, found)?;
+    print(buffer, out, &[verdict, "\n"])
+}
+
+/// Writes the report of what the referee found.
+pub(crate) fn answer_judged<W: Sink>(
+    alloc: Global,
+    out: &mut W,
+    packages: &[Package<'_>],
+    referee: &Referee<'_, '_>,
+    found: Found,
+) -> Result<Outcome, RunError>
+    requires packages { map package_view packages.now ≡ referee.now.packages }
+    requires ascending { Ascends referee.now }
+    ensures { Answers (W.state out.old) (W.state out.new) (judged_report (found_text found) referee.now) result }
+{
+    let (verdict, outcome) = verdict_of(referee.is_solution());
+    let mut buffer = ReportBuffer::new(alloc)?;
+    print_judged(&mut buffer, out, packages, referee, found, verdict)?;
+    buffer.flush(out)?;
+    Ok(outcome)
+}

@@ -1,0 +1,160 @@
+//! Prints a page of the listing.
+ghost use Rattle.std.specs.Prelude.{◌≡◌, ◌++◌, codes, take, map, Option, Some, None, option_map, IfOk, if◌then◌else◌};
+ghost use Rattle.cudf_referee.specs.Entries.{is_empty};
+ghost use Rattle.std.specs.List.{flat_map};
+ghost use Rattle.cudf_document.specs.Universe.{package_view};
+ghost use Rattle.cudf_referee.specs.Keys.{PlainKey, key_text};
+ghost use Rattle.cudf_referee.specs.KeyViews.{key_view};
+ghost use Rattle.cudf_referee.specs.Views.{instance_view};
+ghost use Rattle.cudf_check.specs.Report.{line, instance_line, package_at, listed, check_text};
+ghost use Rattle.cudf_check.specs.Working.Pages.{Ascends, IsPageEnd};
+ghost use Rattle.cudf_check.specs.Working.Printing.{Prints};
+
+use crate::buffer::ReportBuffer;
+use crate::device::Sink;
+use crate::lines::instance::{print_instance, print_key};
+use crate::lines::print;
+use crate::outcome::RunError;
+use cudf_referee::{Instance, Instances, Key, Referee};
+use cudf_universe::Package;
+
+/// The package that meets an instance's entry.
+fn meeting<'x, 't>(packages: &'x [Package<'t>], place: Option<u64>) -> Option<&'x Package<'t>>
+    ensures { option_map (λ p. package_view p.now) result ≡ package_at (map package_view packages.now) place }
+{
+    packages.get((place? as usize).saturating_sub(1))
+}
+
+/// The violated instances with greater keys than `after`, all of them where it isn't given.
+fn listed<'r, 'p, 't>(referee: &'r Referee<'p, 't>, after: Option<Key>) -> Instances<'r, 'p, 't>
+    ensures { result ≡ listed (option_map key_view after) referee.now }
+{
+    match after {
+        Some(key) => referee.after(key),
+        None => referee.instances(),
+    }
+}
+
+/// Prints the line of an instance.
+fn print_line<W: Sink>(
+    buffer: &mut ReportBuffer,
+    out: &mut W,
+    packages: &[Package<'_>],
+    referee: &Referee<'_, '_>,
+    instance: &Instance<'_, '_>,
+) -> Result<(), RunError>
+    requires { map package_view packages.now ≡ referee.now.packages }
+    ensures { Prints (W.state out.old) (W.state out.new) buffer.old buffer.new result
+        (instance_line referee.now (instance_view instance.now)) }
+{
+    let met = meeting(packages, referee.met_by(instance));
+    print_instance(buffer, out, instance, met)
+}
+
+/// Prints the lines of all instances that are left.
+fn print_rest<W: Sink>(
+    buffer: &mut ReportBuffer,
+    out: &mut W,
+    packages: &[Package<'_>],
+    referee: &Referee<'_, '_>,
+    instances: Instances<'_, '_, '_>,
+) -> Result<(), RunError>
+    requires { map package_view packages.now ≡ referee.now.packages }
+    ensures { Prints (W.state out.old) (W.state out.new) buffer.old buffer.new result
+        (flat_map (instance_line referee.now) instances.entry) }
+{
+    for instance in instances {
+        print_line(buffer, out, packages, referee, &instance)?;
+    }
+    Ok(())
+}
+
+/// Prints the lines of the first instances that are left, at most `limit`. Answers the key of the last
+/// one, where there are so many; if not, the walk is at its end.
+fn print_first<W: Sink>(
+    buffer: &mut ReportBuffer,
+    out: &mut W,
+    packages: &[Package<'_>],
+    referee: &Referee<'_, '_>,
+    instances: &mut Instances<'_, '_, '_>,
+    limit: u64,
+) -> Result<Option<Key>, RunError>
+    requires { map package_view packages.now ≡ referee.now.packages }
+    ensures printed { Prints (W.state out.old) (W.state out.new) buffer.old buffer.new result
+        (flat_map (instance_line referee.now) (take limit instances.old)) }
+    ensures end { IfOk result (IsPageEnd limit instances.old instances.new) }
+{
+    let mut last = None;
+    for turn in 0..limit {
+        match instances.next() {
+            Some(instance) => {
+                print_line(buffer, out, packages, referee, &instance)?;
+                last = Some(instance.key);
+            }
+            None => return Ok(None),
+        }
+    }
+    Ok(last)
+}
+
+/// Prints the key after which the next page begins.
+fn print_more<W: Sink>(buffer: &mut ReportBuffer, out: &mut W, key: Key) -> Result<(), RunError>
+    ensures { Prints (W.state out.old) (W.state out.new) buffer.old buffer.new result
+        (line (codes "more after " ++ key_text (key_view key))) }
+{
+    print(buffer, out, &["more after "])?;
+    print_key(buffer, out, key)?;
+    print(buffer, out, &["\n"])
+}
+
+/// The key after which the next page begins: the last one, where an instance is left.
+fn next_page(last: Option<Key>, mut instances: Instances<'_, '_, '_>) -> Option<Key>
+    ensures { result ≡ (if is_empty instances.entry then None else last) }
+{
+    match instances.next() {
+        Some(_) => last,
+        None => None,
+    }
+}
+
+/// Prints at most `limit` of the instances that are left, and where the next page begins.
+fn print_limited<W: Sink>(
+    buffer: &mut ReportBuffer,
+    out: &mut W,
+    packages: &[Package<'_>],
+    referee: &Referee<'_, '_>,
+    mut instances: Instances<'_, '_, '_>,
+    limit: u64,
+) -> Result<(), RunError>
+    requires { map package_view packages.now ≡ referee.now.packages }
+    ensures { (after : Option PlainKey) → Ascends referee.now → instances.entry ≡ listed after referee.now
+        → Prints (W.state out.old) (W.state out.new) buffer.old buffer.new result (check_text after (Some limit) referee.now) }
+{
+    let last = print_first(buffer, out, packages, referee, &mut instances, limit)?;
+    match next_page(last, instances) {
+        Some(key) => print_more(buffer, out, key),
+        None => Ok(()),
+    }
+}
+
+/// Prints the page: the instances after the key `after`, where it is given, and at most `limit` of
+/// them; and where the next page begins.
+pub(crate) fn print_page<W: Sink>(
+    buffer: &mut ReportBuffer,
+    out: &mut W,
+    packages: &[Package<'_>],
+    referee: &Referee<'_, '_>,
+    after: Option<Key>,
+    limit: Option<u64>,
+) -> Result<(), RunError>
+    requires packages { map package_view packages.now ≡ referee.now.packages }
+    requires ascending { Ascends referee.now }
+    ensures { Prints (W.state out.old) (W.state out.new) buffer.old buffer.new result
+        (check_text (option_map key_view after) limit referee.now) }
+{
+    let instances = listed(referee, after);
+    match limit {
+        Some(limit) => print_limited(buffer, out, packages, referee, instances, limit),
+        None => print_rest(buffer, out, packages, referee, instances),
+    }
+}

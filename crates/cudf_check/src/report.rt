@@ -1,0 +1,239 @@
+//! Decides which report the inputs have.
+ghost use Rattle.std.specs.Prelude.{◌≡◌, IsTrue, codes, false, map, option_copied};
+ghost use Rattle.std.specs.FinSet as set;
+ghost use Rattle.cudf_text.specs.Views.{text_view};
+ghost use Rattle.cudf_text.specs.Joined.{is_fail};
+ghost use Rattle.cudf_document.specs.Statuses.{is_initial, unknown_view, ascend_above};
+ghost use Rattle.cudf_referee.specs.Proposals.{proposal};
+ghost use Rattle.cudf_check.specs.declared.outcome.Outcome.TheVariants.{Yes};
+ghost use Rattle.cudf_check.specs.Report.{Report, alone, faulty, faulty_or, judged_report, solution_text_report, solution_report, problem_text_report, pair_report, lint_text_report, lint_report, inputs_report, report};
+ghost use Rattle.cudf_check.specs.Working.Answering.{Answers};
+ghost use Rattle.cudf_check.specs.Working.Found.{found_text};
+ghost use Rattle.cudf_check.specs.Working.Refusals.{IsReportOf, text_refusal, read_refusal};
+
+use crate::device::Sink;
+use crate::job::Job;
+use crate::lines::{Found, answer, answer_fault, answer_judged};
+use crate::outcome::{Outcome, RunError};
+use cudf_referee::Referee;
+use cudf_referee::laws::ascending;
+use cudf_text::{Fault, Stanzas, Text, TextError, cut_joined, is_fail, read, stanzas};
+use cudf_universe::{Problem, ReadError, Solution, first_fault, read_problem, read_solution};
+use std::alloc::Global;
+
+/// Why a document isn't judged.
+#[derive(Clone, Copy, Debug)]
+pub(crate) enum Refusal {
+    /// It has a fault; this is its first.
+    Fault(Fault),
+    /// Memory ran out.
+    Memory,
+}
+
+/// What refuses a text.
+fn refusal_of_text(error: TextError) -> Refusal
+    ensures { result ≡ text_refusal error }
+{
+    match error {
+        TextError::Fault(fault) => Refusal::Fault(fault),
+        TextError::Memory(_) => Refusal::Memory,
+    }
+}
+
+/// What refuses the document that a text holds.
+fn refusal_of_document(error: ReadError) -> Refusal
+    ensures { result ≡ read_refusal error }
+{
+    match error {
+        ReadError::Fault(fault) => Refusal::Fault(fault),
+        ReadError::Memory(_) => Refusal::Memory,
+    }
+}
+
+/// Answers a document that isn't judged.
+fn answer_refusal<W: Sink>(
+    alloc: Global,
+    out: &mut W,
+    whose: &'static str,
+    refusal: Refusal,
+) -> Result<Outcome, RunError>
+    ensures { (report : Report) → IsReportOf whose.now refusal report → Answers (W.state out.old) (W.state out.new) report result }
+{
+    match refusal {
+        Refusal::Fault(fault) => answer_fault(alloc, out, whose, fault),
+        Refusal::Memory => Err(RunError::Memory),
+    }
+}
+
+/// Judges what a solution proposes.
+fn answer_proposal<W: Sink>(
+    alloc: Global,
+    out: &mut W,
+    found: Found,
+    problem: &Problem<'_>,
+    solution: &Solution<'_>,
+) -> Result<Outcome, RunError>
+    requires { IsTrue (ascend_above 0 (map unknown_view solution.now.unknown.items)) }
+    ensures { Answers (W.state out.old) (W.state out.new) (judged_report (found_text found) (proposal problem.now (is_initial problem.now) (set.contains solution.now.status)
+        (map unknown_view solution.now.unknown.items))) result }
+{
+    match Referee::new(alloc, problem, solution) {
+        Ok(referee) => {
+            ascending();
+            answer_judged(alloc, out, problem.packages(), &referee, found)
+        }
+        Err(_) => Err(RunError::Memory),
+    }
+}
+
+/// Reads a solution that doesn't say FAIL, and judges it.
+fn answer_solution_text<W: Sink>(
+    alloc: Global,
+    out: &mut W,
+    found: Found,
+    problem: &Problem<'_>,
+    text: &Text<'_>,
+) -> Result<Outcome, RunError>
+    requires { is_fail text.now.source.now ≡ false }
+    ensures { Answers (W.state out.old) (W.state out.new) (solution_text_report (found_text found) problem.now (text_view text.now)) result }
+{
+    match read_solution(alloc, text, problem) {
+        Ok(solution) => answer_proposal(alloc, out, found, problem, &solution),
+        Err(error) => answer_refusal(alloc, out, "solution", refusal_of_document(error)),
+    }
+}
+
+/// Answers a solution beside a problem without fault.
+fn answer_solution<W: Sink>(
+    alloc: Global,
+    out: &mut W,
+    found: Found,
+    problem: &Problem<'_>,
+    bytes: &[u8],
+) -> Result<Outcome, RunError>
+    ensures { Answers (W.state out.old) (W.state out.new) (solution_report (found_text found) problem.now bytes.now) result }
+{
+    match read(alloc, bytes) {
+        Ok(text) => {
+            if is_fail(text.source) {
+                return answer(alloc, out, &["solution FAIL", "\n"], Outcome::Fail);
+            }
+            answer_solution_text(alloc, out, found, problem, &text)
+        }
+        Err(error) => answer_refusal(alloc, out, "solution", refusal_of_text(error)),
+    }
+}
+
+/// Reads a problem, and then its solution.
+fn answer_problem_text<W: Sink>(
+    alloc: Global,
+    out: &mut W,
+    found: Found,
+    text: &Text<'_>,
+    solution: &[u8],
+) -> Result<Outcome, RunError>
+    ensures { Answers (W.state out.old) (W.state out.new) (problem_text_report (found_text found) solution.now (text_view text.now)) result }
+{
+    match read_problem(alloc, text) {
+        Ok(problem) => answer_solution(alloc, out, found, &problem, solution),
+        Err(error) => answer_refusal(alloc, out, "problem", refusal_of_document(error)),
+    }
+}
+
+/// Judges a solution of a problem.
+fn check<W: Sink>(
+    alloc: Global,
+    out: &mut W,
+    found: Found,
+    problem: &[u8],
+    solution: &[u8],
+) -> Result<Outcome, RunError>
+    ensures { Answers (W.state out.old) (W.state out.new) (pair_report (found_text found) problem.now solution.now) result }
+{
+    match read(alloc, problem) {
+        Ok(text) => answer_problem_text(alloc, out, found, &text, solution),
+        Err(error) => answer_refusal(alloc, out, "problem", refusal_of_text(error)),
+    }
+}
+
+/// Says that a problem has no fault, or which one is its first.
+fn answer_lint<W: Sink>(
+    alloc: Global,
+    out: &mut W,
+    first: Option<Fault>,
+) -> Result<Outcome, RunError>
+    ensures { Answers (W.state out.old) (W.state out.new) (faulty_or (codes "problem") first (alone (codes "problem ok") Yes)) result }
+{
+    match first {
+        None => answer(alloc, out, &["problem ok", "\n"], Outcome::Yes),
+        Some(fault) => answer_fault(alloc, out, "problem", fault),
+    }
+}
+
+/// Looks for the first fault of a problem's stanzas.
+fn lint_stanzas<W: Sink>(
+    alloc: Global,
+    out: &mut W,
+    stanzas: Stanzas<'_>,
+) -> Result<Outcome, RunError>
+    ensures { Answers (W.state out.old) (W.state out.new) (lint_text_report stanzas.entry.text) result }
+{
+    match first_fault(alloc, stanzas) {
+        Ok(first) => answer_lint(alloc, out, first),
+        Err(_) => Err(RunError::Memory),
+    }
+}
+
+/// Says whether a problem has a fault.
+fn lint<W: Sink>(alloc: Global, out: &mut W, problem: &[u8]) -> Result<Outcome, RunError>
+    ensures { Answers (W.state out.old) (W.state out.new) (lint_report problem.now) result }
+{
+    match stanzas(problem) {
+        Ok(stanzas) => lint_stanzas(alloc, out, stanzas),
+        Err(fault) => answer_fault(alloc, out, "problem", fault),
+    }
+}
+
+/// Judges a solution of a problem. The second input is the solution; where there is none, the first
+/// is cut.
+fn check_inputs<W: Sink>(
+    alloc: Global,
+    out: &mut W,
+    found: Found,
+    input: &[u8],
+    solution: Option<&[u8]>,
+) -> Result<Outcome, RunError>
+    ensures { Answers (W.state out.old) (W.state out.new) (inputs_report (found_text found) input.now (option_copied solution.entry)) result }
+{
+    match solution {
+        Some(solution) => check(alloc, out, found, input, solution),
+        None => {
+            let (problem, solution) = cut_joined(input);
+            check(alloc, out, found, problem, solution)
+        }
+    }
+}
+
+/// Answers a job on its inputs.
+#[tactic(auto, unfolding(crate::specs::Report::report))]
+pub(crate) fn answer_job<W: Sink>(
+    alloc: Global,
+    job: &Job,
+    input: &[u8],
+    solution: Option<&[u8]>,
+    out: &mut W,
+) -> Result<Outcome, RunError>
+    ensures { Answers (W.state out.old) (W.state out.new) (report job.now input.now (option_copied solution.entry)) result }
+{
+    match job {
+        Job::Lint => lint(alloc, out, input),
+        Job::Check { after, limit } => {
+            let found = Found::Page {
+                after: *after,
+                limit: *limit,
+            };
+            check_inputs(alloc, out, found, input, solution)
+        }
+        Job::Score => check_inputs(alloc, out, Found::Score, input, solution),
+    }
+}

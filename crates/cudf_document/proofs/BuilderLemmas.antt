@@ -1,0 +1,297 @@
+-- What is gathered of the stanzas of a problem, one after the other.
+use Rattle.std.proofs.Common.{◌≡◌, ℕ, Bool, true, false, not, ◌||◌, ◌&&◌, List, [], ◌∷◌, ◌++◌, Option, None, Some, is_some, is_none, nat_eq, max, find, filter_map, map, refl, sym, ap, subst, ◌∙◌, if◌then◌else◌, option_map, option_to_list, bytes_eq}
+use Rattle.std.proofs.lemmas.Bool.{and_parts, eqb-true, not-true}
+use Rattle.std.proofs.lemmas.List.{append-nil, append_assoc, map_push}
+use Rattle.std.proofs.lemmas.List.Elements.{filter_map-append}
+use Rattle.std.proofs.lemmas.List.Folds.{list_any-append, find-append}
+use Rattle.std.specs.List.{list_any, list_all, flat_map, cons_option}
+use Rattle.std.specs.Option.{option_or}
+use Rattle.indexmap.specs.IndexSet.{insert_key}
+use Rattle.cudf_text.specs.declared.fault.Fault.{Fault}
+use Rattle.cudf_text.specs.declared.fault.Kind.TheVariants.{E4, E5, E6, E11, E12, E13}
+use Rattle.cudf_text.specs.Stanzas.{PlainProperty, PlainStanza, PlainText}
+use Rattle.cudf_value.specs.Declarations.{PlainDeclaration}
+use Rattle.cudf_document.specs.declared.postmark.Postmark.{Postmark}
+use Rattle.cudf_document.specs.declared.postmark.Postmark.TheVariants.{Preamble, Package, Request}
+use Rattle.cudf_document.specs.Faults.{lesser, least, fault_if}
+use Rattle.cudf_document.specs.Documents.{is_empty, with_earlier, postmark, marks_preamble, marks_package, marks_request, is_request, line_of}
+use Rattle.cudf_document.specs.Ids.{Id, are_distinct, is_id, is_among, is_known, id_under, id_of, with_id}
+use Rattle.cudf_document.specs.Preamble.{declared_under, declared}
+use Rattle.cudf_document.specs.ProblemFaults.{place_faults, property_faults, version_property, inner_faults, stanza_faults, requestless_faults, problem_faults}
+use Rattle.cudf_document.specs.Universe.{PlainPackage, package_id, package_with, package_of, packages_in, request_of, request_in}
+use Rattle.cudf_document.specs.Working.PackageFields.{package_fields_of, package_from}
+use Rattle.cudf_document.specs.Working.ProblemBuilders.{PlainBuilder, with_stanza, faults_inside, IsBuilt, IsListed, Knows, first_ids}
+use Rattle.cudf_document.proofs.ListLemmas.{is_empty-push, or_false, list_any-insert_key, is_some-find, is_some-option_map}
+use Rattle.cudf_document.proofs.NameLemmas.{same_bytes}
+use Rattle.cudf_document.proofs.FaultLemmas.{faults-next, least-faults_or, least-append}
+
+-- ---- what is declared
+
+declared-push : (before : List PlainStanza) (s : PlainStanza) → declared (before ++ s ∷ []) ≡ (if is_empty before then declared_under (postmark s) s else declared before)
+declared-push [] s = refl
+declared-push (t ∷ before) s = refl
+
+pub declared_under_no_preamble : (mark : Option Postmark) (s : PlainStanza) → marks_preamble mark ≡ false → declared_under mark s ≡ []
+declared_under_no_preamble None s h = refl
+declared_under_no_preamble (Some Preamble) s h = absurd cc
+declared_under_no_preamble (Some Package) s h = refl
+declared_under_no_preamble (Some Request) s h = refl
+
+-- a stanza that is no preamble declares nothing
+declared-other : (before : List PlainStanza) (s : PlainStanza) → marks_preamble (postmark s) ≡ false → declared (before ++ s ∷ []) ≡ declared before
+declared-other [] s h = declared_under_no_preamble (postmark s) s h
+declared-other (t ∷ before) s h = refl
+
+-- ---- names and versions
+
+pub same_pair : (x y : Id) → is_id x y ≡ true → x ≡ y
+same_pair x y same =
+    let parts = and_parts (bytes_eq x.0 y.0) (nat_eq x.1 y.1) same in
+    λ i. (same_bytes x.0 y.0 parts.0 i, eqb-true x.1 y.1 parts.1 i)
+
+with_id-append : (ids : List Id) (o : Option Id) (id : Id) → is_among (with_id ids o) id ≡ is_among (ids ++ cons_option o []) id
+with_id-append ids None id = ap (λ l. is_among l id) (sym (append-nil ids))
+with_id-append ids (Some new) id =
+    list_any-insert_key is_id (is_id id) ids new (λ k same. ap (is_id id) (sym (same_pair new k same)))
+    ∙ (λ i. is_among ids id || sym (or_false (is_id id new)) i)
+    ∙ sym (list_any-append (is_id id) ids (new ∷ []))
+
+is_known-along : (ids others : List Id) (o : Option Id) → ((id : Id) → is_among ids id ≡ is_among others id) → is_known ids o ≡ is_known others o
+is_known-along ids others None same = refl
+is_known-along ids others (Some id) same = same id
+
+-- ---- packages
+
+package_from-is : (ds : List PlainDeclaration) (line : ℕ) (ps : List PlainProperty) → package_from line (package_fields_of ds ps) ≡ option_map (package_with ds line ps) (id_under (Some Package) ps)
+package_from-is ds line ps = by (id_under (Some Package) ps)
+  where
+    by : (o : Option Id) → option_map (λ id. package_with ds line ps (id.0, id.1)) o ≡ option_map (package_with ds line ps) o
+    by None = refl
+    by (Some id) = refl
+
+packages_before : (before : List PlainStanza) (s : PlainStanza) → filter_map (package_of (declared (before ++ s ∷ []))) before ≡ packages_in before
+packages_before [] s = refl
+packages_before (t ∷ before) s = refl
+
+packages_in-push : (before : List PlainStanza) (s : PlainStanza)
+    → packages_in (before ++ s ∷ []) ≡ packages_in before ++ cons_option (package_of (declared (before ++ s ∷ [])) s) []
+packages_in-push before s =
+    filter_map-append (package_of (declared (before ++ s ∷ []))) before (s ∷ [])
+    ∙ ap (λ l. l ++ cons_option (package_of (declared (before ++ s ∷ [])) s) []) (packages_before before s)
+
+pub as_list : {A : Type 0} (o : Option A) → option_to_list o ≡ cons_option o []
+as_list None = refl
+as_list (Some x) = refl
+
+-- ---- the request
+
+or_of : {A B : Type 0} (f : A → B) (x y : Option A) → option_map f (option_or x y) ≡ option_or (option_map f x) (option_map f y)
+or_of f None y = refl
+or_of f (Some x) y = refl
+
+request_in-push : (before : List PlainStanza) (s : PlainStanza)
+    → request_in (before ++ s ∷ []) ≡ option_or (request_in before) (option_map request_of (if is_request s then Some s else None))
+request_in-push before s = ap (option_map request_of) (find-append is_request before (s ∷ [])) ∙ or_of request_of (find is_request before) (find is_request (s ∷ []))
+
+or_nothing : {A : Type 0} (x : Option A) → option_or x None ≡ x
+or_nothing None = refl
+or_nothing (Some x) = refl
+
+first_or : {A : Type 0} (x : Option A) (y : A) → (if is_some x then x else Some y) ≡ option_or x (Some y)
+first_or None y = refl
+first_or (Some x) y = refl
+
+-- ---- all of it
+
+pub IsBuilt-none : IsBuilt (record { declared = []; ids = []; packages = []; request = None }) []
+IsBuilt-none = record { declared_are = refl; ids_are = λ id. refl; packages_are = refl; request_is = refl }
+
+-- whether there was a request
+pub requested_is : (g : PlainBuilder) (before : List PlainStanza) → IsBuilt g before → is_some g.request ≡ list_any is_request before
+requested_is g before so_far = ap is_some so_far.request_is ∙ is_some-option_map request_of (find is_request before) ∙ is_some-find is_request before
+
+module _ (g : PlainBuilder) (before : List PlainStanza) (s : PlainStanza) (so_far : IsBuilt g before) where
+  no_more_ids : id_of s ≡ None → (id : Id) → is_among g.ids id ≡ is_among (filter_map id_of (before ++ s ∷ [])) id
+  no_more_ids none id =
+      so_far.ids_are id ∙ ap (λ l. is_among l id) (sym (filter_map-append id_of before (s ∷ []) ∙ ap (λ o. filter_map id_of before ++ cons_option o []) none ∙ append-nil (filter_map id_of before)))
+
+  no_more_packages : id_of s ≡ None → g.packages ≡ packages_in (before ++ s ∷ [])
+  no_more_packages none =
+      so_far.packages_are
+      ∙ sym (packages_in-push before s
+      ∙ ap (λ o. packages_in before ++ cons_option (option_map (package_with (declared (before ++ s ∷ [])) s.line s.properties) o) []) none
+      ∙ append-nil (packages_in before))
+
+  no_more_requests : is_request s ≡ false → g.request ≡ request_in (before ++ s ∷ [])
+  no_more_requests none =
+      so_far.request_is
+      ∙ sym (request_in-push before s ∙ ap (λ b. option_or (request_in before) (option_map request_of (if b then Some s else None))) none ∙ or_nothing (request_in before))
+
+  -- one more stanza
+  pub IsBuilt-next : (mark : Option Postmark) (is_first : Bool) → postmark s ≡ mark → is_first ≡ is_empty before → IsBuilt (with_stanza mark is_first s g) (before ++ s ∷ [])
+  IsBuilt-next None is_first marked first = record {
+    declared_are = so_far.declared_are ∙ sym (declared-other before s (ap marks_preamble marked));
+    ids_are = no_more_ids (ap (λ m. id_under m s.properties) marked);
+    packages_are = no_more_packages (ap (λ m. id_under m s.properties) marked);
+    request_is = no_more_requests (ap marks_request marked);
+  }
+  IsBuilt-next (Some Preamble) is_first marked first = record {
+    declared_are = (λ i. if first i then declared_under (sym marked i) s else so_far.declared_are i) ∙ sym (declared-push before s);
+    ids_are = no_more_ids (ap (λ m. id_under m s.properties) marked);
+    packages_are = no_more_packages (ap (λ m. id_under m s.properties) marked);
+    request_is = no_more_requests (ap marks_request marked);
+  }
+  IsBuilt-next (Some Package) is_first marked first = record {
+    declared_are = so_far.declared_are ∙ sym (declared-other before s (ap marks_preamble marked));
+    ids_are = λ id.
+        let o : Option Id = id_under (Some Package) s.properties in
+        with_id-append g.ids o id ∙ list_any-append (is_id id) g.ids (cons_option o [])
+        ∙ (λ i. so_far.ids_are id i || is_among (cons_option (id_under (sym marked i) s.properties) []) id)
+        ∙ sym (list_any-append (is_id id) (filter_map id_of before) (cons_option (id_of s) []))
+        ∙ ap (λ l. is_among l id) (sym (filter_map-append id_of before (s ∷ [])));
+    packages_are =
+        (λ i. so_far.packages_are i ++ as_list (package_from s.line (package_fields_of g.declared s.properties)) i)
+        ∙ ap (λ o. packages_in before ++ cons_option o []) (package_from-is g.declared s.line s.properties)
+        ∙ (λ i. packages_in before
+        ++ cons_option (option_map (package_with ((so_far.declared_are ∙ sym (declared-other before s (ap marks_preamble marked))) i) s.line s.properties) (id_under (sym marked i) s.properties)) [])
+        ∙ sym (packages_in-push before s);
+    request_is = no_more_requests (ap marks_request marked);
+  }
+  IsBuilt-next (Some Request) is_first marked first = record {
+    declared_are = so_far.declared_are ∙ sym (declared-other before s (ap marks_preamble marked));
+    ids_are = no_more_ids (ap (λ m. id_under m s.properties) marked);
+    packages_are = no_more_packages (ap (λ m. id_under m s.properties) marked);
+    request_is = first_or g.request (request_of s) ∙ ap (λ r. option_or r (Some (request_of s))) so_far.request_is
+        ∙ ap (λ b. option_or (request_in before) (option_map request_of (if b then Some s else None))) (sym (ap marks_request marked))
+        ∙ sym (request_in-push before s);
+  }
+
+  -- the faults inside a stanza with a postmark
+  inside_is : (mark : Postmark) → postmark s ≡ Some mark → faults_inside (Some mark) g s ≡ inner_faults before s
+  inside_is Preamble marked =
+      sym ((λ i. flat_map (property_faults (declared before) (marked i)) (with_earlier [] s.properties)
+      ++ fault_if (is_known (filter_map id_of before) (id_under (marked i) s.properties)) (line_of (version_property s)) E11
+      ++ fault_if (marks_package (marked i) && is_none (version_property s)) s.last E12)
+      ∙ append-nil (flat_map (property_faults (declared before) (Some Preamble)) (with_earlier [] s.properties) ++ [])
+      ∙ append-nil (flat_map (property_faults (declared before) (Some Preamble)) (with_earlier [] s.properties)))
+  inside_is Request marked =
+      sym ((λ i. flat_map (property_faults (declared before) (marked i)) (with_earlier [] s.properties)
+      ++ fault_if (is_known (filter_map id_of before) (id_under (marked i) s.properties)) (line_of (version_property s)) E11
+      ++ fault_if (marks_package (marked i) && is_none (version_property s)) s.last E12)
+      ∙ append-nil (flat_map (property_faults (declared before) (Some Request)) (with_earlier [] s.properties) ++ [])
+      ∙ append-nil (flat_map (property_faults (declared before) (Some Request)) (with_earlier [] s.properties)))
+  inside_is Package marked =
+      (λ i. flat_map (property_faults (so_far.declared_are i) (sym marked i)) (with_earlier [] s.properties)
+      ++ fault_if (is_known g.ids (id_under (sym marked i) s.properties)) (line_of (version_property s)) E11
+      ++ fault_if (marks_package (sym marked i) && is_none (version_property s)) s.last E12)
+      ∙ ap (λ b. flat_map (property_faults (declared before) (postmark s)) (with_earlier [] s.properties)
+      ++ fault_if b (line_of (version_property s)) E11
+      ++ fault_if (marks_package (postmark s) && is_none (version_property s)) s.last E12)
+      (is_known-along g.ids (filter_map id_of before) (id_of s) so_far.ids_are)
+
+  -- a stanza's first fault, by where it stands or else inside it
+  pub stanza_least : (mark : Option Postmark) (is_first : Bool) (place inside : Option Fault) → postmark s ≡ mark → is_first ≡ is_empty before
+      → place ≡ least (place_faults is_first (is_some g.request) mark s.line) → inside ≡ least (faults_inside mark g s)
+      → option_or place inside ≡ least (stanza_faults (before, s))
+  stanza_least mark is_first place inside marked first place_is inside_eq =
+      (λ i. option_or ((place_is ∙ (λ j. least (place_faults (first j) (requested_is g before so_far j) (sym marked j) s.line))) i) (inside_eq i))
+      ∙ within mark marked
+      ∙ sym (least-faults_or (place_faults (is_empty before) (list_any is_request before) (postmark s) s.line) (inner_faults before s))
+    where
+      some_or : (f : Fault) (x y z : Option Fault) → option_or (lesser (Some f) x) y ≡ option_or (lesser (Some f) x) z
+      some_or f None y z = refl
+      some_or f (Some g') y z = refl
+
+      within : (m : Option Postmark) → postmark s ≡ m
+          → option_or (least (place_faults (is_empty before) (list_any is_request before) (postmark s) s.line)) (least (faults_inside m g s))
+          ≡ option_or (least (place_faults (is_empty before) (list_any is_request before) (postmark s) s.line)) (least (inner_faults before s))
+      within (Some m) e = ap (λ fs. option_or (least (place_faults (is_empty before) (list_any is_request before) (postmark s) s.line)) (least fs)) (inside_is m e)
+      within None e =
+          ap (λ m. option_or (least (place_faults (is_empty before) (list_any is_request before) m s.line)) None) e
+          ∙ some_or (record { line = s.line; kind = E4 }) (least ([] ++ fault_if (list_any is_request before) s.line E6)) None (least (inner_faults before s))
+          ∙ ap (λ m. option_or (least (place_faults (is_empty before) (list_any is_request before) m s.line)) (least (inner_faults before s))) (sym e)
+
+-- ---- each pair once
+
+first_ids-push : (ids xs : List Id) (x : Id) → first_ids ids (xs ++ x ∷ []) ≡ insert_key is_id (first_ids ids xs) x
+first_ids-push ids [] x = refl
+first_ids-push ids (y ∷ xs) x = first_ids-push (insert_key is_id ids y) xs x
+
+listed_more : (ids : List Id) (packages : List PlainPackage) (id : Option Id) (make : Id → PlainPackage) → ((i : Id) → package_id (make i) ≡ i)
+    → ids ≡ first_ids [] (map package_id packages) → with_id ids id ≡ first_ids [] (map package_id (packages ++ option_to_list (option_map make id)))
+listed_more ids packages None make same so_far = so_far ∙ ap (λ ps. first_ids [] (map package_id ps)) (sym (append-nil packages))
+listed_more ids packages (Some i) make same so_far =
+    ap (λ l. insert_key is_id l i) so_far
+    ∙ sym (ap (first_ids []) (map_push package_id packages (make i) ∙ ap (λ x. map package_id packages ++ x ∷ []) (same i))
+    ∙ first_ids-push [] (map package_id packages) i)
+
+listed_next : (mark : Option Postmark) (is_first : Bool) (s : PlainStanza) (g : PlainBuilder) → IsListed g → IsListed (with_stanza mark is_first s g)
+listed_next None is_first s g so_far = so_far
+listed_next (Some Preamble) is_first s g so_far = so_far
+listed_next (Some Request) is_first s g so_far = so_far
+listed_next (Some Package) is_first s g so_far = listed_more g.ids g.packages (id_under (Some Package) s.properties) _ (λ i. refl) so_far
+
+-- pairs of which none stands twice are all there
+first_ids-distinct : (before xs : List Id) → list_all (λ x. not (is_among x.0 x.1)) (with_earlier before xs) ≡ true → first_ids before xs ≡ before ++ xs
+first_ids-distinct before [] all = sym (append-nil before)
+first_ids-distinct before (x ∷ xs) all =
+    let each = and_parts (not (is_among before x)) (list_all (λ y. not (is_among y.0 y.1)) (with_earlier (before ++ x ∷ []) xs)) all in
+    ap (λ b. first_ids (if b then before else before ++ x ∷ []) xs) (not-true (is_among before x) each.0)
+    ∙ first_ids-distinct (before ++ x ∷ []) xs each.1 ∙ append_assoc before (x ∷ []) xs
+
+pub all_ids : (g : PlainBuilder) → IsListed g → are_distinct (map package_id g.packages) ≡ true → g.ids ≡ map package_id g.packages
+all_ids g listed distinct = listed ∙ first_ids-distinct [] (map package_id g.packages) distinct
+
+-- ---- the first fault
+
+-- one more stanza
+pub Knows-next : (fault : Option Fault) (started : Bool) (g : PlainBuilder) (before : List PlainStanza) (s : PlainStanza) (mark : Option Postmark) (is_first : Bool)
+    (place inside new_fault : Option Fault) (new : PlainBuilder)
+    → Knows fault started g before → mark ≡ postmark s → is_first ≡ not started
+    → place ≡ least (place_faults is_first (is_some g.request) mark s.line) → inside ≡ least (faults_inside mark g s)
+    → new_fault ≡ lesser fault (option_or place inside) → new ≡ with_stanza mark is_first s g
+    → Knows new_fault true new (before ++ s ∷ [])
+Knows-next fault started g before s mark is_first place inside new_fault new so_far marked first place_is inside_eq fault_is new_is = record {
+  first_is = fault_is
+      ∙ faults-next stanza_faults before s fault (option_or place inside) so_far.first_is
+      (stanza_least g before s so_far.builder mark is_first place inside (sym marked) (first ∙ so_far.started_is) place_is inside_eq);
+  started_is = sym (is_empty-push before s);
+  builder = subst (λ h. IsBuilt h (before ++ s ∷ [])) (sym new_is)
+      (IsBuilt-next g before s so_far.builder mark is_first (sym marked) (first ∙ so_far.started_is));
+  listed = subst IsListed (sym new_is) (listed_next mark is_first s g so_far.listed);
+}
+
+pub Knows-none : (g : PlainBuilder) → g ≡ record { declared = []; ids = []; packages = []; request = None } → Knows None false g []
+Knows-none g new = record { first_is = refl; started_is = refl; builder = subst (λ h. IsBuilt h []) (sym new) IsBuilt-none; listed = subst IsListed (sym new) refl }
+
+-- ---- a problem
+
+least-option : (fault : Option Fault) → least (option_to_list fault) ≡ fault
+least-option None = refl
+least-option (Some f) = refl
+
+pub problem_least : (text : PlainText) (first : Option Fault) (none : Bool) (line : ℕ) → first ≡ least (flat_map stanza_faults (with_earlier [] text.stanzas))
+    → none ≡ not (list_any is_request text.stanzas) → line ≡ max 1 text.lines
+    → lesser (lesser text.fault first) (least (fault_if none line E13)) ≡ least (problem_faults text)
+unfolding problem_faults
+problem_least text first none line first_is none_is line_is =
+    (λ i. lesser (lesser (sym (least-option text.fault) i) (first_is i)) (least (fault_if (none_is i) (line_is i) E13)))
+    ∙ ap (λ x. lesser x (least (requestless_faults text))) (sym (least-append (option_to_list text.fault) (flat_map stanza_faults (with_earlier [] text.stanzas))))
+    ∙ sym (least-append (option_to_list text.fault ++ flat_map stanza_faults (with_earlier [] text.stanzas)) (requestless_faults text))
+
+pub place_least : (is_first is_late none preamble : Bool) (mark : Option Postmark) (line : ℕ) → none ≡ is_none mark → preamble ≡ (marks_preamble mark && not is_first)
+    → lesser (lesser (least (fault_if none line E4)) (least (fault_if preamble line E5))) (least (fault_if is_late line E6)) ≡ least (place_faults is_first is_late mark line)
+place_least is_first is_late none preamble mark line none_is preamble_is =
+    (λ i. lesser (lesser (least (fault_if (none_is i) line E4)) (least (fault_if (preamble_is i) line E5))) (least (fault_if is_late line E6)))
+    ∙ ap (λ x. lesser x (least (fault_if is_late line E6))) (sym (least-append (fault_if (is_none mark) line E4) (fault_if (marks_preamble mark && not is_first) line E5)))
+    ∙ sym (least-append (fault_if (is_none mark) line E4 ++ fault_if (marks_preamble mark && not is_first) line E5) (fault_if is_late line E6))
+
+pub not_swap : (a b : Bool) → a ≡ not b → b ≡ not a
+not_swap true true h = absurd cc
+not_swap true false h = refl
+not_swap false true h = refl
+not_swap false false h = absurd cc
+
+pub is_none-from : {A : Type 0} (x : Option A) (b : Bool) → is_some x ≡ not b → b ≡ is_none x
+is_none-from None b h = not_swap false b h
+is_none-from (Some y) b h = not_swap true b h

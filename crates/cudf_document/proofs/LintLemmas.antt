@@ -1,0 +1,151 @@
+-- What is known of stanzas that are only judged: as of those that are gathered.
+use Rattle.std.proofs.Common.{◌≡◌, ℕ, max, Bool, true, false, not, ◌||◌, ◌&&◌, nat_lt, List, [], ◌∷◌, ◌++◌, Option, Some, None, refl, sym, ap, ◌∙◌, if◌then◌else◌, ◌==◌}
+use Rattle.std.specs.List.{list_any, list_all, flat_map}
+use Rattle.std.specs.Option.{option_or}
+use Rattle.std.specs.Cow.{cow_str_bytes}
+use Rattle.std.specs.declared.alloc.Global.{Global}
+use Rattle.std.specs.declared.borrow.CowStr.{CowStr}
+use Rattle.std.proofs.lemmas.Bool.{eqb-true}
+use Rattle.std.proofs.lemmas.List.Folds.{list_any-append}
+use Rattle.cudf_text.specs.declared.fault.Fault.{Fault}
+use Rattle.cudf_text.specs.Chars.{is_blank}
+use Rattle.cudf_text.specs.Joins.{is_owned, IsJoined}
+use Rattle.cudf_text.specs.Stanzas.{PlainStanza, PlainText}
+use Rattle.cudf_value.specs.Chars.{is_pkgname_char}
+use Rattle.cudf_value.specs.Words.{is_pkgname}
+use Rattle.cudf_document.specs.declared.lint.Linter.{Linter}
+use Rattle.cudf_document.specs.declared.postmark.Postmark.{Postmark}
+use Rattle.cudf_document.specs.declared.postmark.Postmark.TheVariants.{Preamble, Package, Request}
+use Rattle.cudf_document.specs.Faults.{lesser, least, fault_if}
+use Rattle.cudf_text.specs.declared.fault.Kind.TheVariants.{E13}
+use Rattle.std.proofs.lemmas.List.{append_assoc, append-nil}
+use Rattle.cudf_document.specs.Documents.{is_empty, with_earlier, postmark, is_request, marks_request}
+use Rattle.cudf_document.specs.Ids.{is_id}
+use Rattle.cudf_document.specs.Preamble.{declared}
+use Rattle.cudf_document.specs.ProblemFaults.{place_faults, stanza_faults, problem_faults}
+use Rattle.cudf_document.specs.Universe.{packages_in, request_in}
+use Rattle.cudf_document.specs.Values.{name_value}
+use Rattle.cudf_document.specs.Working.ProblemBuilders.{PlainBuilder, with_stanza, faults_inside, IsBuilt}
+use Rattle.cudf_document.specs.Working.Linters.{IsKnown, GoesOn, judged_faults, judged_ids}
+use Rattle.cudf_document.proofs.ListLemmas.{or_false, is_empty-push}
+use Rattle.cudf_document.proofs.FaultLemmas.{faults-next, lesser-none}
+use Rattle.cudf_document.proofs.BuilderLemmas.{problem_least, requested_is, stanza_least, IsBuilt-next}
+
+-- ---- a joined value is no name
+
+no_name_char : (b : ℕ) → is_blank b ≡ true → is_pkgname_char b ≡ false
+no_name_char b h = by (b == 32) (b == 9) refl refl
+  where
+    by : (x y : Bool) → (b == 32) ≡ x → (b == 9) ≡ y → is_pkgname_char b ≡ false
+    by true y e f = ap is_pkgname_char (eqb-true b 32 e)
+    by false true e f = ap is_pkgname_char (eqb-true b 9 f)
+    by false false e f = let never : false ≡ true = rw (e, f) at h in absurd cc
+
+and_false : (x : Bool) → (x && false) ≡ false
+and_false true = refl
+and_false false = refl
+
+blank_no_name : (text : List ℕ) → list_any is_blank text ≡ true → list_all is_pkgname_char text ≡ false
+blank_no_name [] h = absurd cc
+blank_no_name (b ∷ text) h = by (blank_no_name text) (is_blank b) refl
+  where
+    by : (list_any is_blank text ≡ true → list_all is_pkgname_char text ≡ false) → (x : Bool) → is_blank b ≡ x → list_all is_pkgname_char (b ∷ text) ≡ false
+    by rest true e = rw (no_name_char b e) refl
+    by rest false e = let later : list_any is_blank text ≡ true = rw e at h in rw (rest later) (and_false (is_pkgname_char b))
+
+pub joined_no_name : (v : CowStr Global) → IsJoined v → is_owned v ≡ true → None ≡ name_value (cow_str_bytes v)
+unfolding is_pkgname
+joined_no_name v joined owned =
+    let blank : list_any is_blank (cow_str_bytes v) ≡ true = rw owned at joined in
+    rw (blank_no_name (cow_str_bytes v) blank) (by (nat_lt 0 _))
+  where
+    by : (x : Bool) → ◌≡◌ {A = Option (List ℕ)} None (if x && false then Some (cow_str_bytes v) else None)
+    by true = refl
+    by false = refl
+
+-- ---- the walk
+
+abbrev as_builder : Linter → List PlainStanza → PlainBuilder
+as_builder k before = record { declared = k.declarations; ids = k.ids; packages = packages_in before; request = request_in before }
+
+is_built : (k : Linter) (before : List PlainStanza) → IsKnown k before → k.declarations ≡ declared before → IsBuilt (as_builder k before) before
+is_built k before so_far ds = record { declared_are = ds; ids_are = so_far.ids_are; packages_are = refl; request_is = refl }
+
+judged_inside : (mark : Option Postmark) (k : Linter) (before : List PlainStanza) (s : PlainStanza) → judged_faults mark k.declarations k.ids s ≡ faults_inside mark (as_builder k before) s
+judged_inside (Some Package) k before s = refl
+judged_inside (Some Preamble) k before s = refl
+judged_inside (Some Request) k before s = refl
+judged_inside None k before s = refl
+
+ids_inside : (mark : Option Postmark) (is_first : Bool) (k : Linter) (before : List PlainStanza) (s : PlainStanza) → judged_ids mark k.ids s ≡ (with_stanza mark is_first s (as_builder k before)).ids
+ids_inside (Some Package) is_first k before s = refl
+ids_inside (Some Preamble) is_first k before s = refl
+ids_inside (Some Request) is_first k before s = refl
+ids_inside None is_first k before s = refl
+
+or_swap : (a b : Bool) → (a || b) ≡ (b || a)
+or_swap true true = refl
+or_swap true false = refl
+or_swap false true = refl
+or_swap false false = refl
+
+pub IsKnown-next : (old new : Linter) (before : List PlainStanza) (s : PlainStanza) (mark : Option Postmark) (is_first : Bool) (place inside : Option Fault)
+    → is_first ≡ is_empty before → old.declarations ≡ declared before → IsKnown old before → mark ≡ postmark s
+    → place ≡ least (place_faults is_first old.requested mark s.line) → inside ≡ least (judged_faults mark old.declarations old.ids s)
+    → new.first ≡ lesser old.first (option_or place inside) → new.ids ≡ judged_ids mark old.ids s → new.requested ≡ (marks_request mark || old.requested)
+    → IsKnown new (before ++ s ∷ [])
+IsKnown-next old new before s mark is_first place inside first ds so_far marked place_is inside_is first_is ids_are requested =
+    let g = as_builder old before in
+    let builder = is_built old before so_far ds in
+    let was = requested_is g before builder in
+    record {
+      first_is = first_is ∙ faults-next stanza_faults before s old.first (option_or place inside) so_far.first_is
+          (stanza_least g before s builder mark is_first place inside (sym marked) first
+          (place_is ∙ ap (λ late. least (place_faults is_first late mark s.line)) (so_far.requested_is ∙ sym was))
+          (inside_is ∙ ap least (judged_inside mark old before s)));
+      ids_are = λ id.
+          ap (λ l. list_any (is_id id) l) (ids_are ∙ ids_inside mark is_first old before s)
+          ∙ (IsBuilt-next g before s builder mark is_first (sym marked) first).ids_are id;
+      requested_is = requested ∙ or_swap (marks_request mark) old.requested
+          ∙ (λ i. so_far.requested_is i || (ap marks_request marked ∙ sym (or_false (is_request s))) i)
+          ∙ sym (list_any-append is_request before (s ∷ []));
+    }
+
+declared_later : (before : List PlainStanza) (s : PlainStanza) → false ≡ is_empty before → declared (before ++ s ∷ []) ≡ declared before
+declared_later [] s some = absurd cc
+declared_later (t ∷ before) s some = refl
+
+pub GoesOn-next : (old new : Linter) (left later text : PlainText) (s : PlainStanza) → GoesOn old left text → ◌≡◌ {A = PlainText} left (record later { stanzas = s ∷ later.stanzas })
+    → ((before : List PlainStanza) → false ≡ is_empty before → old.declarations ≡ declared before → IsKnown old before → IsKnown new (before ++ s ∷ []))
+    → new.declarations ≡ old.declarations → GoesOn new later text
+GoesOn-next old new left later text s goes read knows same = record {
+  now = goes.now ++ s ∷ [];
+  some = sym (is_empty-push goes.now s);
+  declared_are = same ∙ goes.declared_are ∙ sym (declared_later goes.now s goes.some);
+  known = knows goes.now goes.some goes.declared_are goes.known;
+  whole = (λ i. let t : PlainText = record later { stanzas = append_assoc goes.now (s ∷ []) later.stanzas i } in t)
+      ∙ (λ i. let t : PlainText = record (sym read i) { stanzas = goes.now ++ (sym read i).stanzas } in t) ∙ goes.whole;
+}
+
+pub GoesOn-end : (k : Linter) (left text : PlainText) (fault : Option Fault) (lines : ℕ) (none : Bool) (line : ℕ) → GoesOn k left text → ◌≡◌ {A = PlainText} left (record { stanzas = []; fault = fault; lines = lines })
+    → none ≡ not k.requested → line ≡ max 1 lines
+    → lesser (lesser fault k.first) (least (fault_if none line E13)) ≡ least (problem_faults text)
+GoesOn-end k left text fault lines none line goes read none_is line_is =
+    let end : ◌≡◌ {A = PlainText} (record { stanzas = goes.now ++ []; fault = fault; lines = lines }) text =
+    (λ i. let t : PlainText = record (sym read i) { stanzas = goes.now ++ (sym read i).stanzas } in t) ∙ goes.whole in
+    let ss : goes.now ≡ text.stanzas = sym (append-nil goes.now) ∙ (λ i. (end i).stanzas) in
+    (λ i. lesser (lesser ((end i).fault) k.first) (least (fault_if none line E13)))
+    ∙ problem_least text k.first none line
+    (goes.known.first_is ∙ ap (λ l. least (flat_map stanza_faults (with_earlier [] l))) ss)
+    (none_is ∙ ap not (goes.known.requested_is ∙ ap (list_any is_request) ss))
+    (line_is ∙ (λ i. max 1 (end i).lines))
+
+pub no_stanza : (text : PlainText) (fault : Option Fault) (lines line : ℕ) → ◌≡◌ {A = PlainText} text (record { stanzas = []; fault = fault; lines = lines }) → line ≡ max 1 lines
+    → lesser fault (least (fault_if true line E13)) ≡ least (problem_faults text)
+no_stanza text fault lines line read line_is =
+    ap (λ f. lesser f (least (fault_if true line E13))) (sym (lesser-none fault) ∙ (λ i. lesser (sym read i).fault None))
+    ∙ problem_least text None true line (λ i. least (flat_map stanza_faults (with_earlier [] (sym read i).stanzas))) (λ i. not (list_any is_request (sym read i).stanzas)) (line_is ∙ (λ i. max 1 (sym read i).lines))
+
+pub GoesOn-first : (k : Linter) (later text : PlainText) (s : PlainStanza) → ◌≡◌ {A = PlainText} text (record later { stanzas = s ∷ later.stanzas })
+    → IsKnown k (s ∷ []) → k.declarations ≡ declared (s ∷ []) → GoesOn k later text
+GoesOn-first k later text s read knows ds = record { now = s ∷ []; some = refl; declared_are = ds; known = knows; whole = sym read }

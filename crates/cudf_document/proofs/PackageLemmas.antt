@@ -1,0 +1,231 @@
+-- The fields of a package.
+use Rattle.std.proofs.Common.{◌≡◌, ℕ, Bool, true, false, List, [], ◌∷◌, ◌++◌, map, Option, None, Some, is_some, find, refl, sym, ap, subst, ◌∙◌, if◌then◌else◌, option_map, option_and_then, bytes_eq, codes}
+use Rattle.std.specs.List.{list_any, flat_map}
+use Rattle.indexmap.specs.IndexSet.{insert_key}
+use Rattle.cudf_text.specs.declared.fault.Fault.{Fault}
+use Rattle.cudf_text.specs.declared.fault.Kind.TheVariants.{E7}
+use Rattle.cudf_text.specs.Stanzas.{PlainProperty}
+use Rattle.cudf_text.specs.Chars.{trim}
+use Rattle.cudf_value.specs.Types.{PlainType, vpkgformula_type, is_of_type}
+use Rattle.cudf_value.specs.Declarations.{PlainDeclaration}
+use Rattle.cudf_document.specs.declared.postmark.Postmark.TheVariants.{Package as PackageMark}
+use Rattle.cudf_document.specs.declared.package_property.PackageProperty.{PackageProperty}
+use Rattle.cudf_document.specs.declared.package_property.PackageProperty.TheVariants.{Package, Version, Depends, Conflicts, Provides, Installed, Keep, WasInstalled, Recommends}
+use Rattle.cudf_document.specs.Faults.{lesser, least}
+use Rattle.cudf_document.specs.Documents.{with_earlier, same_name, value_of}
+use Rattle.cudf_document.specs.Values.{name_value, version_value, formula_value, list_value, exact_list_value, truth_value, keep_value, can_be, package_tests, declared_test, test_of}
+use Rattle.cudf_document.specs.Preamble.{is_formula_type, recommends_in}
+use Rattle.cudf_document.specs.ProblemFaults.{property_faults}
+use Rattle.cudf_document.specs.Working.PackageFields.{PlainPackageFields, package_property_named, package_property_test, wrong_kind, fault_on, package_fields_of, with_package_property, no_package_fields, kind_after}
+use Rattle.cudf_document.proofs.FaultLemmas.{faults-next}
+use Rattle.cudf_document.proofs.NameLemmas.{AreNames-more, same_bytes, value_of-repeated, value_next}
+use Rattle.cudf_document.specs.Working.SeenNames.{AreNames}
+use Rattle.cudf_document.proofs.DeclarationLemmas.{test_of-declared}
+use Rattle.cudf_document.proofs.PropertyLemmas.{package_property}
+
+-- ---- a name is that of a field, or of none
+
+abbrev name_of : PackageProperty → List ℕ
+name_of Package = codes "package"
+name_of Version = codes "version"
+name_of Depends = codes "depends"
+name_of Conflicts = codes "conflicts"
+name_of Provides = codes "provides"
+name_of Installed = codes "installed"
+name_of Keep = codes "keep"
+name_of WasInstalled = codes "was-installed"
+name_of Recommends = codes "recommends"
+
+record IsOther (name : List ℕ) : Type 0 where
+  not_package : bytes_eq name (codes "package") ≡ false
+  not_version : bytes_eq name (codes "version") ≡ false
+  not_depends : bytes_eq name (codes "depends") ≡ false
+  not_conflicts : bytes_eq name (codes "conflicts") ≡ false
+  not_provides : bytes_eq name (codes "provides") ≡ false
+  not_installed : bytes_eq name (codes "installed") ≡ false
+  not_keep : bytes_eq name (codes "keep") ≡ false
+  not_was_installed : bytes_eq name (codes "was-installed") ≡ false
+  not_recommends : bytes_eq name (codes "recommends") ≡ false
+
+-- what holds at the name of each field, and at any other name, holds
+by_package_property : (P : List ℕ → Type 0) → ((f : PackageProperty) → P (name_of f)) → (name : List ℕ) → (IsOther name → P name) → P name
+by_package_property P known name other =
+    at (codes "package") Package refl (λ not_package.
+    at (codes "version") Version refl (λ not_version.
+    at (codes "depends") Depends refl (λ not_depends.
+    at (codes "conflicts") Conflicts refl (λ not_conflicts.
+    at (codes "provides") Provides refl (λ not_provides.
+    at (codes "installed") Installed refl (λ not_installed.
+    at (codes "keep") Keep refl (λ not_keep.
+    at (codes "was-installed") WasInstalled refl (λ not_was_installed.
+    at (codes "recommends") Recommends refl (λ not_recommends.
+    other (record {
+      not_package = not_package;
+      not_version = not_version;
+      not_depends = not_depends;
+      not_conflicts = not_conflicts;
+      not_provides = not_provides;
+      not_installed = not_installed;
+      not_keep = not_keep;
+      not_was_installed = not_was_installed;
+      not_recommends = not_recommends;
+    }))))))))))
+  where
+    at : (word : List ℕ) (f : PackageProperty) → name_of f ≡ word → (bytes_eq name word ≡ false → P name) → P name
+    at word f is rest = by (bytes_eq name word) refl
+      where
+        by : (b : Bool) → bytes_eq name word ≡ b → P name
+        by true same = subst P (is ∙ sym (same_bytes name word same)) (known f)
+        by false differs = rest differs
+
+-- ---- tests
+
+-- what a package's property has to be, by its field
+pub test_of-field : (ds : List PlainDeclaration) (name : List ℕ) → test_of name (package_tests ++ map declared_test ds) ≡ package_property_test ds (package_property_named name) name
+test_of-field ds name = by_package_property (λ n. test_of n (package_tests ++ map declared_test ds) ≡ package_property_test ds (package_property_named n) n) known name other
+  where
+    known : (f : PackageProperty) → test_of (name_of f) (package_tests ++ map declared_test ds) ≡ package_property_test ds (package_property_named (name_of f)) (name_of f)
+    known Package = refl
+    known Version = refl
+    known Depends = refl
+    known Conflicts = refl
+    known Provides = refl
+    known Installed = refl
+    known Keep = refl
+    known WasInstalled = refl
+    known Recommends = refl
+
+    other : IsOther name → test_of name (package_tests ++ map declared_test ds) ≡ package_property_test ds (package_property_named name) name
+    other o = simp (o.not_package, o.not_version, o.not_depends, o.not_conflicts, o.not_provides, o.not_installed, o.not_keep, o.not_was_installed, o.not_recommends)
+
+formula_test : (d : PlainDeclaration) (kind : PlainType) → is_some (if is_formula_type kind then Some d else None) ≡ true → (λ (text : List ℕ). is_of_type kind (trim text)) ≡ can_be formula_value
+formula_test d vpkgformula_type h = refl
+formula_test d _ h = absurd cc
+
+-- where `recommends` is declared as a formula, it has to be one
+pub recommends_test : (ds : List PlainDeclaration) → is_some (recommends_in ds) ≡ true → test_of (codes "recommends") (map declared_test ds) ≡ Some (can_be formula_value)
+recommends_test ds h = test_of-declared (codes "recommends") ds ∙ by (find (λ d. bytes_eq (codes "recommends") d.name) ds) h
+  where
+    by : (x : Option PlainDeclaration) → is_some (option_and_then (λ d. if is_formula_type d.kind then Some d else None) x) ≡ true
+        → option_map (λ d. (declared_test d).1) x ≡ Some (can_be formula_value)
+    by None h = absurd cc
+    by (Some d) h = ap (λ t. Some t) (formula_test d d.kind h)
+
+-- ---- values
+
+-- a repeated property changes no value
+pub package_fields_of-repeated : (ds : List PlainDeclaration) (ps : List PlainProperty) (p : PlainProperty) → list_any (same_name p) ps ≡ true → package_fields_of ds (ps ++ p ∷ []) ≡ package_fields_of ds ps
+package_fields_of-repeated ds ps p again = λ i. record {
+  name = value_of-repeated name_value (codes "package") ps p again i;
+  version = value_of-repeated version_value (codes "version") ps p again i;
+  depends = value_of-repeated formula_value (codes "depends") ps p again i;
+  conflicts = value_of-repeated list_value (codes "conflicts") ps p again i;
+  provides = value_of-repeated exact_list_value (codes "provides") ps p again i;
+  installed = value_of-repeated truth_value (codes "installed") ps p again i;
+  keep = value_of-repeated keep_value (codes "keep") ps p again i;
+  recommends = if is_some (recommends_in ds) then value_of-repeated formula_value (codes "recommends") ps p again i else None;
+}
+
+-- the values, each with what a text says of it, where the name is its own
+abbrev says : List PlainDeclaration → List PlainProperty → List ℕ → List ℕ → PlainPackageFields
+says ds ps text name = record {
+  name = if bytes_eq name (codes "package") then name_value text else value_of name_value (codes "package") ps;
+  version = if bytes_eq name (codes "version") then version_value text else value_of version_value (codes "version") ps;
+  depends = if bytes_eq name (codes "depends") then formula_value text else value_of formula_value (codes "depends") ps;
+  conflicts = if bytes_eq name (codes "conflicts") then list_value text else value_of list_value (codes "conflicts") ps;
+  provides = if bytes_eq name (codes "provides") then exact_list_value text else value_of exact_list_value (codes "provides") ps;
+  installed = if bytes_eq name (codes "installed") then truth_value text else value_of truth_value (codes "installed") ps;
+  keep = if bytes_eq name (codes "keep") then keep_value text else value_of keep_value (codes "keep") ps;
+  recommends = if is_some (recommends_in ds) then (if bytes_eq name (codes "recommends") then formula_value text else value_of formula_value (codes "recommends") ps) else None;
+}
+
+package_fields_of-says : (ds : List PlainDeclaration) (ps : List PlainProperty) (p : PlainProperty) → list_any (same_name p) ps ≡ false → package_fields_of ds (ps ++ p ∷ []) ≡ says ds ps p.value p.name
+package_fields_of-says ds ps p new = λ i. record {
+  name = value_next name_value (codes "package") ps p new i;
+  version = value_next version_value (codes "version") ps p new i;
+  depends = value_next formula_value (codes "depends") ps p new i;
+  conflicts = value_next list_value (codes "conflicts") ps p new i;
+  provides = value_next exact_list_value (codes "provides") ps p new i;
+  installed = value_next truth_value (codes "installed") ps p new i;
+  keep = value_next keep_value (codes "keep") ps p new i;
+  recommends = if is_some (recommends_in ds) then value_next formula_value (codes "recommends") ps p new i else None;
+}
+
+recommends_says : {A : Type 0} (declared : Bool) (new old : Option A) → (if declared then new else (if declared then old else None)) ≡ (if declared then new else None)
+recommends_says true new old = refl
+recommends_says false new old = refl
+
+-- what a text says of the field of a name
+with_package_property-says : (ds : List PlainDeclaration) (ps : List PlainProperty) (text name : List ℕ) → with_package_property ds (package_property_named name) text (package_fields_of ds ps) ≡ says ds ps text name
+with_package_property-says ds ps text name = by_package_property (λ n. with_package_property ds (package_property_named n) text (package_fields_of ds ps) ≡ says ds ps text n) known name other
+  where
+    known : (f : PackageProperty) → with_package_property ds (package_property_named (name_of f)) text (package_fields_of ds ps) ≡ says ds ps text (name_of f)
+    known Package = refl
+    known Version = refl
+    known Depends = refl
+    known Conflicts = refl
+    known Provides = refl
+    known Installed = refl
+    known Keep = refl
+    known WasInstalled = refl
+    known Recommends = ap (λ r. record (package_fields_of ds ps) { recommends = r })
+        (recommends_says (is_some (recommends_in ds)) (formula_value text) (value_of formula_value (codes "recommends") ps))
+
+    other : IsOther name → with_package_property ds (package_property_named name) text (package_fields_of ds ps) ≡ says ds ps text name
+    other o = simp (o.not_package, o.not_version, o.not_depends, o.not_conflicts, o.not_provides, o.not_installed, o.not_keep, o.not_was_installed, o.not_recommends)
+
+-- the values with one more property, the first of its name or a repeated one
+package_fields_of-next : (ds : List PlainDeclaration) (ps : List PlainProperty) (p : PlainProperty)
+    → (if list_any (same_name p) ps then package_fields_of ds ps else with_package_property ds (package_property_named p.name) p.value (package_fields_of ds ps)) ≡ package_fields_of ds (ps ++ p ∷ [])
+package_fields_of-next ds ps p = by (list_any (same_name p) ps) refl
+  where
+    by : (b : Bool) → list_any (same_name p) ps ≡ b
+        → (if b then package_fields_of ds ps else with_package_property ds (package_property_named p.name) p.value (package_fields_of ds ps)) ≡ package_fields_of ds (ps ++ p ∷ [])
+    by true again = sym (package_fields_of-repeated ds ps p again)
+    by false new = with_package_property-says ds ps p.value p.name ∙ sym (package_fields_of-says ds ps p new)
+
+no_recommends : {A : Type 0} (declared : Bool) → ◌≡◌ {A = Option A} None (if declared then None else None)
+no_recommends true = refl
+no_recommends false = refl
+
+pub package_fields_of-none : (ds : List PlainDeclaration) (values : PlainPackageFields) → values ≡ no_package_fields → values ≡ package_fields_of ds []
+package_fields_of-none ds values nothing = nothing ∙ ap (λ r. record no_package_fields { recommends = r }) (no_recommends (is_some (recommends_in ds)))
+
+pub package_fields_of-first : (ds : List PlainDeclaration) (ps : List PlainProperty) (p : PlainProperty) (old : PlainPackageFields) → old ≡ package_fields_of ds ps → list_any (same_name p) ps ≡ false
+    → with_package_property ds (package_property_named p.name) p.value old ≡ package_fields_of ds (ps ++ p ∷ [])
+package_fields_of-first ds ps p old is new = ap (with_package_property ds (package_property_named p.name) p.value) is ∙ with_package_property-says ds ps p.value p.name ∙ sym (package_fields_of-says ds ps p new)
+
+-- ---- a package's properties, one after the other
+
+pub record IsJudgedTo (ds : List PlainDeclaration) (ps : List PlainProperty) (names : List (List ℕ)) (first : Option Fault) : Type 0 where
+  pub names_are : AreNames names ps
+  pub first_is : first ≡ least (flat_map (property_faults ds (Some PackageMark)) (with_earlier [] ps))
+
+pub IsJudgedTo-none : (ds : List PlainDeclaration) (names : List (List ℕ)) → names ≡ [] → IsJudgedTo ds [] names None
+IsJudgedTo-none ds names none = record { names_are = λ name. ap (list_any (bytes_eq name)) none; first_is = refl }
+
+pub IsJudgedTo-next : (ds : List PlainDeclaration) (ps : List PlainProperty) (names : List (List ℕ)) (first : Option Fault) (p : PlainProperty)
+    (more : List PlainProperty) (new_names : List (List ℕ)) (fault new_first : Option Fault)
+    → IsJudgedTo ds ps names first → more ≡ ps ++ p ∷ [] → new_names ≡ insert_key bytes_eq names p.name
+    → fault ≡ fault_on p.line (kind_after ds names p) → new_first ≡ lesser first fault
+    → IsJudgedTo ds more new_names new_first
+IsJudgedTo-next ds ps names first p more new_names fault new_first so_far more_is names_is fault_is lesser_is = record {
+  names_are = AreNames-more names ps p more new_names so_far.names_are more_is names_is;
+  first_is = lesser_is ∙ faults-next (property_faults ds (Some PackageMark)) ps p first fault so_far.first_is
+      (fault_is
+      ∙ ap (fault_on p.line) (λ i. if so_far.names_are p.name i then Some E7 else wrong_kind (sym (test_of-field ds p.name) i) p.value)
+      ∙ sym (package_property p.line (list_any (same_name p) ps) (test_of p.name (package_tests ++ map declared_test ds)) p.value))
+      ∙ ap (λ qs. least (flat_map (property_faults ds (Some PackageMark)) (with_earlier [] qs))) (sym more_is);
+}
+
+pub version_kind : (ds : List PlainDeclaration) (name text : List ℕ) → bytes_eq name (codes "version") ≡ true
+    → wrong_kind (package_property_test ds (package_property_named name) name) text ≡ wrong_kind (Some (can_be version_value)) text
+version_kind ds name text same = ap (λ n. wrong_kind (package_property_test ds (package_property_named n) n) text) (same_bytes name (codes "version") same)
+
+pub value_first : {A : Type 0} (read : List ℕ → Option A) (name : List ℕ) (ps : List PlainProperty) (p : PlainProperty) → bytes_eq p.name name ≡ true
+    → list_any (same_name p) ps ≡ false → read p.value ≡ value_of read name (ps ++ p ∷ [])
+value_first read name ps p same new = sym (value_next read name ps p new ∙ ap (λ b. if b then read p.value else value_of read name ps) same)
+
+pub value_kept : {A : Type 0} (read : List ℕ → Option A) (name : List ℕ) (ps : List PlainProperty) (p : PlainProperty) → bytes_eq p.name name ≡ false
+    → list_any (same_name p) ps ≡ false → value_of read name ps ≡ value_of read name (ps ++ p ∷ [])
+value_kept read name ps p other new = sym (value_next read name ps p new ∙ ap (λ b. if b then read p.value else value_of read name ps) other)

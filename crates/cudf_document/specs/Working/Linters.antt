@@ -1,0 +1,40 @@
+-- What is known after some stanzas, where they are only judged.
+use Rattle.std.specs.Prelude.{◌≡◌, false, List, [], ◌++◌, filter_map, Option, Some, None}
+use Rattle.std.specs.List.{list_any, flat_map}
+use Rattle.cudf_text.specs.Stanzas.{PlainStanza, PlainText}
+use Rattle.cudf_document.specs.declared.lint.Linter.{Linter}
+use Rattle.cudf_document.specs.Faults.{least}
+use Rattle.cudf_document.specs.Documents.{is_empty, with_earlier, is_request}
+use Rattle.cudf_document.specs.Ids.{Id, is_among, id_of, id_under, with_id}
+use Rattle.cudf_document.specs.ProblemFaults.{properties_faults, stanza_faults}
+use Rattle.cudf_text.specs.declared.fault.Fault.{Fault}
+use Rattle.cudf_value.specs.Declarations.{PlainDeclaration}
+use Rattle.cudf_document.specs.declared.postmark.Postmark.{Postmark}
+use Rattle.cudf_document.specs.declared.postmark.Postmark.TheVariants.{Package}
+use Rattle.cudf_document.specs.Preamble.{declared}
+use Rattle.cudf_document.specs.Working.ProblemBuilders.{package_faults}
+
+-- the faults inside a stanza with a postmark, after these declarations, names and versions
+abbrev pub judged_faults : Option Postmark → List PlainDeclaration → List Id → PlainStanza → List Fault
+judged_faults (Some Package) ds ids s = package_faults ds ids s
+judged_faults (Some mark) ds ids s = properties_faults [] (Some mark) s.properties
+judged_faults None ds ids s = []
+
+-- the names and versions after it
+abbrev pub judged_ids : Option Postmark → List Id → PlainStanza → List Id
+judged_ids (Some Package) ids s = with_id ids (id_under (Some Package) s.properties)
+judged_ids _ ids s = ids
+
+-- the first fault of these stanzas, their names and versions, and whether one is a request
+pub record IsKnown (k : Linter) (before : List PlainStanza) : Type 0 where
+  pub first_is : k.first ≡ least (flat_map stanza_faults (with_earlier [] before))
+  pub ids_are : (id : Id) → is_among k.ids id ≡ is_among (filter_map id_of before) id
+  pub requested_is : k.requested ≡ list_any is_request before
+
+-- some stanzas of the text are known, and these are left
+pub record GoesOn (k : Linter) (left text : PlainText) : Type 0 where
+  pub now : List PlainStanza
+  pub some : false ≡ is_empty now
+  pub declared_are : k.declarations ≡ declared now
+  pub known : IsKnown k now
+  pub whole : ◌≡◌ {A = PlainText} (record left { stanzas = now ++ left.stanzas }) text

@@ -1,0 +1,102 @@
+-- What the stanzas of a problem say, while they are read.
+use Rattle.std.specs.Prelude.{◌≡◌, ℕ, Bool, not, List, [], ◌∷◌, ◌++◌, map, filter_map, Option, Some, None, option_map, option_to_list, is_some, is_none, bytes_eq, codes, if◌then◌else◌}
+use Rattle.std.specs.List.{list_any, flat_map}
+use Rattle.indexmap.specs.IndexSet.{insert_key}
+use Rattle.cudf_text.specs.declared.fault.Fault.{Fault}
+use Rattle.cudf_text.specs.declared.fault.Kind.{Kind}
+use Rattle.cudf_text.specs.declared.fault.Kind.TheVariants.{E7, E10, E11, E12}
+use Rattle.cudf_text.specs.Stanzas.{PlainProperty, PlainStanza}
+use Rattle.cudf_value.specs.Declarations.{PlainDeclaration}
+use Rattle.cudf_document.specs.declared.postmark.Postmark.{Postmark}
+use Rattle.cudf_document.specs.declared.postmark.Postmark.TheVariants.{Preamble, Package, Request}
+use Rattle.cudf_document.specs.declared.problem_builder.ProblemBuilder.{ProblemBuilder}
+use Rattle.cudf_document.specs.Faults.{least, fault_if}
+use Rattle.cudf_document.specs.Documents.{is_empty, has_name, with_earlier, line_of}
+use Rattle.cudf_document.specs.Ids.{Id, is_id, is_among, is_known, id_under, id_of, with_id}
+use Rattle.cudf_document.specs.Preamble.{declared_after, is_bad_declaration, declared, recommends_default}
+use Rattle.cudf_document.specs.ProblemFaults.{properties_faults, version_property, stanza_faults}
+use Rattle.cudf_document.specs.Universe.{PlainPackage, package_id, PlainRequest, PlainProblem, or_default, no_request, package_view, request_view, request_of, packages_in, request_in}
+use Rattle.cudf_document.specs.Working.PackageFields.{package_fields_of, package_from}
+
+-- what is wrong with a preamble's property: it is a bad declaration, or else it is repeated
+abbrev pub preamble_kind_after : List PlainDeclaration → List (List ℕ) → PlainProperty → Option Kind
+preamble_kind_after ds names p = if has_name (codes "property") p then (if is_bad_declaration ds p then Some E10 else None)
+    else (if list_any (bytes_eq p.name) names then Some E7 else None)
+
+pub record PlainBuilder : Type 0 where
+  pub declared : List PlainDeclaration
+  pub ids : List Id
+  pub packages : List PlainPackage
+  pub request : Option PlainRequest
+
+abbrev pub builder_view : ProblemBuilder → PlainBuilder
+builder_view g = record {
+  declared = g.declarations;
+  ids = g.ids;
+  packages = map package_view g.packages.items;
+  request = option_map request_view g.request;
+}
+
+-- what a preamble adds, where it is the first stanza
+abbrev pub with_preamble : Bool → PlainStanza → PlainBuilder → PlainBuilder
+with_preamble is_first s g = record g { declared = if is_first then declared_after [] s.properties else g.declared }
+
+-- what a package adds
+abbrev pub with_package : PlainStanza → PlainBuilder → PlainBuilder
+with_package s g = record g {
+  ids = with_id g.ids (id_under (Some Package) s.properties);
+  packages = g.packages ++ option_to_list (package_from s.line (package_fields_of g.declared s.properties));
+}
+
+-- what a request adds, where it is the first
+abbrev pub with_request : PlainStanza → PlainBuilder → PlainBuilder
+with_request s g = record g { request = if is_some g.request then g.request else Some (request_of s) }
+
+-- what any stanza adds
+abbrev pub with_stanza : Option Postmark → Bool → PlainStanza → PlainBuilder → PlainBuilder
+with_stanza (Some Preamble) is_first s g = with_preamble is_first s g
+with_stanza (Some Package) is_first s g = with_package s g
+with_stanza (Some Request) is_first s g = with_request s g
+with_stanza None is_first s g = g
+
+-- the faults of a package's properties, and of its name and version among others
+abbrev pub package_faults : List PlainDeclaration → List Id → PlainStanza → List Fault
+package_faults ds ids s =
+    properties_faults ds (Some Package) s.properties
+    ++ fault_if (is_known ids (id_under (Some Package) s.properties)) (line_of (version_property s)) E11
+    ++ fault_if (is_none (version_property s)) s.last E12
+
+-- the faults inside a stanza with a postmark
+abbrev pub faults_inside : Option Postmark → PlainBuilder → PlainStanza → List Fault
+faults_inside (Some Package) g s = package_faults g.declared g.ids s
+faults_inside (Some mark) g s = properties_faults [] (Some mark) s.properties
+faults_inside None g s = []
+
+-- ---- what is known after some stanzas
+
+-- this was gathered of the stanzas
+pub record IsBuilt (g : PlainBuilder) (before : List PlainStanza) : Type 0 where
+  pub declared_are : g.declared ≡ declared before
+  pub ids_are : (id : Id) → is_among g.ids id ≡ is_among (filter_map id_of before) id
+  pub packages_are : g.packages ≡ packages_in before
+  pub request_is : g.request ≡ request_in before
+
+-- the pairs with these, each once, in the order in which they first came
+abbrev pub first_ids : List Id → List Id → List Id
+first_ids ids [] = ids
+first_ids ids (id ∷ more) = first_ids (insert_key is_id ids id) more
+
+-- the pairs are those of the packages
+abbrev pub IsListed : PlainBuilder → Type 0
+IsListed g = g.ids ≡ first_ids [] (map package_id g.packages)
+
+-- and this is their first fault
+pub record Knows (fault : Option Fault) (started : Bool) (g : PlainBuilder) (before : List PlainStanza) : Type 0 where
+  pub first_is : fault ≡ least (flat_map stanza_faults (with_earlier [] before))
+  pub started_is : not started ≡ is_empty before
+  pub builder : IsBuilt g before
+  pub listed : IsListed g
+
+-- the problem of what was gathered
+abbrev pub problem_of : PlainBuilder → PlainProblem
+problem_of g = record { packages = g.packages; request = or_default no_request g.request; recommends = recommends_default g.declared }

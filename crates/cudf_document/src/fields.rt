@@ -1,0 +1,167 @@
+//! What a package's properties are read into.
+ghost use Rattle.std.specs.Prelude.{◌≡◌, ◌++◌, ◌∷◌, [], List, Some, bytes_eq, map, IfOk, OnOk};
+ghost use Rattle.indexmap.specs.IndexSet.{insert_key};
+ghost use Rattle.cudf_text.specs.Stanzas.{PlainProperty};
+ghost use Rattle.cudf_text.specs.Views.{property_view};
+ghost use Rattle.cudf_document.specs.Faults.{least};
+ghost use Rattle.cudf_document.specs.Working.SeenNames.{AreNames};
+ghost use Rattle.cudf_document.specs.ProblemFaults.{properties_faults};
+ghost use Rattle.cudf_document.specs.Working.PackageFields.{fault_on, kind_after, package_property_named, package_property_test, wrong_kind};
+ghost use Rattle.cudf_document.specs.declared.postmark.Postmark.TheVariants.{Package as PackageMark};
+
+use crate::declarations::{Declarations, mistyped_unless};
+use crate::fault::{fault_on, lesser};
+use crate::package_fields::read_keep;
+use crate::package_property::{PackageProperty, package_property_named};
+use crate::seen_names::SeenNames;
+use cudf_text::{Fault, Kind, Property};
+use cudf_value::{is_formula, is_pkgname, is_veqpkglist, is_vpkglist, read_bool, read_posint};
+use std::alloc::{AllocError, Global};
+
+/// What a package's properties are read into.
+pub(crate) trait Fields<'s>: Sized + Drop {
+    ghost use Rattle.std.specs.Prelude.{◌≡◌, ◌++◌, ◌∷◌, [], List, ℕ, false, true, IfOk, OnOk};
+    ghost use Rattle.std.specs.List.{list_any};
+    ghost use Rattle.cudf_text.specs.Stanzas.{PlainProperty};
+    ghost use Rattle.cudf_text.specs.Views.{property_view};
+    ghost use Rattle.cudf_value.specs.Declarations.{PlainDeclaration};
+    ghost use Rattle.cudf_document.specs.Documents.{same_name};
+    ghost use Rattle.cudf_document.specs.Working.PackageFields.{package_property_named, package_property_test, wrong_kind};
+
+    // This was read of the properties.
+    ghost IsRead: { List PlainDeclaration → List PlainProperty → Self → Type 0 };
+
+    fn start() -> Self
+        ensures { (ds : List PlainDeclaration) → IsRead ds [] result };
+
+    /// Keeps what a property says that is the first of its name, and says what is wrong with it.
+    fn set<'a>(
+        &mut self,
+        alloc: Global,
+        declarations: &Declarations<'_>,
+        property: &'s Property<'a>,
+    ) -> Result<Option<Kind>, AllocError>
+        ensures kind { IfOk result (λ kind.
+            kind
+            ≡ wrong_kind (package_property_test declarations.now (package_property_named property.now.name.now) property.now.name.now) (property_view property.now).value) }
+        ensures read { (ps : List PlainProperty) →
+            list_any (same_name (property_view property.now)) ps ≡ false →
+            IsRead declarations.now ps self.old →
+            OnOk result (IsRead declarations.now (ps ++ property_view property.now ∷ []) self.new) };
+
+    /// A repeated property says nothing. (Does nothing: its contract is a law.)
+    fn skip(&self, declarations: &Declarations<'_>, property: &Property<'_>)
+        ensures { (ps : List PlainProperty) →
+            list_any (same_name (property_view property.now)) ps ≡ true →
+            IsRead declarations.now ps self.now →
+            IsRead declarations.now (ps ++ property_view property.now ∷ []) self.now };
+}
+
+/// The first fault of a package's properties, and what was read of them.
+pub(crate) fn read_properties<'n, 's, 'a, S: Fields<'s>>(
+    alloc: Global,
+    names: &mut SeenNames<'n>,
+    declarations: &Declarations<'_>,
+    properties: &'s [Property<'a>],
+) -> Result<(Option<Fault>, S), AllocError>
+where
+    'a: 'n,
+    ensures fault { IfOk result (λ r.
+        r.0
+        ≡ least (properties_faults declarations.now (Some PackageMark) (map property_view properties.now))) }
+    ensures read { IfOk result (λ r. S.IsRead declarations.now (map property_view properties.now) r.1) }
+{
+    names.clear(alloc);
+    let mut first = None;
+    let mut sink = S::start();
+    for property in properties {
+        let fault = read_property(alloc, names, declarations, &mut sink, property)?;
+        first = lesser(first, fault);
+    }
+    Ok((first, sink))
+}
+
+/// Reads a property into the sink, if it is the first of its name, and answers its fault.
+fn read_property<'n, 's, 'a, S: Fields<'s>>(
+    alloc: Global,
+    names: &mut SeenNames<'n>,
+    declarations: &Declarations<'_>,
+    sink: &mut S,
+    property: &'s Property<'a>,
+) -> Result<Option<Fault>, AllocError>
+where
+    'a: 'n,
+    ensures fault { IfOk result (λ fault.
+        fault
+        ≡ fault_on property.now.line (kind_after declarations.now names.old (property_view property.now))) }
+    ensures names { OnOk result (names.new ≡ insert_key bytes_eq names.old property.now.name.now) }
+    ensures read { (ps : List PlainProperty) →
+        AreNames names.old ps →
+        S.IsRead declarations.now ps sink.old →
+        OnOk result (S.IsRead declarations.now (ps ++ property_view property.now ∷ []) sink.new) }
+{
+    if !names.insert(property.name)? {
+        sink.skip(declarations, property);
+        return Ok(fault_on(property.line, Some(Kind::E7)));
+    }
+    let kind = sink.set(alloc, declarations, property)?;
+    Ok(fault_on(property.line, kind))
+}
+
+/// The version, which is all that is kept of a package that is only judged.
+#[derive(Drop)]
+pub(crate) struct LintedPackage {
+    pub(crate) version: Option<u64>,
+}
+
+impl<'s> Fields<'s> for LintedPackage {
+    ghost use Rattle.std.specs.Prelude.{◌≡◌, codes};
+    ghost use Rattle.cudf_document.specs.Documents.{value_of};
+    ghost use Rattle.cudf_document.specs.Values.{version_value};
+
+    ghost IsRead = { λ ds ps s. s.version ≡ value_of version_value (codes "version") ps };
+
+    fn start() -> Self {
+        LintedPackage { version: None }
+    }
+
+    fn set<'a>(
+        &mut self,
+        alloc: Global,
+        declarations: &Declarations<'_>,
+        property: &'s Property<'a>,
+    ) -> Result<Option<Kind>, AllocError> {
+        let text = property.value.as_str();
+        if property.name == "version" {
+            self.version = read_posint(text);
+            return Ok(mistyped_unless(self.version.is_some()));
+        }
+        judge(alloc, declarations, property.name, text)
+    }
+
+    fn skip(&self, declarations: &Declarations<'_>, property: &Property<'_>) {}
+}
+
+/// What is wrong with a property that stands once.
+fn judge(
+    alloc: Global,
+    declarations: &Declarations<'_>,
+    name: &str,
+    text: &str,
+) -> Result<Option<Kind>, AllocError>
+    ensures { IfOk result (λ kind.
+        kind ≡ wrong_kind (package_property_test declarations.now (package_property_named name.now) name.now) text.now) }
+{
+    match package_property_named(name) {
+        Some(PackageProperty::Package) => Ok(mistyped_unless(is_pkgname(text))),
+        Some(PackageProperty::Version) => Ok(mistyped_unless(read_posint(text).is_some())),
+        Some(PackageProperty::Depends) => Ok(mistyped_unless(is_formula(text))),
+        Some(PackageProperty::Conflicts) => Ok(mistyped_unless(is_vpkglist(text))),
+        Some(PackageProperty::Provides) => Ok(mistyped_unless(is_veqpkglist(text))),
+        Some(PackageProperty::Installed) => Ok(mistyped_unless(read_bool(text).is_some())),
+        Some(PackageProperty::Keep) => Ok(mistyped_unless(read_keep(text).is_some())),
+        Some(PackageProperty::WasInstalled) => Ok(None),
+        Some(PackageProperty::Recommends) => declarations.wrong_kind(alloc, "recommends", text),
+        None => declarations.wrong_kind(alloc, name, text),
+    }
+}

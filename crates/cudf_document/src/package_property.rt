@@ -1,0 +1,35 @@
+//! The properties of a package that have a place in it.
+ghost use Rattle.std.specs.Prelude.{◌≡◌};
+ghost use Rattle.cudf_document.specs.Working.PackageFields.{package_property_named};
+
+/// A property that CUDF defines for packages, or `recommends`.
+#[derive(Clone, Copy, Debug, PartialEq, Eq)]
+pub(crate) enum PackageProperty {
+    Package,
+    Version,
+    Depends,
+    Conflicts,
+    Provides,
+    Installed,
+    Keep,
+    WasInstalled,
+    Recommends,
+}
+
+/// The field of this name, if there is one.
+pub(crate) fn package_property_named(name: &str) -> Option<PackageProperty>
+    ensures { result ≡ package_property_named name.now }
+{
+    match name {
+        "package" => Some(PackageProperty::Package),
+        "version" => Some(PackageProperty::Version),
+        "depends" => Some(PackageProperty::Depends),
+        "conflicts" => Some(PackageProperty::Conflicts),
+        "provides" => Some(PackageProperty::Provides),
+        "installed" => Some(PackageProperty::Installed),
+        "keep" => Some(PackageProperty::Keep),
+        "was-installed" => Some(PackageProperty::WasInstalled),
+        "recommends" => Some(PackageProperty::Recommends),
+        _ => None,
+    }
+}

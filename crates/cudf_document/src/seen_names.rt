@@ -1,0 +1,72 @@
+//! The names of a stanza's properties.
+ghost use Rattle.std.specs.Prelude.{◌≡◌, [], not, bytes_eq, IfOk, OnOk};
+ghost use Rattle.std.specs.List.{list_any};
+ghost use Rattle.indexmap.specs.IndexSet.{insert_key};
+
+use indexmap::IndexSet;
+use std::alloc::{AllocError, Global};
+use std::marker::Model;
+
+/// How many names are looked through one by one at most, which is faster than a set.
+const MAX_FIRST: usize = 24;
+
+/// The names that were seen, each once.
+#[derive(Drop)]
+pub(crate) struct SeenNames<'t> {
+    first: Vec<&'t str>,
+    /// Those after them.
+    rest: IndexSet<&'t str>,
+}
+
+impl<'t> Model for SeenNames<'t> {
+    ghost use Rattle.std.specs.Prelude.{List, ℕ, map, ◌++◌};
+
+    ghost Value = { List (List ℕ) };
+
+    ghost view = { λ n. map (λ name. name.now) (n.first.items ++ n.rest.keys) };
+}
+
+impl<'t> SeenNames<'t> {
+    pub(crate) fn new(alloc: Global) -> Self
+        ensures { result ≡ [] }
+    {
+        SeenNames {
+            first: Vec::new(alloc),
+            rest: IndexSet::new(alloc),
+        }
+    }
+
+    /// Forgets all names. The set is dropped, since clearing costs time in its capacity.
+    pub(crate) fn clear(&mut self, alloc: Global)
+        ensures { self.new ≡ [] }
+    {
+        if self.rest.is_empty() {
+            self.first.clear();
+        } else {
+            *self = SeenNames::new(alloc);
+        }
+    }
+
+    /// Adds the name, and says whether it is new.
+    pub(crate) fn insert(&mut self, name: &'t str) -> Result<bool, AllocError>
+        ensures is_new { IfOk result (λ is_new.
+            is_new ≡ not (list_any (bytes_eq name.now) self.old)) }
+        ensures names { OnOk result (self.new ≡ insert_key bytes_eq self.old name.now) }
+    {
+        if is_among(name, &self.first) {
+            return Ok(false);
+        }
+        if self.first.len() < MAX_FIRST && self.rest.is_empty() {
+            self.first.push(name)?;
+            return Ok(true);
+        }
+        Ok(self.rest.insert(name)?)
+    }
+}
+
+/// Whether the name is one of these.
+fn is_among(name: &str, names: &[&str]) -> bool
+    ensures { result ≡ list_any (λ seen. bytes_eq name.now seen.now) names.now }
+{
+    names.iter().any(|seen| name == *seen)
+}

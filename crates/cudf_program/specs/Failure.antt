@@ -1,0 +1,28 @@
+-- The exit statuses where the program wrote no whole report.
+use Rattle.std.specs.Prelude.{ℕ}
+use Rattle.std.specs.declared.io.Error.{Error}
+use Rattle.std.specs.declared.io.ErrorKind.{ErrorKind}
+use Rattle.std.specs.declared.io.ErrorKind.TheVariants.{OutOfMemory}
+use Rattle.cudf_program.specs.Usage.{usage_status}
+use Rattle.cudf_check.specs.Outcome.{error_status}
+use Rattle.cudf_program.specs.declared.command.FileName.{FileName}
+use Rattle.cudf_program.specs.declared.failure.Failure.{Failure}
+use Rattle.cudf_program.specs.declared.failure.Failure.TheVariants.{Words, Usage, Open, Run}
+use Rattle.cudf_check.specs.declared.outcome.RunError.TheVariants.{Memory}
+
+-- words that can't be had are a usage fault, and a file that can't be opened is one of files
+abbrev pub failure_status : Failure → ℕ
+failure_status (Words error) = 4
+failure_status (Usage usage) = usage_status usage
+failure_status (Open name error) = 5
+failure_status (Run error) = error_status error
+
+-- why the words can't be had: out of memory is told as such
+abbrev pub words_failure : ErrorKind → Error → Failure
+words_failure OutOfMemory error = Run Memory
+words_failure _ error = Words error
+
+-- why the file can't be opened: out of memory is told as such, and anything else names the file
+abbrev pub open_failure : ErrorKind → FileName → Error → Failure
+open_failure OutOfMemory name error = Run Memory
+open_failure _ name error = Open name error

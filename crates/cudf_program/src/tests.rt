@@ -1,0 +1,4 @@
+//! From the words to the bytes on both outputs, over files that the tests write.
+mod output;
+mod usage;
+mod words;

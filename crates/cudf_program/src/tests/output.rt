@@ -1,0 +1,227 @@
+//! What the program prints, and its exit status, over files that the tests write.
+use crate::respond;
+use crate::tests::words::words;
+use std::fs;
+use std::test::Fail;
+
+const PROBLEM: &str =
+    "package: car\nversion: 1\ndepends: wheel > 2\ninstalled: true\n\npackage: wheel\nversion: 2\ninstalled: true\n\nrequest: r\n";
+
+const SOLUTION: &str = "package: car\nversion: 1\ninstalled: true\n";
+
+const JOINED: &str =
+    "package: car\nversion: 1\ndepends: wheel > 2\ninstalled: true\n\npackage: wheel\nversion: 2\ninstalled: true\n\nrequest: r\n\npackage: car\nversion: 1\ninstalled: true\n";
+
+const PAGES: &str = "package: user\nversion: 1\ndepends: a, a\n\nrequest: r\n";
+
+const CARS: &str =
+    "package: car\nversion: 1\ninstalled: true\n\npackage: car\nversion: 2\n\npackage: bus\nversion: 1\n\nrequest: r\n";
+
+const CAR: &str =
+    "package: car\nversion: 2\ninstalled: true\n\npackage: bus\nversion: 1\ninstalled: true\n";
+
+const SCORE: &str =
+    "removed 0\nnew 1\nchanged 2\nnotuptodate 0\nunsat_recommends 0\nparanoid 0 2\ntrendy 0 0 0 1\nsolution yes\n";
+
+const FIRST_PAGE: &str =
+    "p1.depends.1 user 1 line 1: needs a\nmore after p1.depends.1\nsolution no\n";
+
+const LAST_PAGE: &str = "p1.depends.2 user 1 line 1: needs a\nsolution no\n";
+
+const UNMET: &str = "p1.depends.1 car 1 line 1: needs wheel > 2\nsolution no\n";
+
+/// Words with what stands on standard input, and what the program answers and prints.
+#[derive(Clone, Copy)]
+pub(super) struct Case {
+    line: &'static str,
+    standard: &'static str,
+    status: u8,
+    output: &'static str,
+    errors: &'static str,
+}
+
+/// A case that prints no error.
+pub(super) fn writes(
+    line: &'static str,
+    standard: &'static str,
+    status: u8,
+    output: &'static str,
+) -> Case {
+    Case {
+        line,
+        standard,
+        status,
+        output,
+        errors: "",
+    }
+}
+
+/// A case that prints an error alone.
+pub(super) fn fails(line: &'static str, status: u8, errors: &'static str) -> Case {
+    Case {
+        line,
+        standard: "",
+        status,
+        output: "",
+        errors,
+    }
+}
+
+/// Whether the program answers and prints what the case says.
+fn passes(rt: &HostRuntime, case: &Case) -> Result<bool, Fail> {
+    let words = words(rt, case.line)?;
+    let mut errors = Vec::new(rt.alloc());
+    let (status, output) = respond(
+        rt,
+        &words,
+        case.standard.as_bytes(),
+        Vec::new(rt.alloc()),
+        &mut errors,
+    );
+    Ok(
+        status == case.status
+            && output.as_slice() == case.output.as_bytes()
+            && errors.as_slice() == case.errors.as_bytes(),
+    )
+}
+
+/// Whether each case passes: of the first one that doesn't, its words.
+pub(super) fn first_failure(
+    rt: &HostRuntime,
+    cases: &[Case],
+) -> Result<Option<&'static str>, Fail> {
+    for case in cases {
+        if !passes(rt, case)? {
+            return Ok(Some(case.line));
+        }
+    }
+    Ok(None)
+}
+
+fn write_files(rt: &HostRuntime) -> Result<(), Fail> {
+    fs::write(rt, "problem.cudf", PROBLEM)?;
+    fs::write(rt, "solution.cudf", SOLUTION)?;
+    fs::write(rt, "joined.cudf", JOINED)?;
+    fs::write(rt, "pages.cudf", PAGES)?;
+    fs::write(
+        rt,
+        "user.cudf",
+        "package: user\nversion: 1\ninstalled: true\n",
+    )?;
+    fs::write(rt, "cars.cudf", CARS)?;
+    fs::write(rt, "car.cudf", CAR)?;
+    Ok(())
+}
+
+#[test]
+fn judges_files(rt: HostRuntime) -> Result<(), Fail> {
+    write_files(&rt)?;
+    let cases = [
+        writes("lint problem.cudf", "", 0, "problem ok\n"),
+        writes("lint -", PROBLEM, 0, "problem ok\n"),
+        writes(
+            "lint joined.cudf",
+            "",
+            2,
+            "problem line 12: E6 stanza after the request\n",
+        ),
+        writes("check problem.cudf solution.cudf", "", 1, UNMET),
+        writes("check - solution.cudf", PROBLEM, 1, UNMET),
+        writes("check problem.cudf -", SOLUTION, 1, UNMET),
+        writes("check joined.cudf", "", 1, UNMET),
+        writes("check -", JOINED, 1, UNMET),
+        // Nothing stands behind the problem: the empty status is judged.
+        writes("check problem.cudf", "", 0, "solution yes\n"),
+        writes("check problem.cudf -", "FAIL\n", 3, "solution FAIL\n"),
+        // The files swapped are another run.
+        writes(
+            "check solution.cudf problem.cudf",
+            "",
+            2,
+            "problem line 3: E13 no request\n",
+        ),
+    ];
+    assert_eq!(rt; first_failure(&rt, &cases)?, None);
+    Ok(())
+}
+
+#[test]
+fn turns_pages(rt: HostRuntime) -> Result<(), Fail> {
+    write_files(&rt)?;
+    let cases = [
+        writes("check pages.cudf user.cudf --limit 1", "", 1, FIRST_PAGE),
+        writes("check --limit=1 pages.cudf user.cudf", "", 1, FIRST_PAGE),
+        writes(
+            "check pages.cudf --after p1.depends.1 user.cudf",
+            "",
+            1,
+            LAST_PAGE,
+        ),
+        writes(
+            "check pages.cudf user.cudf --after=p1.depends.1 --limit=1",
+            "",
+            1,
+            LAST_PAGE,
+        ),
+        writes(
+            "check pages.cudf user.cudf --after p1.depends.2",
+            "",
+            1,
+            "solution no\n",
+        ),
+    ];
+    assert_eq!(rt; first_failure(&rt, &cases)?, None);
+    Ok(())
+}
+
+#[test]
+fn counts(rt: HostRuntime) -> Result<(), Fail> {
+    write_files(&rt)?;
+    let cases = [
+        writes("score cars.cudf car.cudf", "", 0, SCORE),
+        writes("score - car.cudf", CARS, 0, SCORE),
+        writes("score cars.cudf -", CAR, 0, SCORE),
+        writes("score cars.cudf -", "FAIL\n", 3, "solution FAIL\n"),
+        // Counted also where the answer is no solution.
+        writes(
+            "score joined.cudf",
+            "",
+            1,
+            "removed 1\nnew 0\nchanged 1\nnotuptodate 0\nunsat_recommends 0\nparanoid 1 1\ntrendy 1 0 0 0\nsolution no\n",
+        ),
+        writes("score car.cudf", "", 2, "problem line 7: E13 no request\n"),
+    ];
+    assert_eq!(rt; first_failure(&rt, &cases)?, None);
+    Ok(())
+}
+
+#[test]
+fn tells_what_went_wrong(rt: HostRuntime) -> Result<(), Fail> {
+    write_files(&rt)?;
+    fs::create_dir(&rt, "folder")?;
+    let cases = [
+        fails(
+            "check missing.cudf problem.cudf",
+            5,
+            "cudf_check: missing.cudf can't be opened: No such file or directory (os error 2); check the name, and run again\n",
+        ),
+        // All files are opened before one is read: a faulty problem isn't told beside a missing solution.
+        fails(
+            "check solution.cudf missing.cudf",
+            5,
+            "cudf_check: missing.cudf can't be opened: No such file or directory (os error 2); check the name, and run again\n",
+        ),
+        fails(
+            "lint folder",
+            5,
+            "cudf_check: an input could not be read to its end; check that it is a file that can be read, and run again\n",
+        ),
+        fails(
+            "check problem.cudf folder",
+            5,
+            "cudf_check: an input could not be read to its end; check that it is a file that can be read, and run again\n",
+        ),
+    ];
+    assert_eq!(rt; first_failure(&rt, &cases)?, None);
+    Ok(())
+}

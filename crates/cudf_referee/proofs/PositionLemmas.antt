@@ -1,0 +1,125 @@
+-- Keys and positions of the walk in order, and what it costs to go from one to another.
+use Rattle.std.proofs.Common.{◌≡◌, ℕ, ◌+◌, ◌<◌, Bool, true, false, not, ◌&&◌, inl, inr, nat_le, List, [], ◌∷◌, filter, cond, arith, refl, ap, sym, ◌∙◌, lit<}
+use Rattle.std.proofs.lemmas.Bool.{cases_lt}
+use Rattle.std.proofs.lemmas.Bool.Decides.{nat_tests}
+use Rattle.std.proofs.lemmas.Cmp.{nat_list_cmp_total, tied_itself}
+use Rattle.std.proofs.lemmas.List.Sums.{sum_by-cons}
+use Rattle.std.specs.Prelude.{sum_by}
+use Rattle.std.specs.Cmp.{nat_cmp_is}
+use Rattle.std.specs.Cmp.Lexicographic.{slice_cmp}
+use Rattle.std.specs.Ordering.{nat_cmp, ordering_then, ordering_reverse, is_lt}
+use Rattle.std.specs.declared.cmp.Ordering.{Ordering}
+use Rattle.std.specs.declared.cmp.Ordering.TheVariants.{Less, Equal, Greater}
+use Rattle.cudf_referee.specs.declared.key.Part.{Part}
+use Rattle.cudf_referee.specs.declared.key.Part.TheVariants.{Package, Request, Solution}
+use Rattle.cudf_referee.specs.declared.key.Rule.{Rule}
+use Rattle.cudf_referee.specs.declared.key.Rule.TheVariants.{Depends, Conflicts, Keep, Install, Remove, Upgrade, Unknown}
+use Rattle.cudf_referee.specs.Keys.{PlainKey, part_rank, part_place, rule_rank, aspect_rank, key_ranks}
+use Rattle.cudf_referee.specs.Proposals.{Proposal}
+use Rattle.cudf_referee.specs.Sites.{Stop, at_site, package_end, site_key, walk, stop_cost, PlainPosition, at_start, at_key, at_end, precedes, precedes_end, is_after, is_ahead, cost_between}
+
+-- ---- keys
+
+lt_less : (o : Ordering) → is_lt o ≡ true → o ≡ Less
+lt_less Less h = refl
+lt_less Equal h = absurd (cc h)
+lt_less Greater h = absurd (cc h)
+
+ranks_chained : (a b c : List ℕ) → is_lt (slice_cmp nat_cmp a b) ≡ true → is_lt (slice_cmp nat_cmp b c) ≡ true → is_lt (slice_cmp nat_cmp a c) ≡ true
+ranks_chained a b c h k = ap is_lt (nat_list_cmp_total.trans a b c (lt_less (slice_cmp nat_cmp a b) h) (lt_less (slice_cmp nat_cmp b c) k))
+
+pub precedes-chained : (a b c : PlainKey) → precedes a b ≡ true → precedes b c ≡ true → precedes a c ≡ true
+precedes-chained a b c h k = ranks_chained (key_ranks a) (key_ranks b) (key_ranks c) h k
+
+-- no key comes before itself
+pub precedes-itself : (k : PlainKey) → precedes k k ≡ false
+precedes-itself k = ap is_lt (tied_itself nat_list_cmp_total (key_ranks k))
+
+-- no key comes before one that comes before it
+pub precedes-back : (a b : PlainKey) → precedes a b ≡ true → precedes b a ≡ false
+precedes-back a b h = ap is_lt (nat_list_cmp_total.antisymm (key_ranks b) (key_ranks a)
+    ∙ ap ordering_reverse (lt_less (slice_cmp nat_cmp (key_ranks a) (key_ranks b)) h))
+
+-- ---- stops
+
+-- the end of a package ranks after all its keys
+abbrev pub stop_ranks : Stop → List ℕ
+stop_ranks (at_site site) = key_ranks (site_key site)
+stop_ranks (package_end place) = 1 ∷ place ∷ 8 ∷ []
+
+pub rule_below : (r : Rule) → rule_rank r < 8
+rule_below Depends = lit< tt
+rule_below Conflicts = lit< tt
+rule_below Keep = lit< tt
+rule_below Install = lit< tt
+rule_below Remove = lit< tt
+rule_below Upgrade = lit< tt
+rule_below Unknown = lit< tt
+
+end_ranks : (p : Part) (n r : ℕ) (more : List ℕ) → r < 8
+    → precedes_end p n ≡ is_lt (slice_cmp nat_cmp (part_rank p ∷ part_place p ∷ r ∷ more) (1 ∷ n ∷ 8 ∷ []))
+end_ranks (Package m) n r more h =
+    elim (cases_lt m n) [ inl below ↦ at_lower below | inr k ↦ elim (cases_lt n m) [ inl above ↦ at_higher above | inr l ↦ at_same (omega arith) ] ]
+  where
+    at_lower : m < n → nat_le m n ≡ is_lt (ordering_then (nat_cmp m n) (ordering_then (nat_cmp r 8) (slice_cmp nat_cmp more [])))
+    at_lower below = grind (arith, nat_tests) ∙ ap (λ o. is_lt (ordering_then o (ordering_then (nat_cmp r 8) (slice_cmp nat_cmp more [])))) (nat_cmp_is m n Less below)
+
+    at_higher : n < m → nat_le m n ≡ is_lt (ordering_then (nat_cmp m n) (ordering_then (nat_cmp r 8) (slice_cmp nat_cmp more [])))
+    at_higher above = grind (arith, nat_tests) ∙ ap (λ o. is_lt (ordering_then o (ordering_then (nat_cmp r 8) (slice_cmp nat_cmp more [])))) (nat_cmp_is m n Greater above)
+
+    at_same : m ≡ n → nat_le m n ≡ is_lt (ordering_then (nat_cmp m n) (ordering_then (nat_cmp r 8) (slice_cmp nat_cmp more [])))
+    at_same same = grind (arith, nat_tests) ∙ (λ i. is_lt (ordering_then (nat_cmp_is m n Equal same i) (ordering_then (nat_cmp_is r 8 Less h i) (slice_cmp nat_cmp more []))))
+end_ranks Request n r more h = refl
+end_ranks Solution n r more h = refl
+
+-- a stop comes after a key where its ranks do
+pub is_after-ranks : (k : PlainKey) (x : Stop) → is_after k x ≡ is_lt (slice_cmp nat_cmp (key_ranks k) (stop_ranks x))
+is_after-ranks k (at_site site) = refl
+is_after-ranks k (package_end n) = end_ranks k.part n (rule_rank k.rule) (k.place ∷ aspect_rank k.aspect ∷ []) (rule_below k.rule)
+
+-- ---- positions
+
+-- what is ahead of the second position is ahead of the first
+pub record IsLater (a b : PlainPosition) : Type 0 where
+  pub ahead : (x : Stop) → is_ahead b x ≡ true → is_ahead a x ≡ true
+
+pub later-key : (a b : PlainKey) → precedes a b ≡ true → IsLater (at_key a) (at_key b)
+later-key a b h = record {
+  ahead = λ x k. is_after-ranks a x ∙ ranks_chained (key_ranks a) (key_ranks b) (stop_ranks x) h (sym (is_after-ranks b x) ∙ k);
+}
+
+pub later-end : (a : PlainPosition) → IsLater a at_end
+later-end a = record { ahead = λ x k. absurd (cc k) }
+
+pub later-start : (b : PlainPosition) → IsLater at_start b
+later-start b = record { ahead = λ x k. refl }
+
+pub later-chained : (a b c : PlainPosition) → IsLater a b → IsLater b c → IsLater a c
+later-chained a b c h k = record { ahead = λ x l. h.ahead x (k.ahead x l) }
+
+later_one : (n a b c more all : ℕ) → more ≡ n + b → all ≡ n + c → a + b ≡ c → a + more ≡ all
+later_one n a b c more all h k same = omega arith
+
+earlier_one : (n a b c more all : ℕ) → more ≡ n + a → all ≡ n + c → a + b ≡ c → more + b ≡ all
+earlier_one n a b c more all h k same = omega arith
+
+joined_case : {A : Type 0} (f : A → ℕ) (x : A) (p q r : Bool) (front back both : List A) → (q ≡ true → p ≡ true) → (r ≡ true → q ≡ true)
+    → sum_by f front + sum_by f back ≡ sum_by f both
+    → sum_by f (cond (p && not q) (x ∷ front) front) + sum_by f (cond (q && not r) (x ∷ back) back) ≡ sum_by f (cond (p && not r) (x ∷ both) both)
+joined_case f x true true true front back both h k same = same
+joined_case f x true true false front back both h k same = later_one (f x) (sum_by f front) (sum_by f back) (sum_by f both) (sum_by f (x ∷ back)) (sum_by f (x ∷ both)) (sum_by-cons f x back) (sum_by-cons f x both) same
+joined_case f x true false true front back both h k same = absurd (cc (k refl))
+joined_case f x true false false front back both h k same = earlier_one (f x) (sum_by f front) (sum_by f back) (sum_by f both) (sum_by f (x ∷ front)) (sum_by f (x ∷ both)) (sum_by-cons f x front) (sum_by-cons f x both) same
+joined_case f x false true r front back both h k same = absurd (cc (h refl))
+joined_case f x false false true front back both h k same = absurd (cc (k refl))
+joined_case f x false false false front back both h k same = same
+
+joined : {A : Type 0} (f : A → ℕ) (p q r : A → Bool) → ((x : A) → q x ≡ true → p x ≡ true) → ((x : A) → r x ≡ true → q x ≡ true) → (xs : List A)
+    → sum_by f (filter (λ x. p x && not (q x)) xs) + sum_by f (filter (λ x. q x && not (r x)) xs) ≡ sum_by f (filter (λ x. p x && not (r x)) xs)
+joined f p q r h k [] = refl
+joined f p q r h k (x ∷ xs) = joined_case f x (p x) (q x) (r x) (filter (λ x. p x && not (q x)) xs) (filter (λ x. q x && not (r x)) xs) (filter (λ x. p x && not (r x)) xs)
+    (h x) (k x) (joined f p q r h k xs)
+
+-- going on from a position that lies between costs no more and no less
+pub cost_between-joined : (s : Proposal) (a b c : PlainPosition) → IsLater a b → IsLater b c → cost_between s a b + cost_between s b c ≡ cost_between s a c
+cost_between-joined s a b c h k = joined (stop_cost s.proposed) (is_ahead a) (is_ahead b) (is_ahead c) h.ahead k.ahead (walk s)

@@ -1,0 +1,394 @@
+-- The standing of a name, with one more package.
+use Rattle.std.proofs.Common.{◌≡◌, ℕ, suc, ◌+◌, ◌<◌, ◌≤◌, max, Bool, true, false, not, ◌&&◌, ◌||◌, ◌==◌, nat_lt, cond, List, [], ◌∷◌, ◌++◌, length, get_or, take, map, filter, Bor, ◌^◌, bytes_eq, if◌then◌else◌, refl, ap, sym, subst, ◌∙◌, arith, eq-eqb, eqb-true}
+use Rattle.std.proofs.Math.ListN.{set}
+use Rattle.std.proofs.Math.Seq.{set-append_seam, get_or-append_seam}
+use Rattle.std.specs.List.{list_any, list_all, position_or_len, count_by, enumerate_from}
+use Rattle.std.proofs.lemmas.Bool.{true≢false, false_from_ne_true, ltb-true, ltb-false, lt-ltb}
+use Rattle.std.proofs.lemmas.List.{append-nil, map-append, length-map, take-map, get_or-map, length-take-le, map_push, take_more}
+use Rattle.std.proofs.lemmas.List.Elements.{filter-append}
+use Rattle.std.proofs.lemmas.List.Folds.{list_any-append, list_all-append}
+use Rattle.indexmap.specs.IndexSet.{insert_key}
+use Rattle.cudf_document.specs.Ids.{are_distinct, is_among as is_among_ids}
+use Rattle.cudf_document.specs.Universe.{PlainPackage, package_id}
+use Rattle.cudf_document.proofs.FaultlessLemmas.{distinct-at}
+use Rattle.cudf_universe.proofs.CountLemmas.{count-cons}
+use Rattle.cudf_universe.specs.Satisfaction.{Placed}
+use Rattle.cudf_referee.specs.declared.counting.standing.Standing.{Standing}
+use Rattle.cudf_referee.specs.declared.counting.standings.Standings.{Standings}
+use Rattle.cudf_referee.specs.Criteria.{each_once, names_of, versions_of, is_among, is_same_set, greatest, at_most_max}
+use Rattle.cudf_referee.specs.Violations.{has_package}
+use Rattle.cudf_referee.specs.Working.Standings.{no_standing, differ, standing_with, held, standing_of, standings_of, StandsFor}
+use Rattle.cudf_referee.proofs.EntryLemmas.{enumerate-push}
+use Rattle.cudf_referee.proofs.ListLemmas.{and_false, and_true}
+use Rattle.cudf_referee.proofs.NameLemmas.{text_same, other_way, any_once, once_push, distinct-once, absent_number, kept_others, at_number, same_text}
+
+-- ---- truth
+
+or_false : (a : Bool) → (a || false) ≡ a
+or_false true = refl
+or_false false = refl
+
+or_true : (a : Bool) → (a || true) ≡ true
+or_true true = refl
+or_true false = refl
+
+-- ---- sets of numbers
+
+same_number : (n : ℕ) → (n == n) ≡ true
+same_number n = eq-eqb n n refl
+
+other_number : (m n : ℕ) → (m == n) ≡ false → (n == m) ≡ false
+other_number m n e = false_from_ne_true (n == m) (λ h. true≢false (sym (eq-eqb m n (sym (eqb-true n m h))) ∙ e))
+
+-- a number more on both sides is as none, where it is new to one
+half : (xs ys : List ℕ) (v : ℕ) → is_among xs v ≡ false → list_all (is_among (ys ++ v ∷ [])) (xs ++ v ∷ []) ≡ list_all (is_among ys) xs
+half xs ys v fresh =
+    list_all-append (is_among (ys ++ v ∷ [])) xs (v ∷ [])
+    ∙ (λ i. list_all (is_among (ys ++ v ∷ [])) xs && ((list_any-append (λ m. m == v) ys (v ∷ []) ∙ (λ j. is_among ys v || (same_number v j || false)) ∙ or_true (is_among ys v)) i && true))
+    ∙ and_true (list_all (is_among (ys ++ v ∷ [])) xs)
+    ∙ rest xs fresh
+  where
+    rest : (zs : List ℕ) → is_among zs v ≡ false → list_all (is_among (ys ++ v ∷ [])) zs ≡ list_all (is_among ys) zs
+    rest [] none = refl
+    rest (z ∷ zs) none = by (z == v) refl none (rest zs)
+      where
+        by : (b : Bool) → (z == v) ≡ b → (b || is_among zs v) ≡ false → (is_among zs v ≡ false → list_all (is_among (ys ++ v ∷ [])) zs ≡ list_all (is_among ys) zs)
+            → list_all (is_among (ys ++ v ∷ [])) (z ∷ zs) ≡ list_all (is_among ys) (z ∷ zs)
+        by true e h below = absurd (true≢false h)
+        by false e h below = λ i. (list_any-append (λ m. m == z) ys (v ∷ []) ∙ (λ j. is_among ys z || (other_number z v e j || false)) ∙ or_false (is_among ys z)) i && below h i
+
+-- a version more of one status or of both
+same_push : (xs ys : List ℕ) (v : ℕ) (a b : Bool) → is_among xs v ≡ false → is_among ys v ≡ false
+    → not (is_same_set (xs ++ cond a (v ∷ []) []) (ys ++ cond b (v ∷ []) [])) ≡ (not (is_same_set xs ys) || differ a b)
+same_push xs ys v true true new_x new_y = (λ i. not (half xs ys v new_x i && half ys xs v new_y i)) ∙ sym (or_false (not (is_same_set xs ys)))
+same_push xs ys v true false new_x new_y =
+    (λ i. not (is_same_set (xs ++ v ∷ []) (append-nil ys i)))
+    ∙ (λ i. not ((list_all-append (is_among ys) xs (v ∷ []) ∙ (λ j. list_all (is_among ys) xs && (new_y j && true)) ∙ and_false (list_all (is_among ys) xs)) i && list_all (is_among (xs ++ v ∷ [])) ys))
+    ∙ sym (or_true (not (is_same_set xs ys)))
+same_push xs ys v false true new_x new_y =
+    (λ i. not (is_same_set (append-nil xs i) (ys ++ v ∷ [])))
+    ∙ (λ i. not (list_all (is_among (ys ++ v ∷ [])) xs && (list_all-append (is_among xs) ys (v ∷ []) ∙ (λ j. list_all (is_among xs) ys && (new_x j && true)) ∙ and_false (list_all (is_among xs) ys)) i))
+    ∙ (λ i. not (and_false (list_all (is_among (ys ++ v ∷ [])) xs) i))
+    ∙ sym (or_true (not (is_same_set xs ys)))
+same_push xs ys v false false new_x new_y = (λ i. not (is_same_set (append-nil xs i) (append-nil ys i))) ∙ sym (or_false (not (is_same_set xs ys)))
+
+greatest_push : (xs : List ℕ) (v : ℕ) → greatest (xs ++ v ∷ []) ≡ max (greatest xs) v
+greatest_push [] v = omega arith
+greatest_push (x ∷ xs) v = ap (max x) (greatest_push xs v) ∙ omega arith
+
+greatest_if : (xs : List ℕ) (v : ℕ) (b : Bool) → greatest (xs ++ cond b (v ∷ []) []) ≡ max (greatest xs) (if b then v else 0)
+greatest_if xs v true = greatest_push xs v
+greatest_if xs v false = ap greatest (append-nil xs) ∙ omega arith
+
+-- ---- packages of a name
+
+has-push : (xs : List Placed) (p : Placed) (b : Bool) (f : List ℕ) → has_package (xs ++ cond b (p ∷ []) []) f ≡ (has_package xs f || (b && bytes_eq p.1.name f))
+has-push xs p true f = list_any-append (λ q. bytes_eq q.1.name f) xs (p ∷ []) ∙ ap (λ c. has_package xs f || c) (or_false (bytes_eq p.1.name f))
+has-push xs p false f = list_any-append (λ q. bytes_eq q.1.name f) xs []
+
+versions-push : (xs : List Placed) (p : Placed) (b : Bool) (f : List ℕ) → versions_of f (xs ++ cond b (p ∷ []) []) ≡ versions_of f xs ++ cond (b && bytes_eq p.1.name f) (p.1.version ∷ []) []
+versions-push xs p b f =
+    ap (map (λ (q : Placed). q.1.version)) (filter-append (λ (q : Placed). bytes_eq q.1.name f) xs (cond b (p ∷ []) []))
+    ∙ map-append (λ (q : Placed). q.1.version) (filter (λ (q : Placed). bytes_eq q.1.name f) xs) (filter (λ (q : Placed). bytes_eq q.1.name f) (cond b (p ∷ []) []))
+    ∙ ap (λ vs. versions_of f xs ++ vs) (by b (bytes_eq p.1.name f) refl)
+  where
+    by : (b e : Bool) → bytes_eq p.1.name f ≡ e → versions_of f (cond b (p ∷ []) []) ≡ cond (b && e) (p.1.version ∷ []) []
+    by true true is = λ i. map (λ (q : Placed). q.1.version) (cond (is i) (p ∷ []) [])
+    by true false is = λ i. map (λ (q : Placed). q.1.version) (cond (is i) (p ∷ []) [])
+    by false e is = refl
+
+held-push : (t : ℕ → Bool) (xs : List Placed) (p : Placed) → held t (xs ++ p ∷ []) ≡ held t xs ++ cond (t p.0) (p ∷ []) []
+held-push t xs p = filter-append (λ (q : Placed). t q.0) xs (p ∷ [])
+
+-- what isn't among all versions isn't among those of a status
+fresh_held : (t : ℕ → Bool) (f : List ℕ) (v : ℕ) (xs : List Placed) → is_among (versions_of f xs) v ≡ false → is_among (versions_of f (held t xs)) v ≡ false
+fresh_held t f v [] fresh = refl
+fresh_held t f v (x ∷ xs) fresh = by (bytes_eq x.1.name f) (t x.0) refl fresh (fresh_held t f v xs)
+  where
+    by : (e b : Bool) → bytes_eq x.1.name f ≡ e → is_among (map (λ q. q.1.version) (cond e (x ∷ filter (λ q. bytes_eq q.1.name f) xs) (filter (λ q. bytes_eq q.1.name f) xs))) v ≡ false
+        → (is_among (versions_of f xs) v ≡ false → is_among (versions_of f (held t xs)) v ≡ false)
+        → is_among (versions_of f (cond b (x ∷ held t xs) (held t xs))) v ≡ false
+    by true b is h below = by_version (x.1.version == v) b refl h below
+      where
+        by_version : (w b : Bool) → (x.1.version == v) ≡ w → (w || is_among (versions_of f xs) v) ≡ false
+            → (is_among (versions_of f xs) v ≡ false → is_among (versions_of f (held t xs)) v ≡ false)
+            → is_among (versions_of f (cond b (x ∷ held t xs) (held t xs))) v ≡ false
+        by_version true b ev h below = absurd (true≢false h)
+        by_version false true ev h below =
+            (λ i. is_among (map (λ q. q.1.version) (cond (is i) (x ∷ filter (λ q. bytes_eq q.1.name f) (held t xs)) (filter (λ q. bytes_eq q.1.name f) (held t xs)))) v)
+            ∙ (λ i. ev i || below h i)
+        by_version false false ev h below = below h
+    by false true is h below =
+        (λ i. is_among (map (λ q. q.1.version) (cond (is i) (x ∷ filter (λ q. bytes_eq q.1.name f) (held t xs)) (filter (λ q. bytes_eq q.1.name f) (held t xs)))) v) ∙ below h
+    by false false is h below = below h
+
+-- ---- one package more
+
+-- the standing of a name to which a package was added, where it is one of the name
+abbrev grown : (ℕ → Bool) → (ℕ → Bool) → List Placed → Placed → List ℕ → Bool → Standing
+grown was is xs p f own = record {
+  was_installed = has_package (held was xs) f || (was p.0 && own);
+  is_installed = has_package (held is xs) f || (is p.0 && own);
+  is_changed = not (is_same_set (versions_of f (held was xs) ++ cond (was p.0 && own) (p.1.version ∷ []) []) (versions_of f (held is xs) ++ cond (is p.0 && own) (p.1.version ∷ []) []));
+  greatest = greatest (versions_of f xs ++ cond own (p.1.version ∷ []) []);
+  greatest_installed = greatest (versions_of f (held is xs) ++ cond (is p.0 && own) (p.1.version ∷ []) []);
+}
+
+standing-push : (was is : ℕ → Bool) (xs : List Placed) (p : Placed) (f : List ℕ) → standing_of was is (xs ++ p ∷ []) f ≡ grown was is xs p f (bytes_eq p.1.name f)
+standing-push was is xs p f =
+    let has = λ (t : ℕ → Bool). ap (λ ps. has_package ps f) (held-push t xs p) ∙ has-push (held t xs) p (t p.0) f in
+    let versions = λ (t : ℕ → Bool). ap (versions_of f) (held-push t xs p) ∙ versions-push (held t xs) p (t p.0) f in
+    λ i. record {
+      was_installed = has was i;
+      is_installed = has is i;
+      is_changed = not (is_same_set (versions was i) (versions is i));
+      greatest = greatest (versions-push xs p true f i);
+      greatest_installed = greatest (versions is i);
+    }
+
+-- another name keeps its standing
+grown_other : (was is : ℕ → Bool) (xs : List Placed) (p : Placed) (f : List ℕ) → grown was is xs p f false ≡ standing_of was is xs f
+grown_other was is xs p f =
+    let has = λ (t : ℕ → Bool). ap (λ b. has_package (held t xs) f || b) (and_false (t p.0)) ∙ or_false (has_package (held t xs) f) in
+    let versions = λ (t : ℕ → Bool). ap (λ b. versions_of f (held t xs) ++ cond b (p.1.version ∷ []) []) (and_false (t p.0)) ∙ append-nil (versions_of f (held t xs)) in
+    λ i. record {
+      was_installed = has was i;
+      is_installed = has is i;
+      is_changed = not (is_same_set (versions was i) (versions is i));
+      greatest = greatest (append-nil (versions_of f xs) i);
+      greatest_installed = greatest (versions is i);
+    }
+
+-- its own name gets one package more
+grown_own : (was is : ℕ → Bool) (xs : List Placed) (p : Placed) (f : List ℕ) → is_among (versions_of f xs) p.1.version ≡ false
+    → grown was is xs p f true ≡ standing_with (standing_of was is xs f) p.1.version (was p.0) (is p.0)
+grown_own was is xs p f fresh =
+    λ i. record {
+      was_installed = has_package (held was xs) f || and_true (was p.0) i;
+      is_installed = has_package (held is xs) f || and_true (is p.0) i;
+      is_changed = ((λ j. not (is_same_set (versions_of f (held was xs) ++ cond (and_true (was p.0) j) (p.1.version ∷ []) []) (versions_of f (held is xs) ++ cond (and_true (is p.0) j) (p.1.version ∷ []) [])))
+          ∙ same_push (versions_of f (held was xs)) (versions_of f (held is xs)) p.1.version (was p.0) (is p.0) (fresh_held was f p.1.version xs fresh) (fresh_held is f p.1.version xs fresh)) i;
+      greatest = greatest_push (versions_of f xs) p.1.version i;
+      greatest_installed = ((λ j. greatest (versions_of f (held is xs) ++ cond (and_true (is p.0) j) (p.1.version ∷ []) [])) ∙ greatest_if (versions_of f (held is xs)) p.1.version (is p.0)) i;
+    }
+
+-- ---- names without packages
+
+abbrev is_named : List ℕ → Placed → Bool
+is_named f p = bytes_eq p.1.name f
+
+none_named : (f : List ℕ) (t : ℕ → Bool) (xs : List Placed) → list_any (bytes_eq f) (map (λ p. p.1.name) xs) ≡ false
+    → (filter (is_named f) xs ≡ []) × (filter (is_named f) (held t xs) ≡ []) × (has_package (held t xs) f ≡ false)
+none_named f t [] none = (refl, refl, refl)
+none_named f t (x ∷ xs) none = by (bytes_eq f x.1.name) (t x.0) refl none (none_named f t xs)
+  where
+    by : (e b : Bool) → bytes_eq f x.1.name ≡ e → (e || list_any (bytes_eq f) (map (λ p. p.1.name) xs)) ≡ false
+        → (list_any (bytes_eq f) (map (λ p. p.1.name) xs) ≡ false → (filter (is_named f) xs ≡ []) × (filter (is_named f) (held t xs) ≡ []) × (has_package (held t xs) f ≡ false))
+        → (filter (is_named f) (x ∷ xs) ≡ []) × (filter (is_named f) (cond b (x ∷ held t xs) (held t xs)) ≡ []) × (has_package (cond b (x ∷ held t xs) (held t xs)) f ≡ false)
+    by true b is h below = absurd (true≢false h)
+    by false true is h below =
+        let other = other_way f x.1.name is in (
+          (λ i. cond (other i) (x ∷ filter (is_named f) xs) (filter (is_named f) xs)) ∙ (below h).0,
+          (λ i. cond (other i) (x ∷ filter (is_named f) (held t xs)) (filter (is_named f) (held t xs))) ∙ (below h).1,
+          (λ i. other i || (below h).2 i),
+        )
+    by false false is h below =
+        let other = other_way f x.1.name is in (
+          (λ i. cond (other i) (x ∷ filter (is_named f) xs) (filter (is_named f) xs)) ∙ (below h).0,
+          (below h).1,
+          (below h).2,
+        )
+
+no_package : (was is : ℕ → Bool) (xs : List Placed) (f : List ℕ) → list_any (bytes_eq f) (names_of xs) ≡ false → standing_of was is xs f ≡ no_standing
+no_package was is xs f none =
+    let unnamed : list_any (bytes_eq f) (map (λ p. p.1.name) xs) ≡ false = sym (any_once f (map (λ p. p.1.name) xs)) ∙ none in
+    let w = none_named f was xs unnamed in
+    let n = none_named f is xs unnamed in
+    λ i. record {
+      was_installed = w.2 i;
+      is_installed = n.2 i;
+      is_changed = not (is_same_set (map (λ q. q.1.version) (w.1 i)) (map (λ q. q.1.version) (n.1 i)));
+      greatest = greatest (map (λ q. q.1.version) (w.0 i));
+      greatest_installed = greatest (map (λ q. q.1.version) (n.1 i));
+    }
+
+-- ---- the standings of all names, with one package more
+
+pub stands_more : (was is : ℕ → Bool) (xs : List Placed) (p : Placed) (names names' : List (List ℕ)) (rows rows' now : List Standing) (n : ℕ) (row row' : Standing)
+    → is_among (versions_of p.1.name xs) p.1.version ≡ false → names ≡ names_of xs → rows ≡ standings_of was is xs
+    → names' ≡ insert_key bytes_eq names p.1.name
+    → rows' ≡ (if list_any (bytes_eq p.1.name) names then rows else rows ++ no_standing ∷ [])
+    → n ≡ position_or_len (bytes_eq p.1.name) names
+    → row ≡ get_or rows' n row
+    → row' ≡ standing_with row p.1.version (was p.0) (is p.0)
+    → now ≡ set rows' n row'
+    → (names' ≡ names_of (xs ++ p ∷ [])) × (now ≡ standings_of was is (xs ++ p ∷ []))
+stands_more was is xs p names names' rows rows' now n row row' fresh names_are rows_are inserted pushed at read with_it written = (inserted ∙ named, written ∙ by (list_any (bytes_eq p.1.name) (names_of xs)) refl)
+  where
+    f : List ℕ
+    f = p.1.name
+
+    F : List ℕ → Standing
+    F = standing_of was is xs
+
+    named : insert_key bytes_eq names p.1.name ≡ names_of (xs ++ p ∷ [])
+    named = ap (λ ns. insert_key bytes_eq ns p.1.name) names_are ∙ sym (once_push (map (λ q. q.1.name) xs) p.1.name) ∙ ap each_once (sym (map-append (λ (q : Placed). q.1.name) xs (p ∷ [])))
+
+    other : (g : List ℕ) → bytes_eq p.1.name g ≡ false → standing_of was is (xs ++ p ∷ []) g ≡ standing_of was is xs g
+    other g e = standing-push was is xs p g ∙ ap (grown was is xs p g) e ∙ grown_other was is xs p g
+
+    here : standing_of was is (xs ++ p ∷ []) p.1.name ≡ standing_with (standing_of was is xs p.1.name) p.1.version (was p.0) (is p.0)
+    here = standing-push was is xs p p.1.name ∙ ap (grown was is xs p p.1.name) (text_same p.1.name p.1.name refl) ∙ grown_own was is xs p p.1.name fresh
+
+    number : n ≡ position_or_len (bytes_eq p.1.name) (names_of xs)
+    number = at ∙ ap (position_or_len (bytes_eq p.1.name)) names_are
+
+    rows_now : rows' ≡ cond (list_any (bytes_eq p.1.name) (names_of xs)) (standings_of was is xs) (standings_of was is xs ++ no_standing ∷ [])
+    rows_now = pushed ∙ (λ i. cond (list_any (bytes_eq p.1.name) (names_are i)) (rows_are i) (rows_are i ++ no_standing ∷ []))
+
+    given : (zs : List Standing) (k : ℕ) → rows' ≡ zs → n ≡ k → set rows' n row' ≡ set zs k (standing_with (get_or zs k row) p.1.version (was p.0) (is p.0))
+    given zs k zs_is k_is = (λ i. set (zs_is i) (k_is i) (with_it i)) ∙ ap (λ r. set zs k (standing_with r p.1.version (was p.0) (is p.0))) (read ∙ (λ i. get_or (zs_is i) (k_is i) row))
+
+    by : (b : Bool) → list_any (bytes_eq p.1.name) (names_of xs) ≡ b → set rows' n row' ≡ standings_of was is (xs ++ p ∷ [])
+    by true e =
+        given (standings_of was is xs) (position_or_len (bytes_eq p.1.name) (names_of xs)) (rows_now ∙ (λ i. cond (e i) (standings_of was is xs) (standings_of was is xs ++ no_standing ∷ []))) number
+        ∙ at_number (standing_of was is xs) (standing_of was is (xs ++ p ∷ [])) (λ r. standing_with r p.1.version (was p.0) (is p.0)) p.1.name (names_of xs) row
+        (distinct-once (map (λ q. q.1.name) xs)) e other here
+        ∙ ap (map (standing_of was is (xs ++ p ∷ []))) (sym (sym named ∙ ap (λ ns. insert_key bytes_eq ns p.1.name) names_are ∙ (λ i. cond (e i) (names_of xs) (names_of xs ++ p.1.name ∷ []))))
+    by false e =
+        let count : position_or_len (bytes_eq p.1.name) (names_of xs) ≡ length (standings_of was is xs) = absent_number p.1.name (names_of xs) e ∙ sym (length-map (names_of xs) (standing_of was is xs)) in
+        given (standings_of was is xs ++ no_standing ∷ []) (length (standings_of was is xs)) (rows_now ∙ (λ i. cond (e i) (standings_of was is xs) (standings_of was is xs ++ no_standing ∷ []))) (number ∙ count)
+        ∙ set-append_seam (standings_of was is xs) no_standing [] (standing_with (get_or (standings_of was is xs ++ no_standing ∷ []) (length (standings_of was is xs)) row) p.1.version (was p.0) (is p.0))
+        ∙ ap (λ r. standings_of was is xs ++ standing_with r p.1.version (was p.0) (is p.0) ∷ []) (get_or-append_seam (standings_of was is xs) no_standing [] row ∙ sym (no_package was is xs p.1.name e))
+        ∙ (λ i. kept_others (standing_of was is xs) (standing_of was is (xs ++ p ∷ [])) p.1.name (names_of xs) other e i ++ sym here i ∷ [])
+        ∙ sym (map-append (standing_of was is (xs ++ p ∷ [])) (names_of xs) (p.1.name ∷ []))
+        ∙ ap (map (standing_of was is (xs ++ p ∷ []))) (sym (sym named ∙ ap (λ ns. insert_key bytes_eq ns p.1.name) names_are ∙ (λ i. cond (e i) (names_of xs) (names_of xs ++ p.1.name ∷ []))))
+
+-- ---- packages that come in turn
+
+among_versions : (name : List ℕ) (version k : ℕ) (xs : List PlainPackage) → is_among_ids (map package_id xs) (name, version) ≡ false
+    → is_among (versions_of name (enumerate_from k xs)) version ≡ false
+among_versions name version k [] fresh = refl
+among_versions name version k (x ∷ xs) fresh = by (bytes_eq name x.name) (version == x.version) refl refl fresh (among_versions name version (k + 1) xs)
+  where
+    by : (e v : Bool) → bytes_eq name x.name ≡ e → (version == x.version) ≡ v → ((e && v) || is_among_ids (map package_id xs) (name, version)) ≡ false
+        → (is_among_ids (map package_id xs) (name, version) ≡ false → is_among (versions_of name (enumerate_from (k + 1) xs)) version ≡ false)
+        → is_among (versions_of name ((k, x) ∷ enumerate_from (k + 1) xs)) version ≡ false
+    by true true e v h below = absurd (true≢false h)
+    by true false e v h below =
+        let own : bytes_eq x.name name ≡ true = text_same x.name name (sym (same_text name x.name e)) in
+        (λ i. is_among (map (λ q. q.1.version) (cond (own i) ((k, x) ∷ filter (is_named name) (enumerate_from (k + 1) xs)) (filter (is_named name) (enumerate_from (k + 1) xs)))) version)
+        ∙ (λ i. other_number version x.version v i || below h i)
+    by false v e is h below =
+        (λ i. is_among (map (λ q. q.1.version) (cond (other_way name x.name e i) ((k, x) ∷ filter (is_named name) (enumerate_from (k + 1) xs)) (filter (is_named name) (enumerate_from (k + 1) xs)))) version)
+        ∙ below h
+
+-- of packages with distinct pairs, the next one's version is new to its name
+fresh_at : (ps : List PlainPackage) (i : ℕ) (d : PlainPackage) → are_distinct (map package_id ps) ≡ true → i < length ps
+    → is_among (versions_of (get_or ps i d).name (enumerate_from 1 (take i ps))) (get_or ps i d).version ≡ false
+fresh_at ps i d distinct within =
+    among_versions (get_or ps i d).name (get_or ps i d).version 1 (take i ps)
+    ((λ j. is_among_ids (sym (take-map package_id i ps) j) (sym (get_or-map package_id ps i d (package_id d) within) j))
+    ∙ distinct-at (map package_id ps) i (package_id d) distinct (omega (arith, length-map ps package_id)))
+
+module _ {A : Type 0} (view : A → PlainPackage) where
+  -- the same of what packages are seen as
+  pub next_fresh : (xs : List A) (ps : List PlainPackage) (i : ℕ) (item : A) → map view xs ≡ ps → are_distinct (map package_id ps) ≡ true → i < length xs → item ≡ get_or xs i item
+      → is_among (versions_of (view item).name (enumerate_from 1 (map view (take i xs)))) (view item).version ≡ false
+  next_fresh xs ps i item seen distinct within is =
+      let same : get_or (map view xs) i (view item) ≡ view item = get_or-map view xs i item (view item) within ∙ ap view (sym is) in
+      (λ j. is_among (versions_of (sym same j).name (enumerate_from 1 (sym (take-map view i xs) j))) (sym same j).version)
+      ∙ fresh_at (map view xs) i (view item) (ap (λ l. are_distinct (map package_id l)) seen ∙ distinct) (omega (arith, length-map xs view))
+
+  pub next_places : (xs : List A) (i : ℕ) (item : A) → i < length xs → item ≡ get_or xs i item
+      → enumerate_from 1 (map view (take i xs)) ++ (i + 1, view item) ∷ [] ≡ enumerate_from 1 (map view (take (i + 1) xs))
+  next_places xs i item within is =
+      let long : 1 + length (map view (take i xs)) ≡ i + 1 = omega (arith, length-map (take i xs) view, length-take-le i xs (omega arith)) in
+      (λ j. enumerate_from 1 (map view (take i xs)) ++ (sym long j, view item) ∷ [])
+      ∙ sym (enumerate-push 1 (map view (take i xs)) (view item))
+      ∙ ap (enumerate_from 1) (ap (λ x. map view (take i xs) ++ view x ∷ []) is ∙ sym (map_push view (take i xs) (get_or xs i item)) ∙ ap (map view) (sym (take_more xs i item within)))
+
+pub same_length : (was is : ℕ → Bool) (packages : List Placed) (s : Standings) → StandsFor was is packages s → length s.standings.items ≡ length s.names.keys
+same_length was is packages s stands =
+    omega (arith, ap length stands.standings, length-map (names_of packages) (standing_of was is packages), ap length stands.names, length-map s.names.keys (λ (name : Bor (List ℕ)). name.now))
+
+-- ---- counting
+
+pub count-map : {A B : Type 0} (f : A → B) (test : B → Bool) (xs : List A) → count_by test (map f xs) ≡ count_by (λ x. test (f x)) xs
+count-map f test [] = refl
+count-map f test (y ∷ ys) = count-cons test (f y) (map f ys) ∙ ap (λ n. cond (test (f y)) 1 0 + n) (count-map f test ys) ∙ sym (count-cons (λ x. test (f x)) y ys)
+
+pub capped : (n : ℕ) → n < 2 ^ 64 → at_most_max n ≡ n
+capped n small = omega arith
+
+-- the greatest is one of them
+greatest_among : (xs : List ℕ) (x : ℕ) → is_among (x ∷ xs) (greatest (x ∷ xs)) ≡ true
+greatest_among [] x = ap (λ b. b || false) (eq-eqb x (max x 0) (omega arith))
+greatest_among (y ∷ ys) x = by (nat_lt (greatest (y ∷ ys)) x) refl (greatest_among ys y)
+  where
+    by : (b : Bool) → nat_lt (greatest (y ∷ ys)) x ≡ b → is_among (y ∷ ys) (greatest (y ∷ ys)) ≡ true → is_among (x ∷ y ∷ ys) (greatest (x ∷ y ∷ ys)) ≡ true
+    by true less rest =
+        let is : x ≡ max x (greatest (y ∷ ys)) = omega (arith, ltb-true (greatest (y ∷ ys)) x less) in
+        ap (λ b. b || is_among (y ∷ ys) (greatest (x ∷ y ∷ ys))) (eq-eqb x (greatest (x ∷ y ∷ ys)) is)
+    by false least rest =
+        let is : greatest (y ∷ ys) ≡ max x (greatest (y ∷ ys)) = omega (arith, ltb-false (greatest (y ∷ ys)) x least) in
+        ap (λ b. (x == greatest (x ∷ y ∷ ys)) || b) (ap (is_among (y ∷ ys)) (sym is) ∙ rest) ∙ or_true (x == greatest (x ∷ y ∷ ys))
+
+among_least : (xs : List ℕ) (n : ℕ) → is_among xs n ≡ true → n ≤ greatest xs
+among_least [] n h = absurd (true≢false (sym h))
+among_least (x ∷ xs) n h = by (x == n) refl h (among_least xs n)
+  where
+    by : (b : Bool) → (x == n) ≡ b → (b || is_among xs n) ≡ true → (is_among xs n ≡ true → n ≤ greatest xs) → n ≤ greatest (x ∷ xs)
+    by true e h rest = omega (arith, eqb-true x n e)
+    by false e h rest = omega (arith, rest h)
+
+held_least : (t : ℕ → Bool) (f : List ℕ) (xs : List Placed) → greatest (versions_of f (held t xs)) ≤ greatest (versions_of f xs)
+held_least t f [] = omega arith
+held_least t f (x ∷ xs) = by (bytes_eq x.1.name f) (t x.0) refl (held_least t f xs)
+  where
+    by : (e b : Bool) → bytes_eq x.1.name f ≡ e → greatest (versions_of f (held t xs)) ≤ greatest (versions_of f xs)
+        → greatest (versions_of f (cond b (x ∷ held t xs) (held t xs))) ≤ greatest (map (λ q. q.1.version) (cond e (x ∷ filter (is_named f) xs) (filter (is_named f) xs)))
+    by true true is rest = subst (λ c. greatest (map (λ q. q.1.version) (cond c (x ∷ filter (is_named f) (held t xs)) (filter (is_named f) (held t xs)))) ≤ max x.1.version (greatest (versions_of f xs))) (sym is) (omega arith)
+    by true false is rest = omega arith
+    by false true is rest = subst (λ c. greatest (map (λ q. q.1.version) (cond c (x ∷ filter (is_named f) (held t xs)) (filter (is_named f) (held t xs)))) ≤ greatest (versions_of f xs)) (sym is) rest
+    by false false is rest = rest
+
+-- a name with a package has a version
+some_version : (f : List ℕ) (xs : List Placed) → has_package xs f ≡ true → versions_of f xs ≡ [] → ⊥
+some_version f [] has none = true≢false (sym has)
+some_version f (x ∷ xs) has none = by (bytes_eq x.1.name f) refl has none (some_version f xs)
+  where
+    by : (e : Bool) → bytes_eq x.1.name f ≡ e → (e || has_package xs f) ≡ true → map (λ q. q.1.version) (cond e (x ∷ filter (is_named f) xs) (filter (is_named f) xs)) ≡ []
+        → (has_package xs f ≡ true → versions_of f xs ≡ [] → ⊥) → ⊥
+    by true e h none rest = let none_long : suc (length (versions_of f xs)) ≡ 0 = ap length none in absurd (omega arith)
+    by false e h none rest = rest h none
+
+pub outdated : (is : ℕ → Bool) (xs : List Placed) (f : List ℕ)
+    → (has_package (held is xs) f && nat_lt (greatest (versions_of f (held is xs))) (greatest (versions_of f xs)))
+    ≡ (has_package (held is xs) f && not (is_among (versions_of f (held is xs)) (greatest (versions_of f xs))))
+outdated is xs f = by (has_package (held is xs) f) refl
+  where
+    least : (vs : List ℕ) (top : ℕ) → greatest vs ≤ top → (vs ≡ [] → ⊥) → (b : Bool) → is_among vs top ≡ b → nat_lt (greatest vs) top ≡ not b
+    least [] top up some b among = absurd (some refl)
+    least (v ∷ vs) top up some true among = false_from_ne_true (nat_lt (greatest (v ∷ vs)) top) (λ h. absurd (omega (arith, among_least (v ∷ vs) top among, ltb-true (greatest (v ∷ vs)) top h)))
+    least (v ∷ vs) top up some false among = lt-ltb (greatest (v ∷ vs)) top (by_lt (nat_lt (greatest (v ∷ vs)) top) refl)
+      where
+        by_lt : (b : Bool) → nat_lt (greatest (v ∷ vs)) top ≡ b → greatest (v ∷ vs) < top
+        by_lt true e = ltb-true (greatest (v ∷ vs)) top e
+        by_lt false e =
+            let is : greatest (v ∷ vs) ≡ top = omega (arith, up, ltb-false (greatest (v ∷ vs)) top e) in
+            absurd (true≢false (sym (greatest_among vs v) ∙ ap (is_among (v ∷ vs)) is ∙ among))
+
+    by : (b : Bool) → has_package (held is xs) f ≡ b
+        → (b && nat_lt (greatest (versions_of f (held is xs))) (greatest (versions_of f xs))) ≡ (b && not (is_among (versions_of f (held is xs)) (greatest (versions_of f xs))))
+    by true e = least (versions_of f (held is xs)) (greatest (versions_of f xs)) (held_least is f xs) (some_version f (held is xs) e) (is_among (versions_of f (held is xs)) (greatest (versions_of f xs))) refl
+    by false e = refl
+
+-- ---- what is counted of all names
+
+-- the count of the names of a status's universe, from their standings
+pub names_counted : (was is : ℕ → Bool) (xs : List Placed) (rows : List Standing) (result : ℕ) (test : Standing → Bool) (named : List ℕ → Bool) → rows ≡ standings_of was is xs
+    → ((f : List ℕ) → test (standing_of was is xs f) ≡ named f) → result ≡ count_by test rows → result < 2 ^ 64 → result ≡ at_most_max (count_by named (names_of xs))
+names_counted was is xs rows result test named rows_are same counted small =
+    sym (capped result small)
+    ∙ ap at_most_max (counted ∙ ap (count_by test) rows_are ∙ count-map (standing_of was is xs) test (names_of xs) ∙ ap (λ p. count_by p (names_of xs)) (λ i f. same f i))

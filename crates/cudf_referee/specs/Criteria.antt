@@ -1,0 +1,93 @@
+-- What a proposed status changes and lacks, counted: the criteria paranoid and trendy of the MISC competition.
+-- Own: changes are counted by name, recommended conjuncts by place.
+use Rattle.std.specs.Prelude.{ℕ, ◌==◌, Bool, not, ◌&&◌, List, [], ◌∷◌, map, filter, length, max, min, bytes_eq}
+use Rattle.std.specs.List.{list_any, list_all, flat_map, count_by, enumerate_from}
+use Rattle.cudf_universe.specs.Satisfaction.{Placed, satisfies_clause}
+use Rattle.cudf_referee.specs.declared.criteria.Criteria.{Criteria}
+use Rattle.cudf_referee.specs.Entries.{those}
+use Rattle.cudf_referee.specs.Proposals.{Proposal, recommended}
+use Rattle.cudf_referee.specs.Violations.{has_package}
+
+-- ---- names and versions
+
+-- the packages of the universe, each with its place
+abbrev pub universe : Proposal → List Placed
+universe s = enumerate_from 1 s.packages
+
+-- the names, each once
+abbrev pub each_once : List (List ℕ) → List (List ℕ)
+each_once [] = []
+each_once (name ∷ names) = name ∷ filter (λ other. not (bytes_eq name other)) (each_once names)
+
+-- the names of packages, each once
+abbrev pub names_of : List Placed → List (List ℕ)
+names_of packages = each_once (map (λ p. p.1.name) packages)
+
+-- the versions of the packages of a name
+abbrev pub versions_of : List ℕ → List Placed → List ℕ
+versions_of name packages = map (λ p. p.1.version) (filter (λ p. bytes_eq p.1.name name) packages)
+
+abbrev pub is_among : List ℕ → ℕ → Bool
+is_among numbers n = list_any (λ m. m == n) numbers
+
+-- each number of one is among those of the other
+abbrev pub is_same_set : List ℕ → List ℕ → Bool
+is_same_set xs ys = list_all (is_among ys) xs && list_all (is_among xs) ys
+
+-- the greatest of the numbers, 0 where there are none
+abbrev pub greatest : List ℕ → ℕ
+greatest [] = 0
+greatest (n ∷ ns) = max n (greatest ns)
+
+-- ---- what is counted
+
+-- names with a package that was installed, and none that is to be
+abbrev pub is_removed : Proposal → List ℕ → Bool
+is_removed s name = has_package s.initial name && not (has_package s.proposed name)
+
+-- names with a package that is to be installed, and none that was
+abbrev pub is_new : Proposal → List ℕ → Bool
+is_new s name = has_package s.proposed name && not (has_package s.initial name)
+
+-- names whose set of installed versions differs
+abbrev pub is_changed : Proposal → List ℕ → Bool
+is_changed s name = not (is_same_set (versions_of name s.initial) (versions_of name s.proposed))
+
+-- names with a package that is to be installed, but not their greatest version in the universe
+abbrev pub is_not_up_to_date : Proposal → List ℕ → Bool
+is_not_up_to_date s name =
+    has_package s.proposed name
+    && not (is_among (versions_of name s.proposed) (greatest (versions_of name (universe s))))
+
+-- packages that are to be installed, each by its name and version, with the place of a conjunct of what it recommends
+-- that the proposed status doesn't satisfy
+abbrev pub unsatisfied_recommends : Proposal → List (List ℕ × ℕ × ℕ)
+unsatisfied_recommends s =
+    flat_map (λ p. map (λ c. (p.1.name, p.1.version, c.0)) (those (λ clause. not (satisfies_clause s.proposed clause)) (recommended s p))) s.proposed
+
+-- ---- the counts
+
+-- the number, or 18446744073709551615 where it is greater
+abbrev pub at_most_max : ℕ → ℕ
+at_most_max n = min n 18446744073709551615
+
+-- how many names of the universe pass a test
+abbrev pub count_names : (List ℕ → Bool) → Proposal → ℕ
+count_names test s = at_most_max (count_by test (names_of (universe s)))
+
+unfoldable pub criteria : Proposal → Criteria
+criteria s = record {
+  removed = count_names (is_removed s) s;
+  new = count_names (is_new s) s;
+  changed = count_names (is_changed s) s;
+  notuptodate = count_names (is_not_up_to_date s) s;
+  unsat_recommends = at_most_max (length (unsatisfied_recommends s));
+}
+
+-- ---- the competition's vectors, of which each is to be as small as can be, the first count first
+
+abbrev pub paranoid : Criteria → List ℕ
+paranoid c = c.removed ∷ c.changed ∷ []
+
+abbrev pub trendy : Criteria → List ℕ
+trendy c = c.removed ∷ c.notuptodate ∷ c.unsat_recommends ∷ c.new ∷ []

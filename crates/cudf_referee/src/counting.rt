@@ -1,0 +1,38 @@
+//! Counting what a proposed status changes and lacks.
+ghost use Rattle.std.specs.Prelude.{◌≡◌, [], IfOk};
+ghost use Rattle.std.specs.FinSet as set;
+ghost use Rattle.cudf_universe.specs.Satisfaction.{members};
+ghost use Rattle.cudf_referee.specs.Criteria.{criteria};
+ghost use Rattle.cudf_referee.specs.Proposals.{proposal};
+
+mod recommends;
+mod standing;
+mod standings;
+
+use crate::criteria::Criteria;
+use cudf_universe::{Index, Problem, Status};
+use recommends::count_unsatisfied;
+use standing::{count_changed, count_new, count_not_up_to_date, count_removed};
+use standings::standings_of;
+use std::alloc::{AllocError, Global};
+
+/// The counts of a proposed status beside the one before.
+pub(crate) fn count(
+    alloc: Global,
+    problem: &Problem<'_>,
+    before: &Status,
+    proposed: &Status,
+    index: &Index<'_, '_>,
+) -> Result<Criteria, AllocError>
+    requires { index.now ≡ members (set.contains proposed.now) problem.now.packages }
+    ensures { IfOk result (λ c. c ≡ criteria (proposal problem.now (set.contains before.now) (set.contains proposed.now) [])) }
+{
+    let standings = standings_of(alloc, problem, before, proposed)?;
+    Ok(Criteria {
+        removed: count_removed(&standings),
+        new: count_new(&standings),
+        changed: count_changed(&standings),
+        notuptodate: count_not_up_to_date(&standings),
+        unsat_recommends: count_unsatisfied(problem, proposed, index),
+    })
+}

@@ -1,0 +1,45 @@
+//! Recommended conjuncts that aren't satisfied.
+ghost use Rattle.std.specs.Prelude.{◌≡◌, ℕ, Bool, [], length, not, option_map, unwrap_or};
+ghost use Rattle.std.specs.List.{count_by};
+ghost use Rattle.std.specs.FinSet as set;
+ghost use Rattle.cudf_value.specs.Formulas.{formula_view};
+ghost use Rattle.cudf_universe.specs.Satisfaction.{members, satisfies_clause};
+ghost use Rattle.cudf_referee.specs.Criteria.{at_most_max, unsatisfied_recommends};
+ghost use Rattle.cudf_referee.specs.Proposals.{proposal};
+
+use cudf_universe::{Index, Problem, Status};
+use cudf_value::Formula;
+
+/// How many conjuncts of what the packages of the status recommend aren't satisfied.
+pub(crate) fn count_unsatisfied(
+    problem: &Problem<'_>,
+    proposed: &Status,
+    index: &Index<'_, '_>,
+) -> u64
+    requires { index.now ≡ members (set.contains proposed.now) problem.now.packages }
+    ensures { (before : ℕ → Bool) → result ≡ at_most_max (length (unsatisfied_recommends
+        (proposal problem.now before (set.contains proposed.now) []))) }
+{
+    let mut count = 0u64;
+    for number in 0..problem.packages().len() {
+        let place = number as u64 + 1;
+        if proposed.holds(place) {
+            count = count.saturating_add(unsatisfied(index, problem.recommends(place)));
+        }
+    }
+    count
+}
+
+/// How many conjuncts of the formula aren't satisfied.
+fn unsatisfied(index: &Index<'_, '_>, formula: Option<&Formula<'_>>) -> u64
+    ensures { result ≡ count_by (λ clause. not (satisfies_clause index.now clause)) (unwrap_or (option_map (λ f. formula_view f.now) formula.entry) []) }
+{
+    match formula {
+        Some(formula) => formula
+            .clauses
+            .iter()
+            .filter(|clause| !index.satisfies_clause(clause))
+            .count() as u64,
+        None => 0,
+    }
+}

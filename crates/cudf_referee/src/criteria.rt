@@ -1,0 +1,43 @@
+//! What a proposed status changes and lacks, in numbers.
+
+/// The counts of the MISC competition's criteria. They are counted whether or not the proposed status is a solution;
+/// unknown stanzas don't count.
+#[derive(Clone, Copy, Debug, PartialEq, Eq)]
+pub struct Criteria {
+    /// Names with a package that was installed, and none that is to be.
+    pub removed: u64,
+    /// Names with a package that is to be installed, and none that was.
+    pub new: u64,
+    /// Names whose set of installed versions differs (own: counted by name).
+    pub changed: u64,
+    /// Names with a package that is to be installed, but not their greatest version in the universe.
+    pub notuptodate: u64,
+    /// Conjuncts that packages which are to be installed recommend and that aren't satisfied. Equal conjuncts at two
+    /// places count twice (own).
+    pub unsat_recommends: u64,
+}
+
+impl Criteria {
+    ghost use Rattle.std.specs.Prelude.{◌≡◌};
+    ghost use Rattle.cudf_referee.specs.Criteria.{paranoid, trendy};
+
+    /// The vector that the track paranoid minimises, the first number first: `removed`, `changed`.
+    pub fn paranoid(self) -> [u64; 2]
+        ensures { result ≡ paranoid self }
+    {
+        [self.removed, self.changed]
+    }
+
+    /// The vector that the track trendy minimises, the first number first: `removed`, `notuptodate`,
+    /// `unsat_recommends`, `new`.
+    pub fn trendy(self) -> [u64; 4]
+        ensures { result ≡ trendy self }
+    {
+        [
+            self.removed,
+            self.notuptodate,
+            self.unsat_recommends,
+            self.new,
+        ]
+    }
+}

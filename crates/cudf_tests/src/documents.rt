@@ -1,0 +1,5 @@
+//! Problems and solutions: what they say, and their first faults.
+
+mod faults;
+mod problems;
+mod solutions;

@@ -1,0 +1,215 @@
+//! Documents so large that a limit of stanzas, of properties in a stanza, of names, of entries in
+//! a list or of bytes would be met, were there one that no rule of the format has.
+use cudf_check::{Device, Job, Outcome, run};
+use std::alloc::{AllocError, Global};
+
+/// How many there are of each thing.
+const MANY: u64 = 100_000;
+
+const CHECK: Job = Job::Check {
+    after: None,
+    limit: None,
+};
+
+/// A text of numbered parts: what stands before and behind each number.
+fn numbered(
+    alloc: Global,
+    text: &mut String,
+    count: u64,
+    before: &str,
+    behind: &str,
+) -> Result<(), AllocError> {
+    for number in 0..count {
+        let part = format!(in alloc; "{before}{number}{behind}")?;
+        text.push_str(part.as_str())?;
+    }
+    Ok(())
+}
+
+/// `head`, numbered parts, and `tail`.
+fn numbered_between(
+    alloc: Global,
+    head: &str,
+    before: &str,
+    behind: &str,
+    tail: &str,
+) -> Result<String, AllocError> {
+    let mut text = String::from_str(alloc, head)?;
+    numbered(alloc, &mut text, MANY, before, behind)?;
+    text.push_str(tail)?;
+    Ok(text)
+}
+
+/// Whether the job on the documents writes this report and ends so.
+fn reports(
+    alloc: Global,
+    job: &Job,
+    problem: &str,
+    solution: &str,
+    report: &[u8],
+    want: Outcome,
+) -> bool {
+    let mut problem = Device::new(problem.as_bytes());
+    let mut solution = Device::new(solution.as_bytes());
+    let mut out = Device::new(Vec::new(alloc));
+    match run(alloc, job, &mut problem, Some(&mut solution), &mut out) {
+        Ok(outcome) => outcome == want && out.into_inner().as_slice() == report,
+        Err(_) => false,
+    }
+}
+
+fn is_solved(
+    alloc: Global,
+    problem: &Result<String, AllocError>,
+    solution: &Result<String, AllocError>,
+) -> bool {
+    match (problem, solution) {
+        (Ok(problem), Ok(solution)) => reports(
+            alloc,
+            &CHECK,
+            problem.as_str(),
+            solution.as_str(),
+            b"solution yes\n",
+            Outcome::Yes,
+        ),
+        _ => false,
+    }
+}
+
+fn is_linted(
+    alloc: Global,
+    problem: &Result<String, AllocError>,
+    report: &[u8],
+    want: Outcome,
+) -> bool {
+    match problem {
+        Ok(problem) => reports(alloc, &Job::Lint, problem.as_str(), "", report, want),
+        Err(_) => false,
+    }
+}
+
+/// A package for each number, and a solution that installs them all.
+#[test]
+fn stanzas(rt: HostRuntime) {
+    let problem = numbered_between(
+        rt.alloc(),
+        "",
+        "package: a",
+        "\nversion: 1\n\n",
+        "request:\ninstall: a0, a99999\n",
+    );
+    let solution = numbered_between(
+        rt.alloc(),
+        "",
+        "package: a",
+        "\nversion: 1\ninstalled: true\n\n",
+        "",
+    );
+    assert!(rt; is_solved(rt.alloc(), &problem, &solution));
+}
+
+/// The fault behind all stanzas is found, and on its line.
+#[test]
+fn fault_behind_many_stanzas(rt: HostRuntime) {
+    let problem = numbered_between(
+        rt.alloc(),
+        "",
+        "package: a",
+        "\nversion: 1\n\n",
+        "package: a99999\nversion: 1\n\nrequest:\n",
+    );
+    let report = b"problem line 300002: E11 package repeated\n";
+    assert!(rt; is_linted(rt.alloc(), &problem, report, Outcome::Faulty));
+}
+
+/// A stanza with a property for each number; of two that are alike the second is found.
+#[test]
+fn properties(rt: HostRuntime) {
+    let problem = numbered_between(rt.alloc(), "request:\n", "a", ": x\n", "");
+    assert!(rt; is_linted(rt.alloc(), &problem, b"problem ok\n", Outcome::Yes));
+    let repeated = numbered_between(rt.alloc(), "request:\n", "a", ": x\n", "a0: y\n");
+    let report = b"problem line 100002: E7 property repeated\n";
+    assert!(rt; is_linted(rt.alloc(), &repeated, report, Outcome::Faulty));
+}
+
+/// A declared name for each number; a package has each of them.
+#[test]
+fn declared_names(rt: HostRuntime) {
+    let declared = numbered_between(
+        rt.alloc(),
+        "preamble:\nproperty: b: int",
+        ", a",
+        ": nat = 0",
+        "\n\npackage: a\nversion: 1\n",
+    );
+    match declared {
+        Ok(mut text) => {
+            let is_made = numbered(rt.alloc(), &mut text, MANY, "a", ": 7\n").is_ok()
+                && text.push_str("\nrequest:\n").is_ok();
+            assert!(rt; is_made);
+            assert!(rt; is_linted(rt.alloc(), &Ok(text), b"problem ok\n", Outcome::Yes));
+        }
+        Err(_) => assert!(rt; false, "memory"),
+    }
+}
+
+/// A conflict for each number, none of which is met, and a feature for each number.
+#[test]
+fn entries(rt: HostRuntime) {
+    let conflicts = numbered_between(
+        rt.alloc(),
+        "package: a\nversion: 1\nconflicts: b",
+        ", c",
+        "",
+        "\nprovides: b",
+    );
+    match conflicts {
+        Ok(mut text) => {
+            let is_made = numbered(rt.alloc(), &mut text, MANY, ", c", " = 2").is_ok()
+                && text.push_str("\n\nrequest:\ninstall: c99999 = 2\n").is_ok();
+            let solution = String::from_str(
+                rt.alloc(),
+                "package: a\nversion: 1\ninstalled: true\n",
+            );
+            assert!(rt; is_made);
+            assert!(rt; is_solved(rt.alloc(), &Ok(text), &solution));
+        }
+        Err(_) => assert!(rt; false, "memory"),
+    }
+}
+
+/// A clause for each number, and an atom for each number, the last of which is met.
+#[test]
+fn clauses(rt: HostRuntime) {
+    let solution = String::from_str(rt.alloc(), "package: a\nversion: 1\ninstalled: true\n");
+    let clauses = numbered_between(
+        rt.alloc(),
+        "package: a\nversion: 1\ndepends: a",
+        ", a | b",
+        "",
+        "\n\nrequest:\n",
+    );
+    assert!(rt; is_solved(rt.alloc(), &clauses, &solution));
+    let atoms = numbered_between(
+        rt.alloc(),
+        "package: a\nversion: 1\ndepends: b",
+        " | b",
+        "",
+        " | a\n\nrequest:\n",
+    );
+    assert!(rt; is_solved(rt.alloc(), &atoms, &solution));
+}
+
+/// A value of ten megabytes, in lines of which each continues the one before.
+#[test]
+fn bytes(rt: HostRuntime) {
+    let problem = numbered_between(
+        rt.alloc(),
+        "request:\nnote:\n",
+        " this line is one of very many, and it is here only to be long, which it is by more than a hundred bytes: ",
+        "\n",
+        "install:\n",
+    );
+    assert!(rt; problem.as_ref().map_or(0, |text| text.len()) > 10_000_000);
+    assert!(rt; is_linted(rt.alloc(), &problem, b"problem ok\n", Outcome::Yes));
+}

@@ -1,0 +1,267 @@
+//! Runs on devices that fail, and on inputs at the limits.
+
+mod devices;
+mod readers;
+
+use crate::table::assert_rows;
+use cudf_check::{Job, Outcome, RunError, run};
+use devices::{FOREVER, Giver, Refusal, Taker};
+use std::alloc::Global;
+
+const CHECK: Job = Job::Check {
+    after: None,
+    limit: None,
+};
+
+/// The last turn of a reader, and the most bytes that it may give.
+const TURNS: u32 = 536870912;
+
+const BYTES: usize = 268435456;
+
+const JOINED: &[u8] =
+    b"package: car\nversion: 1\ndepends: wheel > 2\ninstalled: true\n\npackage: wheel\nversion: 2\ninstalled: true\n\nrequest: r\n\npackage: car\nversion: 1\ninstalled: true\n";
+
+const REPORT: &[u8] = b"p1.depends.1 car 1 line 1: needs wheel > 2\nsolution no\n";
+
+/// A sink with ample room.
+fn ample(alloc: Global) -> Taker {
+    Taker::new(Vec::new(alloc), usize::MAX, usize::MAX, Refusal::Failed)
+}
+
+/// Whether the run over the joined input answers so and writes these bytes.
+fn answers(
+    alloc: Global,
+    input: &mut Giver<'_>,
+    want: Result<Outcome, RunError>,
+    report: &[u8],
+) -> bool {
+    let mut out = ample(alloc);
+    let answer = run::<_, Giver<'_>, _>(alloc, &CHECK, input, None, &mut out);
+    answer == want && out.taken.as_slice() == report
+}
+
+/// The most bytes of a read, and how many calls are interrupted before the first one that isn't.
+const READS: [(usize, u32); 5] = [(usize::MAX, 0), (1, 0), (3, 2), (10, 1000), (7, 1)];
+
+fn reads_to_the_end(alloc: Global, row: &(usize, u32)) -> bool {
+    let mut input = Giver::new(JOINED);
+    input.per_call = row.0;
+    input.interruptions = row.1;
+    answers(alloc, &mut input, Ok(Outcome::No), REPORT)
+}
+
+fn fails_at_call(alloc: Global, call: &u32) -> bool {
+    let mut input = Giver::new(JOINED);
+    input.per_call = 6;
+    input.failing_call = *call;
+    answers(alloc, &mut input, Err(RunError::Read), b"") && input.turn == *call
+}
+
+#[test]
+fn reads(rt: HostRuntime) {
+    assert_rows(&rt, rt.alloc(), &READS, reads_to_the_end);
+    assert_rows(&rt, rt.alloc(), &[1, 2, 3, 20], fails_at_call);
+}
+
+#[test]
+fn gives_up_at_the_last_turn(rt: HostRuntime) {
+    let mut input = Giver::new(JOINED);
+    input.interruptions = FOREVER;
+    assert!(rt; answers(rt.alloc(), &mut input, Err(RunError::Read), b""));
+    assert_eq!(rt; input.turn, TURNS);
+}
+
+#[test]
+fn ends_at_the_last_turn(rt: HostRuntime) {
+    let mut input = Giver::new(b"");
+    input.interruptions = TURNS - 1;
+    let report = b"problem line 1: E13 no request\n";
+    assert!(rt; answers(rt.alloc(), &mut input, Ok(Outcome::Faulty), report));
+}
+
+#[test]
+fn refuses_one_byte_too_many(rt: HostRuntime) {
+    let mut input = Giver::new(b"#");
+    input.length = BYTES + 1;
+    assert!(rt; answers(rt.alloc(), &mut input, Err(RunError::TooLong), b""));
+    assert_eq!(rt; input.position, BYTES + 1);
+}
+
+#[test]
+fn accepts_the_most_bytes(rt: HostRuntime) {
+    let mut input = Giver::new(b"request:\n#");
+    input.length = BYTES;
+    let mut out = ample(rt.alloc());
+    let answer = run::<_, Giver<'_>, _>(rt.alloc(), &Job::Lint, &mut input, None, &mut out);
+    assert!(rt; answer == Ok(Outcome::Yes));
+    assert!(rt; out.taken.as_slice() == b"problem ok\n".as_slice());
+}
+
+/// The most bytes of a write, how many are taken in all, and how the next one is refused.
+const WRITES: [(usize, usize, Refusal); 12] = [
+    (usize::MAX, 0, Refusal::Failed),
+    (usize::MAX, 10, Refusal::Failed),
+    (1, 12, Refusal::Failed),
+    (5, 54, Refusal::Failed),
+    (usize::MAX, 0, Refusal::Interrupted),
+    (usize::MAX, 10, Refusal::Interrupted),
+    (1, 12, Refusal::Interrupted),
+    (5, 54, Refusal::Interrupted),
+    (usize::MAX, 0, Refusal::NoByte),
+    (usize::MAX, 10, Refusal::NoByte),
+    (1, 12, Refusal::NoByte),
+    (5, 54, Refusal::NoByte),
+];
+
+/// Whether the sink is left with as much of the report as it takes.
+fn leaves_a_prefix(alloc: Global, row: &(usize, usize, Refusal)) -> bool {
+    let mut out = Taker::new(Vec::new(alloc), row.0, row.1, row.2);
+    let mut input = Giver::new(JOINED);
+    let answer = run::<_, Giver<'_>, _>(alloc, &CHECK, &mut input, None, &mut out);
+    answer == Err(RunError::Write) && out.taken.len() == row.1 && REPORT.starts_with(&out.taken)
+}
+
+/// Whether the report is written whole in calls of this many bytes.
+fn is_written_in_calls(alloc: Global, per_call: &usize) -> bool {
+    let mut out = Taker::new(Vec::new(alloc), *per_call, 55, Refusal::Failed);
+    let mut input = Giver::new(JOINED);
+    let answer = run::<_, Giver<'_>, _>(alloc, &CHECK, &mut input, None, &mut out);
+    answer == Ok(Outcome::No) && out.taken.as_slice() == REPORT
+}
+
+#[test]
+fn writes(rt: HostRuntime) {
+    assert_rows(&rt, rt.alloc(), &WRITES, leaves_a_prefix);
+    assert_rows(&rt, rt.alloc(), &[1, 2, 54, 55, 1000], is_written_in_calls);
+}
+
+/// The problem and the solution of a run of two inputs, which calls of them fail, how the run ends,
+/// and how often each is called.
+#[derive(Clone, Copy)]
+struct Order {
+    problem: &'static [u8],
+    problem_fails: u32,
+    solution: &'static [u8],
+    solution_fails: u32,
+    answer: Result<Outcome, RunError>,
+    turns: (u32, u32),
+}
+
+const ORDERS: [Order; 5] = [
+    // The solution is read also where the problem is faulty.
+    Order {
+        problem: b"junk\n",
+        problem_fails: 0,
+        solution: b"FAIL\n",
+        solution_fails: 0,
+        answer: Ok(Outcome::Faulty),
+        turns: (2, 2),
+    },
+    Order {
+        problem: b"junk\n",
+        problem_fails: 0,
+        solution: b"FAIL\n",
+        solution_fails: 1,
+        answer: Err(RunError::Read),
+        turns: (2, 1),
+    },
+    // It isn't read where the first input failed.
+    Order {
+        problem: b"request:\n",
+        problem_fails: 1,
+        solution: b"",
+        solution_fails: 0,
+        answer: Err(RunError::Read),
+        turns: (1, 0),
+    },
+    Order {
+        problem: b"request:\n",
+        problem_fails: 2,
+        solution: b"",
+        solution_fails: 1,
+        answer: Err(RunError::Read),
+        turns: (2, 0),
+    },
+    Order {
+        problem: b"request:\n",
+        problem_fails: 0,
+        solution: b"",
+        solution_fails: 2,
+        answer: Ok(Outcome::Yes),
+        turns: (2, 1),
+    },
+];
+
+fn keeps_the_order(alloc: Global, row: &Order) -> bool {
+    let mut problem = Giver::new(row.problem);
+    problem.failing_call = row.problem_fails;
+    let mut solution = Giver::new(row.solution);
+    solution.failing_call = row.solution_fails;
+    let mut out = ample(alloc);
+    let answer = run(alloc, &CHECK, &mut problem, Some(&mut solution), &mut out);
+    answer == row.answer && problem.turn == row.turns.0 && solution.turn == row.turns.1
+}
+
+#[test]
+fn two_inputs(rt: HostRuntime) {
+    assert_rows(&rt, rt.alloc(), &ORDERS, keeps_the_order);
+}
+
+#[test]
+fn reads_no_solution_behind_too_long_a_problem(rt: HostRuntime) {
+    let mut problem = Giver::new(b"#");
+    problem.length = BYTES + 1;
+    let mut solution = Giver::new(b"");
+    solution.failing_call = 1;
+    let mut out = ample(rt.alloc());
+    let answer = run(
+        rt.alloc(),
+        &CHECK,
+        &mut problem,
+        Some(&mut solution),
+        &mut out,
+    );
+    assert!(rt; answer == Err(RunError::TooLong));
+    assert_eq!(rt; (solution.turn, out.taken.len()), (0, 0));
+}
+
+#[test]
+fn lints_without_a_solution(rt: HostRuntime) {
+    let mut problem = Giver::new(b"request:\n");
+    let mut solution = Giver::new(b"");
+    solution.failing_call = 1;
+    let mut out = ample(rt.alloc());
+    let answer = run(
+        rt.alloc(),
+        &Job::Lint,
+        &mut problem,
+        Some(&mut solution),
+        &mut out,
+    );
+    assert!(rt; answer == Ok(Outcome::Yes));
+    assert_eq!(rt; (problem.turn, solution.turn), (2, 0));
+}
+
+/// The exit statuses of the answers.
+const STATUSES: [(Result<Outcome, RunError>, u8); 8] = [
+    (Ok(Outcome::Yes), 0),
+    (Ok(Outcome::No), 1),
+    (Ok(Outcome::Faulty), 2),
+    (Ok(Outcome::Fail), 3),
+    (Err(RunError::Read), 5),
+    (Err(RunError::TooLong), 5),
+    (Err(RunError::Write), 5),
+    (Err(RunError::Memory), 6),
+];
+
+fn has_status(_: Global, row: &(Result<Outcome, RunError>, u8)) -> bool {
+    match row.0 {
+        Ok(outcome) => outcome.status() == row.1,
+        Err(error) => error.status() == row.1,
+    }
+}
+
+#[test]
+fn statuses(rt: HostRuntime) {
+    assert_rows(&rt, rt.alloc(), &STATUSES, has_status);
+}

@@ -1,0 +1,5 @@
+//! What a status gives and satisfies.
+
+mod index;
+mod made;
+mod scan;

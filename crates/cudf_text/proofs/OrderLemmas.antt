@@ -1,0 +1,107 @@
+-- The lines that are read are those down to the first fault's, since their numbers ascend.
+use Rattle.std.proofs.Common.{◌≡◌, ℕ, ◌+◌, ◌<◌, ◌≤◌, Bool, true, false, List, [], ◌∷◌, ◌++◌, filter, map, Option, Some, None, refl, ◌∙◌, ap, arith}
+use Rattle.std.specs.Prelude.{is_none, slice_get, option_to_list, if◌then◌else◌}
+use Rattle.std.specs.List.{enumerate_from}
+use Rattle.std.specs.Option.{option_or}
+use Rattle.std.proofs.lemmas.Bool.{le-leb, lt-leb}
+use Rattle.cudf_text.specs.declared.fault.Fault.{Fault}
+use Rattle.cudf_text.specs.declared.fault.Kind.{Kind}
+use Rattle.cudf_text.specs.declared.fault.Kind.TheVariants.{E2, E3}
+use Rattle.cudf_text.specs.Lines.{Class, comment, blank, continuation, named, faulty, NumberedLine, is_no_comment, class, lines, judged_lines}
+use Rattle.cudf_text.specs.LineFaults.{is_open, line_fault, line_faults, first_fault, is_read, read_lines}
+use Rattle.cudf_text.specs.Working.Reading.{read_after, fault_after}
+
+-- ---- numbers that ascend, the first from above n
+
+abbrev pub Ascends : ℕ → List NumberedLine → Type 0
+Ascends n [] = Unit {0}
+Ascends n ((m, c) ∷ ls) = (n < m) × Ascends m ls
+
+Ascends-below : (n m : ℕ) (ls : List NumberedLine) → n < m → Ascends m ls → Ascends n ls
+Ascends-below n m [] less up = tt
+Ascends-below n m ((k, c) ∷ ls) less up = let first = up.0 in (omega arith, up.1)
+
+Ascends-filter : (n : ℕ) (ls : List NumberedLine) → Ascends n ls → Ascends n (filter is_no_comment ls)
+Ascends-filter n [] up = tt
+Ascends-filter n ((m, comment) ∷ ls) up = Ascends-below n m (filter is_no_comment ls) up.0 (Ascends-filter m ls up.1)
+Ascends-filter n ((m, blank) ∷ ls) up = (up.0, Ascends-filter m ls up.1)
+Ascends-filter n ((m, continuation text) ∷ ls) up = (up.0, Ascends-filter m ls up.1)
+Ascends-filter n ((m, named name text) ∷ ls) up = (up.0, Ascends-filter m ls up.1)
+Ascends-filter n ((m, faulty) ∷ ls) up = (up.0, Ascends-filter m ls up.1)
+
+Ascends-numbered : (n m : ℕ) (classes : List Class) → n < m → Ascends n (enumerate_from m classes)
+Ascends-numbered n m [] less = tt
+Ascends-numbered n m (c ∷ classes) less = (less, Ascends-numbered m (m + 1) classes (omega arith))
+
+-- ---- the first fault, line by line
+
+or_first : (fault : Option Fault) (faults : List Fault) → slice_get (option_to_list fault ++ faults) 0 ≡ option_or fault (slice_get faults 0)
+or_first None faults = refl
+or_first (Some f) faults = refl
+
+first_is : (before : Class) (ls : List NumberedLine) → slice_get (line_faults before ls) 0 ≡ fault_after before ls
+first_is before [] = refl
+first_is before ((n, c) ∷ ls) = or_first (line_fault before (n, c)) (line_faults c ls) ∙ ap (option_or (line_fault before (n, c))) (first_is c ls)
+
+-- ---- what is read down to its line
+
+abbrev IsAbove : ℕ → Option Fault → Type 0
+IsAbove n None = Unit {0}
+IsAbove n (Some f) = n < f.line
+
+abbrev on : ℕ → Kind → Option Fault
+on n kind = Some (record { line = n; kind = kind })
+
+continued-above : (n m : ℕ) (opens : Bool) (fault : Option Fault) → n < m → IsAbove n fault → IsAbove n (option_or (if opens then None else on m E3) fault)
+continued-above n m true fault less is = is
+continued-above n m false fault less is = less
+
+above : (n : ℕ) (before : Class) (ls : List NumberedLine) → Ascends n ls → IsAbove n (fault_after before ls)
+above n before [] up = tt
+above n before ((m, comment) ∷ ls) up = above n comment ls (Ascends-below n m ls up.0 up.1)
+above n before ((m, blank) ∷ ls) up = above n blank ls (Ascends-below n m ls up.0 up.1)
+above n before ((m, named name text) ∷ ls) up = above n (named name text) ls (Ascends-below n m ls up.0 up.1)
+above n before ((m, faulty) ∷ ls) up = up.0
+above n before ((m, continuation text) ∷ ls) up =
+    continued-above n m (is_open before) (fault_after (continuation text) ls) up.0 (above n (continuation text) ls (Ascends-below n m ls up.0 up.1))
+
+none_after : (m : ℕ) (kind : Kind) (n : ℕ) (ls : List NumberedLine) → m ≤ n → Ascends n ls → filter (is_read (on m kind)) ls ≡ []
+none_after m kind n [] least up = refl
+none_after m kind n ((k, c) ∷ ls) least up =
+    let first = up.0 in
+    rw (lt-leb k m (omega arith)) (none_after m kind k ls (omega arith) up.1)
+
+stops : (m : ℕ) (c : Class) (kind : Kind) (ls : List NumberedLine) → Ascends m ls → filter (is_read (on m kind)) ((m, c) ∷ ls) ≡ (m, c) ∷ []
+stops m c kind ls up = rw (le-leb m m (omega arith)) (ap (λ xs. (m, c) ∷ xs) (none_after m kind m ls (omega arith) up))
+
+goes_on : (m : ℕ) (c : Class) (ls rest : List NumberedLine) (fault : Option Fault) → IsAbove m fault → filter (is_read fault) ls ≡ rest
+    → filter (is_read fault) ((m, c) ∷ ls) ≡ (m, c) ∷ rest
+goes_on m c ls rest None less e = ap (λ xs. (m, c) ∷ xs) e
+goes_on m c ls rest (Some f) less e = rw (le-leb m f.line (omega arith)) (ap (λ xs. (m, c) ∷ xs) e)
+
+continued-read : (m : ℕ) (text : List ℕ) (opens : Bool) (fault : Option Fault) (ls rest : List NumberedLine) → IsAbove m fault → Ascends m ls
+    → filter (is_read fault) ls ≡ rest
+    → filter (is_read (option_or (if opens then None else on m E3) fault)) ((m, continuation text) ∷ ls)
+    ≡ (m, continuation text) ∷ (if is_none (if opens then None else on m E3) then rest else [])
+continued-read m text true fault ls rest less up e = goes_on m (continuation text) ls rest fault less e
+continued-read m text false fault ls rest less up e = stops m (continuation text) E3 ls up
+
+read_is : (n : ℕ) (before : Class) (ls : List NumberedLine) → Ascends n ls → filter (is_read (fault_after before ls)) ls ≡ read_after before ls
+read_is n before [] up = refl
+read_is n before ((m, comment) ∷ ls) up = goes_on m comment ls _ _ (above m comment ls up.1) (read_is m comment ls up.1)
+read_is n before ((m, blank) ∷ ls) up = goes_on m blank ls _ _ (above m blank ls up.1) (read_is m blank ls up.1)
+read_is n before ((m, named name text) ∷ ls) up = goes_on m (named name text) ls _ _ (above m (named name text) ls up.1) (read_is m (named name text) ls up.1)
+read_is n before ((m, faulty) ∷ ls) up = stops m faulty E2 ls up.1
+read_is n before ((m, continuation text) ∷ ls) up =
+    continued-read m text (is_open before) (fault_after (continuation text) ls) ls _ (above m (continuation text) ls up.1) up.1 (read_is m (continuation text) ls up.1)
+
+-- ---- of a whole text
+
+judged_ascend : (text : List ℕ) → Ascends 0 (judged_lines text)
+judged_ascend text = Ascends-filter 0 _ (Ascends-numbered 0 1 (map class (lines text)) (omega arith))
+
+pub first_fault-is : (text : List ℕ) → first_fault text ≡ fault_after blank (judged_lines text)
+first_fault-is text = first_is blank (judged_lines text)
+
+pub read_lines-is : (text : List ℕ) → read_lines text ≡ read_after blank (judged_lines text)
+read_lines-is text = ap (λ f. filter (is_read f) (judged_lines text)) (first_fault-is text) ∙ read_is 0 blank (judged_lines text) (judged_ascend text)

@@ -1,0 +1,23 @@
+-- The classes of characters, and their bits in the table.
+use Rattle.std.specs.Prelude.{ℕ, Bool}
+use Rattle.std.specs.Char.{is_ascii_alphabetic}
+use Rattle.cudf_text.specs.Chars.{is_blank, is_ident_char}
+use Rattle.cudf_value.specs.declared.class.Class.{Class}
+use Rattle.cudf_value.specs.declared.class.Class.TheVariants.{Blank, Letter, Ident, Name, Operator}
+use Rattle.cudf_value.specs.Chars.{is_pkgname_char, is_operator_char}
+
+-- the class's own test
+abbrev pub is_in_class : Class → ℕ → Bool
+is_in_class Blank = is_blank
+is_in_class Letter = is_ascii_alphabetic
+is_in_class Ident = is_ident_char
+is_in_class Name = is_pkgname_char
+is_in_class Operator = is_operator_char
+
+-- the bit of a class in the table
+abbrev pub class_bit : Class → ℕ
+class_bit Blank = 1
+class_bit Letter = 2
+class_bit Ident = 4
+class_bit Name = 8
+class_bit Operator = 16

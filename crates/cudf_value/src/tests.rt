@@ -1,5 +1,0 @@
-mod declarations;
-mod lists;
-mod numbers;
-mod types;
-mod words;
