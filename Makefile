@@ -1,18 +1,24 @@
 # make run: builds the proved program and checks the example of the README.
-# make test: the gate. make install PREFIX=..: copies the executable and its man page.
+# make test: the gate. make statement: the files on which the headline rests, compared with docs/PROOFS.md.
+# make install PREFIX=..: copies the executable and its man page.
 
 PREFIX ?= /usr/local
-PROGRAM := crates/cudf_check/out/cudf_check
+PROGRAM := bin/cudf_check
+BUILT := crates/cudf_program/out/cudf_program
 
-.PHONY: run test install toolchain
+.PHONY: run test statement install toolchain
 
 # The example is no solution, so the program's status is 1.
 run: toolchain
-	cd crates/cudf_check && rt run -- check ../../examples/car-and-wheel.cudf; test $$? -eq 1
+	cd crates/cudf_program && rt run -- check ../../examples/car-and-wheel.cudf; test $$? -eq 1
+	install -D -m 755 $(BUILT) $(PROGRAM)
 	@echo "the program is $(PROGRAM)"
 
 test: toolchain
 	.ci/run
+
+statement:
+	python3 tools/statement.py
 
 install:
 	@test -x $(PROGRAM) || { echo "$(PROGRAM) is not there: run make run first" >&2; exit 2; }
