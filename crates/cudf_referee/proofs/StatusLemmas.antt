@@ -1,11 +1,6 @@
 -- Which places a list of packages with their places holds, where some of them were left out.
-use Rattle.std.proofs.Common.{◌≡◌, ℕ, zero, suc, ◌+◌, ◌<◌, Bool, true, false, ◌&&◌, ◌||◌, ◌==◌, List, [], ◌∷◌, ◌++◌, ◌≤◌, length, get_or, map, take, filter, cond, refl, ap, sym, ◌∙◌, arith, eq-eqb, eqb-true}
+use Rattle.std.proofs.Common.{◌≡◌, ℕ, zero, suc, ◌+◌, ◌<◌, Bool, true, false, ◌&&◌, ◌||◌, ◌==◌, List, [], ◌∷◌, ◌++◌, length, filter, cond, refl, ap, sym, ◌∙◌, arith, eq-eqb, eqb-true}
 use Rattle.std.specs.List.{list_any, list_all, flat_map, enumerate_from}
-use Rattle.std.proofs.lemmas.List.{map_more, length-map}
-use Rattle.std.proofs.Math.ListN.{get_or-map}
-use Rattle.std.proofs.lemmas.List.Elements.{filter-append}
-use Rattle.std.proofs.lemmas.List.Folds.{list_any-append}
-use Rattle.cudf_referee.proofs.EntryLemmas.{enumerate-push, length-map-take}
 use Rattle.cudf_referee.proofs.ListLemmas.{and_true, and_left, and_right}
 
 -- the list has this place
@@ -69,69 +64,6 @@ holds-enumerate n (x ∷ xs) (suc i) h = ap (λ b. (n == n + suc i) || b) (ap (h
 
     below : i < length xs
     below = omega arith
-
--- ---- an element of those whose places pass
-
--- the one at index i passes both tests
-pub any-found : {A : Type 0} (t : ℕ → Bool) (q : ℕ × A → Bool) (n : ℕ) (xs : List A) (i : ℕ) (d : A) → i < length xs
-    → t (n + i) ≡ true → q (n + i, get_or xs i d) ≡ true → list_any q (filter (λ p. t p.0) (enumerate_from n xs)) ≡ true
-any-found t q n [] i d h t_is q_is = absurd (omega arith)
-any-found t q n (x ∷ xs) zero d h t_is q_is = first_found t q n x (filter (λ p. t p.0) (enumerate_from (n + 1) xs)) (ap t number ∙ t_is) (ap (λ m. q (m, x)) number ∙ q_is)
-  where
-    number : n ≡ n + 0
-    number = omega arith
-
-    first_found : {A : Type 0} (t : ℕ → Bool) (q : ℕ × A → Bool) (n : ℕ) (x : A) (rest : List (ℕ × A)) → t n ≡ true → q (n, x) ≡ true
-        → list_any q (cond (t n) ((n, x) ∷ rest) rest) ≡ true
-    first_found t q n x rest t_is q_is = ap (λ b. list_any q (cond b ((n, x) ∷ rest) rest)) t_is ∙ ap (λ b. b || list_any q rest) q_is
-any-found t q n (x ∷ xs) (suc i) d h t_is q_is = later_found q (t n) (n, x) (filter (λ p. t p.0) (enumerate_from (n + 1) xs))
-    (any-found t q (n + 1) xs i d below (ap t number ∙ t_is) (ap (λ m. q (m, get_or xs i d)) number ∙ q_is))
-  where
-    number : n + 1 + i ≡ n + suc i
-    number = omega arith
-
-    below : i < length xs
-    below = omega arith
-
-    later_found : {A : Type 0} (q : A → Bool) (b : Bool) (x : A) (rest : List A) → list_any q rest ≡ true → list_any q (cond b (x ∷ rest) rest) ≡ true
-    later_found q true x rest h = ap (λ b. q x || b) h ∙ or_true (q x)
-    later_found q false x rest h = h
-
-one_none : {A : Type 0} (q : A → Bool) (b : Bool) (x : A) → (b && q x) ≡ false → list_any q (cond b (x ∷ []) []) ≡ false
-one_none q true x h = ap (λ a. a || false) h
-one_none q false x h = refl
-
--- one more that doesn't pass both tests
-pub any-none_more : {A B : Type 0} (view : B → A) (t : ℕ → Bool) (q : ℕ × A → Bool) (xs : List B) (i : ℕ) (d : B) → i < length xs
-    → list_any q (filter (λ p. t p.0) (enumerate_from 1 (map view (take i xs)))) ≡ false
-    → (t (i + 1) && q (i + 1, view (get_or xs i d))) ≡ false
-    → list_any q (filter (λ p. t p.0) (enumerate_from 1 (map view (take (i + 1) xs)))) ≡ false
-any-none_more view t q xs i d below before here =
-    ap (λ ys. list_any q (filter (λ p. t p.0) (enumerate_from 1 ys))) (map_more view xs i d below)
-    ∙ ap (λ ys. list_any q (filter (λ p. t p.0) ys)) (enumerate-push 1 (map view (take i xs)) (view (get_or xs i d)) ∙ ap (λ m. enumerate_from 1 (map view (take i xs)) ++ (m, view (get_or xs i d)) ∷ []) number)
-    ∙ ap (list_any q) (filter-append (λ p. t p.0) (enumerate_from 1 (map view (take i xs))) ((i + 1, view (get_or xs i d)) ∷ []))
-    ∙ list_any-append q (filter (λ p. t p.0) (enumerate_from 1 (map view (take i xs)))) (cond (t (i + 1)) ((i + 1, view (get_or xs i d)) ∷ []) [])
-    ∙ (λ k. before k || one_none q (t (i + 1)) (i + 1, view (get_or xs i d)) here k)
-  where
-    within : i ≤ length xs
-    within = omega arith
-
-    number : 1 + length (map view (take i xs)) ≡ i + 1
-    number = omega (arith, length-map-take view xs i within)
-
--- one of what is seen of a list passes both tests
-pub any-found_view : {A B : Type 0} (view : B → A) (t : ℕ → Bool) (q : ℕ × A → Bool) (xs : List B) (i : ℕ) (d : B) → i < length xs
-    → (t (i + 1) && q (i + 1, view (get_or xs i d))) ≡ true → list_any q (filter (λ p. t p.0) (enumerate_from 1 (map view xs))) ≡ true
-any-found_view view t q xs i d below h = any-found t q 1 (map view xs) i (view d) within
-    (ap t number ∙ and_left (t (i + 1)) (q (i + 1, view (get_or xs i d))) h)
-    (ap (λ m. q (m, get_or (map view xs) i (view d))) number ∙ ap (λ y. q (i + 1, y)) (get_or-map view xs i d)
-    ∙ and_right (t (i + 1)) (q (i + 1, view (get_or xs i d))) h)
-  where
-    within : i < length (map view xs)
-    within = omega (arith, length-map xs view)
-
-    number : 1 + i ≡ i + 1
-    number = omega arith
 
 -- what each element gives, where all places are there
 pub flat_map-held : {A B : Type 0} (t u : ℕ → Bool) (f : Bool → Bool → ℕ × A → List B) (zs xs : List (ℕ × A)) → list_all (λ p. holds zs p.0) xs ≡ true

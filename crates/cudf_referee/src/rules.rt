@@ -3,7 +3,6 @@ ghost use Rattle.std.specs.Prelude.{◌≡◌, ◌++◌, ◌<◌, OnOk};
 ghost use Rattle.std.specs.List.{flat_map, enumerate_from};
 ghost use Rattle.std.specs.FinSet as set;
 ghost use Rattle.cudf_document.specs.Universe.{package_view, request_view};
-ghost use Rattle.cudf_universe.specs.Satisfaction.{members};
 ghost use Rattle.cudf_referee.specs.Views.{instances_view};
 ghost use Rattle.cudf_referee.specs.Violations.{violated_depends, violated_conflicts, package_rules, violated_install, violated_remove, violated_upgrade};
 
@@ -44,7 +43,6 @@ fn find_needs<'p, 't>(
 
 /// Adds what is violated of the package at this place.
 fn find_package<'p, 't>(
-    problem: &Problem<'_>,
     before: &Status,
     proposed: &Status,
     index: &Index<'p, 't>,
@@ -52,9 +50,7 @@ fn find_package<'p, 't>(
     package: &'p Package<'t>,
     found: &mut Vec<Instance<'p, 't>>,
 ) -> Result<(), AllocError>
-    requires placed { 0 < place }
-    requires indexed { index.now ≡ members (set.contains proposed.now) problem.now.packages }
-
+    requires { 0 < place }
     ensures { OnOk result (instances_view found.new ≡ instances_view found.old
         ++ package_rules (set.contains before.now place) (set.contains proposed.now place) index.now
         (place, package_view «package».now)) }
@@ -63,7 +59,7 @@ fn find_package<'p, 't>(
         find_needs(index, place, package, found)?;
     }
     if before.holds(place) {
-        find_keep(problem, proposed, index, place, package, found)?;
+        find_keep(proposed, index, place, package, found)?;
     }
     Ok(())
 }
@@ -76,14 +72,13 @@ pub(crate) fn find_packages<'p, 't>(
     status: &Index<'p, 't>,
     found: &mut Vec<Instance<'p, 't>>,
 ) -> Result<(), AllocError>
-    requires { status.now ≡ members (set.contains proposed.now) problem.now.packages }
     ensures { OnOk result (instances_view found.new ≡ instances_view found.old
         ++ flat_map (λ p. package_rules (set.contains before.now p.0) (set.contains proposed.now p.0) status.now p)
         (enumerate_from 1 problem.now.packages)) }
 {
     for (index, package) in problem.packages().iter().enumerate() {
         let place = index as u64 + 1;
-        find_package(problem, before, proposed, status, place, package, found)?;
+        find_package(before, proposed, status, place, package, found)?;
     }
     Ok(())
 }
