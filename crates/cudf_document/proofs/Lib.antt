@@ -3,6 +3,7 @@ pub mod FaultLemmas
 pub mod FlagLemmas
 pub mod DeclarationLemmas
 pub mod NameLemmas
+pub mod EnumLemmas
 pub mod PropertyLemmas
 pub mod PackageLemmas
 pub mod RequestLemmas

@@ -1,3 +1,4 @@
+pub mod Enums
 pub mod Flags
 pub mod Linters
 pub mod PackageFields

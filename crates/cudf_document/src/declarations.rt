@@ -1,14 +1,14 @@
 //! The extra package properties that a document declares.
 ghost use Rattle.std.specs.Prelude.{◌≡◌, Bool, false, not, ◌&&◌, ◌||◌, [], ◌∷◌, ◌++◌, map, take, length, find, is_some, Some, None, option_map, unwrap_or, bytes_eq, IfOk, OnOk, IsTrue, if◌then◌else◌};
 ghost use Rattle.cudf_value.specs.Formulas.{formula_view};
-ghost use Rattle.cudf_value.specs.Types.{type_view};
 ghost use Rattle.cudf_value.specs.Declarations.{declaration_view};
 ghost use Rattle.cudf_document.specs.Values.{declared_test, test_of};
-ghost use Rattle.cudf_document.specs.Preamble.{is_reserved, is_declared, is_declarable, all_declarable, if_declarable, declared_by, is_formula_type, recommends_in, formula_default, recommends_default};
+ghost use Rattle.cudf_document.specs.Preamble.{is_reserved, is_declared, is_declarable, all_declarable, if_declarable, declared_by, recommends_in, recommends_default};
 ghost use Rattle.cudf_document.specs.Working.PackageFields.{wrong_kind};
 
+use crate::declared::Declared;
 use cudf_text::Kind;
-use cudf_value::{Declaration, Formula, ValueType, fits, read_declarations, read_formula};
+use cudf_value::{Declaration, Formula, read_declarations};
 use indexmap::IndexMap;
 use std::alloc::{AllocError, Global};
 use std::marker::Model;
@@ -16,18 +16,18 @@ use std::marker::Model;
 /// Declarations by their names, in the order in which they came.
 #[derive(Drop)]
 pub(crate) struct Declarations<'t> {
-    known: IndexMap<&'t str, Declaration<'t>>,
+    known: IndexMap<&'t str, Declared<'t>>,
 }
 
 impl<'t> Model for Declarations<'t> {
     ghost use Rattle.std.specs.Prelude.{◌≡◌, List, map};
-    ghost use Rattle.cudf_value.specs.Declarations.{PlainDeclaration, declaration_view};
+    ghost use Rattle.cudf_value.specs.Declarations.{PlainDeclaration};
 
     ghost Value = { List PlainDeclaration };
 
-    ghost view = { λ d. map (λ entry. declaration_view entry.1) d.known.entries };
+    ghost view = { λ d. map (λ entry. entry.1) d.known.entries };
 
-    ghost invariant = { λ d. map (λ entry. entry.0.now) d.known.entries ≡ map (λ entry. entry.1.name.now) d.known.entries };
+    ghost invariant = { λ d. map (λ entry. entry.0.now) d.known.entries ≡ map (λ entry. entry.1.name) d.known.entries };
 }
 
 impl<'t> Declarations<'t> {
@@ -47,8 +47,8 @@ impl<'t> Declarations<'t> {
     }
 
     /// The declaration of this name, if there is one.
-    fn find(&self, name: &str) -> Option<&Declaration<'t>>
-        ensures { option_map (λ d. declaration_view d.now) result
+    fn find(&self, name: &str) -> Option<&Declared<'t>>
+        ensures { option_map (λ d. d.now) result
             ≡ find (λ d. bytes_eq name.now d.name) self.now }
     {
         self.known.get(name)
@@ -66,7 +66,7 @@ impl<'t> Declarations<'t> {
             kind ≡ wrong_kind (test_of name.now (map declared_test self.now)) text.now) }
     {
         match self.find(name) {
-            Some(declaration) => Ok(mistyped_unless(fits(alloc, &declaration.kind, text)?)),
+            Some(declared) => Ok(mistyped_unless(declared.fits(alloc, text)?)),
             None => Ok(Some(Kind::E8)),
         }
     }
@@ -76,7 +76,7 @@ impl<'t> Declarations<'t> {
         ensures { result ≡ is_some (recommends_in self.now) }
     {
         match self.find("recommends") {
-            Some(declaration) => is_formula(&declaration.kind),
+            Some(declared) => declared.is_formula(),
             None => false,
         }
     }
@@ -89,7 +89,7 @@ impl<'t> Declarations<'t> {
         ensures { IfOk result (λ f. option_map formula_view f ≡ recommends_default self.now) }
     {
         match self.find("recommends") {
-            Some(declaration) => default_formula(alloc, declaration),
+            Some(declared) => declared.default_formula(alloc),
             None => Ok(None),
         }
     }
@@ -103,13 +103,17 @@ impl<'t> Declarations<'t> {
             ≡ self.old ++ unwrap_or (declared_by self.old text.now) []) }
     {
         match read_declarations(alloc, text)? {
-            Some(declarations) => self.add_all(declarations),
+            Some(declarations) => self.add_all(alloc, declarations),
             None => Ok(false),
         }
     }
 
     /// Adds all of them and answers true, or adds none where one of them can't stand here.
-    fn add_all(&mut self, declarations: Vec<Declaration<'t>>) -> Result<bool, AllocError>
+    fn add_all(
+        &mut self,
+        alloc: Global,
+        declarations: Vec<Declaration<'t>>,
+    ) -> Result<bool, AllocError>
         ensures is_good { IfOk result (λ is_good.
             is_good ≡ all_declarable self.old (map declaration_view declarations.entry.items)) }
         ensures added { OnOk result (self.new
@@ -117,7 +121,7 @@ impl<'t> Declarations<'t> {
             ++ unwrap_or (if_declarable self.old (map declaration_view declarations.entry.items)) []) }
     {
         let before = self.len();
-        let is_good = self.insert_all(declarations)?;
+        let is_good = self.insert_all(alloc, declarations)?;
         if !is_good {
             self.truncate(before);
         }
@@ -137,7 +141,11 @@ impl<'t> Declarations<'t> {
     }
 
     /// Adds those that can stand here, and says whether all can.
-    fn insert_all(&mut self, declarations: Vec<Declaration<'t>>) -> Result<bool, AllocError>
+    fn insert_all(
+        &mut self,
+        alloc: Global,
+        declarations: Vec<Declaration<'t>>,
+    ) -> Result<bool, AllocError>
         ensures are_all { IfOk result (λ are_all.
             are_all ≡ all_declarable self.old (map declaration_view declarations.entry.items)) }
         ensures added { IfOk result (λ are_all.
@@ -146,14 +154,14 @@ impl<'t> Declarations<'t> {
     {
         let mut are_all = true;
         for declaration in declarations {
-            let is_added = self.insert(declaration)?;
+            let is_added = self.insert(alloc, declaration)?;
             are_all = both(are_all, is_added);
         }
         Ok(are_all)
     }
 
     /// Adds the declaration and answers true, if it can stand here.
-    fn insert(&mut self, declaration: Declaration<'t>) -> Result<bool, AllocError>
+    fn insert(&mut self, alloc: Global, declaration: Declaration<'t>) -> Result<bool, AllocError>
         ensures is_added { IfOk result (λ is_added.
             is_added ≡ is_declarable (self.old, declaration_view declaration.entry)) }
         ensures added { IfOk result (λ is_added.
@@ -161,7 +169,7 @@ impl<'t> Declarations<'t> {
             ++ declaration_view declaration.entry ∷ [] else self.old)) }
     {
         if self.can_declare(declaration.name) {
-            self.push(declaration)?;
+            self.push(Declared::new(alloc, declaration)?)?;
             Ok(true)
         } else {
             Ok(false)
@@ -181,11 +189,11 @@ impl<'t> Declarations<'t> {
         self.find(name).is_some()
     }
 
-    fn push(&mut self, declaration: Declaration<'t>) -> Result<(), AllocError>
-        requires { is_declared self.old declaration.name.now ≡ false }
-        ensures { OnOk result (self.new ≡ self.old ++ declaration_view declaration.entry ∷ []) }
+    fn push(&mut self, declared: Declared<'t>) -> Result<(), AllocError>
+        requires { is_declared self.old declared.name ≡ false }
+        ensures { OnOk result (self.new ≡ self.old ++ declared.entry ∷ []) }
     {
-        self.known.insert(declaration.name, declaration)?;
+        self.known.insert(declared.name(), declared)?;
         Ok(())
     }
 }
@@ -201,29 +209,6 @@ pub(crate) fn mistyped_unless(fits: bool) -> Option<Kind>
     ensures { result ≡ (if fits then None else Some Kind.E9) }
 {
     if fits { None } else { Some(Kind::E9) }
-}
-
-fn is_formula(kind: &ValueType<'_>) -> bool
-    ensures { result ≡ is_formula_type (type_view kind.now) }
-{
-    matches!(kind, ValueType::Formula)
-}
-
-/// The default, where it is a formula's.
-fn default_formula<'t>(
-    alloc: Global,
-    declaration: &Declaration<'t>,
-) -> Result<Option<Formula<'t>>, AllocError>
-    ensures { IfOk result (λ f.
-        option_map formula_view f ≡ formula_default (declaration_view declaration.now)) }
-{
-    if !is_formula(&declaration.kind) {
-        return Ok(None);
-    }
-    match declaration.default {
-        Some(text) => read_formula(alloc, text),
-        None => Ok(None),
-    }
 }
 
 /// Whether the name can't be declared.

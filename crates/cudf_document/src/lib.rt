@@ -3,6 +3,7 @@
 #![tactic(auto)]
 
 mod declarations;
+mod declared;
 mod error;
 mod fault;
 mod fields;

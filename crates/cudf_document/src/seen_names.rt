@@ -62,6 +62,13 @@ impl<'t> SeenNames<'t> {
         }
         Ok(self.rest.insert(name)?)
     }
+
+    /// Whether the name is one of them.
+    pub(crate) fn contains(&self, name: &str) -> bool
+        ensures { result ≡ list_any (bytes_eq name.now) self.now }
+    {
+        is_among(name, &self.first) || self.rest.contains(&name)
+    }
 }
 
 /// Whether the name is one of these.

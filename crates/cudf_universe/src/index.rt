@@ -74,7 +74,7 @@ impl<'p, 't> Index<'p, 't> {
     {
         let gathered = gathered(alloc, problem, status)?;
         let entries = entries_of(alloc, &gathered.rows)?;
-        let trees = trees_of(alloc, &gathered.rows)?;
+        let trees = trees_of(alloc, gathered.rows)?;
         Ok(Index {
             problem,
             status: status.copy(alloc)?,

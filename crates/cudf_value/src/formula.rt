@@ -1,5 +1,5 @@
 //! The type `vpkgformula`.
-ghost use Rattle.std.specs.Prelude.{◌≡◌, option_map, option_copied, is_some, ◌∷◌, ◌<◌, length, position, slice_index, IfSome, IfOk};
+ghost use Rattle.std.specs.Prelude.{◌≡◌, option_map, option_copied, is_some, [], ◌∷◌, ◌++◌, ◌<◌, length, position, slice_index, IfSome, IfOk, OnOk};
 ghost use Rattle.std.specs.Str.{byte};
 ghost use Rattle.cudf_text.specs.Chars.{trim};
 ghost use Rattle.cudf_value.specs.Parts.{read_parts};
@@ -92,7 +92,7 @@ fn clause_of(alloc: Global, text: &str) -> Result<Option<Clause<'_>>, AllocError
     loop {
         let (part, next) = cut(rest, b'|');
         match atom_of(part) {
-            Some(atom) => atoms.push(atom)?,
+            Some(atom) => push_atom(&mut atoms, atom)?,
             None => return Ok(None),
         }
         match next {
@@ -100,6 +100,17 @@ fn clause_of(alloc: Global, text: &str) -> Result<Option<Clause<'_>>, AllocError
             None => return Ok(Some(Clause { atoms })),
         }
     }
+}
+
+/// Adds the atom. Most clauses have one or two, so there is room for no more than two at first.
+fn push_atom<'t>(atoms: &mut Vec<Atom<'t>>, atom: Atom<'t>) -> Result<(), AllocError>
+    ensures { OnOk result (atoms.new.items ≡ atoms.old.items ++ atom.entry ∷ []) }
+{
+    if atoms.len() == 1 {
+        atoms.reserve_exact(1)?;
+    }
+    atoms.push(atom)?;
+    Ok(())
 }
 
 /// Whether the text is a `vpkgformula`, with blanks or none round it. Takes no memory.

@@ -13,7 +13,7 @@ use crate::class::Class;
 const ROOM: usize = 64;
 
 /// How many bytes a part usually has.
-const USUAL_LEN: usize = 16;
+const USUAL_LEN: usize = 12;
 
 /// The text without blanks at its front.
 pub(crate) fn trim_start(text: &str) -> &str

@@ -120,7 +120,7 @@ impl<'t> GatheredNames<'t> {
 pub(crate) fn entries_of(alloc: Global, rows: &[Vec<Provision>]) -> Result<Vec<Entries>, AllocError>
     ensures { IfOk result (λ entries. (k : ℕ) → CompletesAt (slice_get rows.now k) (slice_get entries.items k)) }
 {
-    let mut entries = Vec::new(alloc);
+    let mut entries = Vec::with_capacity(alloc, rows.len())?;
     for row in rows {
         entries.push(completed(alloc, row)?)?;
     }
@@ -132,7 +132,7 @@ pub(crate) fn entries_of(alloc: Global, rows: &[Vec<Provision>]) -> Result<Vec<E
 pub(crate) fn completed(alloc: Global, row: &[Provision]) -> Result<Entries, AllocError>
     ensures { IfOk result (Completes row.now) }
 {
-    let mut numbers = Vec::new(alloc);
+    let mut numbers = Vec::with_capacity(alloc, row.len())?;
     for provision in row {
         push_some(&mut numbers, provision.number)?;
     }

@@ -49,6 +49,18 @@ impl Model for ProvisionTree {
 }
 
 impl ProvisionTree {
+    /// The tree of a row, which stays as it is where it is short.
+    fn of_row(alloc: Global, row: Vec<Provision>) -> Result<Self, AllocError>
+        ensures { IfOk result (λ tree. tree ≡ row.items) }
+    {
+        if row.len() <= FEW {
+            return Ok(ProvisionTree {
+                node: Node::Few(row),
+            });
+        }
+        Self::build(alloc, &row)
+    }
+
     /// The tree of these provisions.
     pub(crate) fn build(alloc: Global, row: &[Provision]) -> Result<Self, AllocError>
         ensures { IfOk result (λ tree. tree ≡ row.now) }
@@ -147,13 +159,13 @@ fn meets_bound(provision: Provision, bound: Option<(Relop, u64)>) -> bool
 /// The tree of each row.
 pub(crate) fn trees_of(
     alloc: Global,
-    rows: &[Vec<Provision>],
+    rows: Vec<Vec<Provision>>,
 ) -> Result<Vec<ProvisionTree>, AllocError>
-    ensures { IfOk result (λ trees. trees.items ≡ map (λ row. row.items) rows.now) }
+    ensures { IfOk result (λ trees. trees.items ≡ map (λ row. row.items) rows.items) }
 {
-    let mut trees = Vec::new(alloc);
+    let mut trees = Vec::with_capacity(alloc, rows.len())?;
     for row in rows {
-        trees.push(ProvisionTree::build(alloc, row)?)?;
+        trees.push(ProvisionTree::of_row(alloc, row)?)?;
     }
     Ok(trees)
 }

@@ -33,6 +33,6 @@ invariant_of-result c = λ name.
       subst (λ status. Keeps name (members (set.contains status) c.args.problem.now.packages) (found (λ k. bytes_eq name k.now) keys entries)) (sym c.in_ok-copy.ensures)
           (keeps_found name (members (set.contains c.args.status.now) c.args.problem.now.packages) keys rows entries
           (λ k. subst (λ rs. CompletesAt (slice_get rs k) (slice_get entries k)) c.deref.ensures.value (c.in_ok-entries.ensures k)) (c.in_ok-gathered.ensures name)),
-      trees_found name (members (set.contains c.args.status.now) c.args.problem.now.packages) keys rows c.in_ok-trees.trees.items (c.in_ok-trees.ensures ∙ ap (map (λ row. row.items)) c.deref-2.ensures.value) (c.in_ok-gathered.ensures name)
+      trees_found name (members (set.contains c.args.status.now) c.args.problem.now.packages) keys rows c.in_ok-trees.trees.items c.in_ok-trees.ensures (c.in_ok-gathered.ensures name)
           ∙ ap (λ status. given_of name (members (set.contains status) c.args.problem.now.packages)) (sym c.in_ok-copy.ensures),
     )
