@@ -1,26 +1,27 @@
--- The keys of the listing ascend.
-use Rattle.std.proofs.Common.{◌≡◌, ℕ, ◌+◌, ◌<◌, Bool, true, false, not, ◌&&◌, nat_lt, List, [], ◌∷◌, ◌++◌, map, filter, cond, arith, refl, ap, sym, ◌∙◌, subst, Some}
+-- The stops of the walk ascend, and so do the keys of the listing.
+use Rattle.std.proofs.Common.{◌≡◌, ℕ, ◌+◌, ◌<◌, Bool, true, false, ◌&&◌, nat_lt, List, [], ◌∷◌, ◌++◌, map, filter, cond, arith, refl, ap, sym, ◌∙◌, subst, Some, None}
 use Rattle.std.proofs.lemmas.Bool.{ltb-true}
 use Rattle.std.proofs.lemmas.Cmp.{nat_cmp_total, nat_list_cmp_total, tied_itself}
 use Rattle.std.specs.Cmp.{nat_cmp_is}
 use Rattle.std.specs.Cmp.Lexicographic.{slice_cmp}
-use Rattle.std.specs.List.{flat_map, enumerate_from}
+use Rattle.std.specs.List.{flat_map, enumerate_from, cons_option}
 use Rattle.std.specs.Ordering.{nat_cmp, ordering_then, is_lt}
 use Rattle.std.specs.declared.cmp.Ordering.TheVariants.{Less}
 use Rattle.cudf_value.specs.Vpkgs.{PlainVpkg}
 use Rattle.cudf_document.specs.declared.package.Keep.{Keep}
 use Rattle.cudf_document.specs.declared.package.Keep.TheVariants.{Version, Package, Feature, Nothing}
-use Rattle.cudf_document.specs.Universe.{PlainRequest, PlainProblem}
+use Rattle.cudf_document.specs.Universe.{PlainPackage, PlainRequest}
 use Rattle.cudf_document.specs.Statuses.{PlainUnknown, ascend_above}
-use Rattle.cudf_universe.specs.Satisfaction.{Placed, numbers_of, satisfies}
-use Rattle.cudf_referee.specs.declared.key.Aspect.{Aspect}
-use Rattle.cudf_referee.specs.declared.key.Aspect.TheVariants.{Unsatisfied, Many, Lower}
-use Rattle.cudf_referee.specs.Entries.{those}
+use Rattle.cudf_universe.specs.Satisfaction.{Placed}
 use Rattle.cudf_referee.specs.Instances.{PlainInstance}
-use Rattle.cudf_referee.specs.Keys.{PlainKey, aspect_rank, key_ranks, precedes_all, ascend}
-use Rattle.cudf_referee.specs.Proposals.{Proposal, proposal}
-use Rattle.cudf_referee.specs.Violations.{has_package, violated_depends, violated_conflicts, violated_keep, package_rules, package_instances, are_many, are_lower, upgrade_if, violated_entry, violated_upgrade, violated_install, violated_remove, request_instances, unknown_instance, listing}
+use Rattle.cudf_referee.specs.Keys.{PlainKey, key_ranks, precedes_all, ascend}
+use Rattle.cudf_referee.specs.Proposals.{Proposal, holds_place}
+use Rattle.cudf_referee.specs.Violations.{listing}
+use Rattle.cudf_referee.specs.Sites.{Site, conjunct, conflicts_entry, kept_feature, install_entry, remove_entry, unknown_stanza, site_key, needed_sites, kept_sites, package_sites, upgrade_sites, request_sites, Stop, at_site, package_end, package_stops, walk}
+use Rattle.cudf_referee.specs.Working.Judged.{instance_at, is_violated, all_given}
 use Rattle.cudf_referee.proofs.ListLemmas.{and_left, and_right}
+use Rattle.cudf_referee.proofs.PositionLemmas.{stop_ranks}
+use Rattle.cudf_referee.proofs.SiteLemmas.{key_at, listing-walk}
 
 -- ---- ranks
 
@@ -28,10 +29,10 @@ use Rattle.cudf_referee.proofs.ListLemmas.{and_left, and_right}
 abbrev pub Below : List ℕ → List ℕ → Type 0
 Below xs ys = slice_cmp nat_cmp xs ys ≡ Less
 
-same_first : (n : ℕ) (xs ys : List ℕ) → Below xs ys → Below (n ∷ xs) (n ∷ ys)
+pub same_first : (n : ℕ) (xs ys : List ℕ) → Below xs ys → Below (n ∷ xs) (n ∷ ys)
 same_first n xs ys h = ap (λ o. ordering_then o (slice_cmp nat_cmp xs ys)) (tied_itself nat_cmp_total n) ∙ h
 
-less_first : (m n : ℕ) (xs ys : List ℕ) → m < n → Below (m ∷ xs) (n ∷ ys)
+pub less_first : (m n : ℕ) (xs ys : List ℕ) → m < n → Below (m ∷ xs) (n ∷ ys)
 less_first m n xs ys h = ap (λ o. ordering_then o (slice_cmp nat_cmp xs ys)) (sym (nat_cmp_is m n Less h))
 
 next_first : (n : ℕ) (xs ys : List ℕ) → Below (n ∷ xs) ((n + 1) ∷ ys)
@@ -40,59 +41,66 @@ next_first n xs ys = less_first n (n + 1) xs ys (omega arith)
 pub chained : (a b c : List ℕ) → Below a b → Below b c → Below a c
 chained a b c = nat_list_cmp_total.trans a b c
 
--- ---- instances that climb
+-- ---- lists that climb
 
--- the ranks of the instances ascend step by step, from above the one bound to below the other
-abbrev Climbs : List ℕ → List PlainInstance → List ℕ → Type 0
-Climbs low [] high = Below low high
-Climbs low (i ∷ is) high = Below low (key_ranks i.key) × Climbs (key_ranks i.key) is high
+-- the ranks of the elements ascend step by step, from above the one bound to below the other
+abbrev pub Climbs : {A : Type 0} → (A → List ℕ) → List ℕ → List A → List ℕ → Type 0
+Climbs ranks low [] high = Below low high
+Climbs ranks low (x ∷ xs) high = Below low (ranks x) × Climbs ranks (ranks x) xs high
 
-from_lower : (a b c : List ℕ) (is : List PlainInstance) → Below a b → Climbs b is c → Climbs a is c
-from_lower a b c [] h k = chained a b c h k
-from_lower a b c (i ∷ is) h k = (chained a b (key_ranks i.key) h k.0, k.1)
+pub from_lower : {A : Type 0} (ranks : A → List ℕ) (a b c : List ℕ) (xs : List A) → Below a b → Climbs ranks b xs c → Climbs ranks a xs c
+from_lower ranks a b c [] h k = chained a b c h k
+from_lower ranks a b c (x ∷ xs) h k = (chained a b (ranks x) h k.0, k.1)
 
-to_higher : (a b c : List ℕ) (is : List PlainInstance) → Climbs a is b → Below b c → Climbs a is c
-to_higher a b c [] h k = chained a b c h k
-to_higher a b c (i ∷ is) h k = (h.0, to_higher (key_ranks i.key) b c is h.1 k)
+pub to_higher : {A : Type 0} (ranks : A → List ℕ) (a b c : List ℕ) (xs : List A) → Climbs ranks a xs b → Below b c → Climbs ranks a xs c
+to_higher ranks a b c [] h k = chained a b c h k
+to_higher ranks a b c (x ∷ xs) h k = (h.0, to_higher ranks (ranks x) b c xs h.1 k)
 
-climbs-append : (a b c : List ℕ) (is js : List PlainInstance) → Climbs a is b → Climbs b js c → Climbs a (is ++ js) c
-climbs-append a b c [] js h k = from_lower a b c js h k
-climbs-append a b c (i ∷ is) js h k = (h.0, climbs-append (key_ranks i.key) b c is js h.1 k)
+-- from the one bound to the other
+pub climbs-over : {A : Type 0} (ranks : A → List ℕ) (low : List ℕ) (xs : List A) (high : List ℕ) → Climbs ranks low xs high → Below low high
+climbs-over ranks low [] high h = h
+climbs-over ranks low (x ∷ xs) high h = chained low (ranks x) high h.0 (climbs-over ranks (ranks x) xs high h.1)
 
-climbs-if : (a b : List ℕ) (test : Bool) (is : List PlainInstance) → Below a b → Climbs a is b → Climbs a (cond test is []) b
-climbs-if a b true is h k = k
-climbs-if a b false is h k = h
+pub climbs-append : {A : Type 0} (ranks : A → List ℕ) (a b c : List ℕ) (xs ys : List A) → Climbs ranks a xs b → Climbs ranks b ys c → Climbs ranks a (xs ++ ys) c
+climbs-append ranks a b c [] ys h k = from_lower ranks a b c ys h k
+climbs-append ranks a b c (x ∷ xs) ys h k = (h.0, climbs-append ranks (ranks x) b c xs ys h.1 k)
+
+climbs-if : {A : Type 0} (ranks : A → List ℕ) (a b : List ℕ) (test : Bool) (xs : List A) → Below a b → Climbs ranks a xs b → Climbs ranks a (cond test xs []) b
+climbs-if ranks a b true xs h k = k
+climbs-if ranks a b false xs h k = h
+
+pub climbs-map : {A B : Type 0} (ranks : B → List ℕ) (f : A → B) (low : List ℕ) (xs : List A) (high : List ℕ) → Climbs (λ x. ranks (f x)) low xs high → Climbs ranks low (map f xs) high
+climbs-map ranks f low [] high h = h
+climbs-map ranks f low (x ∷ xs) high h = (h.0, climbs-map ranks f (ranks (f x)) xs high h.1)
+
+kept_one : {A : Type 0} (ranks : A → List ℕ) (low : List ℕ) (test : Bool) (x : A) (xs : List A) (high : List ℕ) → Below low (ranks x) → Climbs ranks (ranks x) xs high → Climbs ranks low (cond test (x ∷ xs) xs) high
+kept_one ranks low true x xs high h k = (h, k)
+kept_one ranks low false x xs high h k = from_lower ranks low (ranks x) high xs h k
+
+-- what is kept of a list that climbs does
+pub climbs-filter : {A : Type 0} (ranks : A → List ℕ) (test : A → Bool) (low : List ℕ) (xs : List A) (high : List ℕ) → Climbs ranks low xs high → Climbs ranks low (filter test xs) high
+climbs-filter ranks test low [] high h = h
+climbs-filter ranks test low (x ∷ xs) high h = kept_one ranks low (test x) x (filter test xs) high h.0 (climbs-filter ranks test (ranks x) xs high h.1)
 
 -- what each numbered element gives lies from its number's bound to the next one's
-climbs-flat_map : {A : Type 0} (f : ℕ × A → List PlainInstance) (bound : ℕ → List ℕ) (high : List ℕ)
-    → ((x : ℕ × A) → Climbs (bound x.0) (f x) (bound (x.0 + 1))) → ((n : ℕ) → Below (bound n) high)
-    → (n : ℕ) (xs : List A) → Climbs (bound n) (flat_map f (enumerate_from n xs)) high
-climbs-flat_map f bound high step top n [] = top n
-climbs-flat_map f bound high step top n (x ∷ xs) =
-    climbs-append (bound n) (bound (n + 1)) high (f (n, x)) (flat_map f (enumerate_from (n + 1) xs)) (step (n, x)) (climbs-flat_map f bound high step top (n + 1) xs)
+climbs-flat_map : {A B : Type 0} (ranks : B → List ℕ) (f : ℕ × A → List B) (bound : ℕ → List ℕ) (high : List ℕ)
+    → ((x : ℕ × A) → Climbs ranks (bound x.0) (f x) (bound (x.0 + 1))) → ((n : ℕ) → Below (bound n) high)
+    → (n : ℕ) (xs : List A) → Climbs ranks (bound n) (flat_map f (enumerate_from n xs)) high
+climbs-flat_map ranks f bound high step top n [] = top n
+climbs-flat_map ranks f bound high step top n (x ∷ xs) =
+    climbs-append ranks (bound n) (bound (n + 1)) high (f (n, x)) (flat_map f (enumerate_from (n + 1) xs)) (step (n, x)) (climbs-flat_map ranks f bound high step top (n + 1) xs)
 
-one_more : (a b c : List ℕ) (passes : Bool) {X : Type 0} (make : X → PlainInstance) (x : X) (xs : List X)
-    → Below a (key_ranks (make x).key) → Below (key_ranks (make x).key) b → Climbs b (map make xs) c → Climbs a (map make (cond passes (x ∷ xs) xs)) c
-one_more a b c true make x xs h k rest = (h, from_lower (key_ranks (make x).key) b c (map make xs) k rest)
-one_more a b c false make x xs h k rest = from_lower a b c (map make xs) (chained a (key_ranks (make x).key) b h k) rest
+-- ---- sites
 
--- so does what is made of those elements that pass a test
-climbs-filter : {A : Type 0} (make : ℕ × A → PlainInstance) (test : ℕ × A → Bool) (bound : ℕ → List ℕ) (high : List ℕ)
-    → ((x : ℕ × A) → Below (bound x.0) (key_ranks (make x).key)) → ((x : ℕ × A) → Below (key_ranks (make x).key) (bound (x.0 + 1)))
-    → ((n : ℕ) → Below (bound n) high)
-    → (n : ℕ) (xs : List A) → Climbs (bound n) (map make (filter test (enumerate_from n xs))) high
-climbs-filter make test bound high above below top n [] = top n
-climbs-filter make test bound high above below top n (x ∷ xs) =
-    one_more (bound n) (bound (n + 1)) high (test (n, x)) make (n, x) (filter test (enumerate_from (n + 1) xs)) (above (n, x)) (below (n, x))
-    (climbs-filter make test bound high above below top (n + 1) xs)
+abbrev pub site_ranks : Site → List ℕ
+site_ranks site = key_ranks (site_key site)
 
--- the instances of a rule without aspects, by the ranks of its part and its own
-climbs-rule : {A : Type 0} (make : ℕ × A → PlainInstance) (test : A → Bool) (part place rule : ℕ)
-    → ((x : ℕ × A) → key_ranks (make x).key ≡ (part ∷ place ∷ rule ∷ x.0 ∷ 0 ∷ []))
-    → (xs : List A) → Climbs (part ∷ place ∷ rule ∷ []) (map make (those test xs)) (part ∷ place ∷ (rule + 1) ∷ [])
-climbs-rule {A = A} make test part place rule ranks xs =
-    from_lower (part ∷ place ∷ rule ∷ []) (bound 1) high (map make (those test xs)) (within (rule ∷ []) (rule ∷ 1 ∷ []) (same_first rule [] (1 ∷ []) refl))
-    (climbs-filter make (λ x. test x.1) bound high above below top 1 xs)
+-- the sites of a rule without aspects, by the ranks of its part and its own
+climbs-rule : {A : Type 0} (make : ℕ × A → Site) (part place rule : ℕ)
+    → ((x : ℕ × A) → site_ranks (make x) ≡ (part ∷ place ∷ rule ∷ x.0 ∷ 0 ∷ []))
+    → (xs : List A) → Climbs site_ranks (part ∷ place ∷ rule ∷ []) (map make (enumerate_from 1 xs)) (part ∷ place ∷ (rule + 1) ∷ [])
+climbs-rule {A = A} make part place rule ranks xs =
+    from_lower site_ranks (part ∷ place ∷ rule ∷ []) (bound 1) high (map make (enumerate_from 1 xs)) (of_rule [] (1 ∷ []) refl) (from 1 xs)
   where
     bound : ℕ → List ℕ
     bound n = part ∷ place ∷ rule ∷ n ∷ []
@@ -106,153 +114,144 @@ climbs-rule {A = A} make test part place rule ranks xs =
     of_rule : (ms ns : List ℕ) → Below ms ns → Below (part ∷ place ∷ rule ∷ ms) (part ∷ place ∷ rule ∷ ns)
     of_rule ms ns h = within (rule ∷ ms) (rule ∷ ns) (same_first rule ms ns h)
 
-    above : (x : ℕ × A) → Below (bound x.0) (key_ranks (make x).key)
+    above : (x : ℕ × A) → Below (bound x.0) (site_ranks (make x))
     above x = subst (λ r. Below (bound x.0) r) (sym (ranks x)) (of_rule (x.0 ∷ []) (x.0 ∷ 0 ∷ []) (same_first x.0 [] (0 ∷ []) refl))
 
-    below : (x : ℕ × A) → Below (key_ranks (make x).key) (bound (x.0 + 1))
+    below : (x : ℕ × A) → Below (site_ranks (make x)) (bound (x.0 + 1))
     below x = subst (λ r. Below r (bound (x.0 + 1))) (sym (ranks x)) (of_rule (x.0 ∷ 0 ∷ []) ((x.0 + 1) ∷ []) (next_first x.0 (0 ∷ []) []))
 
-    top : (n : ℕ) → Below (bound n) high
-    top n = within (rule ∷ n ∷ []) ((rule + 1) ∷ []) (next_first rule (n ∷ []) [])
+    from : (n : ℕ) (xs : List A) → Climbs site_ranks (bound n) (map make (enumerate_from n xs)) high
+    from n [] = within (rule ∷ n ∷ []) ((rule + 1) ∷ []) (next_first rule (n ∷ []) [])
+    from n (x ∷ xs) = (
+      above (n, x),
+      from_lower site_ranks (site_ranks (make (n, x))) (bound (n + 1)) high (map make (enumerate_from (n + 1) xs)) (below (n, x)) (from (n + 1) xs),
+    )
 
 -- ---- packages
 
-keep_climbs : (is_installed : Bool) (status : List Placed) (k : Keep) (p : Placed) → Climbs (1 ∷ p.0 ∷ 3 ∷ []) (violated_keep is_installed status k p) (1 ∷ p.0 ∷ 4 ∷ [])
-keep_climbs is_installed status k p = by k
+kept_climb : (k : Keep) (p : Placed) → Climbs site_ranks (1 ∷ p.0 ∷ 3 ∷ []) (kept_sites k p) (1 ∷ p.0 ∷ 4 ∷ [])
+kept_climb k p = by k
   where
     at_place : (ms ns : List ℕ) → Below ms ns → Below (1 ∷ p.0 ∷ ms) (1 ∷ p.0 ∷ ns)
     at_place ms ns h = same_first p.0 ms ns h
 
-    over : Below (1 ∷ p.0 ∷ 3 ∷ []) (1 ∷ p.0 ∷ 4 ∷ [])
-    over = at_place (3 ∷ []) (4 ∷ []) refl
+    by : (k : Keep) → Climbs site_ranks (1 ∷ p.0 ∷ 3 ∷ []) (kept_sites k p) (1 ∷ p.0 ∷ 4 ∷ [])
+    by Version = (at_place (3 ∷ []) (3 ∷ 1 ∷ 0 ∷ []) refl, at_place (3 ∷ 1 ∷ 0 ∷ []) (4 ∷ []) refl)
+    by Package = (at_place (3 ∷ []) (3 ∷ 1 ∷ 0 ∷ []) refl, at_place (3 ∷ 1 ∷ 0 ∷ []) (4 ∷ []) refl)
+    by Feature = climbs-rule (λ v. kept_feature p v.0 v.1) 1 p.0 3 (λ x. refl) p.1.provides
+    by Nothing = at_place (3 ∷ []) (4 ∷ []) refl
 
-    up : Below (1 ∷ p.0 ∷ 3 ∷ []) (1 ∷ p.0 ∷ 3 ∷ 1 ∷ 0 ∷ [])
-    up = at_place (3 ∷ []) (3 ∷ 1 ∷ 0 ∷ []) refl
-
-    on : Below (1 ∷ p.0 ∷ 3 ∷ 1 ∷ 0 ∷ []) (1 ∷ p.0 ∷ 4 ∷ [])
-    on = at_place (3 ∷ 1 ∷ 0 ∷ []) (4 ∷ []) refl
-
-    by : (k : Keep) → Climbs (1 ∷ p.0 ∷ 3 ∷ []) (violated_keep is_installed status k p) (1 ∷ p.0 ∷ 4 ∷ [])
-    by Version = climbs-if _ _ (not is_installed) _ over (up, on)
-    by Package = climbs-if _ _ (not (has_package status p.1.name)) _ over (up, on)
-    by Feature = climbs-rule _ (λ v. not (satisfies status v)) 1 p.0 3 (λ x. refl) p.1.provides
-    by Nothing = over
-
-package_climbs : (was_installed is_installed : Bool) (status : List Placed) (p : Placed) → Climbs (1 ∷ p.0 ∷ []) (package_rules was_installed is_installed status p) (1 ∷ (p.0 + 1) ∷ [])
-package_climbs was_installed is_installed status p =
-    from_lower (1 ∷ p.0 ∷ []) (1 ∷ p.0 ∷ 1 ∷ []) (1 ∷ (p.0 + 1) ∷ []) all (same_first p.0 [] (1 ∷ []) refl)
-    (to_higher (1 ∷ p.0 ∷ 1 ∷ []) (1 ∷ p.0 ∷ 4 ∷ []) (1 ∷ (p.0 + 1) ∷ []) all rules (next_first p.0 (4 ∷ []) []))
+pub package_climbs : (s : Proposal) (p : Placed) → Climbs stop_ranks (1 ∷ p.0 ∷ []) (package_stops s p) (1 ∷ (p.0 + 1) ∷ [])
+package_climbs s p =
+    climbs-append stop_ranks (1 ∷ p.0 ∷ []) (1 ∷ p.0 ∷ 4 ∷ []) (1 ∷ (p.0 + 1) ∷ []) (map at_site (package_sites s p)) (package_end p.0 ∷ [])
+    (climbs-map stop_ranks at_site (1 ∷ p.0 ∷ []) (package_sites s p) (1 ∷ p.0 ∷ 4 ∷ []) sites_climb)
+    (same_first p.0 (4 ∷ []) (8 ∷ []) refl, next_first p.0 (8 ∷ []) [])
   where
-    depends : List PlainInstance
-    depends = violated_depends status p
+    depends : List Site
+    depends = map (λ c. conjunct p c.0 c.1) (enumerate_from 1 p.1.depends)
 
-    conflicts : List PlainInstance
-    conflicts = violated_conflicts status p
+    conflicts : List Site
+    conflicts = map (λ v. conflicts_entry p v.0 v.1) (enumerate_from 1 p.1.conflicts)
 
-    keep : List PlainInstance
-    keep = violated_keep is_installed status p.1.keep p
+    needed : Climbs site_ranks (1 ∷ p.0 ∷ 1 ∷ []) (needed_sites p) (1 ∷ p.0 ∷ 3 ∷ [])
+    needed = climbs-append site_ranks (1 ∷ p.0 ∷ 1 ∷ []) (1 ∷ p.0 ∷ 2 ∷ []) (1 ∷ p.0 ∷ 3 ∷ []) depends conflicts
+        (climbs-rule (λ c. conjunct p c.0 c.1) 1 p.0 1 (λ x. refl) p.1.depends)
+        (climbs-rule (λ v. conflicts_entry p v.0 v.1) 1 p.0 2 (λ x. refl) p.1.conflicts)
 
-    all : List PlainInstance
-    all = package_rules was_installed is_installed status p
+    sites_climb : Climbs site_ranks (1 ∷ p.0 ∷ []) (package_sites s p) (1 ∷ p.0 ∷ 4 ∷ [])
+    sites_climb =
+        from_lower site_ranks (1 ∷ p.0 ∷ []) (1 ∷ p.0 ∷ 1 ∷ []) (1 ∷ p.0 ∷ 4 ∷ []) (package_sites s p) (same_first p.0 [] (1 ∷ []) refl)
+        (climbs-append site_ranks (1 ∷ p.0 ∷ 1 ∷ []) (1 ∷ p.0 ∷ 3 ∷ []) (1 ∷ p.0 ∷ 4 ∷ [])
+        (cond (holds_place s.proposed p.0) (needed_sites p) []) (cond (holds_place s.initial p.0) (kept_sites p.1.keep p) [])
+        (climbs-if site_ranks (1 ∷ p.0 ∷ 1 ∷ []) (1 ∷ p.0 ∷ 3 ∷ []) (holds_place s.proposed p.0) (needed_sites p) (same_first p.0 (1 ∷ []) (3 ∷ []) refl) needed)
+        (climbs-if site_ranks (1 ∷ p.0 ∷ 3 ∷ []) (1 ∷ p.0 ∷ 4 ∷ []) (holds_place s.initial p.0) (kept_sites p.1.keep p) (same_first p.0 (3 ∷ []) (4 ∷ []) refl) (kept_climb p.1.keep p)))
 
-    installed : Climbs (1 ∷ p.0 ∷ 1 ∷ []) (depends ++ conflicts) (1 ∷ p.0 ∷ 3 ∷ [])
-    installed = climbs-append (1 ∷ p.0 ∷ 1 ∷ []) (1 ∷ p.0 ∷ 2 ∷ []) (1 ∷ p.0 ∷ 3 ∷ []) depends conflicts
-        (climbs-rule _ _ 1 p.0 1 (λ x. refl) p.1.depends) (climbs-rule _ _ 1 p.0 2 (λ x. refl) p.1.conflicts)
-
-    rules : Climbs (1 ∷ p.0 ∷ 1 ∷ []) all (1 ∷ p.0 ∷ 4 ∷ [])
-    rules = climbs-append (1 ∷ p.0 ∷ 1 ∷ []) (1 ∷ p.0 ∷ 3 ∷ []) (1 ∷ p.0 ∷ 4 ∷ []) (cond is_installed (depends ++ conflicts) []) (cond was_installed keep [])
-        (climbs-if _ _ is_installed (depends ++ conflicts) (same_first p.0 (1 ∷ []) (3 ∷ []) refl) installed)
-        (climbs-if _ _ was_installed keep (same_first p.0 (3 ∷ []) (4 ∷ []) refl) (keep_climbs is_installed status p.1.keep p))
-
-packages_climb : (s : Proposal) → Climbs (1 ∷ 1 ∷ []) (flat_map (package_instances s) (enumerate_from 1 s.packages)) (2 ∷ [])
-packages_climb s = climbs-flat_map (package_instances s) (λ n. 1 ∷ n ∷ []) (2 ∷ []) (λ p. package_climbs _ _ s.proposed p) (λ n. refl) 1 s.packages
+pub packages_climb : (s : Proposal) (n : ℕ) (packages : List PlainPackage) → Climbs stop_ranks (1 ∷ n ∷ []) (flat_map (package_stops s) (enumerate_from n packages)) (2 ∷ [])
+packages_climb s n packages = climbs-flat_map stop_ranks (package_stops s) (λ m. 1 ∷ m ∷ []) (2 ∷ []) (package_climbs s) (λ m. refl) n packages
 
 -- ---- the request
 
-entry_climbs : (before status : List Placed) (r : PlainRequest) (v : ℕ × PlainVpkg) → Climbs (2 ∷ 0 ∷ 6 ∷ v.0 ∷ []) (violated_entry before status r v) (2 ∷ 0 ∷ 6 ∷ (v.0 + 1) ∷ [])
-entry_climbs before status r v =
-    to_higher (bound []) (bound (3 ∷ 0 ∷ [])) (2 ∷ 0 ∷ 6 ∷ (v.0 + 1) ∷ []) ((unsatisfied ++ many) ++ lower)
-    (climbs-append (bound []) (bound (2 ∷ 0 ∷ [])) (bound (3 ∷ 0 ∷ [])) (unsatisfied ++ many) lower
-    (climbs-append (bound []) (bound (1 ∷ 0 ∷ [])) (bound (2 ∷ 0 ∷ [])) unsatisfied many
-    (aspect [] Unsatisfied (not (satisfies status v.1)) refl refl refl)
-    (aspect (1 ∷ 0 ∷ []) Many (are_many numbers) refl refl refl))
-    (aspect (2 ∷ 0 ∷ []) Lower (are_lower old numbers) refl refl refl))
-    (next_first v.0 (3 ∷ 0 ∷ []) [])
+pub entry_climbs : (v : ℕ × PlainVpkg) → Climbs site_ranks (2 ∷ 0 ∷ 6 ∷ v.0 ∷ []) (upgrade_sites v) (2 ∷ 0 ∷ 6 ∷ (v.0 + 1) ∷ [])
+entry_climbs v = (at_entry [] (1 ∷ []) refl, (at_entry (1 ∷ []) (2 ∷ []) refl, (at_entry (2 ∷ []) (3 ∷ []) refl, next_first v.0 (3 ∷ []) [])))
   where
-    numbers : List ℕ
-    numbers = numbers_of v.1.name status
-
-    old : List ℕ
-    old = numbers_of v.1.name before
-
-    unsatisfied : List PlainInstance
-    unsatisfied = upgrade_if (not (satisfies status v.1)) r v Unsatisfied
-
-    many : List PlainInstance
-    many = upgrade_if (are_many numbers) r v Many
-
-    lower : List PlainInstance
-    lower = upgrade_if (are_lower old numbers) r v Lower
-
-    bound : List ℕ → List ℕ
-    bound ns = 2 ∷ 0 ∷ 6 ∷ v.0 ∷ ns
-
-    at_entry : (ms ns : List ℕ) → Below ms ns → Below (bound ms) (bound ns)
+    at_entry : (ms ns : List ℕ) → Below ms ns → Below (2 ∷ 0 ∷ 6 ∷ v.0 ∷ ms) (2 ∷ 0 ∷ 6 ∷ v.0 ∷ ns)
     at_entry ms ns h = same_first v.0 ms ns h
 
-    aspect : (low : List ℕ) (a : Aspect) (test : Bool) → Below low (aspect_rank (Some a) ∷ 0 ∷ []) → Below low (aspect_rank (Some a) ∷ []) → Below (aspect_rank (Some a) ∷ []) (aspect_rank (Some a) ∷ 0 ∷ [])
-        → Climbs (bound low) (upgrade_if test r v a) (bound (aspect_rank (Some a) ∷ 0 ∷ []))
-    aspect low a test over up on =
-        climbs-if _ _ test _ (at_entry low (aspect_rank (Some a) ∷ 0 ∷ []) over)
-        (at_entry low (aspect_rank (Some a) ∷ []) up, at_entry (aspect_rank (Some a) ∷ []) (aspect_rank (Some a) ∷ 0 ∷ []) on)
+pub entries_climb : (n : ℕ) (vs : List PlainVpkg) → Climbs site_ranks (2 ∷ 0 ∷ 6 ∷ n ∷ []) (flat_map upgrade_sites (enumerate_from n vs)) (3 ∷ [])
+entries_climb n vs = climbs-flat_map site_ranks upgrade_sites (λ m. 2 ∷ 0 ∷ 6 ∷ m ∷ []) (3 ∷ []) entry_climbs (λ m. refl) n vs
 
-upgrade_climbs : (before status : List Placed) (r : PlainRequest) → Climbs (2 ∷ 0 ∷ 6 ∷ []) (violated_upgrade before status r) (3 ∷ [])
-upgrade_climbs before status r =
-    from_lower (2 ∷ 0 ∷ 6 ∷ []) (2 ∷ 0 ∷ 6 ∷ 1 ∷ []) (3 ∷ []) (violated_upgrade before status r) refl
-    (climbs-flat_map (violated_entry before status r) (λ n. 2 ∷ 0 ∷ 6 ∷ n ∷ []) (3 ∷ []) (entry_climbs before status r) (λ n. refl) 1 r.upgrade)
-
-request_climbs : (s : Proposal) → Climbs (2 ∷ []) (request_instances s) (3 ∷ [])
-request_climbs s =
-    from_lower (2 ∷ []) (2 ∷ 0 ∷ 4 ∷ []) (3 ∷ []) (request_instances s) refl
-    (climbs-append (2 ∷ 0 ∷ 4 ∷ []) (2 ∷ 0 ∷ 6 ∷ []) (3 ∷ []) (inst ++ rem) (violated_upgrade s.initial s.proposed s.request)
-    (climbs-append (2 ∷ 0 ∷ 4 ∷ []) (2 ∷ 0 ∷ 5 ∷ []) (2 ∷ 0 ∷ 6 ∷ []) inst rem
-    (climbs-rule _ _ 2 0 4 (λ x. refl) s.request.install)
-    (climbs-rule _ _ 2 0 5 (λ x. refl) s.request.remove))
-    (upgrade_climbs s.initial s.proposed s.request))
+pub request_climbs : (r : PlainRequest) → Climbs site_ranks (2 ∷ []) (request_sites r) (3 ∷ [])
+request_climbs r =
+    from_lower site_ranks (2 ∷ []) (2 ∷ 0 ∷ 4 ∷ []) (3 ∷ []) (request_sites r) refl
+    (climbs-append site_ranks (2 ∷ 0 ∷ 4 ∷ []) (2 ∷ 0 ∷ 6 ∷ []) (3 ∷ []) (wanted ++ unwanted) (flat_map upgrade_sites (enumerate_from 1 r.upgrade))
+    (climbs-append site_ranks (2 ∷ 0 ∷ 4 ∷ []) (2 ∷ 0 ∷ 5 ∷ []) (2 ∷ 0 ∷ 6 ∷ []) wanted unwanted
+    (climbs-rule (λ v. install_entry v.0 v.1) 2 0 4 (λ x. refl) r.install)
+    (climbs-rule (λ v. remove_entry v.0 v.1) 2 0 5 (λ x. refl) r.remove))
+    (from_lower site_ranks (2 ∷ 0 ∷ 6 ∷ []) (2 ∷ 0 ∷ 6 ∷ 1 ∷ []) (3 ∷ []) (flat_map upgrade_sites (enumerate_from 1 r.upgrade)) refl (entries_climb 1 r.upgrade)))
   where
-    inst : List PlainInstance
-    inst = violated_install s.proposed s.request
+    wanted : List Site
+    wanted = map (λ v. install_entry v.0 v.1) (enumerate_from 1 r.install)
 
-    rem : List PlainInstance
-    rem = violated_remove s.proposed s.request
+    unwanted : List Site
+    unwanted = map (λ v. remove_entry v.0 v.1) (enumerate_from 1 r.remove)
 
 -- ---- the solution
 
-unknown_climbs : (n : ℕ) (unknown : List PlainUnknown) → ascend_above n unknown ≡ true → Climbs (3 ∷ 0 ∷ 7 ∷ n ∷ 0 ∷ []) (map unknown_instance unknown) (4 ∷ [])
+unknown_climbs : (n : ℕ) (unknown : List PlainUnknown) → ascend_above n unknown ≡ true → Climbs site_ranks (3 ∷ 0 ∷ 7 ∷ n ∷ 0 ∷ []) (map unknown_stanza unknown) (4 ∷ [])
 unknown_climbs n [] h = refl
 unknown_climbs n (u ∷ unknown) h = (
   less_first n u.stanza (0 ∷ []) (0 ∷ []) (ltb-true n u.stanza (and_left (nat_lt n u.stanza) (ascend_above u.stanza unknown) h)),
   unknown_climbs u.stanza unknown (and_right (nat_lt n u.stanza) (ascend_above u.stanza unknown) h),
 )
 
--- ---- all
+-- ---- the walk
 
-precedes : (k : PlainKey) (is : List PlainInstance) (high : List ℕ) → Climbs (key_ranks k) is high → precedes_all k (map (λ i. i.key) is) ≡ true
-precedes k [] high h = refl
-precedes k (i ∷ is) high h = let rest = precedes k is high (from_lower (key_ranks k) (key_ranks i.key) high is h.0 h.1) in
-    λ j. is_lt (h.0 j) && rest j
+-- the stops ascend, where the numbers of the unknown stanzas do
+pub walk-climbs : (s : Proposal) → ascend_above 0 s.unknown ≡ true → Climbs stop_ranks [] (walk s) (4 ∷ [])
+unfolding walk
+walk-climbs s h =
+    from_lower stop_ranks [] (1 ∷ 1 ∷ []) (4 ∷ []) (flat_map (package_stops s) packages ++ map at_site others) refl
+    (climbs-append stop_ranks (1 ∷ 1 ∷ []) (2 ∷ []) (4 ∷ []) (flat_map (package_stops s) packages) (map at_site others)
+    (packages_climb s 1 s.packages)
+    (climbs-map stop_ranks at_site (2 ∷ []) others (4 ∷ [])
+    (climbs-append site_ranks (2 ∷ []) (3 ∷ []) (4 ∷ []) (request_sites s.request) (map unknown_stanza s.unknown) (request_climbs s.request)
+    (from_lower site_ranks (3 ∷ []) (3 ∷ 0 ∷ 7 ∷ 0 ∷ 0 ∷ []) (4 ∷ []) (map unknown_stanza s.unknown) refl (unknown_climbs 0 s.unknown h)))))
+  where
+    packages : List Placed
+    packages = enumerate_from 1 s.packages
 
-climbing_ascends : (low : List ℕ) (is : List PlainInstance) (high : List ℕ) → Climbs low is high → ascend (map (λ i. i.key) is) ≡ true
+    others : List Site
+    others = request_sites s.request ++ map unknown_stanza s.unknown
+
+-- ---- the listing
+
+abbrev instance_ranks : PlainInstance → List ℕ
+instance_ranks i = key_ranks i.key
+
+given_one : (low high : List ℕ) (violated : Bool) (key : PlainKey) (i : PlainInstance) (is : List PlainInstance) → i.key ≡ key → Below low (key_ranks key)
+    → Climbs instance_ranks (key_ranks key) is high → Climbs instance_ranks low (cons_option (cond violated (Some i) None) is) high
+given_one low high true key i is same h k = (
+  subst (λ (x : PlainKey). Below low (key_ranks x)) (sym same) h,
+  subst (λ (x : PlainKey). Climbs instance_ranks (key_ranks x) is high) (sym same) k,
+)
+given_one low high false key i is same h k = from_lower instance_ranks low (key_ranks key) high is h k
+
+-- what stops that climb give does
+given_climbs : (s : Proposal) (low : List ℕ) (xs : List Stop) (high : List ℕ) → Climbs stop_ranks low xs high → Climbs instance_ranks low (all_given s xs) high
+given_climbs s low [] high h = h
+given_climbs s low (at_site x ∷ xs) high h = given_one low high (is_violated s x) (site_key x) (instance_at s x) (all_given s xs) (key_at s x) h.0
+    (given_climbs s (stop_ranks (at_site x)) xs high h.1)
+given_climbs s low (package_end n ∷ xs) high h = from_lower instance_ranks low (stop_ranks (package_end n)) high (all_given s xs) h.0
+    (given_climbs s (stop_ranks (package_end n)) xs high h.1)
+
+before : (k : PlainKey) (is : List PlainInstance) (high : List ℕ) → Climbs instance_ranks (key_ranks k) is high → precedes_all k (map (λ i. i.key) is) ≡ true
+before k [] high h = refl
+before k (i ∷ is) high h = let later = before k is high (from_lower instance_ranks (key_ranks k) (key_ranks i.key) high is h.0 h.1) in
+    λ j. is_lt (h.0 j) && later j
+
+climbing_ascends : (low : List ℕ) (is : List PlainInstance) (high : List ℕ) → Climbs instance_ranks low is high → ascend (map (λ i. i.key) is) ≡ true
 climbing_ascends low [] high h = refl
-climbing_ascends low (i ∷ is) high h = λ j. precedes i.key is high h.1 j && climbing_ascends (key_ranks i.key) is high h.1 j
+climbing_ascends low (i ∷ is) high h = λ j. before i.key is high h.1 j && climbing_ascends (key_ranks i.key) is high h.1 j
 
-pub listing_ascends : (problem : PlainProblem) (was_installed is_installed : ℕ → Bool) (unknown : List PlainUnknown) → ascend_above 0 unknown ≡ true
-    → ascend (map (λ i. i.key) (listing (proposal problem was_installed is_installed unknown))) ≡ true
-unfolding listing
-listing_ascends problem was_installed is_installed unknown h =
-    let s = proposal problem was_installed is_installed unknown in
-    let packages = flat_map (package_instances s) (enumerate_from 1 s.packages) in
-    climbing_ascends (1 ∷ 1 ∷ []) ((packages ++ request_instances s) ++ map unknown_instance unknown) (4 ∷ [])
-    (climbs-append (1 ∷ 1 ∷ []) (3 ∷ []) (4 ∷ []) (packages ++ request_instances s) (map unknown_instance unknown)
-    (climbs-append (1 ∷ 1 ∷ []) (2 ∷ []) (3 ∷ []) packages (request_instances s) (packages_climb s) (request_climbs s))
-    (from_lower (3 ∷ []) (3 ∷ 0 ∷ 7 ∷ 0 ∷ 0 ∷ []) (4 ∷ []) (map unknown_instance unknown) refl (unknown_climbs 0 unknown h)))
+pub listing_ascends : (s : Proposal) → ascend_above 0 s.unknown ≡ true → ascend (map (λ i. i.key) (listing s)) ≡ true
+listing_ascends s h = ap (λ is. ascend (map (λ i. i.key) is)) (listing-walk s) ∙ climbing_ascends [] (all_given s (walk s)) (4 ∷ []) (given_climbs s [] (walk s) (4 ∷ []) (walk-climbs s h))

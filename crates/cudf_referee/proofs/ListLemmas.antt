@@ -1,6 +1,6 @@
 -- Lists that are empty, and tests of lists.
-use Rattle.std.proofs.Common.{◌≡◌, ℕ, ◌+◌, Bool, true, false, not, ◌&&◌, ◌||◌, ◌==◌, List, [], ◌∷◌, ◌++◌, length, arith, map, filter, cond, refl, ap, sym, ◌∙◌}
-use Rattle.std.proofs.lemmas.Bool.{ne_eqb}
+use Rattle.std.proofs.Common.{◌≡◌, ℕ, ◌+◌, ◌<◌, Bool, true, false, not, ◌&&◌, ◌||◌, List, [], ◌∷◌, ◌++◌, length, take, get_or, map, filter, cond, refl, ap, sym, ◌∙◌}
+use Rattle.std.proofs.lemmas.List.{map-append, take_more}
 use Rattle.std.specs.List.{list_all, list_any, flat_map, enumerate_from}
 use Rattle.cudf_referee.specs.Entries.{is_empty}
 
@@ -20,14 +20,6 @@ pub and_right : (a b : Bool) → (a && b) ≡ true → b ≡ true
 and_right true b h = h
 and_right false b h = absurd (cc h)
 
-pub and_assoc : (a b c : Bool) → (a && (b && c)) ≡ ((a && b) && c)
-and_assoc true b c = refl
-and_assoc false b c = refl
-
-pub and_comm : (a b : Bool) → (a && b) ≡ (b && a)
-and_comm true b = sym (and_true b)
-and_comm false b = sym (and_false b)
-
 -- the middle two change places
 pub and_swap : (a b c d : Bool) → ((a && b) && (c && d)) ≡ ((a && c) && (b && d))
 and_swap true b true d = refl
@@ -42,10 +34,6 @@ not_not false = refl
 -- tests that agree everywhere
 pub list_all-same : {A : Type 0} (p q : A → Bool) → ((x : A) → p x ≡ q x) → (xs : List A) → list_all p xs ≡ list_all q xs
 list_all-same p q same xs = ap (λ test. list_all test xs) (λ i x. same x i)
-
-pub is_empty-length : {A : Type 0} (xs : List A) → (length xs == 0) ≡ is_empty xs
-is_empty-length [] = refl
-is_empty-length (x ∷ xs) = ne_eqb (length (x ∷ xs)) 0 (λ e. omega arith)
 
 pub is_empty-append : {A : Type 0} (xs ys : List A) → is_empty (xs ++ ys) ≡ (is_empty xs && is_empty ys)
 is_empty-append [] ys = refl
@@ -95,3 +83,9 @@ not_or false b = refl
 pub list_any-none : {A : Type 0} (p : A → Bool) (xs : List A) → not (list_any p xs) ≡ list_all (λ x. not (p x)) xs
 list_any-none p [] = refl
 list_any-none p (x ∷ xs) = not_or (p x) (list_any p xs) ∙ ap (λ b. not (p x) && b) (list_any-none p xs)
+
+-- one more of what is made of the first ones
+pub map-more : {A B : Type 0} (f : A → B) (xs : List A) (n : ℕ) (x : A) (made : List B) (y : B) (more : List B) → n < length xs → made ≡ map f (take n xs) → x ≡ get_or xs n x → y ≡ f x
+    → more ≡ made ++ y ∷ [] → more ≡ map f (take (n + 1) xs)
+map-more f xs n x made y more inside so_far is one added =
+    added ∙ (λ i. so_far i ++ one i ∷ []) ∙ ap (λ z. map f (take n xs) ++ f z ∷ []) is ∙ sym (map-append f (take n xs) (get_or xs n x ∷ [])) ∙ ap (map f) (sym (take_more xs n x inside))

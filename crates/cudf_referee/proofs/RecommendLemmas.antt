@@ -67,7 +67,7 @@ module _ (s : Proposal) (is : ℕ → Bool) (packages : List PlainPackage) (i : 
   pub counted_left_out : (before : ℕ) → is (i + 1) ≡ false → before ≡ at_most_max (counted s is (take i packages)) → before ≡ at_most_max (counted s is (take (i + 1) packages))
   counted_left_out before e so_far = let all = counted_more false e in omega (arith, all, so_far)
 
-slice_get_at : {A : Type 0} (xs : List A) (i : ℕ) (d : A) → i < length xs → slice_get xs i ≡ Some (get_or xs i d)
+pub slice_get_at : {A : Type 0} (xs : List A) (i : ℕ) (d : A) → i < length xs → slice_get xs i ≡ Some (get_or xs i d)
 slice_get_at [] i d inside = absurd (omega arith)
 slice_get_at (x ∷ xs) zero d inside = refl
 slice_get_at (x ∷ xs) (suc i) d inside = slice_get_at xs i d (omega arith)

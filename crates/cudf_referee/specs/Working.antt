@@ -1,3 +1,11 @@
+pub mod Behind
+pub mod Candidates
+pub mod Grounds
 pub mod Judged
 pub mod KeyTexts
+pub mod Named
+pub mod Passes
+pub mod Places
+pub mod Searches
 pub mod Standings
+pub mod Walkers

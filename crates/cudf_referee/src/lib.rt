@@ -4,12 +4,12 @@
 
 mod counting;
 mod criteria;
-mod found;
 mod instance;
 mod key;
 pub mod laws;
+mod position;
 mod referee;
-mod rules;
+mod walk;
 
 pub use criteria::Criteria;
 pub use instance::{Instance, What};

@@ -1,6 +1,8 @@
-//! The referee of a proposed status: it finds all violated instances once, counts, and holds both.
-ghost use Rattle.std.specs.Prelude.{◌≡◌};
-ghost use Rattle.cudf_referee.specs.Violations.{package_place};
+//! The referee of a proposed status: its verdict and its counts, and the walk over the violated instances.
+ghost use Rattle.std.specs.Prelude.{◌≡◌, map, IfOk};
+ghost use Rattle.cudf_referee.specs.Entries.{is_empty};
+ghost use Rattle.cudf_referee.specs.Violations.{has_package, package_place};
+ghost use Rattle.cudf_referee.specs.Walks.{left};
 
 mod instances;
 
@@ -8,7 +10,6 @@ use crate::counting::count;
 use crate::criteria::Criteria;
 use crate::instance::{Instance, What};
 use crate::key::{Key, Part};
-use crate::rules::{find_packages, find_request, find_unknown};
 use cudf_universe::{Index, Problem, Solution, initial};
 pub use instances::Instances;
 use std::alloc::{AllocError, Global};
@@ -19,32 +20,46 @@ use std::marker::Model;
 pub struct Referee<'p, 't> {
     problem: &'p Problem<'t>,
     solution: &'p Solution<'t>,
-    initial: Index<'p, 't>,
-    proposed: Index<'p, 't>,
-    instances: Vec<Instance<'p, 't>>,
+    now: Index<'p, 't>,
+    before: Index<'p, 't>,
+    /// For each package, whether the proposed status has one of its name.
+    named: Vec<bool>,
+    verdict: bool,
     criteria: Criteria,
 }
 
 impl<'p, 't> Model for Referee<'p, 't> {
-    ghost use Rattle.std.specs.Prelude.{◌≡◌, map, IsTrue};
+    ghost use Rattle.std.specs.Prelude.{◌≡◌, map};
     ghost use Rattle.std.specs.FinSet as set;
-    ghost use Rattle.cudf_document.specs.Statuses.{is_initial, unknown_view, ascend_above};
-    ghost use Rattle.cudf_universe.specs.Satisfaction.{members};
+    ghost use Rattle.cudf_document.specs.Statuses.{unknown_view};
     ghost use Rattle.cudf_referee.specs.Criteria.{criteria as counts};
     ghost use Rattle.cudf_referee.specs.Proposals.{Proposal, put_forward};
-    ghost use Rattle.cudf_referee.specs.Violations.{listing};
-    ghost use Rattle.cudf_referee.specs.Views.{instances_view};
+    ghost use Rattle.cudf_referee.specs.Solutions.{is_solution};
+    ghost use Rattle.cudf_referee.specs.Working.Walkers.{Agrees};
 
     ghost Value = { Proposal };
 
-    ghost view = { λ r. put_forward r.problem.now r.initial r.proposed (map unknown_view r.solution.now.unknown.items) };
+    ghost view = { λ r. put_forward r.problem.now r.before r.now (map unknown_view r.solution.now.unknown.items) };
 
     ghost invariant = { λ r.
-        (r.initial ≡ members (is_initial r.problem.now) r.problem.now.packages)
-        × (r.proposed ≡ members (set.contains r.solution.now.status) r.problem.now.packages)
-        × (instances_view r.instances ≡ listing (put_forward r.problem.now r.initial r.proposed (map unknown_view r.solution.now.unknown.items)))
-        × (r.criteria ≡ counts (put_forward r.problem.now r.initial r.proposed (map unknown_view r.solution.now.unknown.items)))
-        × IsTrue (ascend_above 0 (map unknown_view r.solution.now.unknown.items)) };
+        Agrees r.problem.now (set.contains r.solution.now.status) r.before r.now r.named.items (map unknown_view r.solution.now.unknown.items)
+        × (r.verdict ≡ is_solution (put_forward r.problem.now r.before r.now (map unknown_view r.solution.now.unknown.items)))
+        × (r.criteria ≡ counts (put_forward r.problem.now r.before r.now (map unknown_view r.solution.now.unknown.items))) };
+}
+
+/// For each package of the universe, whether the status has a package of its name.
+fn named_in(
+    alloc: Global,
+    problem: &Problem<'_>,
+    status: &Index<'_, '_>,
+) -> Result<Vec<bool>, AllocError>
+    ensures { IfOk result (λ named. named.items ≡ map (λ p. has_package status.now p.name) problem.now.packages) }
+{
+    let mut named = Vec::new(alloc);
+    for package in problem.packages() {
+        named.push(status.has_package(package.name))?;
+    }
+    Ok(named)
 }
 
 /// The place of the package that the part is.
@@ -57,23 +72,33 @@ fn own_place(part: Part) -> Option<u64>
     }
 }
 
+/// Whether no instance is left.
+fn has_none(mut instances: Instances<'_, '_, '_>) -> bool
+    ensures { result ≡ is_empty (left instances.entry) }
+{
+    instances.next().is_none()
+}
+
 impl<'p, 't> Referee<'p, 't> {
-    ghost use Rattle.std.specs.Prelude.{◌≡◌, IsTrue, IfOk, map};
+    ghost use Rattle.std.specs.Prelude.{◌≡◌, ◌≤◌, IsTrue, IfOk, length, map};
     ghost use Rattle.std.specs.FinSet as set;
     ghost use Rattle.cudf_document.specs.Statuses.{is_initial, unknown_view, ascend_above};
+    ghost use Rattle.cudf_universe.specs.Prices.{digits};
     ghost use Rattle.cudf_referee.specs.Criteria.{criteria};
     ghost use Rattle.cudf_referee.specs.KeyViews.{key_view};
     ghost use Rattle.cudf_referee.specs.Proposals.{proposal};
-    ghost use Rattle.cudf_referee.specs.Violations.{listing, rest, met_by};
+    ghost use Rattle.cudf_referee.specs.Sites.{at_start, at_key};
     ghost use Rattle.cudf_referee.specs.Solutions.{is_solution};
     ghost use Rattle.cudf_referee.specs.Views.{instance_view};
+    ghost use Rattle.cudf_referee.specs.Violations.{listing, rest, met_by};
+    ghost use Rattle.cudf_referee.specs.Walks.{left};
 
     /// The referee of what a solution proposes for a problem. The solution is one of that problem, and the
     /// numbers of its unknown stanzas ascend from 1 on.
     ///
     /// # Errors
     ///
-    /// `AllocError` where memory for the indexes, the list of instances or the counts is refused.
+    /// `AllocError` where memory for the indexes, the flags or the counts is refused.
     pub fn new(
         alloc: Global,
         problem: &'p Problem<'t>,
@@ -85,69 +110,71 @@ impl<'p, 't> Referee<'p, 't> {
     {
         let was_installed = initial(alloc, problem)?;
         let before = Index::build(alloc, problem, &was_installed)?;
-        let proposed = Index::build(alloc, problem, &solution.status)?;
-        let mut instances = Vec::new(alloc);
-        find_packages(
-            problem,
-            &was_installed,
-            &solution.status,
-            &proposed,
-            &mut instances,
-        )?;
-        find_request(&before, &proposed, problem.request(), &mut instances)?;
-        find_unknown(&solution.unknown, &mut instances)?;
-        let criteria = count(alloc, problem, &was_installed, &solution.status, &proposed)?;
+        let now = Index::build(alloc, problem, &solution.status)?;
+        let named = named_in(alloc, problem, &now)?;
+        let criteria = count(alloc, problem, &was_installed, &solution.status, &now)?;
+        let verdict = has_none(Instances::new(problem, solution, &now, &before, &named));
         Ok(Referee {
             problem,
             solution,
-            initial: before,
-            proposed,
-            instances,
+            now,
+            before,
+            named,
+            verdict,
             criteria,
         })
     }
 
-    /// The violated instances in key order.
+    /// The walk over the violated instances, in key order.
     pub fn instances(&self) -> Instances<'_, 'p, 't>
-        ensures { result ≡ listing self.now }
+        ensures walk { result ≡ record { judged = self.entry.now; position = at_start; steps = 0 } }
+        ensures left { left result ≡ listing self.entry.now }
     {
-        Instances::new(&self.instances)
+        Instances::new(
+            self.problem,
+            self.solution,
+            &self.now,
+            &self.before,
+            &self.named,
+        )
     }
 
-    /// The violated instances whose keys come behind this one, in key order. The key needn't be that of an instance.
+    /// The walk over the violated instances whose keys come behind this one, in key order. The key needn't be that
+    /// of an instance. It costs at most the binary digits of the number of unknown stanzas.
     pub fn after(&self, key: Key) -> Instances<'_, 'p, 't>
-        ensures { result ≡ rest (key_view key) self.now }
+        ensures judged { result.judged ≡ self.entry.now }
+        ensures position { result.position ≡ at_key (key_view key) }
+        ensures price { result.steps ≤ digits (length self.entry.now.unknown) }
+        ensures left { left result ≡ rest (key_view key) self.entry.now }
     {
-        let instances = self.instances.as_slice();
-        let start = instances.partition_point(|instance| !key.precedes(instance.key));
-        Instances::new(&instances[start..])
+        self.instances().behind(key)
     }
 
     /// For an instance of conflicts or remove, the place of the first package of the proposed status, other than the
     /// instance's own, that alone satisfies the entry. `None` for the other rules.
     pub fn met_by(&self, instance: &Instance<'_, '_>) -> Option<u64>
-        ensures { result ≡ met_by self.now.proposed (instance_view instance.now) }
+        ensures { result ≡ met_by self.entry.now.proposed (instance_view instance.now) }
     {
         match instance.what {
             What::ConflictsWith(vpkg) => {
                 let own = own_place(instance.key.part());
-                self.proposed.first_meeting(vpkg, own)
+                self.now.first_meeting(vpkg, own)
             }
-            What::Remove(vpkg) => self.proposed.first_meeting(vpkg, None),
+            What::Remove(vpkg) => self.now.first_meeting(vpkg, None),
             _ => None,
         }
     }
 
     /// Whether the proposed status is a solution.
     pub fn is_solution(&self) -> bool
-        ensures { result ≡ is_solution self.now }
+        ensures { result ≡ is_solution self.entry.now }
     {
-        self.instances.as_slice().is_empty()
+        self.verdict
     }
 
     /// What the proposed status changes and lacks, counted, whether or not it is a solution.
     pub fn criteria(&self) -> Criteria
-        ensures { result ≡ criteria self.now }
+        ensures { result ≡ criteria self.entry.now }
     {
         self.criteria
     }

@@ -1,50 +1,192 @@
 //! The walk over the violated instances.
-use crate::instance::Instance;
-use std::marker::Model;
-use std::slice;
+ghost use Rattle.std.specs.Prelude.{◌≡◌, ◌≤◌, ◌+◌, map, length, option_map};
+ghost use Rattle.std.specs.FinSet as set;
+ghost use Rattle.cudf_document.specs.Statuses.{unknown_view};
+ghost use Rattle.cudf_universe.specs.Prices.{digits};
+ghost use Rattle.cudf_referee.specs.KeyViews.{key_view};
+ghost use Rattle.cudf_referee.specs.Pages.{behind};
+ghost use Rattle.cudf_referee.specs.PositionViews.{position_view};
+ghost use Rattle.cudf_referee.specs.Proposals.{put_forward};
+ghost use Rattle.cudf_referee.specs.Sites.{at_start, at_key};
+ghost use Rattle.cudf_referee.specs.Views.{instance_view};
+ghost use Rattle.cudf_referee.specs.Working.Places.{BeginsAt, IsFitting, ahead};
+ghost use Rattle.cudf_referee.specs.Working.Searches.{Finds};
+ghost use Rattle.cudf_referee.specs.Working.Walkers.{Agrees, stops_behind};
 
-/// The instances that are left, in key order. Contracts see them as a list.
+#[cfg(test)]
+mod tests;
+
+use crate::instance::Instance;
+use crate::key::Key;
+use crate::position::{Position, first_unknown_behind, next_place, position_behind};
+use crate::walk::{self, Ground};
+use cudf_universe::{Index, Metered, Problem, Solution, Steps};
+use std::marker::Model;
+
+/// The walk over the violated instances, in key order. It holds none of them: each call of `next`
+/// judges the places where one may stand, from its position to the next instance.
+///
+/// Contracts see what is judged, the position and the steps so far.
 #[derive(Drop)]
 pub struct Instances<'r, 'p, 't> {
-    rest: slice::Iter<'r, Instance<'p, 't>>,
+    problem: &'p Problem<'t>,
+    solution: &'p Solution<'t>,
+    now: Metered<'r, 'p, 't>,
+    before: Metered<'r, 'p, 't>,
+    /// For each package, whether the proposed status has one of its name.
+    named: &'r [bool],
+    position: Position,
+    /// The place of the first unknown stanza ahead.
+    unknown: usize,
+    steps: Steps,
 }
 
 impl<'r, 'p, 't> Model for Instances<'r, 'p, 't> {
-    ghost use Rattle.std.specs.Prelude.{List, map};
-    ghost use Rattle.std.specs.Slice.Iter.{iter_rest};
-    ghost use Rattle.cudf_referee.specs.Instances.{PlainInstance};
-    ghost use Rattle.cudf_referee.specs.Views.{instance_view};
+    ghost use Rattle.std.specs.Prelude.{◌+◌, map};
+    ghost use Rattle.std.specs.FinSet as set;
+    ghost use Rattle.cudf_document.specs.Statuses.{unknown_view};
+    ghost use Rattle.cudf_referee.specs.PositionViews.{position_view};
+    ghost use Rattle.cudf_referee.specs.Proposals.{put_forward};
+    ghost use Rattle.cudf_referee.specs.Walks.{Walking};
+    ghost use Rattle.cudf_referee.specs.Working.Places.{BeginsAt, IsFitting};
+    ghost use Rattle.cudf_referee.specs.Working.Walkers.{Agrees};
 
-    ghost Value = { List PlainInstance };
+    ghost Value = { Walking };
 
-    ghost view = { λ i. map instance_view (iter_rest i.rest) };
+    ghost view = { λ i. record {
+      judged = put_forward i.problem.now i.before.status i.now.status (map unknown_view i.solution.now.unknown.items);
+      position = position_view i.position;
+      steps = i.now.steps + i.before.steps + i.steps;
+    } };
+
+    ghost invariant = { λ i.
+        Agrees i.problem.now (set.contains i.solution.now.status) i.before.status i.now.status i.named.now (map unknown_view i.solution.now.unknown.items)
+        × IsFitting (position_view i.position)
+        × BeginsAt (position_view i.position) (map unknown_view i.solution.now.unknown.items) i.unknown };
 }
 
 impl<'r, 'p, 't> Instances<'r, 'p, 't> {
-    ghost use Rattle.std.specs.Prelude.{◌≡◌, map};
-    ghost use Rattle.cudf_referee.specs.Views.{instance_view};
-
-    /// The walk over these instances.
-    pub(crate) fn new(instances: &'r [Instance<'p, 't>]) -> Self
-        ensures { result ≡ map instance_view instances.now }
+    /// All of them.
+    pub(crate) fn new(
+        problem: &'p Problem<'t>,
+        solution: &'p Solution<'t>,
+        now: &'r Index<'p, 't>,
+        before: &'r Index<'p, 't>,
+        named: &'r [bool],
+    ) -> Self
+        requires { Agrees problem.now (set.contains solution.now.status) before.now now.now named.now (map unknown_view solution.now.unknown.items) }
+        ensures { result ≡ record {
+          judged = put_forward problem.now before.now now.now (map unknown_view solution.now.unknown.items);
+          position = at_start;
+          steps = 0;
+        } }
     {
         Instances {
-            rest: instances.iter(),
+            problem,
+            solution,
+            now: now.metered(),
+            before: before.metered(),
+            named,
+            position: Position::Start,
+            unknown: 0,
+            steps: Steps::new(),
         }
+    }
+
+    /// Those behind a key, for the search of the first unknown stanza.
+    pub(crate) fn behind(self, key: Key) -> Self
+        ensures judged { result.judged ≡ self.entry.judged }
+        ensures position { result.position ≡ at_key (key_view key) }
+        ensures price { result.steps ≤ self.entry.steps + digits (length self.entry.judged.unknown) }
+    {
+        let mut instances = self;
+        let unknown = instances.solution.unknown.as_slice();
+        instances.unknown = first_unknown_behind(key, unknown, &mut instances.steps);
+        instances.position = Position::At(key);
+        instances
     }
 }
 
+/// The first violated instance behind a key, or of all. The unknown stanzas behind it begin at the place `unknown`.
+fn search_behind<'p, 't>(
+    problem: &'p Problem<'t>,
+    solution: &'p Solution<'t>,
+    named: &[bool],
+    now: &mut Metered<'_, '_, '_>,
+    before: &mut Metered<'_, '_, '_>,
+    steps: &mut Steps,
+    key: Option<Key>,
+    unknown: usize,
+) -> Option<Instance<'p, 't>>
+    requires agrees { Agrees problem.now (set.contains solution.now.status) before.old.status now.old.status named.now (map unknown_view solution.now.unknown.items) }
+    requires place { BeginsAt (behind (option_map key_view key)) (map unknown_view solution.now.unknown.items) unknown }
+    ensures found { let s = put_forward problem.now before.old.status now.old.status (map unknown_view solution.now.unknown.items) in
+        Finds s (stops_behind s (option_map key_view key)) (option_map instance_view result)
+        (now.old.steps + before.old.steps + steps.old) (now.new.steps + before.new.steps + steps.new) }
+    ensures now { now.new.status ≡ now.old.status }
+    ensures before { before.new.status ≡ before.old.status }
+{
+    let ground = Ground {
+        problem,
+        solution,
+        named,
+    };
+    walk::search(now, before, steps, ground, key, unknown)
+}
+
+/// The first violated instance ahead of a position.
+fn search<'p, 't>(
+    problem: &'p Problem<'t>,
+    solution: &'p Solution<'t>,
+    named: &[bool],
+    now: &mut Metered<'_, '_, '_>,
+    before: &mut Metered<'_, '_, '_>,
+    steps: &mut Steps,
+    position: Position,
+    unknown: usize,
+) -> Option<Instance<'p, 't>>
+    requires agrees { Agrees problem.now (set.contains solution.now.status) before.old.status now.old.status named.now (map unknown_view solution.now.unknown.items) }
+    requires fits { IsFitting (position_view position) }
+    requires place { BeginsAt (position_view position) (map unknown_view solution.now.unknown.items) unknown }
+    ensures found { let s = put_forward problem.now before.old.status now.old.status (map unknown_view solution.now.unknown.items) in
+        Finds s (ahead s (position_view position)) (option_map instance_view result)
+        (now.old.steps + before.old.steps + steps.old) (now.new.steps + before.new.steps + steps.new) }
+    ensures now { now.new.status ≡ now.old.status }
+    ensures before { before.new.status ≡ before.old.status }
+{
+    let key = match position {
+        Position::Start => None,
+        Position::At(key) => Some(key),
+        Position::End => return None,
+    };
+    search_behind(problem, solution, named, now, before, steps, key, unknown)
+}
+
 impl<'r, 'p, 't> Iterator for Instances<'r, 'p, 't> {
-    ghost use Rattle.std.specs.Iterator.{YieldsFirstBy, item_count};
+    ghost use Rattle.std.specs.Prelude.{option_map};
+    ghost use Rattle.std.specs.Iterator.{item_count};
     ghost use Rattle.cudf_referee.specs.Views.{instance_view};
+    ghost use Rattle.cudf_referee.specs.Walks.{left, Moves};
 
     type Item = Instance<'p, 't>;
 
-    ghost next_gives = { YieldsFirstBy instance_view (λ s. s) };
+    ghost next_gives = { λ s r t. Moves s (option_map instance_view r) t };
 
-    ghost remaining = { item_count (λ s. s) };
+    ghost remaining = { item_count left };
 
     fn next(&mut self) -> Option<Instance<'p, 't>> {
-        self.rest.next().copied()
+        let found = search(
+            self.problem,
+            self.solution,
+            self.named,
+            &mut self.now,
+            &mut self.before,
+            &mut self.steps,
+            self.position,
+            self.unknown,
+        );
+        self.unknown = next_place(found, self.unknown);
+        self.position = position_behind(found);
+        found
     }
 }

@@ -1,0 +1,253 @@
+-- A search of the stops ahead goes to the first instance that is left, at the price of the way there.
+use Rattle.std.proofs.Common.{◌≡◌, ℕ, ◌+◌, Bool, true, false, not, ◌&&◌, List, [], ◌∷◌, filter, cond, length, arith, refl, ap, sym, ◌∙◌, subst, Option, Some, None, option_map}
+use Rattle.std.proofs.lemmas.Cmp.{nat_list_cmp_total, tied_itself}
+use Rattle.std.proofs.lemmas.List.Sums.{sum_by-cons}
+use Rattle.std.specs.Prelude.{sum_by, is_some}
+use Rattle.std.specs.Cmp.Lexicographic.{slice_cmp}
+use Rattle.std.specs.List.{cons_option}
+use Rattle.std.specs.Iterator.{YieldsFirst, MakesProgress, item_count}
+use Rattle.std.specs.Ordering.{nat_cmp, is_lt}
+use Rattle.cudf_document.specs.Statuses.{ascend_above}
+use Rattle.cudf_referee.specs.declared.instance.Instance.{Instance}
+use Rattle.cudf_referee.specs.Entries.{is_empty}
+use Rattle.cudf_referee.specs.Instances.{PlainInstance}
+use Rattle.cudf_referee.specs.Keys.{PlainKey, key_ranks}
+use Rattle.cudf_referee.specs.Pages.{behind, at_instance}
+use Rattle.cudf_referee.specs.Proposals.{Proposal}
+use Rattle.cudf_referee.specs.Sites.{Stop, at_site, package_end, walk, stop_cost, PlainPosition, at_start, at_key, at_end, precedes, is_after, is_ahead, cost_between}
+use Rattle.cudf_referee.specs.Views.{instance_view}
+use Rattle.cudf_referee.specs.Walks.{Walking, left, Moves}
+use Rattle.cudf_referee.specs.Working.Judged.{instance_at, is_violated, given_at, all_given}
+use Rattle.cudf_referee.specs.Working.Places.{IsFitting, ahead}
+use Rattle.cudf_referee.specs.Working.Searches.{or_later, first_given, unless_found, cost_to_first, Finds}
+use Rattle.cudf_referee.specs.Working.Walkers.{stops_behind}
+use Rattle.cudf_referee.proofs.AheadLemmas.{all_kept, not_below, kept_above, after-ranks, after-left}
+use Rattle.cudf_referee.proofs.AscentLemmas.{Below, chained, Climbs, from_lower, climbs-filter, walk-climbs}
+use Rattle.cudf_referee.proofs.PositionLemmas.{stop_ranks, is_after-ranks, IsLater, later-key, later-start}
+use Rattle.cudf_referee.proofs.SiteLemmas.{key_at, left-walk}
+
+-- ---- what a stop gives
+
+given_case : (violated : Bool) (i j : PlainInstance) → cond violated (Some i) None ≡ Some j → i ≡ j
+given_case true i j h = cc
+given_case false i j h = absurd (cc h)
+
+-- an instance ranks where its stop does
+pub given_ranks : (s : Proposal) (x : Stop) (i : PlainInstance) → given_at s x ≡ Some i → stop_ranks x ≡ key_ranks i.key
+given_ranks s (at_site site) i h = ap key_ranks (sym (key_at s site) ∙ ap (λ (j : PlainInstance). j.key) (given_case (is_violated s site) (instance_at s site) i h))
+given_ranks s (package_end n) i h = absurd (cc h)
+
+pub first_case : (s : Proposal) (x : Stop) (xs : List Stop) (o : Option PlainInstance) → given_at s x ≡ o → first_given s (x ∷ xs) ≡ or_later o (first_given s xs)
+first_case s x xs o e = ap (λ g. or_later g (first_given s xs)) e
+
+-- what is given first comes after what all stops come after
+first_above : (s : Proposal) (low : List ℕ) (xs : List Stop) (high : List ℕ) (i : PlainInstance) → Climbs stop_ranks low xs high → first_given s xs ≡ Some i → Below low (key_ranks i.key)
+first_above s low [] high i h k = absurd (cc k)
+first_above s low (x ∷ xs) high i h k = by (given_at s x) refl (first_above s (stop_ranks x) xs high i h.1)
+  where
+    by : (o : Option PlainInstance) → given_at s x ≡ o → (first_given s xs ≡ Some i → Below (stop_ranks x) (key_ranks i.key)) → Below low (key_ranks i.key)
+    by None e later = chained low (stop_ranks x) (key_ranks i.key) h.0 (later (sym (first_case s x xs None e) ∙ k))
+    by (Some j) e later = subst (λ (r : List ℕ). Below low r) (given_ranks s x i (e ∙ sym (first_case s x xs (Some j) e) ∙ k)) h.0
+
+-- a stop doesn't come after the key of its instance, nor after that of an instance behind it
+not_after : (key : PlainKey) (x : Stop) → Below (stop_ranks x) (key_ranks key) → is_after key x ≡ false
+not_after key x h = is_after-ranks key x ∙ not_below (stop_ranks x) (key_ranks key) h
+
+not_after_own : (key : PlainKey) (x : Stop) → stop_ranks x ≡ key_ranks key → is_after key x ≡ false
+not_after_own key x same = is_after-ranks key x ∙ ap (λ r. is_lt (slice_cmp nat_cmp (key_ranks key) r)) same ∙ ap is_lt (tied_itself nat_list_cmp_total (key_ranks key))
+
+-- the stops behind a key come after it
+all_after : (key : PlainKey) (xs : List Stop) (high : List ℕ) → Climbs stop_ranks (key_ranks key) xs high → filter (is_after key) xs ≡ xs
+all_after key xs high h = after-ranks key xs ∙ kept_above stop_ranks (key_ranks key) xs high h
+
+none_before : (key : PlainKey) (xs : List Stop) (high : List ℕ) → Climbs stop_ranks (key_ranks key) xs high → filter (λ x. not (is_after key x)) xs ≡ []
+none_before key [] high h = refl
+none_before key (x ∷ xs) high h =
+    let more = none_before key xs high (from_lower stop_ranks (key_ranks key) (stop_ranks x) high xs h.0 h.1) in
+    (λ i. cond (not ((is_after-ranks key x ∙ ap is_lt h.0) i)) (x ∷ more i) (more i))
+
+-- ---- what it costs to go to the first instance
+
+-- the stops up to the first instance
+abbrev up_to_first : Proposal → List Stop → Option PlainInstance → List Stop
+up_to_first s xs found = filter (λ x. not (is_ahead (at_instance found) x)) xs
+
+module _ (s : Proposal) (x : Stop) (xs : List Stop) (high : List ℕ) where
+  abbrev cost : List Stop → ℕ
+  cost stops = sum_by (stop_cost s.proposed) stops
+
+  passed_stop : Climbs stop_ranks (stop_ranks x) xs high → (found : Option PlainInstance) → first_given s xs ≡ found → is_ahead (at_instance found) x ≡ false
+  passed_stop h None e = refl
+  passed_stop h (Some i) e = not_after i.key x (first_above s (stop_ranks x) xs high i h e)
+
+  -- a stop that gives nothing
+  cost_on : Climbs stop_ranks (stop_ranks x) xs high → given_at s x ≡ None → cost_to_first s xs ≡ cost (up_to_first s xs (first_given s xs))
+      → cost_to_first s (x ∷ xs) ≡ cost (up_to_first s (x ∷ xs) (first_given s (x ∷ xs)))
+  cost_on h e more =
+      ap (λ o. stop_cost s.proposed x + unless_found o (cost_to_first s xs)) e
+      ∙ ap (λ n. stop_cost s.proposed x + n) more
+      ∙ sym (sum_by-cons (stop_cost s.proposed) x (up_to_first s xs (first_given s xs)))
+      ∙ sym (ap (λ b. cost (cond (not b) (x ∷ up_to_first s xs (first_given s xs)) (up_to_first s xs (first_given s xs)))) (passed_stop h (first_given s xs) refl))
+      ∙ ap (λ found. cost (up_to_first s (x ∷ xs) found)) (sym (first_case s x xs None e))
+
+  -- one that gives an instance
+  cost_there : Climbs stop_ranks (stop_ranks x) xs high → (i : PlainInstance) → given_at s x ≡ Some i
+      → cost_to_first s (x ∷ xs) ≡ cost (up_to_first s (x ∷ xs) (first_given s (x ∷ xs)))
+  cost_there h i e =
+      let same = given_ranks s x i e in
+      ap (λ o. stop_cost s.proposed x + unless_found o (cost_to_first s xs)) e
+      ∙ sym (sum_by-cons (stop_cost s.proposed) x [])
+      ∙ (λ j. cost (cond (not (sym (not_after_own i.key x same) j)) (x ∷ sym (none_before i.key xs high (subst (λ (r : List ℕ). Climbs stop_ranks r xs high) same h)) j) (sym (none_before i.key xs high (subst (λ (r : List ℕ). Climbs stop_ranks r xs high) same h)) j)))
+      ∙ ap (λ found. cost (up_to_first s (x ∷ xs) found)) (sym (first_case s x xs (Some i) e))
+
+cost_first : (s : Proposal) (low : List ℕ) (xs : List Stop) (high : List ℕ) → Climbs stop_ranks low xs high
+    → cost_to_first s xs ≡ sum_by (stop_cost s.proposed) (up_to_first s xs (first_given s xs))
+cost_first s low [] high h = refl
+cost_first s low (x ∷ xs) high h = by (given_at s x) refl (cost_first s (stop_ranks x) xs high h.1)
+  where
+    by : (o : Option PlainInstance) → given_at s x ≡ o → cost_to_first s xs ≡ sum_by (stop_cost s.proposed) (up_to_first s xs (first_given s xs))
+        → cost_to_first s (x ∷ xs) ≡ sum_by (stop_cost s.proposed) (up_to_first s (x ∷ xs) (first_given s (x ∷ xs)))
+    by None e more = cost_on s x xs high h.1 e more
+    by (Some i) e more = cost_there s x xs high h.1 i e
+
+filter_case : {A : Type 0} (p q : Bool) (test : A → Bool) (x : A) (both first : List A) → test x ≡ q → both ≡ filter test first → cond (p && q) (x ∷ both) both ≡ filter test (cond p (x ∷ first) first)
+filter_case true q test x both first here h = λ i. cond (sym here i) (x ∷ h i) (h i)
+filter_case false q test x both first here h = h
+
+-- what passes both tests is what passes one of what passes the other
+filter-both : {A : Type 0} (p q : A → Bool) (xs : List A) → filter (λ x. p x && q x) xs ≡ filter q (filter p xs)
+filter-both p q [] = refl
+filter-both p q (x ∷ xs) = filter_case (p x) (q x) q x (filter (λ y. p y && q y) xs) (filter p xs) refl (filter-both p q xs)
+
+-- the way to the first instance that is left costs what the way to its position does
+pub cost-first : (s : Proposal) (old : PlainPosition) → ascend_above 0 s.unknown ≡ true → cost_to_first s (ahead s old) ≡ cost_between s old (at_instance (first_given s (ahead s old)))
+cost-first s old h =
+    cost_first s [] (ahead s old) (4 ∷ []) (climbs-filter stop_ranks (is_ahead old) [] (walk s) (4 ∷ []) (walk-climbs s h))
+    ∙ ap (sum_by (stop_cost s.proposed)) (sym (filter-both (is_ahead old) (λ x. not (is_ahead (at_instance (first_given s (ahead s old))) x)) (walk s)))
+
+-- ---- what is left there
+
+none_given : (s : Proposal) (xs : List Stop) → first_given s xs ≡ None → all_given s xs ≡ []
+none_given s [] h = refl
+none_given s (x ∷ xs) h = by (given_at s x) refl (none_given s xs)
+  where
+    by : (o : Option PlainInstance) → given_at s x ≡ o → (first_given s xs ≡ None → all_given s xs ≡ []) → all_given s (x ∷ xs) ≡ []
+    by None e more = ap (λ o. cons_option o (all_given s xs)) e ∙ more (sym (first_case s x xs None e) ∙ h)
+    by (Some i) e more = absurd (cc (sym (first_case s x xs (Some i) e) ∙ h))
+
+module _ (s : Proposal) (i : PlainInstance) (high : List ℕ) where
+  -- the first instance, and then what the stops behind it give
+  abbrev Splits : List Stop → Type 0
+  Splits xs = all_given s xs ≡ i ∷ all_given s (filter (is_after i.key) xs)
+
+  some_on : (x : Stop) (xs : List Stop) → Climbs stop_ranks (stop_ranks x) xs high → first_given s xs ≡ Some i → given_at s x ≡ None → Splits xs → Splits (x ∷ xs)
+  some_on x xs h first e more =
+      ap (λ o. cons_option o (all_given s xs)) e ∙ more
+      ∙ ap (λ b. i ∷ all_given s (cond b (x ∷ filter (is_after i.key) xs) (filter (is_after i.key) xs))) (sym (not_after i.key x (first_above s (stop_ranks x) xs high i h first)))
+
+  some_there : (x : Stop) (xs : List Stop) → Climbs stop_ranks (stop_ranks x) xs high → given_at s x ≡ Some i → Splits (x ∷ xs)
+  some_there x xs h e =
+      let same = given_ranks s x i e in
+      ap (λ o. cons_option o (all_given s xs)) e
+      ∙ ap (λ stops. i ∷ all_given s stops) (sym (all_after i.key xs high (subst (λ (r : List ℕ). Climbs stop_ranks r xs high) same h)))
+      ∙ ap (λ b. i ∷ all_given s (cond b (x ∷ filter (is_after i.key) xs) (filter (is_after i.key) xs))) (sym (not_after_own i.key x same))
+
+  some_given : (low : List ℕ) (xs : List Stop) → Climbs stop_ranks low xs high → first_given s xs ≡ Some i → Splits xs
+  some_given low [] h first = absurd (cc first)
+  some_given low (x ∷ xs) h first = by (given_at s x) refl (some_given (stop_ranks x) xs h.1)
+    where
+      by : (o : Option PlainInstance) → given_at s x ≡ o → (first_given s xs ≡ Some i → Splits xs) → Splits (x ∷ xs)
+      by None e more = let later = sym (first_case s x xs None e) ∙ first in some_on x xs h.1 later e (more later)
+      by (Some j) e more = some_there x xs h.1 (e ∙ sym (first_case s x xs (Some j) e) ∙ first)
+
+-- what a search of the stops after a key finds comes after it
+pub found_after : (s : Proposal) (key : PlainKey) (i : PlainInstance) (xs : List Stop) → first_given s (filter (is_after key) xs) ≡ Some i → precedes key i.key ≡ true
+found_after s key i [] h = absurd (cc h)
+found_after s key i (x ∷ xs) h = by (is_after key x) refl (given_at s x) refl (found_after s key i xs)
+  where
+    more : List Stop
+    more = filter (is_after key) xs
+
+    by : (b : Bool) → is_after key x ≡ b → (o : Option PlainInstance) → given_at s x ≡ o → (first_given s (filter (is_after key) xs) ≡ Some i → precedes key i.key ≡ true) → precedes key i.key ≡ true
+    by false later o e rest = rest (sym (ap (λ b. first_given s (cond b (x ∷ more) more)) later) ∙ h)
+    by true later None e rest = rest (sym (first_case s x more None e) ∙ sym (ap (λ b. first_given s (cond b (x ∷ more) more)) later) ∙ h)
+    by true later (Some j) e rest =
+        ap (λ r. is_lt (slice_cmp nat_cmp (key_ranks key) r)) (sym (given_ranks s x i (e ∙ sym (first_case s x more (Some j) e) ∙ sym (ap (λ b. first_given s (cond b (x ∷ more) more)) later) ∙ h)))
+        ∙ sym (is_after-ranks key x) ∙ later
+
+pub none_ahead : (xs : List Stop) → filter (is_ahead at_end) xs ≡ []
+none_ahead [] = refl
+none_ahead (x ∷ xs) = none_ahead xs
+
+found_later : (s : Proposal) (old : PlainPosition) (i : PlainInstance) → first_given s (ahead s old) ≡ Some i → IsLater old (at_key i.key)
+found_later s at_start i h = later-start (at_key i.key)
+found_later s (at_key key) i h = later-key key i.key (found_after s key i (walk s) h)
+found_later s at_end i h = absurd (cc (sym (ap (first_given s) (none_ahead (walk s))) ∙ h))
+
+weaker_case : (a b : Bool) → (b ≡ true → a ≡ true) → (a && b) ≡ b
+weaker_case true b h = refl
+weaker_case false true h = h refl
+weaker_case false false h = refl
+
+-- the stops behind the instance lie ahead
+ahead_there : (s : Proposal) (old : PlainPosition) (i : PlainInstance) → first_given s (ahead s old) ≡ Some i → filter (is_after i.key) (ahead s old) ≡ filter (is_after i.key) (walk s)
+ahead_there s old i h =
+    sym (filter-both (is_ahead old) (is_after i.key) (walk s))
+    ∙ ap (λ test. filter test (walk s)) (λ j x. weaker_case (is_ahead old x) (is_after i.key x) ((found_later s old i h).ahead x) j)
+
+abbrev walking : Proposal → PlainPosition → ℕ → Walking
+walking s position steps = record { judged = s; position = position; steps = steps }
+
+yields : (s : Proposal) (old : PlainPosition) (n m : ℕ) → ascend_above 0 s.unknown ≡ true → (found : Option PlainInstance) → first_given s (ahead s old) ≡ found
+    → YieldsFirst left (walking s old n) found (walking s (at_instance found) m)
+yields s old n m h None first = (left-walk old s ∙ none_given s (ahead s old) first, refl)
+yields s old n m h (Some i) first =
+    left-walk old s ∙ some_given s i (4 ∷ []) [] (ahead s old) (climbs-filter stop_ranks (is_ahead old) [] (walk s) (4 ∷ []) (walk-climbs s h)) first
+    ∙ ap (λ stops. i ∷ all_given s stops) (ahead_there s old i first)
+    ∙ ap (λ is. i ∷ is) (sym (left-walk (at_key i.key) s))
+
+-- so a search of the stops ahead is a move
+pub moves : (s : Proposal) (old : PlainPosition) (found : Option PlainInstance) (n m : ℕ) → ascend_above 0 s.unknown ≡ true → Finds s (ahead s old) found n m
+    → Moves (walking s old n) found (walking s (at_instance found) m)
+moves s old found n m h finds = record {
+  gives = yields s old n m h found (sym finds.given);
+  position = refl;
+  judged = refl;
+  price = omega (arith, finds.price, cost-first s old h, ap (λ o. cost_between s old (at_instance o)) finds.given);
+}
+
+-- ---- searches from a position
+
+-- at the end there is nothing to be found
+pub finds-end : (s : Proposal) (position : PlainPosition) (n : ℕ) → position ≡ at_end → Finds s (ahead s position) None n n
+finds-end s position n same =
+    let none : ahead s position ≡ [] = ap (ahead s) same ∙ none_ahead (walk s) in
+    record { given = ap (first_given s) (sym none); price = omega arith }
+
+all_ahead : (s : Proposal) (key : Option PlainKey) → IsFitting (behind key) → stops_behind s key ≡ ahead s (behind key)
+all_ahead s None fits = sym (all_kept (is_ahead at_start) (λ x. refl) (walk s))
+all_ahead s (Some key) fits = sym (after-left s key fits)
+
+-- a search of the stops behind a key, or of all, is one of those ahead
+pub finds-ahead : (s : Proposal) (position : PlainPosition) (key : Option PlainKey) (found : Option PlainInstance) (n m : ℕ) → IsFitting position → position ≡ behind key
+    → Finds s (stops_behind s key) found n m → Finds s (ahead s position) found n m
+finds-ahead s position key found n m fits same finds =
+    subst (λ (stops : List Stop). Finds s stops found n m) (all_ahead s key (subst IsFitting same fits) ∙ ap (ahead s) (sym same)) finds
+
+-- ---- moves
+
+pub moves-same : (a b c d : Walking) (found : Option PlainInstance) → Moves a found b → a ≡ c → b ≡ d → Moves c found d
+moves-same a b c d found moves h k = subst (λ (w : Walking). Moves c found w) k (subst (λ (w : Walking). Moves w found b) h moves)
+
+-- a move makes progress
+pub moved-on : (can : Walking → Type 0) → ((w : Walking) → can w) → (old : Walking) (r : Option Instance) (new : Walking) → Moves old (option_map instance_view r) new
+    → MakesProgress can (item_count left) old r new
+moved-on can allowed old None new moves = record { on = λ h. tt; keeps = tt; rests = λ h. tt }
+moved-on can allowed old (Some i) new moves = record { on = λ h. (allowed new, tt, omega (arith, ap length moves.gives)); keeps = allowed new; rests = λ h. tt }
+
+-- nothing is found exactly where nothing is left
+pub moved-none : (old : Walking) (r : Option Instance) (new : Walking) (none : Bool) → Moves old (option_map instance_view r) new → is_some r ≡ not none → none ≡ is_empty (left old)
+moved-none old None new true moves h = ap is_empty (sym moves.gives.0)
+moved-none old None new false moves h = absurd (cc h)
+moved-none old (Some i) new true moves h = absurd (cc h)
+moved-none old (Some i) new false moves h = ap is_empty (sym moves.gives)

@@ -1,0 +1,16 @@
+use Rattle.std.proofs.Common.{◌≡◌, ℕ, ◌+◌}
+use Rattle.cudf_value.specs.Vpkgs.{PlainVpkg}
+use Rattle.cudf_document.specs.Universe.{list_view}
+use Rattle.cudf_referee.specs.Proposals.{Proposal}
+use Rattle.cudf_referee.specs.Sites.{conflicts_entry}
+use Rattle.cudf_referee.specs.Working.Candidates.{placed_view, Fits}
+use Rattle.cudf_referee.specs.Working.Passes.{EntriesPass}
+use Rattle.cudf_referee.proofs.walk.conflicts.search_conflicts.Given as goal
+
+abbrev pub invariant-loop-index : goal.invariant-loop-index
+invariant-loop-index l = record {
+  status : l.now.status ≡ l.fn.now.status;
+  passes : (s : Proposal) → s.proposed ≡ l.fn.now.status → Fits s l.fn.candidate
+      → EntriesPass s (λ (c : ℕ × PlainVpkg). conflicts_entry (placed_view l.fn.candidate) c.0 c.1) l.fn.passed (list_view l.fn.candidate.package.now.conflicts) (l.first + l.index)
+      (l.fn.now.steps + l.fn.steps) (l.now.steps + l.steps);
+}

@@ -1,0 +1,36 @@
+//! The package that is judged.
+ghost use Rattle.std.specs.Prelude.{◌<◌};
+
+use crate::instance::{Instance, What};
+use crate::key::Rule;
+use cudf_universe::Package;
+
+/// A package of the universe, and what is known of it before it is judged.
+#[derive(Clone, Copy)]
+pub(crate) struct Candidate<'p, 't> {
+    /// Its place in the universe, from 1.
+    pub(crate) place: u64,
+    pub(crate) package: &'p Package<'t>,
+    /// Whether it is to be installed.
+    pub(crate) is_installed: bool,
+    /// Whether a package of its name is to be installed.
+    pub(crate) is_named: bool,
+    ghost placed: { 0 < place },
+}
+
+impl<'p, 't> Candidate<'p, 't> {
+    ghost use Rattle.std.specs.Prelude.{◌≡◌, ◌<◌, IsTrue};
+    ghost use Rattle.cudf_referee.specs.Keys.{is_package_rule};
+    ghost use Rattle.cudf_referee.specs.Views.{instance_view, what_view};
+    ghost use Rattle.cudf_referee.specs.Violations.{at_package};
+    ghost use Rattle.cudf_referee.specs.Working.Candidates.{placed_view};
+
+    /// The instance of a rule at an entry's place.
+    pub(super) fn instance(self, rule: Rule, entry: u64, what: What<'p, 't>) -> Instance<'p, 't>
+        requires counted { 0 < entry }
+        requires fits { IsTrue (is_package_rule rule) }
+        ensures { instance_view result ≡ at_package (placed_view self.entry) rule entry (what_view what.entry) }
+    {
+        Instance::of_package(self.place, self.package, rule, entry, what)
+    }
+}
