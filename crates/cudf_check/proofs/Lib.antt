@@ -4,3 +4,4 @@ mod Examples
 pub mod OutputLemmas
 pub mod PageLemmas
 pub mod PrintLemmas
+pub mod WalkLemmas

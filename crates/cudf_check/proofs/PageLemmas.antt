@@ -1,6 +1,5 @@
 -- What of the listing lies behind the last key of a page.
-use Rattle.std.proofs.Common.{◌≡◌, ◌⊎◌, inl, inr, ℕ, zero, suc, ◌+◌, Bool, true, false, not, ◌&&◌, cond, List, [], ◌∷◌, ◌++◌, map, filter, length, get_or, take, drop, ◌-◌, ◌<◌, ◌≤◌, arith, drop-cons, Option, Some, None, option_map, refl, sym, ap, ◌∙◌, append_assoc, append-nil, add-one, take-append-drop, codes, if◌then◌else◌}
-use Rattle.std.specs.List.{list_all}
+use Rattle.std.proofs.Common.{◌≡◌, inl, inr, ℕ, zero, suc, ◌+◌, Bool, true, false, ◌&&◌, cond, List, [], ◌∷◌, ◌++◌, map, filter, length, get_or, take, drop, ◌-◌, ◌<◌, ◌≤◌, arith, drop-cons, Option, Some, None, option_map, refl, sym, ap, ◌∙◌, append_assoc, append-nil, add-one, take-append-drop, codes, if◌then◌else◌}
 use Rattle.std.specs.Ordering.{is_lt, ordering_reverse}
 use Rattle.std.specs.declared.cmp.Ordering.{Ordering}
 use Rattle.std.specs.declared.cmp.Ordering.TheVariants.{Less, Equal, Greater}
@@ -16,7 +15,9 @@ use Rattle.cudf_referee.specs.KeyViews.{key_view}
 use Rattle.cudf_referee.specs.Proposals.{Proposal}
 use Rattle.cudf_referee.specs.Violations.{listing, rest}
 use Rattle.cudf_check.specs.Report.{line, listed, last_key, more_text}
-use Rattle.cudf_check.specs.Working.Pages.{Ascends, IsPageEnd}
+use Rattle.cudf_referee.specs.Pages as pages
+use Rattle.cudf_referee.specs.Walks.{Walking, left}
+use Rattle.cudf_check.specs.Working.Pages.{Ascends, IsPageEnd, more_behind}
 
 -- ---- the order of keys
 
@@ -265,3 +266,21 @@ more-line s after limit new None up (inr left) =
     nothing : (new : List PlainInstance) → more_line (option_map key_view (if is_empty new then None else None)) ≡ []
     nothing [] = refl
     nothing (i ∷ new) = refl
+
+-- with the key of the last instance it is told where one is left
+pub more-key : (new : List PlainInstance) (key : Key) → more_line (option_map key_view (if is_empty new then None else Some key)) ≡ more_behind new (key_view key)
+more-key [] key = refl
+more-key (i ∷ new) key = refl
+
+-- without one it isn't
+pub more-no-key : (new : List PlainInstance) → more_line (option_map key_view (if is_empty new then None else None)) ≡ []
+more-no-key [] = refl
+more-no-key (i ∷ new) = refl
+
+-- at the start, or behind a key, the rest of the listing is left
+listed_at : (s : Proposal) (after : Option PlainKey) → pages.left_at (pages.behind after) s ≡ listed after s
+listed_at s None = refl
+listed_at s (Some key) = refl
+
+pub left_listed : (s : Proposal) (after : Option PlainKey) (w : Walking) → w.judged ≡ s → w.position ≡ pages.behind after → left w ≡ listed after s
+left_listed s after w judged position = (λ i. pages.left_at (position i) (judged i)) ∙ listed_at s after

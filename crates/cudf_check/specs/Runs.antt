@@ -8,7 +8,7 @@ use Rattle.cudf_check.specs.Limits.{most_bytes, most_turns}
 use Rattle.cudf_check.specs.Prefix.{AppendsPrefix}
 use Rattle.cudf_check.specs.Report.{report}
 use Rattle.cudf_check.specs.declared.job.Job.{Job}
-use Rattle.cudf_check.specs.declared.job.Job.TheVariants.{Lint, Check}
+use Rattle.cudf_check.specs.declared.job.Job.TheVariants.{Lint}
 use Rattle.cudf_check.specs.declared.outcome.Outcome.{Outcome}
 use Rattle.cudf_check.specs.declared.outcome.RunError.{RunError}
 use Rattle.cudf_check.specs.declared.outcome.RunError.TheVariants.{Read, TooLong, Write}

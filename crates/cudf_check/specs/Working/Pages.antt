@@ -1,12 +1,17 @@
--- Where the walk over the instances stands after a page.
-use Rattle.std.specs.Prelude.{◌≡◌, ◌⊎◌, ℕ, List, [], take, drop, map, IsTrue, Option, Some, None}
+-- Where the walk over the instances stands after a page, and what it has spent.
+use Rattle.std.specs.Prelude.{◌≡◌, ◌≤◌, ◌+◌, ◌⊎◌, ℕ, List, [], ◌∷◌, ◌++◌, codes, length, take, drop, map, IsTrue, Option, Some, None, if◌then◌else◌}
+use Rattle.cudf_referee.specs.Entries.{is_empty}
+use Rattle.cudf_referee.specs.Keys.{PlainKey, key_text}
+use Rattle.cudf_referee.specs.Pages.{cost_along}
+use Rattle.cudf_referee.specs.Sites.{PlainPosition, at_key}
+use Rattle.cudf_referee.specs.Walks.{Walking, left}
 use Rattle.cudf_referee.specs.declared.key.Key.{Key}
 use Rattle.cudf_referee.specs.Instances.{PlainInstance}
 use Rattle.cudf_referee.specs.Keys.{ascend}
 use Rattle.cudf_referee.specs.KeyViews.{key_view}
 use Rattle.cudf_referee.specs.Proposals.{Proposal}
 use Rattle.cudf_referee.specs.Violations.{listing}
-use Rattle.cudf_check.specs.Report.{last_key}
+use Rattle.cudf_check.specs.Report.{line, last_key}
 
 -- the keys of the listing ascend
 abbrev pub Ascends : Proposal → Type 0
@@ -16,3 +21,29 @@ Ascends s = IsTrue (ascend (map (λ i. i.key) (listing s)))
 abbrev pub IsPageEnd : ℕ → List PlainInstance → List PlainInstance → Option Key → Type 0
 IsPageEnd limit old new (Some key) = (last_key (take limit old) ≡ Some (key_view key)) × (new ≡ drop limit old)
 IsPageEnd limit old new None = (last_key (take limit old) ≡ None) ⊎ (drop limit old ≡ [])
+
+-- where the next page begins, if an instance is left
+abbrev pub more_behind : List PlainInstance → PlainKey → List ℕ
+more_behind is key = if is_empty is then [] else line (codes "more after " ++ key_text key)
+
+-- ---- what was spent
+
+-- the positions at instances
+abbrev pub positions : List PlainInstance → List PlainPosition
+positions is = map (λ i. at_key i.key) is
+
+-- where calls that went to these positions end
+abbrev pub last_position : PlainPosition → List PlainPosition → PlainPosition
+last_position old [] = old
+last_position old (new ∷ more) = last_position new more
+
+-- after calls that gave so many instances
+pub record HasSpent (taken : List PlainInstance) (old new : Walking) : Type 0 where
+  pub judged : new.judged ≡ old.judged
+  pub position : new.position ≡ last_position old.position (positions taken)
+  pub steps : new.steps ≤ old.steps + cost_along old.judged old.position (positions taken)
+
+-- after a whole page, where there is one
+abbrev pub IsSpent : ℕ → Walking → Walking → Option Key → Type 0
+IsSpent limit old new (Some key) = HasSpent (take limit (left old)) old new × (limit ≤ length (left old))
+IsSpent limit old new None = Unit {0}

@@ -1,5 +1,5 @@
 -- What is printed and what is written of it.
-use Rattle.std.specs.Prelude.{◌≡◌, ◌<◌, ◌↔◌, ℕ, List, [], ◌∷◌, ◌++◌, Option, Result, OnOk, IsErrOf, IsOkUnless}
+use Rattle.std.specs.Prelude.{◌≡◌, ◌<◌, ◌↔◌, ℕ, List, [], ◌∷◌, ◌++◌, Result, OnOk, IsErrOf, IsOkUnless}
 use Rattle.std.specs.Borrow.{Bor}
 use Rattle.std.specs.Io.KnownBytes.{Appends, append_known}
 use Rattle.cudf_check.specs.Device.{SinkState}

@@ -52,7 +52,7 @@ fn print_found<W: Sink>(
 ) -> Result<(), RunError>
     requires packages { map package_view packages.now ≡ referee.now.packages }
     requires ascending { Ascends referee.now }
-    ensures { Prints (W.state out.old) (W.state out.new) buffer.old buffer.new result (found_text found referee.now) }
+    ensures { Prints (W.state out.old) (W.state out.new) buffer.old buffer.new result (found_text found referee.entry.now) }
 {
     match found {
         Found::Page { after, limit } => print_page(buffer, out, packages, referee, after, limit),
@@ -74,7 +74,7 @@ fn print_judged<W: Sink>(
     requires verdict { verdict.now ≡ verdict_text (is_solution referee.now) }
 
     ensures { Prints (W.state out.old) (W.state out.new) buffer.old buffer.new result
-        (judged_report (found_text found) referee.now).text }
+        (judged_report (found_text found) referee.entry.now).text }
 {
     print_found(buffer, out, packages, referee, found)?;
     print(buffer, out, &[verdict, "\n"])
@@ -90,7 +90,7 @@ pub(crate) fn answer_judged<W: Sink>(
 ) -> Result<Outcome, RunError>
     requires packages { map package_view packages.now ≡ referee.now.packages }
     requires ascending { Ascends referee.now }
-    ensures { Answers (W.state out.old) (W.state out.new) (judged_report (found_text found) referee.now) result }
+    ensures { Answers (W.state out.old) (W.state out.new) (judged_report (found_text found) referee.entry.now) result }
 {
     let (verdict, outcome) = verdict_of(referee.is_solution());
     let mut buffer = ReportBuffer::new(alloc)?;

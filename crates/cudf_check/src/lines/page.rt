@@ -1,13 +1,16 @@
 //! Prints a page of the listing.
-ghost use Rattle.std.specs.Prelude.{◌≡◌, ◌++◌, codes, take, map, Option, Some, None, option_map, IfOk, if◌then◌else◌};
-ghost use Rattle.cudf_referee.specs.Entries.{is_empty};
+ghost use Rattle.std.specs.Prelude.{◌≡◌, ◌≤◌, ◌+◌, ◌++◌, codes, take, map, length, slice_get, Option, Some, None, option_map, IfOk, if◌then◌else◌};
 ghost use Rattle.std.specs.List.{flat_map};
 ghost use Rattle.cudf_document.specs.Universe.{package_view};
+ghost use Rattle.cudf_universe.specs.Prices.{digits};
 ghost use Rattle.cudf_referee.specs.Keys.{PlainKey, key_text};
 ghost use Rattle.cudf_referee.specs.KeyViews.{key_view};
+ghost use Rattle.cudf_referee.specs.Pages.{behind, at_instance, calls, cost_along};
+ghost use Rattle.cudf_referee.specs.Sites.{cost_between};
 ghost use Rattle.cudf_referee.specs.Views.{instance_view};
+ghost use Rattle.cudf_referee.specs.Walks.{left};
 ghost use Rattle.cudf_check.specs.Report.{line, instance_line, package_at, listed, check_text};
-ghost use Rattle.cudf_check.specs.Working.Pages.{Ascends, IsPageEnd};
+ghost use Rattle.cudf_check.specs.Working.Pages.{Ascends, IsPageEnd, IsSpent, more_behind};
 ghost use Rattle.cudf_check.specs.Working.Printing.{Prints};
 
 use crate::buffer::ReportBuffer;
@@ -25,9 +28,11 @@ fn meeting<'x, 't>(packages: &'x [Package<'t>], place: Option<u64>) -> Option<&'
     packages.get((place? as usize).saturating_sub(1))
 }
 
-/// The violated instances with greater keys than `after`, all of them where it isn't given.
-fn listed<'r, 'p, 't>(referee: &'r Referee<'p, 't>, after: Option<Key>) -> Instances<'r, 'p, 't>
-    ensures { result ≡ listed (option_map key_view after) referee.now }
+/// The walk over the violated instances with greater keys than `after`, over all of them where it isn't given.
+fn walk_after<'r, 'p, 't>(referee: &'r Referee<'p, 't>, after: Option<Key>) -> Instances<'r, 'p, 't>
+    ensures judged { result.judged ≡ referee.entry.now }
+    ensures position { result.position ≡ behind (option_map key_view after) }
+    ensures price { result.steps ≤ digits (length referee.entry.now.unknown) }
 {
     match after {
         Some(key) => referee.after(key),
@@ -45,7 +50,7 @@ fn print_line<W: Sink>(
 ) -> Result<(), RunError>
     requires { map package_view packages.now ≡ referee.now.packages }
     ensures { Prints (W.state out.old) (W.state out.new) buffer.old buffer.new result
-        (instance_line referee.now (instance_view instance.now)) }
+        (instance_line referee.entry.now (instance_view instance.now)) }
 {
     let met = meeting(packages, referee.met_by(instance));
     print_instance(buffer, out, instance, met)
@@ -61,7 +66,7 @@ fn print_rest<W: Sink>(
 ) -> Result<(), RunError>
     requires { map package_view packages.now ≡ referee.now.packages }
     ensures { Prints (W.state out.old) (W.state out.new) buffer.old buffer.new result
-        (flat_map (instance_line referee.now) instances.entry) }
+        (flat_map (instance_line referee.entry.now) (left instances.entry)) }
 {
     for instance in instances {
         print_line(buffer, out, packages, referee, &instance)?;
@@ -81,8 +86,11 @@ fn print_first<W: Sink>(
 ) -> Result<Option<Key>, RunError>
     requires { map package_view packages.now ≡ referee.now.packages }
     ensures printed { Prints (W.state out.old) (W.state out.new) buffer.old buffer.new result
-        (flat_map (instance_line referee.now) (take limit instances.old)) }
-    ensures end { IfOk result (IsPageEnd limit instances.old instances.new) }
+        (flat_map (instance_line referee.entry.now) (take limit (left instances.old))) }
+    ensures end { IfOk result (IsPageEnd limit (left instances.old) (left instances.new)) }
+    ensures spent { IfOk result (IsSpent limit instances.old instances.new) }
+    ensures price { instances.new.steps ≤ instances.old.steps
+        + cost_along instances.old.judged instances.old.position (calls (left instances.old) limit) }
 {
     let mut last = None;
     for turn in 0..limit {
@@ -107,32 +115,42 @@ fn print_more<W: Sink>(buffer: &mut ReportBuffer, out: &mut W, key: Key) -> Resu
     print(buffer, out, &["\n"])
 }
 
-/// The key after which the next page begins: the last one, where an instance is left.
-fn next_page(last: Option<Key>, mut instances: Instances<'_, '_, '_>) -> Option<Key>
-    ensures { result ≡ (if is_empty instances.entry then None else last) }
+/// Prints where the next page begins, where an instance is left behind the last one of this page.
+fn print_next<W: Sink>(
+    buffer: &mut ReportBuffer,
+    out: &mut W,
+    instances: &mut Instances<'_, '_, '_>,
+    last: Key,
+) -> Result<(), RunError>
+    ensures printed { Prints (W.state out.old) (W.state out.new) buffer.old buffer.new result
+        (more_behind (left instances.old) (key_view last)) }
+    ensures price { instances.new.steps ≤ instances.old.steps
+        + cost_between instances.old.judged instances.old.position (at_instance (slice_get (left instances.old) 0)) }
 {
     match instances.next() {
-        Some(_) => last,
-        None => None,
+        Some(_) => print_more(buffer, out, last),
+        None => Ok(()),
     }
 }
 
-/// Prints at most `limit` of the instances that are left, and where the next page begins.
+/// Prints at most `limit` of the instances that are left, and where the next page begins. That takes `limit` calls of
+/// `next`, and one more.
 fn print_limited<W: Sink>(
     buffer: &mut ReportBuffer,
     out: &mut W,
     packages: &[Package<'_>],
     referee: &Referee<'_, '_>,
-    mut instances: Instances<'_, '_, '_>,
+    instances: &mut Instances<'_, '_, '_>,
     limit: u64,
 ) -> Result<(), RunError>
     requires { map package_view packages.now ≡ referee.now.packages }
-    ensures { (after : Option PlainKey) → Ascends referee.now → instances.entry ≡ listed after referee.now
-        → Prints (W.state out.old) (W.state out.new) buffer.old buffer.new result (check_text after (Some limit) referee.now) }
+    ensures printed { (after : Option PlainKey) → Ascends referee.entry.now → left instances.old ≡ listed after referee.entry.now
+        → Prints (W.state out.old) (W.state out.new) buffer.old buffer.new result (check_text after (Some limit) referee.entry.now) }
+    ensures price { instances.new.steps ≤ instances.old.steps
+        + cost_along instances.old.judged instances.old.position (calls (left instances.old) limit) }
 {
-    let last = print_first(buffer, out, packages, referee, &mut instances, limit)?;
-    match next_page(last, instances) {
-        Some(key) => print_more(buffer, out, key),
+    match print_first(buffer, out, packages, referee, instances, limit)? {
+        Some(last) => print_next(buffer, out, instances, last),
         None => Ok(()),
     }
 }
@@ -150,11 +168,11 @@ pub(crate) fn print_page<W: Sink>(
     requires packages { map package_view packages.now ≡ referee.now.packages }
     requires ascending { Ascends referee.now }
     ensures { Prints (W.state out.old) (W.state out.new) buffer.old buffer.new result
-        (check_text (option_map key_view after) limit referee.now) }
+        (check_text (option_map key_view after) limit referee.entry.now) }
 {
-    let instances = listed(referee, after);
+    let mut instances = walk_after(referee, after);
     match limit {
-        Some(limit) => print_limited(buffer, out, packages, referee, instances, limit),
+        Some(limit) => print_limited(buffer, out, packages, referee, &mut instances, limit),
         None => print_rest(buffer, out, packages, referee, instances),
     }
 }

@@ -1,8 +1,8 @@
-use Rattle.std.proofs.Common.{◌<◌, List, All, ap, sym, subst, ◌∙◌, codes}
+use Rattle.std.proofs.Common.{ap, sym, ◌∙◌, codes}
 use Rattle.cudf_text.specs.Views.{text_view}
 use Rattle.cudf_document.specs.Faults.{least}
 use Rattle.cudf_document.specs.SolutionFaults.{solution_faults}
-use Rattle.cudf_document.specs.Statuses.{PlainUnknown, is_initial}
+use Rattle.cudf_document.specs.Statuses.{is_initial}
 use Rattle.cudf_referee.specs.Proposals.{proposal}
 use Rattle.cudf_check.specs.Report.{faulty_or, judged_report, proposal_of}
 use Rattle.cudf_check.specs.Working.Found.{found_text}

@@ -2,7 +2,7 @@ use Rattle.std.proofs.Common.{subst}
 use Rattle.cudf_check.specs.Report.{Report}
 use Rattle.cudf_check.specs.Working.Printing.{Prints, joined}
 use Rattle.cudf_check.proofs.PrintLemmas.{done}
-use Rattle.cudf_check.proofs.AnswerLemmas.{handed_on, flush_failed, flushed}
+use Rattle.cudf_check.proofs.AnswerLemmas.{handed_on, flush_failed}
 use Rattle.cudf_check.proofs.lines.alone.answer.Goals as goal
 
 pub returns-in_err-flush : goal.returns-in_err-flush

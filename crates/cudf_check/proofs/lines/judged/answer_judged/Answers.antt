@@ -3,7 +3,7 @@ use Rattle.cudf_check.specs.Report.{Report, judged_report}
 use Rattle.cudf_check.specs.Working.Found.{found_text}
 use Rattle.cudf_check.specs.Working.Printing.{Prints}
 use Rattle.cudf_check.proofs.PrintLemmas.{done}
-use Rattle.cudf_check.proofs.AnswerLemmas.{handed_on, flush_failed, flushed}
+use Rattle.cudf_check.proofs.AnswerLemmas.{handed_on, flush_failed}
 use Rattle.cudf_check.proofs.lines.judged.answer_judged.Goals as goal
 
 pub returns-in_err-flush : goal.returns-in_err-flush

@@ -1,4 +1,4 @@
-use Rattle.std.proofs.Common.{◌≡◌, ◌+◌, ◌<◌, List, ℕ, [], ◌∷◌, ◌++◌, length, drop, ap, ◌∙◌, append-nil, arith}
+use Rattle.std.proofs.Common.{◌+◌, ◌<◌, List, ℕ, [], ◌++◌, length, drop, ◌∙◌, append-nil, arith}
 use Rattle.std.specs.Borrow.{Bor}
 use Rattle.std.specs.List.{flat_map}
 use Rattle.cudf_check.specs.Report.{count_line}
