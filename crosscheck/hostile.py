@@ -3,10 +3,11 @@
 
 usage: hostile.py PROGRAM SEED COUNT [PROBLEM..]
 
-- Input: a device that never ends, beside memory; a folder, a missing file, a closed descriptor; a pipe that gives a byte
-  at a time; a file that grows while it is read; an input at the limit of size and one byte above it.
-- Output: a pipe whose reader has gone, or goes within a long report, with SIGPIPE ignored and not; a full device; a
-  closed descriptor.
+- Input: a device that never ends, beside memory; a folder, a missing file; a pipe that gives a byte at a time, and one
+  whose writer is killed; a file that grows while it is read; an input at the limit of size and one byte above it.
+- Output: a pipe whose reader has gone, or goes within a long report, with SIGPIPE ignored and not; a full device; a file
+  that can't grow.
+- Descriptors: each set of the three standard ones closed, beside each choice of files; one left for two files.
 - Limits: of memory from 4 MB up to 512 MB, each step a tenth more; of the stack, 128 KB.
 - Each front of an input with a problem and a solution.
 - COUNT mutations of problems and solutions (those of examples/, generated ones, and each PROBLEM with the status that it
@@ -19,6 +20,7 @@ and then how often each status came in each trial. A program that couldn't even 
 `not loaded`. For Linux; Python's standard library alone.
 """
 import collections
+import itertools
 import os
 import random
 import resource
@@ -39,12 +41,13 @@ ONE_INPUT = (
 MEGABYTE = 1 << 20
 GREATEST_MEMORY = 600 * MEGABYTE
 SMALL_STACK = 128 << 10
+SMALL_FILE = 100 << 10
 SIGPIPE_ENDED = -signal.SIGPIPE
 
 
-def closing(descriptor):
-    """What a child does to have no such descriptor."""
-    return lambda: os.close(descriptor)
+def closing(*descriptors):
+    """What a child does to have no such descriptors."""
+    return lambda: [os.close(descriptor) for descriptor in descriptors]
 
 
 def limiting(kind, amount):
@@ -129,8 +132,17 @@ def unreadable(trials):
             trials.expect_trouble("a file that can't be read", words)
     with open(trials.folder + "/one-input", "ab") as written_only:
         trials.expect_trouble("a descriptor for writing alone", ["check", "-"], stdin=written_only)
-    for words in (["lint", "-"], ["check", "-"], ["check", path, "-"], ["check", "-", path]):
-        trials.expect_trouble("a closed input", words, before=closing(0), stdin=None)
+
+
+def killed_writers(trials):
+    """An input of which the writer is killed: its front is judged."""
+    path = trials.file("one-input", ONE_INPUT)
+    for length in range(0, len(ONE_INPUT) + 1, 11):
+        killed = subprocess.Popen(["sh", "-c", f"head -c {length} '{path}'; kill -9 $$"], stdout=subprocess.PIPE)
+        front = ONE_INPUT[:length]
+        trials.expect("a writer that is killed", ["check", "-"], reports.joined(front).check(), stdin=killed.stdout)
+        killed.stdout.close()
+        killed.wait()
 
 
 def slow_pipe(trials):
@@ -153,9 +165,12 @@ def growing(trials):
             while not has_ended.is_set() and file.tell() < 100 * MEGABYTE:
                 file.write(b"# more\n" * 1000)
 
+    problem = trials.file("problem", ONE_INPUT[:115])
     writer = threading.Thread(target=grow)
     writer.start()
     trials.expect("a file that grows", ["lint", path], (["problem ok"], 0))
+    trials.expect("a file that grows", ["check", path], (["solution yes"], 0))
+    trials.expect("a file that grows", ["check", problem, path], (["solution yes"], 0))
     has_ended.set()
     writer.join()
     os.remove(path)
@@ -206,10 +221,57 @@ def outputs(trials):
     for job in (words, small, ["lint", words[1]], ["--help"]):
         with open("/dev/full", "wb") as full:
             trials.expect_trouble("a full device", job, stdout=full)
-        trials.expect_trouble("a closed output", job, before=closing(1), stdout=None)
-    one, known = reports.joined(ONE_INPUT).check(), ([], reports.USAGE)
-    trials.expect("a closed standard error", small, one, before=closing(2), stderr=None)
-    trials.expect("a closed standard error", ["judge"], known, before=closing(2), stderr=None)
+    filled(trials, words, output_of(answer))
+
+
+def filled(trials, words, report):
+    """A file that can't grow: what it has is a front of the report."""
+
+    def limit():
+        signal.signal(signal.SIGXFSZ, signal.SIG_IGN)
+        resource.setrlimit(resource.RLIMIT_FSIZE, (SMALL_FILE, SMALL_FILE))
+
+    path = trials.file("filled", b"")
+    with open(path, "wb") as file:
+        status, _ = trials.run(words, before=limit, stdout=file)
+    with open(path, "rb") as file:
+        is_front = report[:SMALL_FILE] == file.read()
+    trials.note("a file that can't grow", status, status == reports.TROUBLE and is_front)
+
+
+# ---- descriptors
+
+
+def closed_descriptors(trials):
+    """The files are read where standard input isn't named, and none of them is written to."""
+    front, rest = ONE_INPUT[:115], ONE_INPUT[115:]
+    problem, solution = trials.file("problem", front), trials.file("solution", rest)
+    known, help_text = reports.Second(front, rest).check(), trials.run(["--help"])
+    jobs = [
+        (["check", problem, solution], known), (["lint", problem], (["problem ok"], 0)), (["judge"], ([], reports.USAGE)),
+    ]
+    named = [["lint", "-"], ["check", "-"], ["check", problem, "-"], ["check", "-", solution], ["score", problem, "-"]]
+    for closed in (some for size in (1, 2, 3) for some in itertools.combinations(range(3), size)):
+        trial, places = f"closed {closed}", {("stdin", "stdout", "stderr")[number]: None for number in closed}
+        before = closing(*closed)
+        for words, wanted in jobs:
+            is_silent = 1 in closed and wanted[0]
+            trials.expect(trial, words, ([], reports.TROUBLE) if is_silent else wanted, before=before, **places)
+        for words in named if 0 in closed else []:
+            trials.expect_trouble(trial, words, before=before, **places)
+        status, output = trials.run(["--help"], before=before, **places)
+        trials.note(trial, status, (status, output) == ((reports.TROUBLE, b"") if 1 in closed else help_text), "--help")
+    for path, data in ((problem, front), (solution, rest)):
+        with open(path, "rb") as file:
+            trials.note("a file beside closed descriptors", "as before", file.read() == data, path)
+
+
+def no_descriptors(trials):
+    """One descriptor is left, and so none for the second of two files. With none the program couldn't be loaded."""
+    path, one = trials.file("one-input", ONE_INPUT), reports.joined(ONE_INPUT).check()
+    before = limiting(resource.RLIMIT_NOFILE, 4)
+    trials.expect("one descriptor left", ["check", path], one, before=before)
+    trials.expect_trouble("one descriptor left", ["check", path, path], before=before)
 
 
 # ---- limits
@@ -276,10 +338,16 @@ def documents(trials, seed, count, problems):
         compare(trials, "random bytes", spoilt.noise(chance), spoilt.noise(chance))
 
 
+TRIALS = (
+    endless, sizes, unreadable, killed_writers, slow_pipe, growing, outputs, closed_descriptors, no_descriptors, limits,
+    fronts,
+)
+
+
 def main(path, seed, count, *problems):
     with tempfile.TemporaryDirectory() as folder:
         trials = Trials(path, folder)
-        for trial in (endless, sizes, unreadable, slow_pipe, growing, outputs, limits, fronts):
+        for trial in TRIALS:
             trial(trials)
         documents(trials, seed, int(count), problems)
     for (trial, status), number in sorted(trials.told.items(), key=str):

@@ -1,13 +1,19 @@
 #!/usr/bin/env python3
-"""Refuses each growth of memory in turn, alone and with all later ones, and says where the program doesn't survive it.
+"""Refuses each growth of memory in turn, alone and with all later ones, and says where one isn't answered as it must be.
 
-usage: refusals.py PROGRAM [GROWTHS]
+usage: refusals.py PROGRAM [TESTS]
 
-Growth 1, growth 2 and so on (to GROWTHS, 400 if not given) is refused, each in two runs of its own, for the documents of
-examples/: in the second one all later growths are refused too. A run is fine where it ends within a minute with status 6
-and nothing on standard output, or with the same report and status as with ample memory. Needs gcc and glibc; Python's
-standard library alone.
+PROGRAM runs on the documents of examples/. Growth 1, growth 2 and so on is refused, until none is: each in two runs of
+its own, in the second one with all later ones. Where a growth is refused the program has to end with status 6 and nothing
+on standard output; where memory that was to be given back is refused alone, the report is right as well.
+
+TESTS is the executable of the tests of cudf_tests (`rt test` leaves it in out/). Its tests in `memory` call one function
+each, and say whether a growth was refused in the call or in what was made before it; the same is done with them, and
+printed for each of them is how many growths were refused there. Those in `memory::none` run with every growth refused.
+
+Each run ends within a minute. Needs gcc and glibc; Python's standard library alone.
 """
+import collections
 import itertools
 import os
 import subprocess
@@ -22,44 +28,97 @@ JOBS = [
     ["check", "producer.problem.cudf", "producer.solution.cudf"],
     ["check", "car.problem.cudf", "car.broken.cudf"],
     ["check", "car.problem.cudf", "car.fail.cudf"],
+    ["check", "rules.problem.cudf", "rules.answer.cudf"],
     ["check", "car-and-wheel.cudf"],
     ["score", "producer.problem.cudf", "producer.solution.cudf"],
     ["score", "car.problem.cudf", "car.broken.cudf"],
 ]
+NO_MEMORY = (6, b"")
+IN_CALL, BEFORE_CALL = b"refused in the call", b"refused before the call"
+ALWAYS = 10**6
 
 
-def answer(program, job, library=None, refused=0, later="0"):
-    """Returns the status and the standard output."""
-    words = [program, job[0]] + [os.path.join(EXAMPLES, name) for name in job[1:]]
-    surroundings = dict(os.environ)
-    if library:
-        surroundings.update(LD_PRELOAD=library, REFUSED=str(refused), LATER=later)
-    try:
-        ran = subprocess.run(
-            words, stdout=subprocess.PIPE, stderr=subprocess.DEVNULL, env=surroundings, timeout=60, check=False
-        )
-        return ran.returncode, ran.stdout
-    except subprocess.TimeoutExpired:
-        return "no end", b""
+class Refuser:
+    """Runs commands with growths refused."""
 
-
-def main(program, growths="400"):
-    refusals, survived, wrong = 0, 0, 0
-    with tempfile.TemporaryDirectory() as room:
-        library = os.path.join(room, "refusals.so")
+    def __init__(self, folder):
+        self.library = os.path.join(folder, "refusals.so")
         source = os.path.join(HERE, "refusals.c")
-        subprocess.run(["gcc", "-O2", "-fno-builtin", "-shared", "-fPIC", "-o", library, source], check=True)
-        for job in JOBS:
-            ample = answer(program, job)
-            for refused, later in itertools.product(range(1, int(growths) + 1), "01"):
-                given = answer(program, job, library, refused, later)
-                refusals += given == (6, b"")
-                survived += given == ample
-                if given not in ((6, b""), ample):
-                    wrong += 1
-                    print(f"{' '.join(job)}, growth {refused}, later ones {later}: {given}")
-    print(f"status 6 and no output {refusals}, the report of ample memory {survived}, wrong {wrong}")
-    return 1 if wrong or not refusals else 0
+        subprocess.run(["gcc", "-O2", "-fno-builtin", "-shared", "-fPIC", "-o", self.library, source], check=True)
+        self.wrong, self.refused, self.survived = 0, 0, 0
+
+    def run(self, words, refused, later):
+        """The status, both outputs, and the marks of what was refused."""
+        marks = os.memfd_create("marks")
+        surroundings = dict(os.environ, LD_PRELOAD=self.library, REFUSED=str(refused), LATER=later, MARKS=str(marks))
+        try:
+            ran = subprocess.run(words, capture_output=True, env=surroundings, pass_fds=(marks,), timeout=60, check=False)
+            told = os.pread(marks, os.fstat(marks).st_size, 0)
+            return ran.returncode, ran.stdout, ran.stderr, told
+        except subprocess.TimeoutExpired:
+            return "no end", b"", b"", b""
+        finally:
+            os.close(marks)
+
+    def note(self, about, is_answered, is_fine):
+        self.refused += is_answered
+        self.survived += is_fine and not is_answered
+        if not is_fine:
+            self.wrong += 1
+            print("WRONG:", *about, flush=True)
+
+
+def in_turn(refuser, words):
+    """The runs of a command: each growth, with `0` where it alone is refused, and last the run in which none is."""
+    for growth in itertools.count(1):
+        for later in "01":
+            ended = refuser.run(words, growth, later)
+            yield growth, later, ended
+            if not ended[3]:
+                return
+
+
+def programs(refuser, program):
+    for job in JOBS:
+        words = [program, job[0]] + [os.path.join(EXAMPLES, name) for name in job[1:]]
+        ample = refuser.run(words, ALWAYS, "0")[:2]
+        growths = 0
+        for growth, later, (status, output, _, marks) in in_turn(refuser, words):
+            is_answered = (status, output) == NO_MEMORY
+            is_fine = is_answered or b"g" not in marks and (status, output) == ample
+            refuser.note([job, growth, later, status, output[-200:]], is_answered, is_fine)
+            growths = growth - 1
+        print(f"{' '.join(job)}: {growths} growths")
+
+
+def calls(refuser, tests):
+    """Growths in each call, by test."""
+    listed = subprocess.run([tests, "--list"], capture_output=True, text=True, check=True).stdout.split()
+    names = sorted({name.rstrip(":") for name in listed if name.startswith("memory::")})
+    for name in names:
+        if name.startswith("memory::none::"):
+            status, _, errors, marks = refuser.run([tests, name], 1, "1")
+            refuser.note([name, status, errors[-200:]], False, status == 0)
+            print(f"{name}: every growth refused, {len(marks)} asked for")
+            continue
+        told = collections.Counter()
+        for growth, later, (status, _, errors, marks) in in_turn(refuser, [tests, name]):
+            where = "in the call" if IN_CALL in errors else "before it" if BEFORE_CALL in errors else "given back"
+            is_answered = where != "given back"
+            is_fine = is_answered or b"g" not in marks and status == 0
+            refuser.note([name, growth, later, status, errors[-200:]], is_answered, is_fine)
+            told[where] += later == "0" and marks != b""
+        print(f"{name}: " + ", ".join(f"{count} {where}" for where, count in sorted(told.items())))
+
+
+def main(program, tests=None):
+    with tempfile.TemporaryDirectory() as folder:
+        refuser = Refuser(folder)
+        programs(refuser, program)
+        if tests:
+            calls(refuser, tests)
+    print(f"refused {refuser.refused}, right answers {refuser.survived}, wrong {refuser.wrong}")
+    return 1 if refuser.wrong or not refuser.refused else 0
 
 
 if __name__ == "__main__":

@@ -1,5 +1,5 @@
 -- What the words of the command line ask for.
-use Rattle.std.specs.Prelude.{◌≡◌, ◌≢◌, ◌&&◌, ℕ, Bool, true, false, List, codes, Option, Some, None, Result, MatchResult}
+use Rattle.std.specs.Prelude.{◌≡◌, ◌≢◌, ◌&&◌, ◌||◌, ℕ, Bool, true, false, List, codes, Option, Some, None, Result, MatchResult}
 use Rattle.std.specs.Option.{option_map_or}
 use Rattle.clap.specs.Matches.{first_value}
 use Rattle.clap.specs.declared.parser.matches.Found.{Found}
@@ -39,6 +39,10 @@ MayBeNamedBy (Some word) (Some file) = IsNamedBy word file
 abbrev pub is_standard : FileName → Bool
 is_standard (Path path) = false
 is_standard Standard = true
+
+-- the order reads standard input
+abbrev pub takes_standard : Order → Bool
+takes_standard order = is_standard order.problem || option_map_or is_standard order.solution false
 
 -- the order reads standard input for the problem and for the solution
 abbrev pub takes_standard_twice : Order → Bool

@@ -163,7 +163,7 @@ fn read_limit(word: Option<&str>) -> Result<Option<u64>, Refusal<'_>>
 
 impl<'w> Order<'w> {
     ghost use Rattle.std.specs.Prelude.{◌≡◌, MatchResult, option_map};
-    ghost use Rattle.cudf_program.specs.Command.{takes_standard_twice, IsOrder, RefusesFiles};
+    ghost use Rattle.cudf_program.specs.Command.{takes_standard, takes_standard_twice, IsOrder, RefusesFiles};
 
     /// A job on the files that these words name. The first word has to be there, and `-` can stand for one file only.
     fn new(
@@ -188,6 +188,13 @@ impl<'w> Order<'w> {
         } else {
             Ok(order)
         }
+    }
+
+    /// Whether one of the files is standard input.
+    pub(crate) fn takes_standard(&self) -> bool
+        ensures { result ≡ takes_standard self.now }
+    {
+        self.problem == FileName::Standard || self.solution == Some(FileName::Standard)
     }
 
     /// Whether both files are standard input.

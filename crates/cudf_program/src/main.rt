@@ -12,7 +12,7 @@ mod grammar;
 mod tests;
 mod usage;
 
-use command::command as order_of;
+use command::{FileName, command as order_of};
 use cudf_check::{Device, Job, Outcome, RunError, Sink, run};
 use failure::Failure;
 use file::{Input, open};
@@ -34,7 +34,12 @@ fn main(rt: HostRuntime) -> ExitCode {
 
 /// The program's own name, and then the words of the command line.
 fn words(rt: &(impl Env + AllocGlobal)) -> io::Result<Vec<String>> {
-    Ok(env::args(rt)?.collect(rt.alloc())?)
+    let mut words = Vec::new(rt.alloc());
+    // A chain would try again by itself where its first growth is refused.
+    for word in env::args(rt)? {
+        words.push(word)?;
+    }
+    Ok(words)
 }
 
 /// Does what the words ask for, over standard input and output. Answers the exit status, and gives
@@ -69,23 +74,20 @@ struct Task<I> {
     solution: Option<Input<I>>,
 }
 
-/// Opens the files that the words name. Nothing is opened before the words are understood, and
-/// nothing is read before all files are open.
+/// Opens the files that the words name. Nothing is opened before the words are understood and, where
+/// they name it, standard input is open; nothing is read before all files are open.
 fn prepare<'w, I: Read + Copy + Drop>(
     rt: &HostRuntime,
     words: &'w [String],
     standard: I,
 ) -> Result<Task<I>, Failure<'w>> {
     let order = order_of(rt.alloc(), words)?;
-    let problem = match open(rt, order.problem, standard) {
-        Ok(problem) => problem,
-        Err(error) => return Err(Failure::from_open(order.problem, error)),
-    };
+    if order.takes_standard() {
+        expect_open(standard)?;
+    }
+    let problem = open_named(rt, order.problem, standard)?;
     let solution = match order.solution {
-        Some(name) => match open(rt, name, standard) {
-            Ok(solution) => Some(solution),
-            Err(error) => return Err(Failure::from_open(name, error)),
-        },
+        Some(name) => Some(open_named(rt, name, standard)?),
         None => None,
     };
     Ok(Task {
@@ -93,6 +95,26 @@ fn prepare<'w, I: Read + Copy + Drop>(
         problem,
         solution,
     })
+}
+
+/// Fails where standard input is closed: a file that is opened then would be read in its place.
+fn expect_open<'w, I: Read + Drop>(mut standard: I) -> Result<(), Failure<'w>> {
+    match standard.read(&mut []) {
+        Ok(_) => Ok(()),
+        Err(error) => Err(Failure::from_open(FileName::Standard, error)),
+    }
+}
+
+/// Opens a file that the words name.
+fn open_named<'w, I: Drop>(
+    rt: &HostRuntime,
+    name: FileName<'w>,
+    standard: I,
+) -> Result<Input<I>, Failure<'w>> {
+    match open(rt, name, standard) {
+        Ok(input) => Ok(input),
+        Err(error) => Err(Failure::from_open(name, error)),
+    }
 }
 
 /// Runs on open files, and gives standard output back.

@@ -1,7 +1,9 @@
 //! Documents so large that a limit of stanzas, of properties in a stanza, of names, of entries in
 //! a list or of bytes would be met, were there one that no rule of the format has.
-use cudf_check::{Device, Job, Outcome, run};
+use cudf_check::{Device, Job, Key, Outcome, run};
 use std::alloc::{AllocError, Global};
+use std::ops::Range;
+use std::test::Fail;
 
 /// How many there are of each thing.
 const MANY: u64 = 100_000;
@@ -15,11 +17,11 @@ const CHECK: Job = Job::Check {
 fn numbered(
     alloc: Global,
     text: &mut String,
-    count: u64,
+    numbers: Range<u64>,
     before: &str,
     behind: &str,
 ) -> Result<(), AllocError> {
-    for number in 0..count {
+    for number in numbers {
         let part = format!(in alloc; "{before}{number}{behind}")?;
         text.push_str(part.as_str())?;
     }
@@ -35,7 +37,7 @@ fn numbered_between(
     tail: &str,
 ) -> Result<String, AllocError> {
     let mut text = String::from_str(alloc, head)?;
-    numbered(alloc, &mut text, MANY, before, behind)?;
+    numbered(alloc, &mut text, 0..MANY, before, behind)?;
     text.push_str(tail)?;
     Ok(text)
 }
@@ -144,7 +146,7 @@ fn declared_names(rt: HostRuntime) {
     );
     match declared {
         Ok(mut text) => {
-            let is_made = numbered(rt.alloc(), &mut text, MANY, "a", ": 7\n").is_ok()
+            let is_made = numbered(rt.alloc(), &mut text, 0..MANY, "a", ": 7\n").is_ok()
                 && text.push_str("\nrequest:\n").is_ok();
             assert!(rt; is_made);
             assert!(rt; is_linted(rt.alloc(), &Ok(text), b"problem ok\n", Outcome::Yes));
@@ -165,7 +167,7 @@ fn entries(rt: HostRuntime) {
     );
     match conflicts {
         Ok(mut text) => {
-            let is_made = numbered(rt.alloc(), &mut text, MANY, ", c", " = 2").is_ok()
+            let is_made = numbered(rt.alloc(), &mut text, 0..MANY, ", c", " = 2").is_ok()
                 && text.push_str("\n\nrequest:\ninstall: c99999 = 2\n").is_ok();
             let solution = String::from_str(
                 rt.alloc(),
@@ -212,4 +214,71 @@ fn bytes(rt: HostRuntime) {
     );
     assert!(rt; problem.as_ref().map_or(0, |text| text.len()) > 10_000_000);
     assert!(rt; is_linted(rt.alloc(), &problem, b"problem ok\n", Outcome::Yes));
+}
+
+/// Ten thousand versions of one name, and a package that needs others of them.
+fn versions(alloc: Global) -> Result<(String, String), AllocError> {
+    let (mut problem, mut solution) = (String::new(alloc), String::new(alloc));
+    numbered(
+        alloc,
+        &mut problem,
+        1..10_001,
+        "package: v\nversion: ",
+        "\n\n",
+    )?;
+    problem.push_str(
+        "package: user\nversion: 1\ndepends: v > 9999, v < 1, v > 10000\n\nrequest: r\n",
+    )?;
+    numbered(
+        alloc,
+        &mut solution,
+        1..10_001,
+        "package: v\nversion: ",
+        "\ninstalled: true\n\n",
+    )?;
+    solution.push_str("package: user\nversion: 1\ninstalled: true\n")?;
+    Ok((problem, solution))
+}
+
+#[test]
+fn versions_of_one_name(rt: HostRuntime) -> Result<(), Fail> {
+    let (problem, solution) = versions(rt.alloc())?;
+    let report =
+        b"p10001.depends.2 user 1 line 30001: needs v < 1\np10001.depends.3 user 1 line 30001: needs v > 10000\nsolution no\n";
+    assert!(rt;
+        reports(
+            rt.alloc(),
+            &CHECK,
+            problem.as_str(),
+            solution.as_str(),
+            report,
+            Outcome::No,
+        )
+    );
+    Ok(())
+}
+
+/// A line of 100,000 clauses that aren't met: the page behind the last but one.
+#[test]
+fn last_page_of_a_long_line(rt: HostRuntime) -> Result<(), Fail> {
+    let mut problem = String::from_str(rt.alloc(), "package: u\nversion: 1\ndepends: x")?;
+    for _ in 1..MANY {
+        problem.push_str(",x")?;
+    }
+    problem.push_str("\n\nrequest: r\n")?;
+    let job = Job::Check {
+        after: Key::parse("p1.depends.99999"),
+        limit: None,
+    };
+    assert!(rt;
+        reports(
+            rt.alloc(),
+            &job,
+            problem.as_str(),
+            "package: u\nversion: 1\ninstalled: true\n",
+            b"p1.depends.100000 u 1 line 1: needs x\nsolution no\n",
+            Outcome::No,
+        )
+    );
+    Ok(())
 }

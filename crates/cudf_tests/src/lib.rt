@@ -7,6 +7,8 @@ mod documents;
 #[cfg(test)]
 mod large;
 #[cfg(test)]
+mod memory;
+#[cfg(test)]
 mod referees;
 #[cfg(test)]
 mod rows;

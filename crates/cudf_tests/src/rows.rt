@@ -1,5 +1,6 @@
 //! Runs from documents to reports: what is printed, and how the run ends.
 mod cases;
+mod fronts;
 mod joined;
 mod lints;
 mod pages;

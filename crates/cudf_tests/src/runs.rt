@@ -1,6 +1,7 @@
 //! Runs on devices that fail, and on inputs at the limits.
 
 mod devices;
+mod either;
 mod readers;
 
 use crate::table::assert_rows;
@@ -20,6 +21,9 @@ const BYTES: usize = 268435456;
 
 const JOINED: &[u8] =
     b"package: car\nversion: 1\ndepends: wheel > 2\ninstalled: true\n\npackage: wheel\nversion: 2\ninstalled: true\n\nrequest: r\n\npackage: car\nversion: 1\ninstalled: true\n";
+
+/// The calls in which the joined input is given where each byte, and the end, comes after an interrupted one.
+const RESTLESS_CALLS: u32 = 312;
 
 const REPORT: &[u8] = b"p1.depends.1 car 1 line 1: needs wheel > 2\nsolution no\n";
 
@@ -41,7 +45,7 @@ fn answers(
 }
 
 /// The most bytes of a read, and how many calls are interrupted before the first one that isn't.
-const READS: [(usize, u32); 5] = [(usize::MAX, 0), (1, 0), (3, 2), (10, 1000), (7, 1)];
+const READS: [(usize, u32); 6] = [(usize::MAX, 0), (1, 0), (1, 1), (3, 2), (10, 1000), (7, 1)];
 
 fn reads_to_the_end(alloc: Global, row: &(usize, u32)) -> bool {
     let mut input = Giver::new(JOINED);
@@ -50,17 +54,49 @@ fn reads_to_the_end(alloc: Global, row: &(usize, u32)) -> bool {
     answers(alloc, &mut input, Ok(Outcome::No), REPORT)
 }
 
-fn fails_at_call(alloc: Global, call: &u32) -> bool {
+/// Whether the input that gives each byte after an interrupted call is read to its end, which the last of its calls
+/// tells.
+fn reads_a_restless_input(alloc: Global) -> bool {
     let mut input = Giver::new(JOINED);
-    input.per_call = 6;
-    input.failing_call = *call;
-    answers(alloc, &mut input, Err(RunError::Read), b"") && input.turn == *call
+    input.per_call = 1;
+    input.is_restless = true;
+    answers(alloc, &mut input, Ok(Outcome::No), REPORT) && input.turn == RESTLESS_CALLS
+}
+
+/// The most bytes of a read, whether each is given after an interrupted call, and the call that tells the end.
+const FAILING: [(usize, bool, u32); 4] = [
+    (1, false, 156),
+    (6, false, 27),
+    (usize::MAX, false, 2),
+    (1, true, RESTLESS_CALLS),
+];
+
+/// Whether the run is broken off at each call that fails, and not where the first one behind the end would.
+fn fails_at_each_call(alloc: Global, row: &(usize, bool, u32)) -> bool {
+    (1..=row.2).all(|call| {
+        let mut input = failing_at(row, call);
+        answers(alloc, &mut input, Err(RunError::Read), b"") && input.turn == call
+    }) && answers(
+        alloc,
+        &mut failing_at(row, row.2.saturating_add(1)),
+        Ok(Outcome::No),
+        REPORT,
+    )
+}
+
+fn failing_at(row: &(usize, bool, u32), call: u32) -> Giver<'static> {
+    let mut input = Giver::new(JOINED);
+    input.per_call = row.0;
+    input.is_restless = row.1;
+    input.failing_call = call;
+    input
 }
 
 #[test]
 fn reads(rt: HostRuntime) {
     assert_rows(&rt, rt.alloc(), &READS, reads_to_the_end);
-    assert_rows(&rt, rt.alloc(), &[1, 2, 3, 20], fails_at_call);
+    assert!(rt; reads_a_restless_input(rt.alloc()));
+    assert_rows(&rt, rt.alloc(), &FAILING, fails_at_each_call);
 }
 
 #[test]
@@ -97,28 +133,36 @@ fn accepts_the_most_bytes(rt: HostRuntime) {
     assert!(rt; out.taken.as_slice() == b"problem ok\n".as_slice());
 }
 
-/// The most bytes of a write, how many are taken in all, and how the next one is refused.
-const WRITES: [(usize, usize, Refusal); 12] = [
-    (usize::MAX, 0, Refusal::Failed),
-    (usize::MAX, 10, Refusal::Failed),
-    (1, 12, Refusal::Failed),
-    (5, 54, Refusal::Failed),
-    (usize::MAX, 0, Refusal::Interrupted),
-    (usize::MAX, 10, Refusal::Interrupted),
-    (1, 12, Refusal::Interrupted),
-    (5, 54, Refusal::Interrupted),
-    (usize::MAX, 0, Refusal::NoByte),
-    (usize::MAX, 10, Refusal::NoByte),
-    (1, 12, Refusal::NoByte),
-    (5, 54, Refusal::NoByte),
+/// The most bytes of a write, and how the one behind the last is refused.
+const WRITES: [(usize, Refusal); 9] = [
+    (usize::MAX, Refusal::Failed),
+    (5, Refusal::Failed),
+    (1, Refusal::Failed),
+    (usize::MAX, Refusal::Interrupted),
+    (5, Refusal::Interrupted),
+    (1, Refusal::Interrupted),
+    (usize::MAX, Refusal::NoByte),
+    (5, Refusal::NoByte),
+    (1, Refusal::NoByte),
 ];
 
-/// Whether the sink is left with as much of the report as it takes.
-fn leaves_a_prefix(alloc: Global, row: &(usize, usize, Refusal)) -> bool {
-    let mut out = Taker::new(Vec::new(alloc), row.0, row.1, row.2);
+/// Whether the sink is left with as much of the report as it takes, for each number of bytes; where it takes them all
+/// the run ends well.
+fn leaves_each_prefix(alloc: Global, row: &(usize, Refusal)) -> bool {
+    (0..REPORT.len()).all(|room| leaves_prefix(alloc, row, room, Err(RunError::Write)))
+        && leaves_prefix(alloc, row, REPORT.len(), Ok(Outcome::No))
+}
+
+fn leaves_prefix(
+    alloc: Global,
+    row: &(usize, Refusal),
+    room: usize,
+    want: Result<Outcome, RunError>,
+) -> bool {
+    let mut out = Taker::new(Vec::new(alloc), row.0, room, row.1);
     let mut input = Giver::new(JOINED);
     let answer = run::<_, Giver<'_>, _>(alloc, &CHECK, &mut input, None, &mut out);
-    answer == Err(RunError::Write) && out.taken.len() == row.1 && REPORT.starts_with(&out.taken)
+    answer == want && out.taken.len() == room && REPORT.starts_with(&out.taken)
 }
 
 /// Whether the report is written whole in calls of this many bytes.
@@ -131,7 +175,8 @@ fn is_written_in_calls(alloc: Global, per_call: &usize) -> bool {
 
 #[test]
 fn writes(rt: HostRuntime) {
-    assert_rows(&rt, rt.alloc(), &WRITES, leaves_a_prefix);
+    assert_eq!(rt; REPORT.len(), 55);
+    assert_rows(&rt, rt.alloc(), &WRITES, leaves_each_prefix);
     assert_rows(&rt, rt.alloc(), &[1, 2, 54, 55, 1000], is_written_in_calls);
 }
 
@@ -147,7 +192,7 @@ struct Order {
     turns: (u32, u32),
 }
 
-const ORDERS: [Order; 5] = [
+const ORDERS: [Order; 6] = [
     // The solution is read also where the problem is faulty.
     Order {
         problem: b"junk\n",
@@ -176,6 +221,14 @@ const ORDERS: [Order; 5] = [
     },
     Order {
         problem: b"request:\n",
+        problem_fails: 1,
+        solution: b"",
+        solution_fails: 1,
+        answer: Err(RunError::Read),
+        turns: (1, 0),
+    },
+    Order {
+        problem: b"request:\n",
         problem_fails: 2,
         solution: b"",
         solution_fails: 1,
@@ -199,7 +252,9 @@ fn keeps_the_order(alloc: Global, row: &Order) -> bool {
     solution.failing_call = row.solution_fails;
     let mut out = ample(alloc);
     let answer = run(alloc, &CHECK, &mut problem, Some(&mut solution), &mut out);
-    answer == row.answer && problem.turn == row.turns.0 && solution.turn == row.turns.1
+    answer == row.answer
+        && (problem.turn, solution.turn) == row.turns
+        && (answer.is_ok() || out.taken.is_empty())
 }
 
 #[test]

@@ -28,7 +28,7 @@ const FIRST_PAGE: &str =
 
 const LAST_PAGE: &str = "p1.depends.2 user 1 line 1: needs a\nsolution no\n";
 
-const UNMET: &str = "p1.depends.1 car 1 line 1: needs wheel > 2\nsolution no\n";
+pub(super) const UNMET: &str = "p1.depends.1 car 1 line 1: needs wheel > 2\nsolution no\n";
 
 /// Words with what stands on standard input, and what the program answers and prints.
 #[derive(Clone, Copy)]
@@ -98,7 +98,7 @@ pub(super) fn first_failure(
     Ok(None)
 }
 
-fn write_files(rt: &HostRuntime) -> Result<(), Fail> {
+pub(super) fn write_files(rt: &HostRuntime) -> Result<(), Fail> {
     fs::write(rt, "problem.cudf", PROBLEM)?;
     fs::write(rt, "solution.cudf", SOLUTION)?;
     fs::write(rt, "joined.cudf", JOINED)?;
@@ -198,12 +198,22 @@ fn counts(rt: HostRuntime) -> Result<(), Fail> {
 #[test]
 fn tells_what_went_wrong(rt: HostRuntime) -> Result<(), Fail> {
     write_files(&rt)?;
-    fs::create_dir(&rt, "folder")?;
+    fs::create_dir_all(&rt, "folder")?;
     let cases = [
         fails(
             "check missing.cudf problem.cudf",
             5,
             "cudf_check: missing.cudf can't be opened: No such file or directory (os error 2); check the name, and run again\n",
+        ),
+        fails(
+            "check missing.cudf absent.cudf",
+            5,
+            "cudf_check: missing.cudf can't be opened: No such file or directory (os error 2); check the name, and run again\n",
+        ),
+        fails(
+            "score absent.cudf missing.cudf",
+            5,
+            "cudf_check: absent.cudf can't be opened: No such file or directory (os error 2); check the name, and run again\n",
         ),
         // All files are opened before one is read: a faulty problem isn't told beside a missing solution.
         fails(

@@ -16,6 +16,8 @@ pub(super) struct Giver<'a> {
     pub(super) per_call: usize,
     /// So many of the first calls are interrupted.
     pub(super) interruptions: u32,
+    /// Each call that is neither interrupted nor fails has had an interrupted one before it.
+    pub(super) is_restless: bool,
     /// The call that fails, from 1, and 0 where none does.
     pub(super) failing_call: u32,
     /// The bytes and the calls so far.
@@ -34,6 +36,7 @@ impl<'a> Giver<'a> {
             length: bytes.len(),
             per_call: usize::MAX,
             interruptions: 0,
+            is_restless: false,
             failing_call: 0,
             position: 0,
             turn: 0,
@@ -75,7 +78,7 @@ impl Source for Giver<'_> {
             self.failures.tick();
             return Err(Trouble::Failed);
         }
-        if self.turn <= self.interruptions {
+        if self.turn <= self.interruptions || self.is_restless && self.turn % 2 == 1 {
             return Err(Trouble::Interrupted);
         }
         let left = self.length.saturating_sub(self.position);

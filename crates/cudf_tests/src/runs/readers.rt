@@ -3,7 +3,7 @@ ghost use Rattle.std.specs.Prelude.{◌≤◌, IfOk};
 
 use super::{CHECK, JOINED, REPORT};
 use crate::table::assert_rows;
-use cudf_check::{Device, Outcome, RunError, run};
+use cudf_check::{Device, Outcome, RunError, Sink, Source, Trouble, run};
 use std::alloc::Global;
 use std::io::{self, ErrorKind};
 
@@ -68,27 +68,35 @@ impl io::Write for Writer {
 /// The call that answers an error, the error's kind, the run's answer, and what was written.
 type Row = (u32, ErrorKind, Result<Outcome, RunError>, &'static [u8]);
 
+/// The kind of an error, the run's answer, and what was written.
+type Kind = (ErrorKind, Result<Outcome, RunError>, &'static [u8]);
+
 /// An interrupted read is tried again; an error of any other kind is a failed read.
-const READS: [Row; 5] = [
-    (1, ErrorKind::Interrupted, Ok(Outcome::No), REPORT),
-    (3, ErrorKind::Interrupted, Ok(Outcome::No), REPORT),
-    (1, ErrorKind::WouldBlock, Err(RunError::Read), b""),
-    (3, ErrorKind::UnexpectedEof, Err(RunError::Read), b""),
-    (99, ErrorKind::Other, Err(RunError::Read), b""),
+const READS: [Kind; 5] = [
+    (ErrorKind::Interrupted, Ok(Outcome::No), REPORT),
+    (ErrorKind::WouldBlock, Err(RunError::Read), b""),
+    (ErrorKind::UnexpectedEof, Err(RunError::Read), b""),
+    (ErrorKind::OutOfMemory, Err(RunError::Read), b""),
+    (ErrorKind::Other, Err(RunError::Read), b""),
 ];
 
-fn reads_from(alloc: Global, row: &Row) -> bool {
-    let failing = Failing {
-        call: row.0,
-        kind: row.1,
-    };
+/// The call that tells the end of the input, of which each call gives a byte.
+const LAST_CALL: u32 = 156;
+
+/// Whether the run answers so where any one call, to the last, answers the error.
+fn reads_at_each_call(alloc: Global, row: &Kind) -> bool {
+    (1..=LAST_CALL).all(|call| reads_from(alloc, call, row))
+}
+
+fn reads_from(alloc: Global, call: u32, row: &Kind) -> bool {
+    let failing = Failing { call, kind: row.0 };
     let mut input = Device::new(Reader {
         bytes: JOINED,
         failing,
     });
     let mut out = Device::new(Vec::new(alloc));
     let answer = run::<_, Device<Reader<'_>>, _>(alloc, &CHECK, &mut input, None, &mut out);
-    answer == row.2 && out.into_inner().as_slice() == row.3
+    answer == row.1 && out.into_inner().as_slice() == row.2
 }
 
 /// A write is never tried again, whatever the error's kind.
@@ -120,8 +128,39 @@ fn writes_into(alloc: Global, row: &Row) -> bool {
     answer == row.2 && out.into_inner().taken.as_slice() == row.3
 }
 
+/// The kind of an error, and what a device tells of it.
+const TROUBLES: [(ErrorKind, Trouble); 5] = [
+    (ErrorKind::Interrupted, Trouble::Interrupted),
+    (ErrorKind::WouldBlock, Trouble::Failed),
+    (ErrorKind::BrokenPipe, Trouble::Failed),
+    (ErrorKind::UnexpectedEof, Trouble::Failed),
+    (ErrorKind::Other, Trouble::Failed),
+];
+
+/// Whether a device over a reader, and one over a writer, tells the first error so, and then goes on.
+fn is_told(alloc: Global, row: &(ErrorKind, Trouble)) -> bool {
+    let failing = Failing {
+        call: 1,
+        kind: row.0,
+    };
+    let mut input = Device::new(Reader {
+        bytes: JOINED,
+        failing,
+    });
+    let mut out = Device::new(Writer {
+        taken: Vec::new(alloc),
+        failing,
+    });
+    let mut chunk = [0u8; 4];
+    input.read(&mut chunk) == Err(row.1)
+        && input.read(&mut chunk) == Ok(1)
+        && out.write(b"x") == Err(row.1)
+        && out.write(b"x") == Ok(1)
+}
+
 #[test]
 fn errors_of_std(rt: HostRuntime) {
-    assert_rows(&rt, rt.alloc(), &READS, reads_from);
+    assert_rows(&rt, rt.alloc(), &TROUBLES, is_told);
+    assert_rows(&rt, rt.alloc(), &READS, reads_at_each_call);
     assert_rows(&rt, rt.alloc(), &WRITES, writes_into);
 }

@@ -1,0 +1,110 @@
+//! Whole runs: where memory runs out nothing was written.
+use super::{Answer, Refused, expect, made};
+use cudf_check::{Device, Job, Outcome, RunError, run};
+use std::alloc::Global;
+
+const CHECK: Job = Job::Check {
+    after: None,
+    limit: None,
+};
+
+/// Room for each of the reports, which is taken before the run.
+const ROOM: usize = 1000;
+
+/// A job, its inputs, the report, and the outcome.
+#[derive(Clone, Copy)]
+struct Run {
+    job: Job,
+    input: &'static [u8],
+    solution: Option<&'static [u8]>,
+    report: &'static [u8],
+    outcome: Outcome,
+}
+
+const JOINED: Run = Run {
+    job: CHECK,
+    input: b"package: car\nversion: 1\ndepends: wheel > 2\ninstalled: true\n\npackage: wheel\nversion: 2\ninstalled: true\n\nrequest: r\n\npackage: car\nversion: 1\ninstalled: true\n",
+    solution: None,
+    report: b"p1.depends.1 car 1 line 1: needs wheel > 2\nsolution no\n",
+    outcome: Outcome::No,
+};
+
+const CONFLICTS: Run = Run {
+    job: CHECK,
+    input: b"package: g\nversion: 1\nprovides: e, g = 1\nconflicts: e, g\n\npackage: g\nversion: 2\nprovides: e, g = 1\nconflicts: e, g\n\nrequest: r\n",
+    solution: Some(
+        b"package: g\nversion: 1\ninstalled: true\n\npackage: g\nversion: 2\ninstalled: true\n",
+    ),
+    report: b"p1.conflicts.1 g 1 line 1: conflicts with e, met by g 2\np1.conflicts.2 g 1 line 1: conflicts with g, met by g 2\np2.conflicts.1 g 2 line 6: conflicts with e, met by g 1\np2.conflicts.2 g 2 line 6: conflicts with g, met by g 1\nsolution no\n",
+    outcome: Outcome::No,
+};
+
+const GHOSTS: Run = Run {
+    job: CHECK,
+    input: b"package: car\nversion: 1\ninstalled: true\n\nrequest: r\nremove: car\n",
+    solution: Some(
+        b"package: ghost\nversion: 9\ninstalled: true\n\npackage: car\nversion: 1\ninstalled: true\n\npackage: ghost\nversion: 9\n\npackage: ghost\nversion: 9\ninstalled: true\n",
+    ),
+    report: b"r.remove.1 line 5: must remove car, met by car 1\ns.unknown.1 ghost 9 line 1: not in the universe\ns.unknown.4 ghost 9 line 12: not in the universe\nsolution no\n",
+    outcome: Outcome::No,
+};
+
+const RECOMMENDS: Run = Run {
+    job: Job::Score,
+    input: b"preamble:\nproperty: recommends: vpkgformula = [true!], number: string = [\"\"],\n# between\n  colour: enum[red, green] = \"red\"\n\npackage: a\r\nversion: +01\nrecommends: b | c, d\nnumber: 1.0-2\ncolour: green\ninstalled: true\n\npackage: d\nversion: 1\n\nrequest: r",
+    solution: Some(b"package: a\nversion: 1\ninstalled: true\n"),
+    report: b"removed 0\nnew 0\nchanged 0\nnotuptodate 0\nunsat_recommends 2\nparanoid 0 0\ntrendy 0 0 2 0\nsolution yes\n",
+    outcome: Outcome::Yes,
+};
+
+fn runs(alloc: Global, row: &Run) -> Answer {
+    let mut input = Device::new(row.input);
+    let mut out = Device::new(made(Vec::with_capacity(alloc, ROOM))?);
+    let answer = match row.solution {
+        Some(solution) => {
+            let mut solution = Device::new(solution);
+            run(alloc, &row.job, &mut input, Some(&mut solution), &mut out)
+        }
+        None => run::<_, Device<&[u8]>, _>(alloc, &row.job, &mut input, None, &mut out),
+    };
+    tell(answer, out.into_inner().as_slice(), row)
+}
+
+fn tell(answer: Result<Outcome, RunError>, written: &[u8], row: &Run) -> Answer {
+    match answer {
+        Ok(outcome) => Ok(outcome == row.outcome && written == row.report),
+        Err(RunError::Memory) if written.is_empty() => Err(Refused::Here),
+        Err(_) => Ok(false),
+    }
+}
+
+#[test]
+fn joined(rt: HostRuntime) {
+    expect(&rt, runs(rt.alloc(), &JOINED));
+}
+
+#[test]
+fn conflicts(rt: HostRuntime) {
+    expect(&rt, runs(rt.alloc(), &CONFLICTS));
+}
+
+#[test]
+fn ghosts(rt: HostRuntime) {
+    expect(&rt, runs(rt.alloc(), &GHOSTS));
+}
+
+#[test]
+fn recommends(rt: HostRuntime) {
+    expect(&rt, runs(rt.alloc(), &RECOMMENDS));
+}
+
+#[test]
+fn recommends_without_fault(rt: HostRuntime) {
+    let row = Run {
+        job: Job::Lint,
+        solution: None,
+        report: b"problem ok\n",
+        ..RECOMMENDS
+    };
+    expect(&rt, runs(rt.alloc(), &row));
+}
