@@ -160,12 +160,12 @@ fn answers(referee: &Referee<'_, '_>) -> bool {
         .instances()
         .next()
         .map(|first| referee.met_by(&first));
-    let is_listed = referee.instances().count() == 5 && meets == Some(Some(2));
+    let is_listed = referee.instances().take(9).count() == 5 && meets == Some(Some(2));
     is_listed && !referee.is_solution() && is_continued(referee) && is_counted(referee)
 }
 
 fn is_continued(referee: &Referee<'_, '_>) -> bool {
-    Key::parse("p1.conflicts.2").is_some_and(|key| referee.after(key).count() == 3)
+    Key::parse("p1.conflicts.2").is_some_and(|key| referee.after(key).take(9).count() == 3)
 }
 
 fn is_counted(referee: &Referee<'_, '_>) -> bool {
