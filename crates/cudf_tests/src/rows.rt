@@ -3,6 +3,7 @@ mod cases;
 mod fronts;
 mod joined;
 mod lints;
+mod made;
 mod pages;
 mod scores;
 mod worked;

@@ -6,14 +6,35 @@ use cudf_check::{Device, Job, Key, Outcome, run};
 use std::alloc::{AllocError, Global};
 use std::str;
 
+/// A problem, a solution, and the outcome of the pair.
+#[derive(Clone, Copy)]
+pub(super) struct Inputs<'a> {
+    pub(super) problem: &'a [u8],
+    pub(super) solution: &'a [u8],
+    pub(super) outcome: Outcome,
+}
+
+fn inputs_of(row: &Pair) -> Inputs<'static> {
+    Inputs {
+        problem: row.0,
+        solution: row.1,
+        outcome: row.3,
+    }
+}
+
 /// Runs a page of the listing, and gives its report where it ends so.
-fn page(alloc: Global, row: &Pair, after: Option<Key>, limit: Option<u64>) -> Option<Vec<u8>> {
-    let mut problem = Device::new(row.0);
-    let mut solution = Device::new(row.1);
+fn page(
+    alloc: Global,
+    inputs: Inputs<'_>,
+    after: Option<Key>,
+    limit: Option<u64>,
+) -> Option<Vec<u8>> {
+    let mut problem = Device::new(inputs.problem);
+    let mut solution = Device::new(inputs.solution);
     let mut out = Device::new(Vec::new(alloc));
     let job = Job::Check { after, limit };
     match run(alloc, &job, &mut problem, Some(&mut solution), &mut out) {
-        Ok(outcome) if outcome == row.3 => Some(out.into_inner()),
+        Ok(outcome) if outcome == inputs.outcome => Some(out.into_inner()),
         _ => None,
     }
 }
@@ -25,7 +46,7 @@ type PageRow = (&'static str, u64, Pair);
 fn is_page(alloc: Global, row: &PageRow) -> bool {
     let after = Key::parse(row.0);
     let limit = if row.1 == 0 { None } else { Some(row.1) };
-    match page(alloc, &row.2, after, limit) {
+    match page(alloc, inputs_of(&row.2), after, limit) {
         Some(report) => after.is_some() != row.0.is_empty() && report.as_slice() == row.2.2,
         None => false,
     }
@@ -179,7 +200,7 @@ fn pages(rt: HostRuntime) {
 }
 
 /// More pages than a listing here has.
-const MOST_PAGES: u64 = 100;
+const MOST_PAGES: u64 = 2_000;
 
 /// What stands before the line of the key that the page is continued from, and that key.
 fn cut_page(report: &str) -> (&str, Option<Key>) {
@@ -193,11 +214,15 @@ fn cut_page(report: &str) -> (&str, Option<Key>) {
 }
 
 /// The pages of this length, joined: each is continued from the key that the one before it printed.
-fn joined_pages(alloc: Global, row: &Pair, limit: u64) -> Result<Option<String>, AllocError> {
+fn joined_pages(
+    alloc: Global,
+    inputs: Inputs<'_>,
+    limit: u64,
+) -> Result<Option<String>, AllocError> {
     let mut whole = String::new(alloc);
     let mut after = None;
     for _ in 0..MOST_PAGES {
-        let Some(report) = page(alloc, row, after, Some(limit)) else {
+        let Some(report) = page(alloc, inputs, after, Some(limit)) else {
             return Ok(None);
         };
         let Ok(text) = str::from_utf8(&report) else {
@@ -213,15 +238,22 @@ fn joined_pages(alloc: Global, row: &Pair, limit: u64) -> Result<Option<String>,
     Ok(None)
 }
 
-fn is_walked_by(alloc: Global, row: &Pair, limit: u64) -> bool {
-    match joined_pages(alloc, row, limit) {
-        Ok(Some(whole)) => whole.as_bytes() == row.2,
+fn is_walked_by(alloc: Global, inputs: Inputs<'_>, report: &[u8], limit: u64) -> bool {
+    match joined_pages(alloc, inputs, limit) {
+        Ok(Some(whole)) => whole.as_bytes() == report,
         _ => false,
     }
 }
 
+/// Whether the pages of 1, of 2 and of 3 lines join to the report.
+pub(super) fn joins_to(alloc: Global, inputs: Inputs<'_>, report: &[u8]) -> bool {
+    is_walked_by(alloc, inputs, report, 1)
+        && is_walked_by(alloc, inputs, report, 2)
+        && is_walked_by(alloc, inputs, report, 3)
+}
+
 fn is_walked(alloc: Global, row: &Pair) -> bool {
-    is_walked_by(alloc, row, 1) && is_walked_by(alloc, row, 2) && is_walked_by(alloc, row, 3)
+    joins_to(alloc, inputs_of(row), row.2)
 }
 
 #[test]
