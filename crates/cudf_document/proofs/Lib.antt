@@ -13,6 +13,7 @@ pub mod FaultlessLemmas
 pub mod LawLemmas
 pub mod SolutionPackageLemmas
 pub mod SolutionBuilderLemmas
+mod SolutionReaderLemmas
 mod Examples
 pub mod StatusLemmas
 mod LintLemmas

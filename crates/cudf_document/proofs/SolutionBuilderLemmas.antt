@@ -12,14 +12,16 @@ use Rattle.std.specs.List.{list_any, prefix_len, flat_map, enumerate_from}
 use Rattle.std.specs.Option.{option_map_or}
 use Rattle.cudf_text.specs.declared.fault.Fault.{Fault}
 use Rattle.cudf_text.specs.Stanzas.{PlainStanza}
+use Rattle.cudf_document.specs.declared.solution_reader.SolutionReader.{SolutionReader}
 use Rattle.cudf_document.specs.Faults.{lesser, least}
 use Rattle.cudf_document.specs.Ids.{Id, is_id, is_among, are_distinct}
 use Rattle.cudf_document.specs.SolutionFaults.{solution_stanza_faults}
 use Rattle.cudf_document.specs.Universe.{PlainPackage, PlainProblem, package_id}
-use Rattle.cudf_document.specs.Statuses.{PlainUnknown, installed_id, installed_ids, is_proposed, unknown_with, unknown_of, unknown_stanzas}
-use Rattle.cudf_document.specs.Working.SolutionBuilders.{ids_of, IsSolutionBuilt}
+use Rattle.cudf_document.specs.Statuses.{installed_id, installed_ids, is_proposed, unknown_view, unknown_with, unknown_of, unknown_stanzas}
+use Rattle.cudf_document.specs.Working.SolutionBuilders.{ids_of}
+use Rattle.cudf_document.specs.Working.SolutionReaders.{IsSolutionRead}
 use Rattle.cudf_document.proofs.ListLemmas.{or_false}
-use Rattle.cudf_document.proofs.FaultLemmas.{lesser-assoc, least-append, lesser-none}
+use Rattle.cudf_document.proofs.FaultLemmas.{least-append}
 use Rattle.cudf_document.proofs.BuilderLemmas.{same_pair, as_list}
 use Rattle.cudf_document.proofs.FaultlessLemmas.{same_id, distinct-places}
 
@@ -156,40 +158,28 @@ unknown-push problem seen s =
     ∙ filter_map-append (unknown_of problem) (enumerate_from 1 seen) ((1 + length seen, s) ∷ [])
     ∙ ap (λ l. unknown_stanzas problem seen ++ l) (sym (as_list (option_and_then (unknown_with problem (1 + length seen) s.line) (installed_id s))))
 
--- ---- all of it
+-- ---- one more stanza
 
-pub IsSolutionBuilt-none : (text_fault : Option Fault) (problem : PlainProblem) (flags : List Bool) (unknown : List PlainUnknown)
-    → flags ≡ map (is_among []) (ids_of problem) → unknown ≡ [] → IsSolutionBuilt text_fault problem [] text_fault 0 flags unknown
-IsSolutionBuilt-none text_fault problem flags unknown none nothing = record {
-  first_is = sym (lesser-none text_fault);
-  number_is = refl;
-  flags_are = none;
-  unknown_are = nothing;
-}
-
--- one more stanza
-pub IsSolutionBuilt-next : (text_fault : Option Fault) (problem : PlainProblem) (seen : List PlainStanza) (first : Option Fault) (number : ℕ) (flags : List Bool) (unknown : List PlainUnknown)
-    (s : PlainStanza) (more : List PlainStanza) (fault new_first : Option Fault) (id : Option Id) (new_flags : List Bool) (new_unknown : List PlainUnknown)
-    → IsSolutionBuilt text_fault problem seen first number flags unknown → more ≡ seen ++ s ∷ []
-    → fault ≡ least (solution_stanza_faults s) → new_first ≡ lesser first fault → id ≡ installed_id s
-    → new_flags ≡ map (is_among (installed_ids seen ++ option_to_list id)) (ids_of problem) → new_unknown ≡ unknown ++ option_to_list (option_and_then (unknown_with problem (number + 1) s.line) id)
-    → IsSolutionBuilt text_fault problem more new_first (number + 1) new_flags new_unknown
-IsSolutionBuilt-next text_fault problem seen first number flags unknown s more fault new_first id new_flags new_unknown so_far more_is fault_is lesser_is id_is flags_is unknown_is =
-    let next : number + 1 ≡ 1 + length seen = let e = so_far.number_is in omega (arith, e) in
+pub IsSolutionRead-next : (problem : PlainProblem) (old new : SolutionReader) (seen : List PlainStanza) (s : PlainStanza) (fault : Option Fault) (id : Option Id)
+    → IsSolutionRead problem seen old
+    → fault ≡ least (solution_stanza_faults s) → new.first ≡ lesser old.first fault → id ≡ installed_id s → new.number ≡ old.number + 1
+    → new.builder.flags.items ≡ map (is_among (installed_ids seen ++ option_to_list id)) (ids_of problem)
+    → map unknown_view new.builder.unknown.items ≡ map unknown_view old.builder.unknown.items ++ option_to_list (option_and_then (unknown_with problem new.number s.line) id)
+    → IsSolutionRead problem (seen ++ s ∷ []) new
+IsSolutionRead-next problem old new seen s fault id so_far fault_is lesser_is id_is number_is flags_is unknown_is =
+    let next : new.number ≡ 1 + length seen = let e = so_far.number_is in omega (arith, e, number_is) in
     record {
-      first_is = lesser_is ∙ (λ i. lesser (so_far.first_is i) (fault_is i)) ∙ lesser-assoc text_fault (least (flat_map solution_stanza_faults seen)) (least (solution_stanza_faults s))
-          ∙ ap (lesser text_fault)
-          (sym (least-append (flat_map solution_stanza_faults seen) (solution_stanza_faults s))
+      first_is = lesser_is ∙ (λ i. lesser (so_far.first_is i) (fault_is i))
+          ∙ sym (least-append (flat_map solution_stanza_faults seen) (solution_stanza_faults s))
           ∙ ap (λ fs. least (flat_map solution_stanza_faults seen ++ fs)) (sym (append-nil (solution_stanza_faults s)))
-          ∙ ap least (sym (flat_map-append solution_stanza_faults seen (s ∷ []))))
-          ∙ ap (λ l. lesser text_fault (least (flat_map solution_stanza_faults l))) (sym more_is);
-      number_is = (let n = so_far.number_is in let m = length_push seen s in let e : number + 1 ≡ length (seen ++ s ∷ []) = omega (arith, n, m) in e) ∙ ap length (sym more_is);
+          ∙ ap least (sym (flat_map-append solution_stanza_faults seen (s ∷ [])));
+      number_is = let m = length_push seen s in omega (arith, next, m);
       flags_are = flags_is ∙ (λ i. map (is_among (installed_ids seen ++ option_to_list (id_is i))) (ids_of problem))
           ∙ ap (λ l. map (is_among (installed_ids seen ++ l)) (ids_of problem)) (as_list (installed_id s))
-          ∙ ap (λ l. map (is_among l) (ids_of problem)) (sym (filter_map-append installed_id seen (s ∷ [])) ∙ ap installed_ids (sym more_is));
+          ∙ ap (λ l. map (is_among l) (ids_of problem)) (sym (filter_map-append installed_id seen (s ∷ [])));
       unknown_are = unknown_is
           ∙ (λ i. so_far.unknown_are i ++ option_to_list (option_and_then (unknown_with problem (next i) s.line) (id_is i)))
-          ∙ sym (unknown-push problem seen s) ∙ ap (unknown_stanzas problem) (sym more_is);
+          ∙ sym (unknown-push problem seen s);
     }
 
 -- ---- the proposed status

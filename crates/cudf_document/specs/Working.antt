@@ -7,3 +7,4 @@ pub mod RequestFields
 pub mod SeenNames
 pub mod SolutionBuilders
 pub mod SolutionPackages
+pub mod SolutionReaders

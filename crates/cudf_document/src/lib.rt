@@ -24,6 +24,7 @@ mod seen_names;
 mod solution;
 mod solution_builder;
 mod solution_package;
+mod solution_reader;
 mod status;
 
 pub use error::ReadError;
@@ -32,5 +33,5 @@ pub use package::{Keep, Package};
 pub use problem::Problem;
 pub use problem_reader::read_problem;
 pub use request::Request;
-pub use solution::{Solution, Unknown, read_solution};
+pub use solution::{Solution, Unknown, read_solution, solution_of};
 pub use status::{Status, initial};

@@ -16,7 +16,7 @@ use crate::declarations::Declarations;
 use crate::fault::{fault_if, lesser};
 use crate::fields::{LintedPackage, read_properties};
 use crate::ids::Ids;
-use crate::package_fields::read_name;
+use crate::package_fields::source_name;
 use crate::postmark::{Postmark, postmark_of};
 use crate::preamble::read_preamble;
 use crate::problem_builder::{find_property, package_fault};
@@ -25,7 +25,6 @@ use crate::request_fields::read_request;
 use crate::seen_names::SeenNames;
 use cudf_text::{Fault, Kind, Next, Property, Stanza, Stanzas};
 use std::alloc::{AllocError, Global};
-use std::borrow::CowStr;
 
 /// The first fault of a problem, if it has one.
 pub fn first_fault(alloc: Global, stanzas: Stanzas<'_>) -> Result<Option<Fault>, AllocError>
@@ -210,16 +209,6 @@ fn first_named<'s, 'a>(stanza: &'s Stanza<'a>, name: &str) -> Option<&'s Propert
         ≡ find (has_name name.now) (stanza_view stanza.now).properties }
 {
     find_property(&stanza.properties, name)
-}
-
-/// The value, where it is a package's name: a part of the source, since a joined one has a blank.
-fn source_name<'a>(property: &Property<'a>) -> Option<&'a str>
-    ensures { option_copied result ≡ name_value (property_view property.now).value }
-{
-    match property.value {
-        CowStr::Borrowed(text) => read_name(text),
-        CowStr::Owned(_) => None,
-    }
 }
 
 /// The first fault of the properties of a preamble.

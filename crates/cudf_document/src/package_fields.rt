@@ -1,6 +1,6 @@
 //! The values of a package's properties.
 ghost use Rattle.std.specs.Prelude.{◌≡◌, Some, [], option_copied, IfOk};
-ghost use Rattle.cudf_text.specs.Views.{stanza_view};
+ghost use Rattle.cudf_text.specs.Views.{stanza_view, property_view};
 ghost use Rattle.cudf_document.specs.Faults.{least};
 ghost use Rattle.cudf_document.specs.Values.{name_value, keep_value};
 ghost use Rattle.cudf_document.specs.ProblemFaults.{properties_faults};
@@ -17,6 +17,7 @@ use cudf_value::{
     Formula, Vpkg, is_pkgname, read_bool, read_formula, read_posint, read_veqpkglist, read_vpkglist,
 };
 use std::alloc::{AllocError, Global};
+use std::borrow::CowStr;
 
 /// What the properties of a package stanza say, each value where it is there and of its type.
 #[derive(Drop)]
@@ -157,6 +158,16 @@ pub(crate) fn read_name(text: &str) -> Option<&str>
     ensures { option_copied result ≡ name_value text.now }
 {
     if is_pkgname(text) { Some(text) } else { None }
+}
+
+/// The value, where it is a package's name: a part of the source, since a joined one has a blank.
+pub(crate) fn source_name<'a>(property: &Property<'a>) -> Option<&'a str>
+    ensures { option_copied result ≡ name_value (property_view property.now).value }
+{
+    match property.value {
+        CowStr::Borrowed(text) => read_name(text),
+        CowStr::Owned(_) => None,
+    }
 }
 
 pub(crate) fn read_keep(text: &str) -> Option<Keep>

@@ -9,7 +9,7 @@ ghost use Rattle.cudf_document.specs.Working.SolutionPackages.{solution_property
 
 use crate::declarations::mistyped_unless;
 use crate::fault::{fault_on, lesser};
-use crate::package_fields::read_name;
+use crate::package_fields::source_name;
 use cudf_text::{Fault, Kind, Property, Stanza};
 use cudf_value::{read_bool, read_posint};
 
@@ -34,16 +34,16 @@ fn solution_property_named(name: &str) -> Option<SolutionProperty>
 
 /// What the properties of a package stanza say, each value where it is of its type.
 #[derive(Drop)]
-pub(crate) struct SolutionPackage<'t> {
+pub(crate) struct SolutionPackage<'a> {
     is_named: bool,
-    name: Option<&'t str>,
+    name: Option<&'a str>,
     pub(crate) has_version: bool,
     version: Option<u64>,
     has_installed: bool,
     installed: Option<bool>,
 }
 
-impl<'t> SolutionPackage<'t> {
+impl<'a> SolutionPackage<'a> {
     ghost use Rattle.std.specs.Prelude.{◌≡◌, [], Some, option_map};
     ghost use Rattle.cudf_text.specs.Views.{property_view};
     ghost use Rattle.cudf_document.specs.Working.PackageFields.{fault_on};
@@ -64,7 +64,7 @@ impl<'t> SolutionPackage<'t> {
     }
 
     /// Keeps what a property says, if it counts and is the first of its name, and answers its fault.
-    fn read<'a>(&mut self, property: &'t Property<'a>) -> Option<Fault>
+    fn read(&mut self, property: &Property<'a>) -> Option<Fault>
         ensures fault { result
             ≡ fault_on property.now.line (solution_kind_of (property_view property.now) (solution_package_view self.old)) }
         ensures entry { solution_package_view self.new
@@ -72,7 +72,7 @@ impl<'t> SolutionPackage<'t> {
     {
         let text = property.value.as_str();
         let kind = match solution_property_named(property.name) {
-            Some(SolutionProperty::Package) => self.read_name(text),
+            Some(SolutionProperty::Package) => self.read_name(property),
             Some(SolutionProperty::Version) => self.read_version(text),
             Some(SolutionProperty::Installed) => self.read_installed(text),
             None => None,
@@ -80,16 +80,17 @@ impl<'t> SolutionPackage<'t> {
         fault_on(property.line, kind)
     }
 
-    fn read_name(&mut self, text: &'t str) -> Option<Kind>
-        ensures kind { result ≡ solution_kind (Some counted.Package) text.now (solution_package_view self.old) }
+    fn read_name(&mut self, property: &Property<'a>) -> Option<Kind>
+        ensures kind { result
+            ≡ solution_kind (Some counted.Package) (property_view property.now).value (solution_package_view self.old) }
         ensures entry { solution_package_view self.new
-            ≡ with_solution_property (Some counted.Package) text.now (solution_package_view self.old) }
+            ≡ with_solution_property (Some counted.Package) (property_view property.now).value (solution_package_view self.old) }
     {
         if self.is_named {
             return Some(Kind::E7);
         }
         self.is_named = true;
-        self.name = read_name(text);
+        self.name = source_name(property);
         mistyped_unless(self.name.is_some())
     }
 
@@ -121,7 +122,7 @@ impl<'t> SolutionPackage<'t> {
     }
 
     /// The name and the version, if they are installed.
-    pub(crate) fn installed_id(&self) -> Option<(&'t str, u64)>
+    pub(crate) fn installed_id(&self) -> Option<(&'a str, u64)>
         ensures { option_map (λ id. (id.0.now, id.1)) result ≡ solution_package_id (solution_package_view self.now) }
     {
         if self.installed.unwrap_or(false) {
@@ -133,9 +134,7 @@ impl<'t> SolutionPackage<'t> {
 }
 
 /// The first fault of the properties of a solution's package, and what they say.
-pub(crate) fn read_solution_package<'t, 'a>(
-    stanza: &'t Stanza<'a>,
-) -> (Option<Fault>, SolutionPackage<'t>)
+pub(crate) fn read_solution_package<'a>(stanza: &Stanza<'a>) -> (Option<Fault>, SolutionPackage<'a>)
     ensures fault { result.0
         ≡ least (flat_map value_faults (with_earlier [] (stanza_view stanza.now).properties)) }
     ensures entry { solution_package_view result.1 ≡ solution_package_of (stanza_view stanza.now).properties }

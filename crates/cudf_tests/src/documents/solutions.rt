@@ -2,8 +2,9 @@
 use crate::table::{assert_rows, prints};
 use cudf_document::{
     Problem, ReadError, Solution, Status, Unknown, initial, read_problem, read_solution,
+    solution_of,
 };
-use cudf_text::{Fault, Kind, Text, is_fail, read};
+use cudf_text::{Fault, Kind, Text, is_fail, read, stanzas};
 use std::alloc::Global;
 use std::fmt;
 
@@ -69,18 +70,29 @@ fn is_wanted(alloc: Global, row: &(&str, Wanted<'_>)) -> bool {
     }
 }
 
+/// Whether the text is read as it is wanted, both from its stanzas and from its bytes.
 fn is_read_as(alloc: Global, problem: &Problem<'_>, text: &Text<'_>, wanted: Wanted<'_>) -> bool {
     if is_fail(text.source) {
         return false;
     }
-    match (read_solution(alloc, text, problem), wanted) {
+    match stanzas(text.source.as_bytes()) {
+        Ok(stanzas) => {
+            is_answer(alloc, read_solution(alloc, text, problem), wanted)
+                && is_answer(alloc, solution_of(alloc, stanzas, problem), wanted)
+        }
+        Err(_) => false,
+    }
+}
+
+fn is_answer(alloc: Global, answer: Result<Solution<'_>, ReadError>, wanted: Wanted<'_>) -> bool {
+    match (answer, wanted) {
         (Ok(solution), Wanted::Shown(shown)) => prints(alloc, &ShownSolution(&solution), shown),
         (Err(ReadError::Fault(fault)), Wanted::Fault(line, kind)) => fault == Fault { line, kind },
         _ => false,
     }
 }
 
-const SOLUTIONS: [(&'static str, Wanted<'static>); 15] = [
+const SOLUTIONS: [(&'static str, Wanted<'static>); 17] = [
     ("", Wanted::Shown("")),
     (
         "package: door\nversion: 1\ninstalled: true\n\npackage: door\nversion: 2\ninstalled: true\n",
@@ -116,6 +128,15 @@ const SOLUTIONS: [(&'static str, Wanted<'static>); 15] = [
         Wanted::Fault(3, Kind::E9),
     ),
     ("package: a!\nversion: 0\n", Wanted::Fault(1, Kind::E9)),
+    // A name may stand on a line of its own; two texts are no name.
+    (
+        "package:\n ghost\nversion:\n\t9\ninstalled:\n true\n",
+        Wanted::Shown("[1 line 1: ghost 9]"),
+    ),
+    (
+        "package: do\n or\nversion: 1\ninstalled: true\n",
+        Wanted::Fault(1, Kind::E9),
+    ),
     (
         "package: a\nversion: 0\nversion: 0\n",
         Wanted::Fault(2, Kind::E9),

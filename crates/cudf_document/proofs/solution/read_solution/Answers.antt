@@ -1,37 +1,46 @@
-use Rattle.std.proofs.Common.{sym, ap, ◌∙◌}
-use Rattle.cudf_text.specs.Views.{text_view}
-use Rattle.cudf_document.specs.Working.Flags.{flag_at}
-use Rattle.cudf_document.specs.Ids.{is_among}
-use Rattle.cudf_document.specs.SolutionFaults.{solution_faults}
-use Rattle.cudf_document.specs.Statuses.{installed_ids, ascend_above, are_outside}
-use Rattle.cudf_document.specs.Universe.{package_id}
-use Rattle.cudf_document.proofs.StatusLemmas.{within_universe, unknown_ascend, unknown_outside}
-use Rattle.cudf_document.specs.Working.SolutionBuilders.{ids_of}
-use Rattle.cudf_document.proofs.FaultLemmas.{least-none}
-use Rattle.cudf_document.proofs.FlagLemmas.{flag_at-flags}
-use Rattle.cudf_document.proofs.SolutionBuilderLemmas.{flags_propose}
+use Rattle.std.proofs.Common.{map, take, IfOk, refl, sym, subst, arith}
+use Rattle.std.proofs.lemmas.List.{take_all}
+use Rattle.std.proofs.lemmas.Result.{IfOk-weaker}
+use Rattle.cudf_text.specs.Views.{stanza_view, text_view}
+use Rattle.cudf_document.specs.Working.SolutionReaders.{IsSolutionRead, IsSolutionOf}
+use Rattle.cudf_document.proofs.ListLemmas.{map_next}
 use Rattle.cudf_document.proofs.solution.read_solution.Goals as goal
 
+pub loop-stanza-preserved : goal.loop-stanza-preserved
+loop-stanza-preserved c =
+    let items = c.args.text.now.stanzas.items in
+    let i = c.loop-stanza.stanza-index in
+    subst (λ l. IsSolutionRead c.args.problem.now l c.take.new.self)
+    (sym (map_next stanza_view items c.deref-stanza-items.result.now i c.stanza-item.result (omega arith) c.stanza-item.is c.deref-stanza-items.ensures.value))
+    (c.in_ok-take.ensures (map stanza_view (take i items)) c.loop-stanza.invariant)
+
+all_read : (c : goal.After-finish) → IsSolutionRead c.args.problem.now (text_view c.args.text.now).stanzas c.loop-stanza.reader
+all_read c =
+    let items = c.args.text.now.stanzas.items in
+    let i = c.loop-stanza.stanza-index in
+    let len = c.deref-stanza-items.ensures.len in
+    subst (λ l. IsSolutionRead c.args.problem.now (map stanza_view l) c.loop-stanza.reader) (take_all i items (omega arith)) c.loop-stanza.invariant
+
+solution : (c : goal.After-finish) → IfOk c.finish.result (IsSolutionOf c.args.problem.now (text_view c.args.text.now))
+solution c = c.finish.ensures.solution c.args.problem.now (text_view c.args.text.now) refl (all_read c)
+
 pub returns-clause-sound : goal.returns-clause-sound
-returns-clause-sound c = least-none (solution_faults (text_view c.args.text.now)) (sym c.in_ok-fault.ensures.fault ∙ c.in_default.is)
+returns-clause-sound c = IfOk-weaker c.finish.result _ _ (λ s is. is.sound) (solution c)
 
 pub returns-clause-status : goal.returns-clause-status
-returns-clause-status c =
-    let problem = c.args.problem.now in
-    let stanzas = (text_view c.args.text.now).stanzas in
-    λ place.
-    c.from_flags.ensures place ∙ ap (λ flags. flag_at flags place) c.in_ok-fault.ensures.flags
-    ∙ flag_at-flags (is_among (installed_ids stanzas)) (ids_of problem) place ∙ flags_propose problem stanzas place
+returns-clause-status c = IfOk-weaker c.finish.result _ _ (λ s is. is.status) (solution c)
 
 pub returns-clause-within : goal.returns-clause-within
-returns-clause-within c =
-    λ place there.
-    within_universe (λ p. is_among (installed_ids (text_view c.args.text.now).stanzas) (package_id p)) c.args.problem.now place
-    (sym (returns-clause-status c place) ∙ there)
+returns-clause-within c = IfOk-weaker c.finish.result _ _ (λ s is. is.within) (solution c)
+
+pub returns-clause-unknown : goal.returns-clause-unknown
+returns-clause-unknown c = IfOk-weaker c.finish.result _ _ (λ s is. is.unknown) (solution c)
 
 pub returns-clause-ascending : goal.returns-clause-ascending
-returns-clause-ascending c = ap (ascend_above 0) c.in_ok-fault.ensures.unknown ∙ unknown_ascend c.args.problem.now (text_view c.args.text.now).stanzas
+returns-clause-ascending c = IfOk-weaker c.finish.result _ _ (λ s is. is.ascending) (solution c)
 
 pub returns-clause-outside : goal.returns-clause-outside
-returns-clause-outside c =
-    ap (are_outside c.args.problem.now) c.in_ok-fault.ensures.unknown ∙ unknown_outside c.args.problem.now (text_view c.args.text.now).stanzas
+returns-clause-outside c = IfOk-weaker c.finish.result _ _ (λ s is. is.outside) (solution c)
+
+pub returns-clause-fault : goal.returns-clause-fault
+returns-clause-fault c = c.finish.ensures.fault c.args.problem.now (text_view c.args.text.now) refl (all_read c)

@@ -9,7 +9,7 @@ use Rattle.cudf_document.specs.ProblemFaults.{unmarked_faults, version_property}
 use Rattle.cudf_document.specs.SolutionFaults.{value_faults, values_faults}
 use Rattle.cudf_document.proofs.ListLemmas.{is_none-find}
 use Rattle.cudf_document.proofs.FaultLemmas.{least-append}
-use Rattle.cudf_document.proofs.solution.read_stanza.Goals as goal
+use Rattle.cudf_document.proofs.solution_reader.read_stanza.Goals as goal
 
 pub returns-in-Some-Package-clause-fault : goal.returns-in-Some-Package-clause-fault
 returns-in-Some-Package-clause-fault c =
