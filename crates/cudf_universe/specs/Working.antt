@@ -1,4 +1,5 @@
 pub mod Members
+pub mod Numbers
 pub mod Kept
 pub mod Gathering
 pub mod FirstPlaces

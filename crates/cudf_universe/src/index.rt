@@ -15,6 +15,7 @@ mod entries;
 mod gathered_names;
 mod member;
 pub(crate) mod metered;
+mod numbers;
 mod sorted;
 mod tree;
 

@@ -17,4 +17,4 @@ pub record AreHalves (entries : Entries) (front back : List Provision) : Type 0 
 
 abbrev pub Holds : Node → Type 0
 Holds (Few row) = Unit
-Holds (Halves entries front back) = AreHalves entries front.value back.value
+Holds (Halves entries front back) = AreHalves entries.value front.value back.value

@@ -51,7 +51,7 @@ impl<'t> GatheredNames<'t> {
         ensures rows { OnOk result ((f : List ℕ) → row_of f self.new ≡ row_of f self.old ++ cond (bytes_eq name.now f) (provision ∷ []) []) }
     {
         let number = self.number_of(alloc, name)?;
-        self.rows[number].push(provision)?;
+        push_provision(&mut self.rows[number], provision)?;
         Ok(())
     }
 
@@ -114,6 +114,17 @@ impl<'t> GatheredNames<'t> {
         }
         Ok(())
     }
+}
+
+/// Adds a provision. Most names have one or two, so there is room for no more than two at first.
+fn push_provision(row: &mut Vec<Provision>, provision: Provision) -> Result<(), AllocError>
+    ensures { OnOk result (row.new.items ≡ row.old.items ++ provision ∷ []) }
+{
+    if row.len() < 2 {
+        row.reserve_exact(1)?;
+    }
+    row.push(provision)?;
+    Ok(())
 }
 
 /// What is kept of each row.

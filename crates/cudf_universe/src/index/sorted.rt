@@ -6,6 +6,7 @@ ghost use Rattle.cudf_value.specs.Vpkgs.{meets};
 ghost use Rattle.cudf_universe.specs.Satisfaction.{IsLeast, IsGreatest};
 ghost use Rattle.cudf_universe.specs.Prices.{digits};
 
+use crate::index::numbers::Numbers;
 use crate::steps::Steps;
 use cudf_value::Relop;
 use std::marker::Model;
@@ -13,18 +14,19 @@ use std::marker::Model;
 /// Numbers in ascending order, with repeats.
 #[derive(Drop)]
 pub(crate) struct Sorted {
-    numbers: Vec<u64>,
+    numbers: Numbers,
 }
 
 impl Model for Sorted {
     ghost use Rattle.std.specs.Prelude.{List, ℕ};
     ghost use Rattle.std.specs.List.Sorted.{IsNonDecreasing};
+    ghost use Rattle.cudf_universe.specs.Working.Numbers.{numbers_in};
 
     ghost Value = { List ℕ };
 
-    ghost view = { λ s. s.numbers.items };
+    ghost view = { λ s. numbers_in s.numbers };
 
-    ghost invariant = { λ s. IsNonDecreasing s.numbers.items };
+    ghost invariant = { λ s. IsNonDecreasing (numbers_in s.numbers) };
 }
 
 impl Sorted {
@@ -35,7 +37,9 @@ impl Sorted {
     {
         let mut numbers = numbers;
         numbers.sort_unstable();
-        Sorted { numbers }
+        Sorted {
+            numbers: Numbers::new(numbers),
+        }
     }
 
     /// How many of them meet the bound.
@@ -82,7 +86,7 @@ impl Sorted {
     fn len(&self) -> usize
         ensures { result ≡ length self.now }
     {
-        self.numbers.len()
+        self.numbers.as_slice().len()
     }
 
     fn equal(&self, number: u64, steps: &mut Steps) -> usize
@@ -111,8 +115,9 @@ impl Sorted {
         ensures counted { result ≡ count_by (λ n. nat_lt n bound) self.now }
         ensures price { steps.new ≤ steps.old + digits (length self.now) }
     {
+        let _ = &self.numbers;
         let mut low = 0;
-        let mut high = self.numbers.len();
+        let mut high = self.len();
         while low < high {
             let middle = low + (high - low) / 2;
             if u128::from(self.at(middle, steps)) < bound {
@@ -131,6 +136,6 @@ impl Sorted {
         ensures price { steps.new ≡ steps.old + 1 }
     {
         steps.tick();
-        self.numbers[place]
+        self.numbers.as_slice()[place]
     }
 }

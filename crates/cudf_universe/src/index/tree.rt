@@ -26,7 +26,7 @@ pub(crate) struct ProvisionTree {
 enum Node {
     Few(Vec<Provision>),
     /// What both halves hold together, and the halves.
-    Halves(Entries, Box<ProvisionTree>, Box<ProvisionTree>),
+    Halves(Box<Entries>, Box<ProvisionTree>, Box<ProvisionTree>),
 }
 
 impl Model for ProvisionTree {
@@ -72,7 +72,7 @@ impl ProvisionTree {
                 node: Node::Few(few),
             });
         }
-        let entries = completed(alloc, row)?;
+        let entries = Box::new(alloc, completed(alloc, row)?)?;
         let (front, back) = row.split_at(row.len() / 2);
         let front = Box::new(alloc, Self::build(alloc, front)?)?;
         let back = Box::new(alloc, Self::build(alloc, back)?)?;

@@ -1,4 +1,5 @@
 use Rattle.std.proofs.Common.{◌≡◌, ℕ, refl, ap, sym, ◌∙◌, subst, List, length}
+use Rattle.cudf_universe.specs.Working.Numbers.{numbers_in}
 use Rattle.std.specs.List.Sorted.{IsNonDecreasing}
 use Rattle.cudf_universe.proofs.SearchedLemmas.{Searched, searched_start, searched_right, searched_left, searched_end}
 use Rattle.cudf_universe.proofs.index.sorted.Sorted.below.Goals as goal
@@ -8,7 +9,7 @@ started xs now bound len from ordered view whole =
     subst (λ n. Searched now bound 0 n from from) (sym (whole ∙ ap length view)) (searched_start now bound from (subst IsNonDecreasing view ordered))
 
 pub loop-low-init : goal.loop-low-init
-loop-low-init c = started c.self.inside.numbers.items c.args.self.now c.args.bound c.len-high.result c.args.steps.now c.self.invariant c.self.view_is (c.len-high.ensures ∙ c.self.inside.numbers.ok.0)
+loop-low-init c = started (numbers_in c.self.inside.numbers) c.args.self.now c.args.bound c.len-high.result c.args.steps.now c.self.invariant c.self.view_is (c.len-high.ensures ∙ ap length (sym c.self.view_is))
 
 pub loop-low-preserved-then-from-bound : goal.loop-low-preserved-then-from-bound
 loop-low-preserved-then-from-bound c =

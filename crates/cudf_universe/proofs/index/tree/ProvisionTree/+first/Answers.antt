@@ -12,15 +12,15 @@ use Rattle.cudf_universe.specs.declared.index.tree.ProvisionTree.{ProvisionTree}
 use Rattle.cudf_universe.proofs.TreeLemmas.{first-append, none_met}
 use Rattle.cudf_universe.proofs.index.tree.ProvisionTree.+first.Goals as goal
 
-module _ (node : Node) (row : List Provision) (entries : Entries) (front back : Box ProvisionTree Global) (view : provisions node ≡ row) (holds : Holds node) (is : node ≡ Halves entries front back) (except : Option ℕ) (bound : Option (Relop × ℕ)) where
+module _ (node : Node) (row : List Provision) (entries : Box Entries Global) (front back : Box ProvisionTree Global) (view : provisions node ≡ row) (holds : Holds node) (is : node ≡ Halves entries front back) (except : Option ℕ) (bound : Option (Relop × ℕ)) where
   joined : row ≡ front.value ++ back.value
   joined = sym view ∙ ap provisions is
 
-  halves : AreHalves entries front.value back.value
+  halves : AreHalves entries.value front.value back.value
   halves = subst Holds is holds
 
-  none_first : may_meet except bound entries ≡ false → None ≡ first_place_of except bound row
-  none_first never = sym (ap (first_place_of except bound) joined ∙ none_met except bound (front.value ++ back.value) entries halves.whole never)
+  none_first : may_meet except bound entries.value ≡ false → None ≡ first_place_of except bound row
+  none_first never = sym (ap (first_place_of except bound) joined ∙ none_met except bound (front.value ++ back.value) entries.value halves.whole never)
 
   both : first_place_of except bound row ≡ option_or (first_place_of except bound front.value) (first_place_of except bound back.value)
   both = ap (first_place_of except bound) joined ∙ first-append except bound front.value back.value
@@ -38,15 +38,15 @@ module _ (node : Node) (row : List Provision) (entries : Entries) (front back : 
 pub returns-then-not-may_meet : goal.returns-then-not-may_meet
 returns-then-not-may_meet t c =
     none_first c.self.inside.node c.args.self.now c.in-Halves.entries c.in-Halves.front c.in-Halves.back c.self.view_is c.self.invariant c.in-Halves.is c.args.except c.args.bound
-    (sym c.may_meet.ensures ∙ c.if-not-may_meet.true)
+    (ap (may_meet c.args.except c.args.bound) (sym c.deref-in-Halves.ensures) ∙ sym c.may_meet.ensures ∙ c.if-not-may_meet.true)
 
 pub returns-in-None : goal.returns-in-None
 returns-in-None t c =
     back_first c.self.inside.node c.args.self.now c.in-Halves.entries c.in-Halves.front c.in-Halves.back c.self.view_is c.self.invariant c.in-Halves.is c.args.except c.args.bound
     c.first.result c.first-in-None.result
-    (c.first.ensures ∙ ap (first_place_of c.args.except c.args.bound) c.deref-in-Halves.ensures) (c.first-in-None.ensures ∙ ap (first_place_of c.args.except c.args.bound) c.deref-in-None.ensures) c.in-None.is
+    (c.first.ensures ∙ ap (first_place_of c.args.except c.args.bound) c.deref-in-Halves-2.ensures) (c.first-in-None.ensures ∙ ap (first_place_of c.args.except c.args.bound) c.deref-in-None.ensures) c.in-None.is
 
 pub returns-in_default : goal.returns-in_default
 returns-in_default t c =
     front_first c.self.inside.node c.args.self.now c.in-Halves.entries c.in-Halves.front c.in-Halves.back c.self.view_is c.self.invariant c.in-Halves.is c.args.except c.args.bound
-    c.first.result (c.first.ensures ∙ ap (first_place_of c.args.except c.args.bound) c.deref-in-Halves.ensures) c.in_default.not-None
+    c.first.result (c.first.ensures ∙ ap (first_place_of c.args.except c.args.bound) c.deref-in-Halves-2.ensures) c.in_default.not-None
