@@ -85,6 +85,7 @@ impl<'p, 't> Referee<'p, 't> {
     ghost use Rattle.cudf_document.specs.Statuses.{is_initial, unknown_view, ascend_above};
     ghost use Rattle.cudf_universe.specs.Prices.{digits};
     ghost use Rattle.cudf_referee.specs.Criteria.{criteria};
+    ghost use Rattle.cudf_referee.specs.Entries.{is_empty};
     ghost use Rattle.cudf_referee.specs.KeyViews.{key_view};
     ghost use Rattle.cudf_referee.specs.Proposals.{proposal};
     ghost use Rattle.cudf_referee.specs.Sites.{at_start, at_key};
@@ -165,9 +166,10 @@ impl<'p, 't> Referee<'p, 't> {
         }
     }
 
-    /// Whether the proposed status is a solution.
+    /// Whether the proposed status is a solution, which it is exactly where no instance is violated.
     pub fn is_solution(&self) -> bool
-        ensures { result ≡ is_solution self.entry.now }
+        ensures solution { result ≡ is_solution self.entry.now }
+        ensures empty { result ≡ is_empty (listing self.entry.now) }
     {
         self.verdict
     }

@@ -1,0 +1,20 @@
+use Rattle.std.proofs.Common.{◌≡◌, map, ap, sym, ◌∙◌}
+use Rattle.std.specs.FinSet as set
+use Rattle.cudf_document.specs.Statuses.{is_initial, unknown_view}
+use Rattle.cudf_referee.specs.Entries.{is_empty}
+use Rattle.cudf_referee.specs.Proposals.{put_forward, proposal}
+use Rattle.cudf_referee.specs.Solutions.{is_solution}
+use Rattle.cudf_referee.specs.Violations.{listing}
+use Rattle.cudf_referee.proofs.SolutionLemmas.{solution_is_empty}
+use Rattle.cudf_referee.proofs.referee.Referee.is_solution.Goals as goal
+
+pub returns-clause-empty : goal.returns-clause-empty
+returns-clause-empty c =
+    let r = c.self.inside in
+    let problem = r.problem.now in
+    let unknown = map unknown_view r.solution.now.unknown.items in
+    let is = set.contains r.solution.now.status in
+    let agrees = c.self.invariant.0 in
+    let same : put_forward problem r.before r.now unknown ≡ proposal problem (is_initial problem) is unknown = λ i. put_forward problem (agrees.was i) (agrees.is i) unknown in
+    c.self.invariant.1 ∙ ap is_solution same ∙ solution_is_empty problem (is_initial problem) is unknown
+    ∙ ap (λ s. is_empty (listing s)) (sym same ∙ c.self.view_is)
