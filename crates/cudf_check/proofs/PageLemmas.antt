@@ -14,7 +14,7 @@ use Rattle.cudf_referee.specs.Keys.{key_text}
 use Rattle.cudf_referee.specs.KeyViews.{key_view}
 use Rattle.cudf_referee.specs.Proposals.{Proposal}
 use Rattle.cudf_referee.specs.Violations.{listing, rest}
-use Rattle.cudf_check.specs.Report.{line, listed, last_key, more_text}
+use Rattle.cudf_check.specs.Report.{line, listed, limited, last_key, more_text, page_text, check_text}
 use Rattle.cudf_referee.specs.Pages as pages
 use Rattle.cudf_referee.specs.Walks.{Walking, left}
 use Rattle.cudf_check.specs.Working.Pages.{Ascends, IsPageEnd, more_behind}
@@ -284,3 +284,21 @@ listed_at s (Some key) = refl
 
 pub left_listed : (s : Proposal) (after : Option PlainKey) (w : Walking) → w.judged ≡ s → w.position ≡ pages.behind after → left w ≡ listed after s
 left_listed s after w judged position = (λ i. pages.left_at (position i) (judged i)) ∙ listed_at s after
+
+-- ---- a listing without an instance
+
+nothing_in : (is : List PlainInstance) → is_empty is ≡ true → is ≡ []
+nothing_in [] h = refl
+nothing_in (i ∷ is) h = absurd (true≢false (sym h))
+
+nothing_listed : (s : Proposal) (after : Option PlainKey) → listing s ≡ [] → listed after s ≡ []
+nothing_listed s None none = none
+nothing_listed s (Some key) none = ap (behind key) none
+
+nothing_limited : (limit : Option ℕ) (is : List PlainInstance) → is ≡ [] → limited limit is ≡ []
+nothing_limited None is none = none
+nothing_limited (Some limit) is none = take-nothing limit is none
+
+-- no page of it has a text, after any key and up to any limit
+pub no-page : (s : Proposal) (after : Option PlainKey) (limit : Option ℕ) → is_empty (listing s) ≡ true → check_text after limit s ≡ []
+no-page s after limit h = ap (page_text s) (nothing_limited limit (listed after s) (nothing_listed s after (nothing_in (listing s) h)))

@@ -23,6 +23,19 @@ pub Prints-as : {T : Type 0} (a b : SinkState) (p q : List ℕ) (result : Result
     → Prints a b p q result t → Prints a b p q result u
 Prints-as a b p q result t u same m = subst (Prints a b p q result) same m
 
+-- nothing
+pub Prints-none : (a : SinkState) (p : List ℕ) → Prints a a p p done []
+Prints-none a p = let none = Printed-nil a.contents p in record {
+  ok = none.ok;
+  prefix = none.prefix;
+  failed = (λ e. absurd (cc e), λ below. absurd (none_below a.failures below));
+  calm = refl;
+  only = tt;
+}
+  where
+    none_below : (f : ℕ) → f < f → ⊥
+    none_below f below = omega arith
+
 -- a text, and then another
 pub Prints-then : {T : Type 0} (a b c : SinkState) (p q r : List ℕ) (result : Result T RunError) (t u : List ℕ)
     → Prints a b p q done t → Prints b c q r result u → Prints a c p r result (t ++ u)
@@ -100,14 +113,7 @@ pub record PrintsSoFar (a b : SinkState) (p q all left : List ℕ) : Type 0 wher
   pub prints : Prints a b p q done text
 
 pub SoFar-start : (a : SinkState) (p all : List ℕ) → PrintsSoFar a a p p all all
-SoFar-start a p all = let none = Printed-nil a.contents p in record {
-  text = [];
-  whole = refl;
-  prints = record { ok = none.ok; prefix = none.prefix; failed = (λ e. absurd (cc e), λ below. absurd (none_below a.failures below)); calm = refl; only = tt };
-}
-  where
-    none_below : (f : ℕ) → f < f → ⊥
-    none_below f below = omega arith
+SoFar-start a p all = record { text = []; whole = refl; prints = Prints-none a p }
 
 pub SoFar-more : (a b c : SinkState) (p q r all left line left' : List ℕ) → left ≡ line ++ left'
     → PrintsSoFar a b p q all left → Prints b c q r done line → PrintsSoFar a c p r all left'

@@ -55,6 +55,8 @@ fn print_found<W: Sink>(
     ensures { Prints (W.state out.old) (W.state out.new) buffer.old buffer.new result (found_text found referee.entry.now) }
 {
     match found {
+        // A solution's listing is empty, so no place is judged again for a page of it.
+        Found::Page { .. } if referee.is_solution() => Ok(()),
         Found::Page { after, limit } => print_page(buffer, out, packages, referee, after, limit),
         Found::Score => print_score(buffer, out, referee.criteria()),
     }
