@@ -7,7 +7,8 @@ ghost use Rattle.cudf_text.specs.Working.Tracked.{tracked_property, tracked_valu
 use crate::fault::{Fault, Kind};
 use crate::line::{Line, classify};
 use crate::lines::first_line;
-use crate::text::Property;
+use crate::reading::read_left;
+use crate::text::{Property, Text};
 use std::alloc::{AllocError, Global};
 use std::borrow::CowStr;
 use std::marker::Model;
@@ -44,6 +45,7 @@ impl<'a> Stanzas<'a> {
     ghost use Rattle.cudf_text.specs.Stanzas.{plain_text};
     ghost use Rattle.cudf_text.specs.Borrows.{joined_values};
     ghost use Rattle.cudf_text.specs.Cursor.{with_next};
+    ghost use Rattle.cudf_text.specs.Views.{text_view, owned_values};
 
     /// All stanzas of a text.
     pub fn new(source: &'a str) -> Self
@@ -74,6 +76,21 @@ impl<'a> Stanzas<'a> {
         let (next, place) = read_stanza(alloc, self.place, properties)?;
         self.place = place;
         Ok(next)
+    }
+
+    /// A cursor of its own over what is left. Takes no memory.
+    pub fn fork(&self) -> Self
+        ensures { result ≡ self.now }
+    {
+        Stanzas { place: self.place }
+    }
+
+    /// Reads all that is left, as a text of the lines that are left.
+    pub fn read_rest(self, alloc: Global) -> Result<Text<'a>, AllocError>
+        ensures text { IfOk result (λ t. text_view t ≡ self.entry.text) }
+        ensures borrowed { IfOk result (λ t. owned_values t ≡ self.entry.joins) }
+    {
+        read_left(alloc, self.place.rest, self)
     }
 }
 

@@ -2,7 +2,7 @@ ghost use Rattle.std.specs.Prelude.{◌≡◌, ◌+◌, IfErr, IfOk, IsUtf8, all
 ghost use Rattle.cudf_text.specs.Lines.{is_lf};
 ghost use Rattle.cudf_text.specs.Stanzas.{plain_text};
 ghost use Rattle.cudf_text.specs.Borrows.{joined_values};
-ghost use Rattle.cudf_text.specs.Views.{IsText, owned_values, utf8_fault};
+ghost use Rattle.cudf_text.specs.Views.{IsText, owned_values, text_view, utf8_fault};
 
 use crate::cursor::{Next, Stanzas};
 use crate::fault::{Fault, Kind};
@@ -70,7 +70,20 @@ fn read_text<'a>(alloc: Global, source: &'a str) -> Result<Text<'a>, AllocError>
     ensures text { IfOk result IsText }
     ensures borrowed { IfOk result (λ t. owned_values t ≡ joined_values source.now) }
 {
-    let mut cursor = Stanzas::new(source);
+    read_left(alloc, source, Stanzas::new(source))
+}
+
+/// What a cursor has left, as a text of this source.
+pub(crate) fn read_left<'a>(
+    alloc: Global,
+    source: &'a str,
+    cursor: Stanzas<'a>,
+) -> Result<Text<'a>, AllocError>
+    ensures source { IfOk result (λ t. t.source.now ≡ source.now) }
+    ensures text { IfOk result (λ t. text_view t ≡ cursor.entry.text) }
+    ensures borrowed { IfOk result (λ t. owned_values t ≡ cursor.entry.joins) }
+{
+    let mut cursor = cursor;
     let mut stanzas = Vec::new(alloc);
     let mut properties = Vec::new(alloc);
     'stanzas: loop {
