@@ -1,5 +1,6 @@
 pub mod Enums
 pub mod Flags
+pub mod Lines
 pub mod Linters
 pub mod PackageFields
 pub mod ProblemBuilders

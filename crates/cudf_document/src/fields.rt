@@ -1,9 +1,10 @@
 //! What a package's properties are read into.
-ghost use Rattle.std.specs.Prelude.{◌≡◌, ◌++◌, ◌∷◌, [], List, Some, bytes_eq, map, IfOk, OnOk};
+ghost use Rattle.std.specs.Prelude.{◌≡◌, ◌++◌, ◌∷◌, [], List, Some, bytes_eq, map, IfOk, IfSome, OnOk};
 ghost use Rattle.indexmap.specs.IndexSet.{insert_key};
 ghost use Rattle.cudf_text.specs.Stanzas.{PlainProperty};
 ghost use Rattle.cudf_text.specs.Views.{property_view};
 ghost use Rattle.cudf_document.specs.Faults.{least};
+ghost use Rattle.cudf_document.specs.Working.Lines.{line_view};
 ghost use Rattle.cudf_document.specs.Working.SeenNames.{AreNames};
 ghost use Rattle.cudf_document.specs.ProblemFaults.{properties_faults};
 ghost use Rattle.cudf_document.specs.Working.PackageFields.{fault_on, kind_after, package_property_named, package_property_test, wrong_kind};
@@ -11,6 +12,7 @@ ghost use Rattle.cudf_document.specs.declared.postmark.Postmark.TheVariants.{Pac
 
 use crate::declarations::{Declarations, mistyped_unless};
 use crate::fault::{fault_on, lesser};
+use crate::line::{Line, line_of, source_line};
 use crate::package_fields::read_keep;
 use crate::package_property::{PackageProperty, package_property_named};
 use crate::seen_names::SeenNames;
@@ -23,7 +25,7 @@ pub(crate) trait Fields<'s>: Sized + Drop {
     ghost use Rattle.std.specs.Prelude.{◌≡◌, ◌++◌, ◌∷◌, [], List, ℕ, false, true, IfOk, OnOk};
     ghost use Rattle.std.specs.List.{list_any};
     ghost use Rattle.cudf_text.specs.Stanzas.{PlainProperty};
-    ghost use Rattle.cudf_text.specs.Views.{property_view};
+    ghost use Rattle.cudf_document.specs.Working.Lines.{line_view};
     ghost use Rattle.cudf_value.specs.Declarations.{PlainDeclaration};
     ghost use Rattle.cudf_document.specs.Documents.{same_name};
     ghost use Rattle.cudf_document.specs.Working.PackageFields.{package_property_named, package_property_test, wrong_kind};
@@ -35,26 +37,26 @@ pub(crate) trait Fields<'s>: Sized + Drop {
         ensures { (ds : List PlainDeclaration) → IsRead ds [] result };
 
     /// Keeps what a property says that is the first of its name, and says what is wrong with it.
-    fn set<'a>(
+    fn set<'n>(
         &mut self,
         alloc: Global,
         declarations: &Declarations<'_>,
-        property: &'s Property<'a>,
+        line: Line<'n, 's>,
     ) -> Result<Option<Kind>, AllocError>
         ensures kind { IfOk result (λ kind.
             kind
-            ≡ wrong_kind (package_property_test declarations.now (package_property_named property.now.name.now) property.now.name.now) (property_view property.now).value) }
+            ≡ wrong_kind (package_property_test declarations.now (package_property_named line.entry.name.now) line.entry.name.now) line.entry.value.now) }
         ensures read { (ps : List PlainProperty) →
-            list_any (same_name (property_view property.now)) ps ≡ false →
+            list_any (same_name (line_view line.entry)) ps ≡ false →
             IsRead declarations.now ps self.old →
-            OnOk result (IsRead declarations.now (ps ++ property_view property.now ∷ []) self.new) };
+            OnOk result (IsRead declarations.now (ps ++ line_view line.entry ∷ []) self.new) };
 
     /// A repeated property says nothing. (Does nothing: its contract is a law.)
-    fn skip(&self, declarations: &Declarations<'_>, property: &Property<'_>)
+    fn skip<'n>(&self, declarations: &Declarations<'_>, line: Line<'n, 's>)
         ensures { (ps : List PlainProperty) →
-            list_any (same_name (property_view property.now)) ps ≡ true →
+            list_any (same_name (line_view line.entry)) ps ≡ true →
             IsRead declarations.now ps self.now →
-            IsRead declarations.now (ps ++ property_view property.now ∷ []) self.now };
+            IsRead declarations.now (ps ++ line_view line.entry ∷ []) self.now };
 }
 
 /// The first fault of a package's properties, and what was read of them.
@@ -75,37 +77,63 @@ where
     let mut first = None;
     let mut sink = S::start();
     for property in properties {
-        let fault = read_property(alloc, names, declarations, &mut sink, property)?;
+        let line = line_of(property);
+        let fault = read_property(alloc, names, declarations, &mut sink, line)?;
         first = lesser(first, fault);
     }
     Ok((first, sink))
 }
 
+/// The same, where each value is a part of the source; `None` where one is joined of two texts.
+pub(crate) fn read_source_properties<'a, S: Fields<'a>>(
+    alloc: Global,
+    names: &mut SeenNames<'a>,
+    declarations: &Declarations<'_>,
+    properties: &[Property<'a>],
+) -> Result<Option<(Option<Fault>, S)>, AllocError>
+    ensures fault { IfOk result (λ r.
+        IfSome r (λ s.
+        s.0
+        ≡ least (properties_faults declarations.now (Some PackageMark) (map property_view properties.now)))) }
+    ensures read { IfOk result (λ r.
+        IfSome r (λ s. S.IsRead declarations.now (map property_view properties.now) s.1)) }
+{
+    names.clear(alloc);
+    let mut first = None;
+    let mut sink = S::start();
+    for property in properties {
+        let Some(line) = source_line(property) else {
+            return Ok(None);
+        };
+        let fault = read_property(alloc, names, declarations, &mut sink, line)?;
+        first = lesser(first, fault);
+    }
+    Ok(Some((first, sink)))
+}
+
 /// Reads a property into the sink, if it is the first of its name, and answers its fault.
-fn read_property<'n, 's, 'a, S: Fields<'s>>(
+fn read_property<'n, 's, S: Fields<'s>>(
     alloc: Global,
     names: &mut SeenNames<'n>,
     declarations: &Declarations<'_>,
     sink: &mut S,
-    property: &'s Property<'a>,
+    line: Line<'n, 's>,
 ) -> Result<Option<Fault>, AllocError>
-where
-    'a: 'n,
     ensures fault { IfOk result (λ fault.
         fault
-        ≡ fault_on property.now.line (kind_after declarations.now names.old (property_view property.now))) }
-    ensures names { OnOk result (names.new ≡ insert_key bytes_eq names.old property.now.name.now) }
+        ≡ fault_on line.entry.line (kind_after declarations.now names.old (line_view line.entry))) }
+    ensures names { OnOk result (names.new ≡ insert_key bytes_eq names.old line.entry.name.now) }
     ensures read { (ps : List PlainProperty) →
         AreNames names.old ps →
         S.IsRead declarations.now ps sink.old →
-        OnOk result (S.IsRead declarations.now (ps ++ property_view property.now ∷ []) sink.new) }
+        OnOk result (S.IsRead declarations.now (ps ++ line_view line.entry ∷ []) sink.new) }
 {
-    if !names.insert(property.name)? {
-        sink.skip(declarations, property);
-        return Ok(fault_on(property.line, Some(Kind::E7)));
+    if !names.insert(line.name)? {
+        sink.skip(declarations, line);
+        return Ok(fault_on(line.line, Some(Kind::E7)));
     }
-    let kind = sink.set(alloc, declarations, property)?;
-    Ok(fault_on(property.line, kind))
+    let kind = sink.set(alloc, declarations, line)?;
+    Ok(fault_on(line.line, kind))
 }
 
 /// The version, which is all that is kept of a package that is only judged.
@@ -125,21 +153,20 @@ impl<'s> Fields<'s> for LintedPackage {
         LintedPackage { version: None }
     }
 
-    fn set<'a>(
+    fn set<'n>(
         &mut self,
         alloc: Global,
         declarations: &Declarations<'_>,
-        property: &'s Property<'a>,
+        line: Line<'n, 's>,
     ) -> Result<Option<Kind>, AllocError> {
-        let text = property.value.as_str();
-        if property.name == "version" {
-            self.version = read_posint(text);
+        if line.name == "version" {
+            self.version = read_posint(line.value);
             return Ok(mistyped_unless(self.version.is_some()));
         }
-        judge(alloc, declarations, property.name, text)
+        judge(alloc, declarations, line.name, line.value)
     }
 
-    fn skip(&self, declarations: &Declarations<'_>, property: &Property<'_>) {}
+    fn skip<'n>(&self, declarations: &Declarations<'_>, line: Line<'n, 's>) {}
 }
 
 /// What is wrong with a property that stands once.

@@ -9,6 +9,7 @@ mod fault;
 mod fields;
 mod ids;
 pub mod laws;
+mod line;
 mod lint;
 mod package;
 mod package_fields;

@@ -9,10 +9,11 @@ ghost use Rattle.cudf_document.specs.declared.postmark.Postmark.TheVariants.{Pac
 
 use crate::declarations::{Declarations, mistyped_unless};
 use crate::fields::{Fields, read_properties};
+use crate::line::Line;
 use crate::package::{Keep, Package};
 use crate::package_property::{PackageProperty, package_property_named};
 use crate::seen_names::SeenNames;
-use cudf_text::{Fault, Kind, Property, Stanza};
+use cudf_text::{Fault, Kind, Stanza};
 use cudf_value::{
     Formula, Vpkg, is_pkgname, read_bool, read_formula, read_posint, read_veqpkglist, read_vpkglist,
 };
@@ -208,14 +209,14 @@ impl<'t> Fields<'t> for PackageFields<'t> {
         PackageFields::new()
     }
 
-    fn set<'a>(
+    fn set<'n>(
         &mut self,
         alloc: Global,
         declarations: &Declarations<'_>,
-        property: &'t Property<'a>,
+        line: Line<'n, 't>,
     ) -> Result<Option<Kind>, AllocError> {
-        self.keep(alloc, declarations, property.name, property.value.as_str())
+        self.keep(alloc, declarations, line.name, line.value)
     }
 
-    fn skip(&self, declarations: &Declarations<'_>, property: &Property<'_>) {}
+    fn skip<'n>(&self, declarations: &Declarations<'_>, line: Line<'n, 't>) {}
 }

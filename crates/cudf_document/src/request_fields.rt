@@ -1,5 +1,5 @@
 //! The lists of a request.
-ghost use Rattle.std.specs.Prelude.{◌≡◌, [], Some, IfOk};
+ghost use Rattle.std.specs.Prelude.{◌≡◌, [], Some, IfOk, IfSome};
 ghost use Rattle.cudf_text.specs.Views.{stanza_view};
 ghost use Rattle.cudf_document.specs.Faults.{least};
 ghost use Rattle.cudf_document.specs.ProblemFaults.{properties_faults};
@@ -9,9 +9,10 @@ ghost use Rattle.cudf_document.specs.declared.postmark.Postmark.TheVariants.{Req
 
 use crate::declarations::mistyped_unless;
 use crate::fault::{fault_on, lesser};
+use crate::line::{Line, line_of, source_line};
 use crate::request::Request;
 use crate::seen_names::SeenNames;
-use cudf_text::{Fault, Kind, Property, Stanza};
+use cudf_text::{Fault, Kind, Stanza};
 use cudf_value::{Vpkg, read_vpkglist};
 use std::alloc::{AllocError, Global};
 
@@ -46,7 +47,7 @@ pub(crate) struct RequestFields<'t> {
 impl<'t> RequestFields<'t> {
     ghost use Rattle.std.specs.Prelude.{◌≡◌, [], bytes_eq, IfOk, OnOk};
     ghost use Rattle.indexmap.specs.IndexSet.{insert_key};
-    ghost use Rattle.cudf_text.specs.Views.{property_view};
+    ghost use Rattle.cudf_document.specs.Working.Lines.{line_view};
     ghost use Rattle.cudf_document.specs.Working.PackageFields.{fault_on};
     ghost use Rattle.cudf_document.specs.Universe.{request_view};
     ghost use Rattle.cudf_document.specs.Working.RequestFields.{request_property_named, request_property_test, mistyped_kind, request_fields_view, request_fields_of, with_request_property, request_kind_after, request_fields_after, request_with};
@@ -62,25 +63,25 @@ impl<'t> RequestFields<'t> {
     }
 
     /// Keeps what a property says, if it is the first of its name, and answers its fault.
-    fn read<'a>(
+    fn read(
         &mut self,
         alloc: Global,
         names: &mut SeenNames<'t>,
-        property: &'t Property<'a>,
+        line: Line<'t, 't>,
     ) -> Result<Option<Fault>, AllocError>
         ensures fault { IfOk result (λ fault.
             fault
-            ≡ fault_on property.now.line (request_kind_after names.old (property_view property.now))) }
+            ≡ fault_on line.entry.line (request_kind_after names.old (line_view line.entry))) }
         ensures names { OnOk result (names.new
-            ≡ insert_key bytes_eq names.old property.now.name.now) }
+            ≡ insert_key bytes_eq names.old line.entry.name.now) }
         ensures fields { OnOk result (request_fields_view self.new
-            ≡ request_fields_after names.old (property_view property.now) (request_fields_view self.old)) }
+            ≡ request_fields_after names.old (line_view line.entry) (request_fields_view self.old)) }
     {
-        if !names.insert(property.name)? {
-            return Ok(fault_on(property.line, Some(Kind::E7)));
+        if !names.insert(line.name)? {
+            return Ok(fault_on(line.line, Some(Kind::E7)));
         }
-        let kind = self.set(alloc, property.name, property.value.as_str())?;
-        Ok(fault_on(property.line, kind))
+        let kind = self.set(alloc, line.name, line.value)?;
+        Ok(fault_on(line.line, kind))
     }
 
     /// Keeps what a property says, if it has a place here, and says what is wrong with it.
@@ -133,8 +134,33 @@ pub(crate) fn read_request<'t, 'a>(
     let mut first = None;
     let mut fields = RequestFields::new();
     for property in &stanza.properties {
-        let fault = fields.read(alloc, names, property)?;
+        let fault = fields.read(alloc, names, line_of(property))?;
         first = lesser(first, fault);
     }
     Ok((first, fields.into_request(alloc, stanza.line)))
+}
+
+/// The same, where each value is a part of the source; `None` where one is joined of two texts.
+pub(crate) fn read_source_request<'a>(
+    alloc: Global,
+    names: &mut SeenNames<'a>,
+    stanza: &Stanza<'a>,
+) -> Result<Option<(Option<Fault>, Request<'a>)>, AllocError>
+    ensures fault { IfOk result (λ r.
+        IfSome r (λ s.
+        s.0 ≡ least (properties_faults [] (Some RequestMark) (stanza_view stanza.now).properties))) }
+    ensures request { IfOk result (λ r.
+        IfSome r (λ s. request_view s.1 ≡ request_of (stanza_view stanza.now))) }
+{
+    names.clear(alloc);
+    let mut first = None;
+    let mut fields = RequestFields::new();
+    for property in &stanza.properties {
+        let Some(line) = source_line(property) else {
+            return Ok(None);
+        };
+        let fault = fields.read(alloc, names, line)?;
+        first = lesser(first, fault);
+    }
+    Ok(Some((first, fields.into_request(alloc, stanza.line))))
 }

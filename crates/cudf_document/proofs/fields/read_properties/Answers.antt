@@ -1,5 +1,8 @@
-use Rattle.std.proofs.Common.{map, take, ◌+◌, ◌++◌, ◌∷◌, [], ◌≡◌, refl, sym, subst, arith}
+use Rattle.std.proofs.Common.{map, take, ◌+◌, ◌++◌, ◌∷◌, [], ◌≡◌, ◌∙◌, refl, sym, ap, subst, arith, bytes_eq}
+use Rattle.indexmap.specs.IndexSet.{insert_key}
+use Rattle.cudf_text.specs.Stanzas.{PlainProperty}
 use Rattle.cudf_text.specs.Views.{property_view}
+use Rattle.cudf_document.specs.Working.PackageFields.{fault_on, kind_after}
 use Rattle.cudf_document.proofs.ListLemmas.{map_next}
 use Rattle.cudf_document.proofs.PackageLemmas.{IsJudgedTo-none, IsJudgedTo-next}
 use Rattle.cudf_document.proofs.fields.read_properties.Goals as goal
@@ -12,11 +15,15 @@ loop-property-preserved g c =
     let items = c.args.properties.now in
     let i = c.loop-property.property-index in
     let ds = c.args.declarations.now in
+    let names = c.loop-property.names in
     let ps = map property_view (take i items) in
     let p = property_view c.property-item.result in
     let more : map property_view (take (i + 1) items) ≡ ps ++ p ∷ [] = map_next property_view items items i c.property-item.result (omega arith) c.property-item.is refl in (
-      IsJudgedTo-next ds ps c.loop-property.names c.loop-property.first p (map property_view (take (i + 1) items)) c.read_property.new.names c.in_ok-fault.fault c.lesser-first.result
-          c.loop-property.invariant.0 more c.in_ok-fault.ensures.names c.in_ok-fault.ensures.fault c.lesser-first.ensures,
-      subst (λ qs. g.S.Fields.IsRead ds qs c.read_property.new.sink) (sym more)
+      IsJudgedTo-next ds ps names c.loop-property.first p (map property_view (take (i + 1) items)) c.read_property.new.names c.in_ok-fault.fault c.lesser-first.result
+          c.loop-property.invariant.0 more
+          (c.in_ok-fault.ensures.names ∙ ap (λ (q : PlainProperty). insert_key bytes_eq names q.name) c.line_of-line.ensures)
+          (c.in_ok-fault.ensures.fault ∙ ap (λ (q : PlainProperty). fault_on q.line (kind_after ds names q)) c.line_of-line.ensures)
+          c.lesser-first.ensures,
+      subst (λ qs. g.S.Fields.IsRead ds qs c.read_property.new.sink) (ap (λ q. ps ++ q ∷ []) c.line_of-line.ensures ∙ sym more)
           (c.in_ok-fault.ensures.read ps c.loop-property.invariant.0.names_are c.loop-property.invariant.1),
     )

@@ -1,5 +1,5 @@
 use Rattle.std.proofs.Common.{sym, ap, codes, ◌∙◌}
-use Rattle.cudf_text.specs.Views.{property_view}
+use Rattle.cudf_document.specs.Working.Lines.{line_view}
 use Rattle.cudf_document.specs.Values.{version_value}
 use Rattle.cudf_document.proofs.PackageLemmas.{value_first, value_kept}
 use Rattle.cudf_document.proofs.ListLemmas.{OnOk-always}
@@ -7,11 +7,11 @@ use Rattle.cudf_document.proofs.fields.LintedPackageFields.set.Goals as goal
 
 pub returns-then-eq-clause-read : goal.returns-then-eq-clause-read
 returns-then-eq-clause-read c =
-    let p = property_view c.args.property.now in
+    let p = line_view c.args.line in
     λ ps new is.
-    c.read_posint-self.ensures ∙ ap version_value c.as_str-text.ensures.value ∙ value_first version_value (codes "version") ps p (sym c.eq.ensures ∙ c.if-eq.true) new
+    c.read_posint-self.ensures ∙ value_first version_value (codes "version") ps p (sym c.eq.ensures ∙ c.if-eq.true) new
 
 pub returns-clause-read : goal.returns-clause-read
 returns-clause-read c =
-    let p = property_view c.args.property.now in
+    let p = line_view c.args.line in
     λ ps new is. OnOk-always c.judge.result (is ∙ value_kept version_value (codes "version") ps p (sym c.eq.ensures ∙ c.if-eq.false) new)

@@ -1,16 +1,16 @@
-use Rattle.std.proofs.Common.{ap, ◌∙◌}
-use Rattle.cudf_text.specs.Views.{property_view}
-use Rattle.cudf_document.specs.Working.PackageFields.{package_fields_view, with_package_property, package_property_named}
+use Rattle.std.proofs.Common.{◌∙◌}
+use Rattle.cudf_document.specs.Working.Lines.{line_view}
+use Rattle.cudf_document.specs.Working.PackageFields.{package_fields_view}
 use Rattle.cudf_document.proofs.PackageLemmas.{package_fields_of-first}
 use Rattle.cudf_document.proofs.ListLemmas.{OnOk-along}
 use Rattle.cudf_document.proofs.package_fields.PackageFieldsFields.set.Goals as goal
 
 pub returns-clause-read : goal.returns-clause-read
 returns-clause-read c =
-    let p = property_view c.args.property.now in
+    let p = line_view c.args.line in
     let ds = c.args.declarations.now in
     let old = package_fields_view c.args.self.now in
     λ ps new is.
     OnOk-along c.keep.result
-    (λ e. e ∙ ap (λ t. with_package_property ds (package_property_named p.name) t old) c.as_str.ensures.value ∙ package_fields_of-first ds ps p old is new)
+    (λ e. e ∙ package_fields_of-first ds ps p old is new)
     c.keep.ensures.values
