@@ -1,8 +1,7 @@
 //! Decides which report the inputs have.
-ghost use Rattle.std.specs.Prelude.{◌≡◌, IsTrue, codes, false, map, option_copied};
+ghost use Rattle.std.specs.Prelude.{◌≡◌, IsTrue, codes, map, option_copied};
 ghost use Rattle.std.specs.FinSet as set;
 ghost use Rattle.cudf_text.specs.Views.{text_view};
-ghost use Rattle.cudf_text.specs.Joined.{is_fail};
 ghost use Rattle.cudf_document.specs.Statuses.{is_initial, unknown_view, ascend_above};
 ghost use Rattle.cudf_referee.specs.Proposals.{proposal};
 ghost use Rattle.cudf_check.specs.declared.outcome.Outcome.TheVariants.{Yes};
@@ -17,8 +16,10 @@ use crate::lines::{Found, answer, answer_fault, answer_judged};
 use crate::outcome::{Outcome, RunError};
 use cudf_referee::Referee;
 use cudf_referee::laws::ascending;
-use cudf_text::{Fault, Stanzas, Text, TextError, cut_joined, is_fail, read, stanzas};
-use cudf_universe::{Problem, ReadError, Solution, first_fault, read_problem, read_solution};
+use cudf_text::{
+    Fault, Stanzas, Text, TextError, cut_joined, is_fail, read, source_of, stanzas,
+};
+use cudf_universe::{Problem, ReadError, Solution, first_fault, read_problem, solution_of};
 use std::alloc::Global;
 
 /// Why a document isn't judged.
@@ -87,17 +88,16 @@ fn answer_proposal<W: Sink>(
 }
 
 /// Reads a solution that doesn't say FAIL, and judges it.
-fn answer_solution_text<W: Sink>(
+fn answer_solution_stanzas<W: Sink>(
     alloc: Global,
     out: &mut W,
     found: Found,
     problem: &Problem<'_>,
-    text: &Text<'_>,
+    stanzas: Stanzas<'_>,
 ) -> Result<Outcome, RunError>
-    requires { is_fail text.now.source.now ≡ false }
-    ensures { Answers (W.state out.old) (W.state out.new) (solution_text_report (found_text found) problem.now (text_view text.now)) result }
+    ensures { Answers (W.state out.old) (W.state out.new) (solution_text_report (found_text found) problem.now stanzas.entry.text) result }
 {
-    match read_solution(alloc, text, problem) {
+    match solution_of(alloc, stanzas, problem) {
         Ok(solution) => answer_proposal(alloc, out, found, problem, &solution),
         Err(error) => answer_refusal(alloc, out, "solution", refusal_of_document(error)),
     }
@@ -113,14 +113,14 @@ fn answer_solution<W: Sink>(
 ) -> Result<Outcome, RunError>
     ensures { Answers (W.state out.old) (W.state out.new) (solution_report (found_text found) problem.now bytes.now) result }
 {
-    match read(alloc, bytes) {
-        Ok(text) => {
-            if is_fail(text.source) {
+    match source_of(bytes) {
+        Ok(source) => {
+            if is_fail(source) {
                 return answer(alloc, out, &["solution FAIL", "\n"], Outcome::Fail);
             }
-            answer_solution_text(alloc, out, found, problem, &text)
+            answer_solution_stanzas(alloc, out, found, problem, Stanzas::new(source))
         }
-        Err(error) => answer_refusal(alloc, out, "solution", refusal_of_text(error)),
+        Err(fault) => answer_fault(alloc, out, "solution", fault),
     }
 }
 

@@ -21,5 +21,5 @@ pub use fail::is_fail;
 pub use fault::{Fault, Kind};
 pub use ident::is_ident;
 pub use joined::cut_joined;
-pub use reading::{read, stanzas};
+pub use reading::{read, source_of, stanzas};
 pub use text::{Property, Stanza, Text, TextError};

@@ -48,8 +48,8 @@ pub fn stanzas(bytes: &[u8]) -> Result<Stanzas<'_>, Fault>
     }
 }
 
-/// The bytes as a text, or E1 on the line at which their longest UTF-8 prefix ends.
-fn source_of(bytes: &[u8]) -> Result<&str, Fault>
+/// The bytes as a text, or E1 on the line at which their longest UTF-8 prefix ends. Takes no memory.
+pub fn source_of(bytes: &[u8]) -> Result<&str, Fault>
     ensures utf8 { IfOk result (λ source. IsUtf8 bytes.now × (source.now ≡ bytes.now)) }
     ensures fault { IfErr result (λ f. (¬ (IsUtf8 bytes.now)) × (f ≡ utf8_fault bytes.now)) }
 {
