@@ -131,13 +131,17 @@ impl<'p, 't> Referee<'p, 't> {
         ensures walk { result ≡ record { judged = self.entry.now; position = at_start; steps = 0 } }
         ensures left { left result ≡ listing self.entry.now }
     {
-        Instances::new(
-            self.problem,
-            self.solution,
-            &self.now,
-            &self.before,
-            &self.named,
-        )
+        // all that the referee holds, none of it a list of instances: a further field would have to be named here
+        let Referee {
+            problem,
+            solution,
+            now,
+            before,
+            named,
+            verdict: _,
+            criteria: _,
+        } = self;
+        Instances::new(problem, solution, now, before, named)
     }
 
     /// The walk over the violated instances whose keys come behind this one, in key order. The key needn't be that

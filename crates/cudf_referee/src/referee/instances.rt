@@ -13,9 +13,6 @@ ghost use Rattle.cudf_referee.specs.Working.Places.{BeginsAt, IsFitting, ahead};
 ghost use Rattle.cudf_referee.specs.Working.Searches.{Finds};
 ghost use Rattle.cudf_referee.specs.Working.Walkers.{Agrees, stops_behind};
 
-#[cfg(test)]
-mod tests;
-
 use crate::instance::Instance;
 use crate::key::Key;
 use crate::position::{Position, first_unknown_behind, next_place, position_behind};
@@ -99,11 +96,28 @@ impl<'r, 'p, 't> Instances<'r, 'p, 't> {
         ensures position { result.position ≡ at_key (key_view key) }
         ensures price { result.steps ≤ self.entry.steps + digits (length self.entry.judged.unknown) }
     {
-        let mut instances = self;
-        let unknown = instances.solution.unknown.as_slice();
-        instances.unknown = first_unknown_behind(key, unknown, &mut instances.steps);
-        instances.position = Position::At(key);
-        instances
+        // all that a walk holds, none of it a list of instances: a further field would have to be named here
+        let Instances {
+            problem,
+            solution,
+            now,
+            before,
+            named,
+            position: _,
+            unknown: _,
+            mut steps,
+        } = self;
+        let unknown = first_unknown_behind(key, solution.unknown.as_slice(), &mut steps);
+        Instances {
+            problem,
+            solution,
+            now,
+            before,
+            named,
+            position: Position::At(key),
+            unknown,
+            steps,
+        }
     }
 }
 

@@ -18,3 +18,6 @@ returns-clause-empty c =
     let same : put_forward problem r.before r.now unknown ≡ proposal problem (is_initial problem) is unknown = λ i. put_forward problem (agrees.was i) (agrees.is i) unknown in
     c.self.invariant.1 ∙ ap is_solution same ∙ solution_is_empty problem (is_initial problem) is unknown
     ∙ ap (λ s. is_empty (listing s)) (sym same ∙ c.self.view_is)
+
+pub returns-clause-solution : goal.returns-clause-solution
+returns-clause-solution c = c.self.invariant.1 ∙ ap is_solution c.self.view_is
