@@ -13,7 +13,7 @@ use crate::line::Line;
 use crate::package::{Keep, Package};
 use crate::package_property::{PackageProperty, package_property_named};
 use crate::seen_names::SeenNames;
-use cudf_text::{Fault, Kind, Stanza};
+use cudf_text::{Fault, Kind, Property, Stanza};
 use cudf_value::{
     Formula, Vpkg, is_pkgname, read_bool, read_formula, read_posint, read_veqpkglist, read_vpkglist,
 };
