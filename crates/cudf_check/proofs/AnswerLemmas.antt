@@ -3,15 +3,10 @@ use Rattle.std.proofs.Common.{◌≡◌, ◌<◌, ℕ, Bool, true, false, if◌t
 use Rattle.std.specs.Io.KnownBytes.{Appends}
 use Rattle.std.specs.Str.{IsUtf8, is_utf8}
 use Rattle.std.proofs.lemmas.Str.{IsUtf8-from_is_utf8, is_utf8-from_IsUtf8}
-use Rattle.std.specs.Prelude.{alloc_error}
 use Rattle.cudf_text.specs.declared.fault.Fault.{Fault}
-use Rattle.cudf_text.specs.declared.text.Text.{Text}
-use Rattle.cudf_text.specs.declared.text.TextError.{TextError}
-use Rattle.cudf_text.specs.declared.text.TextError.TheVariants as text_error
 use Rattle.cudf_document.specs.declared.error.ReadError.{ReadError}
 use Rattle.cudf_document.specs.declared.error.ReadError.TheVariants as read_error
 use Rattle.cudf_document.specs.Faults.{least, IsFirstFault}
-use Rattle.cudf_check.specs.declared.report.Refusal.{Refusal}
 use Rattle.cudf_text.specs.Stanzas.{PlainText, plain_text}
 use Rattle.cudf_text.specs.Views.{utf8_fault}
 use Rattle.std.proofs.KnownBytes.{Keeps-refl}
@@ -23,7 +18,7 @@ use Rattle.cudf_check.specs.Prefix.{AppendsPrefix}
 use Rattle.cudf_check.specs.Report.{Report, faulty, faulty_or, of_bytes}
 use Rattle.cudf_check.specs.Working.Answering.{Answers}
 use Rattle.cudf_check.specs.Working.Printing.{Writes, Prints}
-use Rattle.cudf_check.specs.Working.Refusals.{IsReportOf, text_refusal, read_refusal}
+use Rattle.cudf_check.specs.Working.Refusals.{IsReportOf}
 use Rattle.cudf_check.proofs.BufferLemmas.{Printed, Printed-flushed, Printed-cut}
 use Rattle.cudf_check.proofs.PrintLemmas.{done, broken}
 
@@ -99,15 +94,6 @@ flushed a b c q report outcome m w answered =
 pub bytes_read : (whose bytes : List ℕ) (report : PlainText → Report) (text : PlainText) → IsUtf8 bytes → text ≡ plain_text bytes → report text ≡ of_bytes whose bytes report
 bytes_read whose bytes report text utf8 is = ap report is ∙ ap (λ b. if b then report (plain_text bytes) else faulty whose (utf8_fault bytes)) (sym (is_utf8-from_IsUtf8 bytes utf8))
 
-abbrev pub unread_error : TextError → Result Text TextError
-unread_error e = Err e
-
-apart : (f : Fault) → text_error.Fault f ≡ text_error.Memory alloc_error → ⊥
-apart f e = cc e
-
-same_fault : (f g : Fault) → unread_error (text_error.Fault f) ≡ unread_error (text_error.Fault g) → f ≡ g
-same_fault f g e = cc e
-
 unread_case : (whose bytes : List ℕ) (report : PlainText → Report) (f : Fault) (b : Bool) → is_utf8 bytes ≡ b
     → (IsUtf8 bytes → ⊥) → f ≡ utf8_fault bytes → faulty whose f ≡ of_bytes whose bytes report
 unread_case whose bytes report f true is not_utf8 same = absurd (not_utf8 (IsUtf8-from_is_utf8 bytes is))
@@ -117,28 +103,10 @@ unread_case whose bytes report f false is not_utf8 same = ap (faulty whose) same
 pub bytes_not_utf8 : (whose bytes : List ℕ) (report : PlainText → Report) (f : Fault) → (IsUtf8 bytes → ⊥) → f ≡ utf8_fault bytes → faulty whose f ≡ of_bytes whose bytes report
 bytes_not_utf8 whose bytes report f not_utf8 same = unread_case whose bytes report f (is_utf8 bytes) refl not_utf8 same
 
--- the fault of bytes that are not UTF-8, where they are read whole
-pub bytes_unread : (whose bytes : List ℕ) (report : PlainText → Report) (f : Fault) (e : TextError) → e ≡ text_error.Fault f
-    → (IsUtf8 bytes → e ≡ text_error.Memory alloc_error) → (¬ (IsUtf8 bytes) → unread_error e ≡ unread_error (text_error.Fault (utf8_fault bytes)))
-    → faulty whose f ≡ of_bytes whose bytes report
-bytes_unread whose bytes report f e is memory not_utf8 =
-    let unread : ¬ (IsUtf8 bytes) = λ utf8. absurd (apart f (sym is ∙ memory utf8)) in
-    unread_case whose bytes report f (is_utf8 bytes) refl unread (same_fault f (utf8_fault bytes) (ap unread_error (sym is) ∙ not_utf8 unread))
-
--- what refuses bytes that aren't read
-pub text_refused : (whose bytes : List ℕ) (report : PlainText → Report) (e : TextError) (refusal : Refusal) → refusal ≡ text_refusal e
-    → (IsUtf8 bytes → e ≡ text_error.Memory alloc_error) → (¬ (IsUtf8 bytes) → unread_error e ≡ unread_error (text_error.Fault (utf8_fault bytes)))
-    → IsReportOf whose refusal (of_bytes whose bytes report)
-text_refused whose bytes report (text_error.Memory m) refusal is memory not_utf8 = subst (λ r. IsReportOf whose r (of_bytes whose bytes report)) (sym is) tt
-text_refused whose bytes report (text_error.Fault f) refusal is memory not_utf8 =
-    subst (λ r. IsReportOf whose r (of_bytes whose bytes report)) (sym is) (sym (bytes_unread whose bytes report f (text_error.Fault f) refl memory not_utf8))
-
 -- what refuses a document that isn't judged
-pub document_refused : (whose : List ℕ) (faults : List Fault) (report : Report) (e : ReadError) (refusal : Refusal) → refusal ≡ read_refusal e
-    → IsFirstFault faults e → IsReportOf whose refusal (faulty_or whose (least faults) report)
-document_refused whose faults report (read_error.Memory m) refusal is first = subst (λ r. IsReportOf whose r (faulty_or whose (least faults) report)) (sym is) tt
-document_refused whose faults report (read_error.Fault f) refusal is first =
-    subst (λ r. IsReportOf whose r (faulty_or whose (least faults) report)) (sym is) (ap (λ o. faulty_or whose o report) first)
+pub document_refused : (whose : List ℕ) (faults : List Fault) (report : Report) (e : ReadError) → IsFirstFault faults e → IsReportOf whose e (faulty_or whose (least faults) report)
+document_refused whose faults report (read_error.Memory m) first = tt
+document_refused whose faults report (read_error.Fault f) first = ap (λ o. faulty_or whose o report) first
 
 -- ---- reports
 

@@ -1,14 +1,13 @@
 //! Decides which report the inputs have.
 ghost use Rattle.std.specs.Prelude.{◌≡◌, IsTrue, codes, map, option_copied};
 ghost use Rattle.std.specs.FinSet as set;
-ghost use Rattle.cudf_text.specs.Views.{text_view};
 ghost use Rattle.cudf_document.specs.Statuses.{is_initial, unknown_view, ascend_above};
 ghost use Rattle.cudf_referee.specs.Proposals.{proposal};
 ghost use Rattle.cudf_check.specs.declared.outcome.Outcome.TheVariants.{Yes};
 ghost use Rattle.cudf_check.specs.Report.{Report, alone, faulty, faulty_or, judged_report, solution_text_report, solution_report, problem_text_report, pair_report, lint_text_report, lint_report, inputs_report, report};
 ghost use Rattle.cudf_check.specs.Working.Answering.{Answers};
 ghost use Rattle.cudf_check.specs.Working.Found.{found_text};
-ghost use Rattle.cudf_check.specs.Working.Refusals.{IsReportOf, text_refusal, read_refusal};
+ghost use Rattle.cudf_check.specs.Working.Refusals.{IsReportOf};
 
 use crate::device::Sink;
 use crate::job::Job;
@@ -16,53 +15,22 @@ use crate::lines::{Found, answer, answer_fault, answer_judged};
 use crate::outcome::{Outcome, RunError};
 use cudf_referee::Referee;
 use cudf_referee::laws::ascending;
-use cudf_text::{
-    Fault, Stanzas, Text, TextError, cut_joined, is_fail, read, source_of, stanzas,
-};
-use cudf_universe::{Problem, ReadError, Solution, first_fault, read_problem, solution_of};
+use cudf_text::{Fault, Stanzas, cut_joined, is_fail, source_of, stanzas};
+use cudf_universe::{Problem, ReadError, Room, Solution, first_fault, problem_of, solution_of};
 use std::alloc::Global;
-
-/// Why a document isn't judged.
-#[derive(Clone, Copy, Debug)]
-pub(crate) enum Refusal {
-    /// It has a fault; this is its first.
-    Fault(Fault),
-    /// Memory ran out.
-    Memory,
-}
-
-/// What refuses a text.
-fn refusal_of_text(error: TextError) -> Refusal
-    ensures { result ≡ text_refusal error }
-{
-    match error {
-        TextError::Fault(fault) => Refusal::Fault(fault),
-        TextError::Memory(_) => Refusal::Memory,
-    }
-}
-
-/// What refuses the document that a text holds.
-fn refusal_of_document(error: ReadError) -> Refusal
-    ensures { result ≡ read_refusal error }
-{
-    match error {
-        ReadError::Fault(fault) => Refusal::Fault(fault),
-        ReadError::Memory(_) => Refusal::Memory,
-    }
-}
 
 /// Answers a document that isn't judged.
 fn answer_refusal<W: Sink>(
     alloc: Global,
     out: &mut W,
     whose: &'static str,
-    refusal: Refusal,
+    error: ReadError,
 ) -> Result<Outcome, RunError>
-    ensures { (report : Report) → IsReportOf whose.now refusal report → Answers (W.state out.old) (W.state out.new) report result }
+    ensures { (report : Report) → IsReportOf whose.now error report → Answers (W.state out.old) (W.state out.new) report result }
 {
-    match refusal {
-        Refusal::Fault(fault) => answer_fault(alloc, out, whose, fault),
-        Refusal::Memory => Err(RunError::Memory),
+    match error {
+        ReadError::Fault(fault) => answer_fault(alloc, out, whose, fault),
+        ReadError::Memory(_) => Err(RunError::Memory),
     }
 }
 
@@ -99,7 +67,7 @@ fn answer_solution_stanzas<W: Sink>(
 {
     match solution_of(alloc, stanzas, problem) {
         Ok(solution) => answer_proposal(alloc, out, found, problem, &solution),
-        Err(error) => answer_refusal(alloc, out, "solution", refusal_of_document(error)),
+        Err(error) => answer_refusal(alloc, out, "solution", error),
     }
 }
 
@@ -125,18 +93,19 @@ fn answer_solution<W: Sink>(
 }
 
 /// Reads a problem, and then its solution.
-fn answer_problem_text<W: Sink>(
+fn answer_problem_stanzas<W: Sink>(
     alloc: Global,
     out: &mut W,
     found: Found,
-    text: &Text<'_>,
+    stanzas: Stanzas<'_>,
     solution: &[u8],
 ) -> Result<Outcome, RunError>
-    ensures { Answers (W.state out.old) (W.state out.new) (problem_text_report (found_text found) solution.now (text_view text.now)) result }
+    ensures { Answers (W.state out.old) (W.state out.new) (problem_text_report (found_text found) solution.now stanzas.entry.text) result }
 {
-    match read_problem(alloc, text) {
+    let mut room = Room::new(alloc);
+    match problem_of(alloc, stanzas, &mut room) {
         Ok(problem) => answer_solution(alloc, out, found, &problem, solution),
-        Err(error) => answer_refusal(alloc, out, "problem", refusal_of_document(error)),
+        Err(error) => answer_refusal(alloc, out, "problem", error),
     }
 }
 
@@ -150,9 +119,9 @@ fn check<W: Sink>(
 ) -> Result<Outcome, RunError>
     ensures { Answers (W.state out.old) (W.state out.new) (pair_report (found_text found) problem.now solution.now) result }
 {
-    match read(alloc, problem) {
-        Ok(text) => answer_problem_text(alloc, out, found, &text, solution),
-        Err(error) => answer_refusal(alloc, out, "problem", refusal_of_text(error)),
+    match stanzas(problem) {
+        Ok(stanzas) => answer_problem_stanzas(alloc, out, found, stanzas, solution),
+        Err(fault) => answer_fault(alloc, out, "problem", fault),
     }
 }
 

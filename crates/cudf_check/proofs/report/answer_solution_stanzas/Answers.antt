@@ -23,4 +23,4 @@ returns-in-Err g c =
     let text = c.args.stanzas.text in
     let report = judged_report (found_text c.args.found) (proposal_of c.args.problem.now text) in
     c.answer_refusal.ensures (faulty_or (codes "solution") (least (solution_faults text)) report)
-    (document_refused (codes "solution") (solution_faults text) report c.in-Err.error _ c.refusal_of_document.ensures c.in-Err.ensures.fault)
+    (document_refused (codes "solution") (solution_faults text) report c.in-Err.error c.in-Err.ensures.fault)

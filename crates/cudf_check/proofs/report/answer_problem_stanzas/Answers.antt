@@ -1,16 +1,15 @@
 use Rattle.std.proofs.Common.{ap, sym, ◌∙◌, codes}
-use Rattle.cudf_text.specs.Views.{text_view}
 use Rattle.cudf_document.specs.Faults.{least}
 use Rattle.cudf_document.specs.ProblemFaults.{problem_faults}
 use Rattle.cudf_document.specs.Universe.{plain_problem}
 use Rattle.cudf_check.specs.Report.{faulty_or, solution_report}
 use Rattle.cudf_check.specs.Working.Found.{found_text}
 use Rattle.cudf_check.proofs.AnswerLemmas.{answers_as, document_refused}
-use Rattle.cudf_check.proofs.report.answer_problem_text.Goals as goal
+use Rattle.cudf_check.proofs.report.answer_problem_stanzas.Goals as goal
 
 pub returns-in-Ok : goal.returns-in-Ok
 returns-in-Ok g c =
-    let text = text_view c.args.text.now in
+    let text = c.args.stanzas.text in
     let solution = c.args.solution.now in
     answers_as _ _ _ _ _
     (ap (λ problem. solution_report (found_text c.args.found) problem solution) c.in-Ok.ensures.problem
@@ -19,7 +18,7 @@ returns-in-Ok g c =
 
 pub returns-in-Err : goal.returns-in-Err
 returns-in-Err g c =
-    let text = text_view c.args.text.now in
+    let text = c.args.stanzas.text in
     let report = solution_report (found_text c.args.found) (plain_problem text) c.args.solution.now in
     c.answer_refusal.ensures (faulty_or (codes "problem") (least (problem_faults text)) report)
-    (document_refused (codes "problem") (problem_faults text) report c.in-Err.error _ c.refusal_of_document.ensures c.in-Err.ensures.fault)
+    (document_refused (codes "problem") (problem_faults text) report c.in-Err.error c.in-Err.ensures.fault)
