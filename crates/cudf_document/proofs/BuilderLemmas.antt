@@ -225,7 +225,7 @@ listed_more ids packages (Some i) make same so_far =
     ∙ sym (ap (first_ids []) (map_push package_id packages (make i) ∙ ap (λ x. map package_id packages ++ x ∷ []) (same i))
     ∙ first_ids-push [] (map package_id packages) i)
 
-listed_next : (mark : Option Postmark) (is_first : Bool) (s : PlainStanza) (g : PlainBuilder) → IsListed g → IsListed (with_stanza mark is_first s g)
+pub listed_next : (mark : Option Postmark) (is_first : Bool) (s : PlainStanza) (g : PlainBuilder) → IsListed g → IsListed (with_stanza mark is_first s g)
 listed_next None is_first s g so_far = so_far
 listed_next (Some Preamble) is_first s g so_far = so_far
 listed_next (Some Request) is_first s g so_far = so_far

@@ -16,4 +16,5 @@ pub mod SolutionBuilderLemmas
 mod SolutionReaderLemmas
 mod Examples
 pub mod StatusLemmas
-mod LintLemmas
+mod WalkLemmas
+mod PartsLemmas

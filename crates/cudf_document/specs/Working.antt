@@ -1,7 +1,7 @@
 pub mod Enums
 pub mod Flags
+pub mod Kept
 pub mod Lines
-pub mod Linters
 pub mod PackageFields
 pub mod ProblemBuilders
 pub mod RequestFields
@@ -9,3 +9,4 @@ pub mod SeenNames
 pub mod SolutionBuilders
 pub mod SolutionPackages
 pub mod SolutionReaders
+pub mod Walks

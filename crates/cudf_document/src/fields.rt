@@ -1,9 +1,11 @@
 //! What a package's properties are read into.
-ghost use Rattle.std.specs.Prelude.{◌≡◌, ◌++◌, ◌∷◌, [], List, Some, bytes_eq, map, IfOk, IfSome, OnOk};
+ghost use Rattle.std.specs.Prelude.{◌≡◌, ◌++◌, ◌∷◌, [], List, Some, bytes_eq, codes, map, IfOk, IfSome, OnOk};
 ghost use Rattle.indexmap.specs.IndexSet.{insert_key};
 ghost use Rattle.cudf_text.specs.Stanzas.{PlainProperty};
-ghost use Rattle.cudf_text.specs.Views.{property_view};
+ghost use Rattle.cudf_text.specs.Views.{property_view, stanza_view};
 ghost use Rattle.cudf_document.specs.Faults.{least};
+ghost use Rattle.cudf_document.specs.Documents.{value_of};
+ghost use Rattle.cudf_document.specs.Values.{version_value};
 ghost use Rattle.cudf_document.specs.Working.Lines.{line_view};
 ghost use Rattle.cudf_document.specs.Working.SeenNames.{AreNames};
 ghost use Rattle.cudf_document.specs.ProblemFaults.{properties_faults};
@@ -16,7 +18,7 @@ use crate::line::{Line, line_of, source_line};
 use crate::package_fields::read_keep;
 use crate::package_property::{PackageProperty, package_property_named};
 use crate::seen_names::SeenNames;
-use cudf_text::{Fault, Kind, Property};
+use cudf_text::{Fault, Kind, Property, Stanza};
 use cudf_value::{is_formula, is_pkgname, is_veqpkglist, is_vpkglist, read_bool, read_posint};
 use std::alloc::{AllocError, Global};
 
@@ -167,6 +169,26 @@ impl<'s> Fields<'s> for LintedPackage {
     }
 
     fn skip<'n>(&self, declarations: &Declarations<'_>, line: Line<'n, 's>) {}
+}
+
+/// The first fault of a package's properties, and its version.
+pub(crate) fn judge_package<'n, 'a>(
+    alloc: Global,
+    names: &mut SeenNames<'n>,
+    declarations: &Declarations<'_>,
+    stanza: &Stanza<'a>,
+) -> Result<(Option<Fault>, Option<u64>), AllocError>
+where
+    'a: 'n,
+    ensures fault { IfOk result (λ r.
+        r.0
+        ≡ least (properties_faults declarations.now (Some PackageMark) (stanza_view stanza.now).properties)) }
+    ensures version { IfOk result (λ r.
+        r.1 ≡ value_of version_value (codes "version") (stanza_view stanza.now).properties) }
+{
+    let (fault, judged): (Option<Fault>, LintedPackage) =
+        read_properties(alloc, names, declarations, &stanza.properties)?;
+    Ok((fault, judged.version))
 }
 
 /// What is wrong with a property that stands once.

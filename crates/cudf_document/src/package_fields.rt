@@ -1,5 +1,5 @@
 //! The values of a package's properties.
-ghost use Rattle.std.specs.Prelude.{◌≡◌, Some, [], option_copied, IfOk};
+ghost use Rattle.std.specs.Prelude.{◌≡◌, Some, [], option_copied, IfOk, IfSome};
 ghost use Rattle.cudf_text.specs.Views.{stanza_view, property_view};
 ghost use Rattle.cudf_document.specs.Faults.{least};
 ghost use Rattle.cudf_document.specs.Values.{name_value, keep_value};
@@ -8,7 +8,7 @@ ghost use Rattle.cudf_document.specs.Working.PackageFields.{package_fields_view,
 ghost use Rattle.cudf_document.specs.declared.postmark.Postmark.TheVariants.{Package as PackageMark};
 
 use crate::declarations::{Declarations, mistyped_unless};
-use crate::fields::{Fields, read_properties};
+use crate::fields::{Fields, read_properties, read_source_properties};
 use crate::line::Line;
 use crate::package::{Keep, Package};
 use crate::package_property::{PackageProperty, package_property_named};
@@ -197,6 +197,24 @@ pub(crate) fn read_package<'t, 'a>(
         package_fields_view r.1 ≡ package_fields_of declarations.now (stanza_view stanza.now).properties) }
 {
     read_properties(alloc, names, declarations, &stanza.properties)
+}
+
+/// The same, where each value is a part of the source; `None` where one is joined of two texts.
+pub(crate) fn read_source_package<'a>(
+    alloc: Global,
+    names: &mut SeenNames<'a>,
+    declarations: &Declarations<'_>,
+    stanza: &Stanza<'a>,
+) -> Result<Option<(Option<Fault>, PackageFields<'a>)>, AllocError>
+    ensures fault { IfOk result (λ r.
+        IfSome r (λ s.
+        s.0
+        ≡ least (properties_faults declarations.now (Some PackageMark) (stanza_view stanza.now).properties))) }
+    ensures values { IfOk result (λ r.
+        IfSome r (λ s.
+        package_fields_view s.1 ≡ package_fields_of declarations.now (stanza_view stanza.now).properties)) }
+{
+    read_source_properties(alloc, names, declarations, &stanza.properties)
 }
 
 impl<'t> Fields<'t> for PackageFields<'t> {

@@ -164,3 +164,16 @@ pub(crate) fn read_source_request<'a>(
     }
     Ok(Some((first, fields.into_request(alloc, stanza.line))))
 }
+
+/// The first fault of the properties of a request.
+pub(crate) fn judge_request(
+    alloc: Global,
+    stanza: &Stanza<'_>,
+) -> Result<Option<Fault>, AllocError>
+    ensures { IfOk result (λ fault.
+        fault ≡ least (properties_faults [] (Some RequestMark) (stanza_view stanza.now).properties)) }
+{
+    let mut names = SeenNames::new(alloc);
+    let (fault, _request) = read_request(alloc, &mut names, stanza)?;
+    Ok(fault)
+}

@@ -7,8 +7,8 @@ pub mod laws;
 mod steps;
 
 pub use cudf_document::{
-    Keep, Package, Problem, ReadError, Request, Solution, Status, Unknown, first_fault, initial,
-    read_problem, read_solution, solution_of,
+    Keep, Package, Problem, ReadError, Request, Room, Solution, Status, Unknown, first_fault,
+    initial, problem_of, read_problem, read_solution, solution_of,
 };
 pub use index::Index;
 pub use index::metered::Metered;

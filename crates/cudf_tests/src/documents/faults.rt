@@ -1,6 +1,6 @@
 //! The first fault of a problem, of each kind and of several at once.
 use crate::table::assert_rows;
-use cudf_document::{ReadError, first_fault, read_problem};
+use cudf_document::{ReadError, Room, first_fault, problem_of, read_problem};
 use cudf_text::{Fault, Kind, read, stanzas};
 use std::alloc::{AllocError, Global};
 
@@ -15,6 +15,18 @@ fn read_fault(alloc: Global, bytes: &[u8]) -> Option<Fault> {
             _ => None,
         },
         Err(_) => None,
+    }
+}
+
+/// The fault that reading stanza by stanza answers.
+fn walk_fault(alloc: Global, bytes: &[u8]) -> Option<Fault> {
+    let mut room = Room::new(alloc);
+    match stanzas(bytes) {
+        Ok(stanzas) => match problem_of(alloc, stanzas, &mut room) {
+            Err(ReadError::Fault(fault)) => Some(fault),
+            _ => None,
+        },
+        Err(fault) => Some(fault),
     }
 }
 
@@ -34,7 +46,9 @@ fn is_fault(fault: Option<Fault>, row: &FaultRow<'_>) -> bool {
 }
 
 fn has_fault(alloc: Global, bytes: &[u8], row: &FaultRow<'_>) -> bool {
-    is_fault(read_fault(alloc, bytes), row) && is_fault(found_fault(alloc, bytes), row)
+    is_fault(read_fault(alloc, bytes), row)
+        && is_fault(walk_fault(alloc, bytes), row)
+        && is_fault(found_fault(alloc, bytes), row)
 }
 
 /// The bytes with a CR before each LF.
@@ -57,7 +71,7 @@ fn is_first(alloc: Global, row: &FaultRow<'_>) -> bool {
     }
 }
 
-const FAULTS: [FaultRow<'static>; 42] = [
+const FAULTS: [FaultRow<'static>; 46] = [
     ("request r\n", 1, Kind::E2),
     (" x\nrequest:\n", 1, Kind::E3),
     ("version: 1\n\nrequest:\n", 1, Kind::E4),
@@ -171,6 +185,27 @@ const FAULTS: [FaultRow<'static>; 42] = [
         "preamble:\nproperty: a: int\nproperty: a: int\n\nrequest:\n",
         3,
         Kind::E10,
+    ),
+    // Behind a value on several lines, in it, and beside it.
+    (
+        "package: a\nversion: 1\ndepends: b,\n c\n\npackage: a\nversion: 1\n\nrequest:\n",
+        7,
+        Kind::E11,
+    ),
+    (
+        "package: a\nversion: 1\n 2\n\nrequest:\n",
+        2,
+        Kind::E9,
+    ),
+    (
+        "package: a\n b\nversion: 1\ndepends: c\ndepends: c,\n d\n\nrequest:\n",
+        1,
+        Kind::E9,
+    ),
+    (
+        "package: a\nversion: 1\n\nrequest:\ninstall: a,\n b\nremove: a |\n b\n",
+        7,
+        Kind::E9,
     ),
 ];
 

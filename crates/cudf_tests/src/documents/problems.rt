@@ -1,7 +1,7 @@
 //! What problems say.
 use crate::table::{Listed, assert_rows, prints};
-use cudf_document::{Keep, Package, Problem, ReadError, read_problem};
-use cudf_text::{Fault, Kind, read};
+use cudf_document::{Keep, Package, Problem, ReadError, Room, problem_of, read_problem};
+use cudf_text::{Fault, Kind, read, stanzas};
 use std::alloc::{AllocError, Global};
 use std::fmt;
 
@@ -51,18 +51,33 @@ impl fmt::Display for ShownProblem<'_, '_> {
     }
 }
 
-/// Whether the source is read as the problem that is shown so.
+/// Whether the source is read as the problem that is shown so, as a text and stanza by stanza.
 fn reads_as(alloc: Global, row: &(&str, &str)) -> bool {
-    match read(alloc, row.0.as_bytes()) {
+    text_reads_as(alloc, row.0, row.1) && stanzas_read_as(alloc, row.0, row.1)
+}
+
+fn text_reads_as(alloc: Global, source: &str, want: &str) -> bool {
+    match read(alloc, source.as_bytes()) {
         Ok(text) => match read_problem(alloc, &text) {
-            Ok(problem) => prints(alloc, &ShownProblem(&problem), row.1),
+            Ok(problem) => prints(alloc, &ShownProblem(&problem), want),
             Err(_) => false,
         },
         Err(_) => false,
     }
 }
 
-const PROBLEMS: [(&'static str, &'static str); 7] = [
+fn stanzas_read_as(alloc: Global, source: &str, want: &str) -> bool {
+    let mut room = Room::new(alloc);
+    match stanzas(source.as_bytes()) {
+        Ok(stanzas) => match problem_of(alloc, stanzas, &mut room) {
+            Ok(problem) => prints(alloc, &ShownProblem(&problem), want),
+            Err(_) => false,
+        },
+        Err(_) => false,
+    }
+}
+
+const PROBLEMS: [(&'static str, &'static str); 14] = [
     ("request:", "1[][][]"),
     (
         "# head\n\npreamble: any\nmaker: me\n\npackage: a\nversion: +01\n\nrequest: r\nnote: x\n",
@@ -90,6 +105,37 @@ const PROBLEMS: [(&'static str, &'static str); 7] = [
         "preamble:\nproperty: property: int, install: int\nproperty: univ-checksum: string,\n  remove: bool\n\npackage: a\nversion: 1\nproperty: 3\ninstall: -2\nremove: true\n\nrequest:",
         "6 a 1[][][];12[][][]",
     ),
+    // A value on several lines, in a package before or behind others, and in the request.
+    (
+        "package: a\nversion: 1\n\npackage: b\nversion: 2\ndepends: a,\n  c | d\n\npackage: c\nversion: 3\n\nrequest:\n",
+        "1 a 1[][][];4 b 2[a;c | d;][][];9 c 3[][][];12[][][]",
+    ),
+    (
+        "package: a\nversion: 1\nconflicts: b,\n c = 2\ndepends: d\n\nrequest:\ninstall: a\n",
+        "1 a 1[d;][b;c = 2;][];7[a;][][]",
+    ),
+    (
+        "package: a\nprovides: b = 1,\n c\nversion: 1\n\nrequest:\n",
+        "1 a 1[][][b = 1;c;];6[][][]",
+    ),
+    (
+        "preamble:\nproperty: recommends: vpkgformula,\n  size: int\n\npackage: a\nversion: 1\nrecommends: b |\n c\nsize: 3\n\nrequest:\n",
+        "5 a 1[][][][b | c;];11[][][]",
+    ),
+    (
+        "package: a\nversion: 1\n\nrequest:\ninstall: a,\n b\nremove: c,\n d > 1\nupgrade: e,\n f",
+        "1 a 1[][][];4[a;b;][c;d > 1;][e;f;]",
+    ),
+    // Of a value's texts one alone isn't empty, and the last stanza ends with the text.
+    (
+        "package: a\nversion:\n 1\n\nrequest:\nremove: x\n  \t\n",
+        "1 a 1[][][];5[][x;][]",
+    ),
+    // Extra properties, `was-installed` and what isn't looked at stand on several lines too.
+    (
+        "package: a\nversion: 1\nwas-installed: x\n y\n\nrequest: z\n z\nnote: n\n n\n",
+        "1 a 1[][][];6[][][]",
+    ),
 ];
 
 #[test]
@@ -111,8 +157,23 @@ fn recommends(alloc: Global, row: &(&str, &str, Option<&str>)) -> bool {
 }
 
 fn recommends_in(alloc: Global, source: &str, want: Option<&str>) -> bool {
+    text_recommends(alloc, source, want) && stanzas_recommend(alloc, source, want)
+}
+
+fn text_recommends(alloc: Global, source: &str, want: Option<&str>) -> bool {
     match read(alloc, source.as_bytes()) {
         Ok(text) => match read_problem(alloc, &text) {
+            Ok(problem) => recommends_second(alloc, &problem, want),
+            Err(_) => false,
+        },
+        Err(_) => false,
+    }
+}
+
+fn stanzas_recommend(alloc: Global, source: &str, want: Option<&str>) -> bool {
+    let mut room = Room::new(alloc);
+    match stanzas(source.as_bytes()) {
+        Ok(stanzas) => match problem_of(alloc, stanzas, &mut room) {
             Ok(problem) => recommends_second(alloc, &problem, want),
             Err(_) => false,
         },
@@ -131,7 +192,7 @@ fn recommends_second(alloc: Global, problem: &Problem<'_>, want: Option<&str>) -
     }
 }
 
-const RECOMMENDED: [(&'static str, &'static str, Option<&'static str>); 7] = [
+const RECOMMENDED: [(&'static str, &'static str, Option<&'static str>); 8] = [
     ("recommends: vpkgformula = [b, c | d]", "", Some("b;c | d;")),
     ("recommends: vpkgformula", "", None),
     ("recommends: vpkgformula", "recommends: z\n", Some("z;")),
@@ -147,6 +208,12 @@ const RECOMMENDED: [(&'static str, &'static str, Option<&'static str>); 7] = [
     ),
     ("recommends: vpkglist = [b]", "recommends: x\n", None),
     ("recommend: vpkgformula = [b]", "", None),
+    // A default on several lines.
+    (
+        "recommends: vpkgformula = [b,\n  c | d]",
+        "",
+        Some("b;c | d;"),
+    ),
 ];
 
 #[test]

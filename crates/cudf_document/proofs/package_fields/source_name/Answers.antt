@@ -1,6 +1,6 @@
 use Rattle.std.proofs.Common.{ap}
 use Rattle.cudf_text.specs.Joins.{is_owned}
-use Rattle.cudf_document.proofs.LintLemmas.{joined_no_name}
+use Rattle.cudf_document.proofs.WalkLemmas.{joined_no_name}
 use Rattle.cudf_document.proofs.package_fields.source_name.Goals as goal
 
 pub returns-in-Owned : goal.returns-in-Owned

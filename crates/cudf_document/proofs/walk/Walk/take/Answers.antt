@@ -1,11 +1,11 @@
 use Rattle.std.proofs.Common.{◌||◌, ◌∙◌}
 use Rattle.cudf_text.specs.Views.{stanza_view}
 use Rattle.cudf_document.specs.Faults.{lesser}
-use Rattle.cudf_document.proofs.LintLemmas.{IsKnown-next}
-use Rattle.cudf_document.proofs.lint.Linter.take.Goals as goal
+use Rattle.cudf_document.proofs.WalkLemmas.{IsKnown-next}
+use Rattle.cudf_document.proofs.walk.Walk.take.Goals as goal
 
 pub returns-clause-known : goal.returns-clause-known
-returns-clause-known c = λ before first ds so_far.
+returns-clause-known g c = λ before first ds so_far.
     IsKnown-next c.args.self.now _ before (stanza_view c.args.stanza.now) c.postmark_of-mark.result c.args.is_first c.place_fault-place.result c.in_ok-inside.inside
     first ds so_far c.postmark_of-mark.ensures c.place_fault-place.ensures c.in_ok-inside.ensures.fault
     (c.lesser-self.ensures ∙ (λ i. lesser (c.in_ok-inside.ensures.first i) (c.or.ensures i)))

@@ -1,5 +1,5 @@
--- What is known of stanzas that are only judged: as of those that are gathered.
-use Rattle.std.proofs.Common.{◌≡◌, ℕ, max, Bool, true, false, not, ◌||◌, ◌&&◌, nat_lt, List, [], ◌∷◌, ◌++◌, Option, Some, None, refl, sym, ap, ◌∙◌, if◌then◌else◌, ◌==◌}
+-- What is known of stanzas on the walk: as of those that are gathered.
+use Rattle.std.proofs.Common.{◌≡◌, ℕ, max, map, filter_map, Bool, true, false, not, ◌||◌, ◌&&◌, nat_lt, List, [], ◌∷◌, ◌++◌, Option, Some, None, refl, sym, ap, subst, ◌∙◌, if◌then◌else◌, ◌==◌}
 use Rattle.std.specs.List.{list_any, list_all, flat_map}
 use Rattle.std.specs.Option.{option_or}
 use Rattle.std.specs.Cow.{cow_str_bytes}
@@ -13,23 +13,23 @@ use Rattle.cudf_text.specs.Joins.{is_owned, IsJoined}
 use Rattle.cudf_text.specs.Stanzas.{PlainStanza, PlainText}
 use Rattle.cudf_value.specs.Chars.{is_pkgname_char}
 use Rattle.cudf_value.specs.Words.{is_pkgname}
-use Rattle.cudf_document.specs.declared.lint.Linter.{Linter}
+use Rattle.cudf_document.specs.declared.walk.Walk.{Walk}
 use Rattle.cudf_document.specs.declared.postmark.Postmark.{Postmark}
 use Rattle.cudf_document.specs.declared.postmark.Postmark.TheVariants.{Preamble, Package, Request}
 use Rattle.cudf_document.specs.Faults.{lesser, least, fault_if}
 use Rattle.cudf_text.specs.declared.fault.Kind.TheVariants.{E13}
 use Rattle.std.proofs.lemmas.List.{append_assoc, append-nil}
 use Rattle.cudf_document.specs.Documents.{is_empty, with_earlier, postmark, is_request, marks_request}
-use Rattle.cudf_document.specs.Ids.{is_id}
+use Rattle.cudf_document.specs.Ids.{is_id, id_of}
 use Rattle.cudf_document.specs.Preamble.{declared}
 use Rattle.cudf_document.specs.ProblemFaults.{place_faults, stanza_faults, problem_faults}
-use Rattle.cudf_document.specs.Universe.{packages_in, request_in}
+use Rattle.cudf_document.specs.Universe.{package_id, packages_in, request_in}
 use Rattle.cudf_document.specs.Values.{name_value}
-use Rattle.cudf_document.specs.Working.ProblemBuilders.{PlainBuilder, with_stanza, faults_inside, IsBuilt}
-use Rattle.cudf_document.specs.Working.Linters.{IsKnown, GoesOn, judged_faults, judged_ids}
+use Rattle.cudf_document.specs.Working.ProblemBuilders.{PlainBuilder, with_stanza, faults_inside, IsBuilt, first_ids}
+use Rattle.cudf_document.specs.Working.Walks.{IsKnown, GoesOn, IsWhole, judged_faults, judged_ids}
 use Rattle.cudf_document.proofs.ListLemmas.{or_false, is_empty-push}
 use Rattle.cudf_document.proofs.FaultLemmas.{faults-next, lesser-none}
-use Rattle.cudf_document.proofs.BuilderLemmas.{problem_least, requested_is, stanza_least, IsBuilt-next}
+use Rattle.cudf_document.proofs.BuilderLemmas.{problem_least, requested_is, stanza_least, IsBuilt-next, listed_next}
 
 -- ---- a joined value is no name
 
@@ -65,19 +65,19 @@ joined_no_name v joined owned =
 
 -- ---- the walk
 
-abbrev as_builder : Linter → List PlainStanza → PlainBuilder
+abbrev as_builder : Walk → List PlainStanza → PlainBuilder
 as_builder k before = record { declared = k.declarations; ids = k.ids; packages = packages_in before; request = request_in before }
 
-is_built : (k : Linter) (before : List PlainStanza) → IsKnown k before → k.declarations ≡ declared before → IsBuilt (as_builder k before) before
+is_built : (k : Walk) (before : List PlainStanza) → IsKnown k before → k.declarations ≡ declared before → IsBuilt (as_builder k before) before
 is_built k before so_far ds = record { declared_are = ds; ids_are = so_far.ids_are; packages_are = refl; request_is = refl }
 
-judged_inside : (mark : Option Postmark) (k : Linter) (before : List PlainStanza) (s : PlainStanza) → judged_faults mark k.declarations k.ids s ≡ faults_inside mark (as_builder k before) s
+judged_inside : (mark : Option Postmark) (k : Walk) (before : List PlainStanza) (s : PlainStanza) → judged_faults mark k.declarations k.ids s ≡ faults_inside mark (as_builder k before) s
 judged_inside (Some Package) k before s = refl
 judged_inside (Some Preamble) k before s = refl
 judged_inside (Some Request) k before s = refl
 judged_inside None k before s = refl
 
-ids_inside : (mark : Option Postmark) (is_first : Bool) (k : Linter) (before : List PlainStanza) (s : PlainStanza) → judged_ids mark k.ids s ≡ (with_stanza mark is_first s (as_builder k before)).ids
+ids_inside : (mark : Option Postmark) (is_first : Bool) (k : Walk) (before : List PlainStanza) (s : PlainStanza) → judged_ids mark k.ids s ≡ (with_stanza mark is_first s (as_builder k before)).ids
 ids_inside (Some Package) is_first k before s = refl
 ids_inside (Some Preamble) is_first k before s = refl
 ids_inside (Some Request) is_first k before s = refl
@@ -89,7 +89,7 @@ or_swap true false = refl
 or_swap false true = refl
 or_swap false false = refl
 
-pub IsKnown-next : (old new : Linter) (before : List PlainStanza) (s : PlainStanza) (mark : Option Postmark) (is_first : Bool) (place inside : Option Fault)
+pub IsKnown-next : (old new : Walk) (before : List PlainStanza) (s : PlainStanza) (mark : Option Postmark) (is_first : Bool) (place inside : Option Fault)
     → is_first ≡ is_empty before → old.declarations ≡ declared before → IsKnown old before → mark ≡ postmark s
     → place ≡ least (place_faults is_first old.requested mark s.line) → inside ≡ least (judged_faults mark old.declarations old.ids s)
     → new.first ≡ lesser old.first (option_or place inside) → new.ids ≡ judged_ids mark old.ids s → new.requested ≡ (marks_request mark || old.requested)
@@ -106,6 +106,8 @@ IsKnown-next old new before s mark is_first place inside first ds so_far marked 
       ids_are = λ id.
           ap (λ l. list_any (is_id id) l) (ids_are ∙ ids_inside mark is_first old before s)
           ∙ (IsBuilt-next g before s builder mark is_first (sym marked) first).ids_are id;
+      listed_are = ids_are ∙ ids_inside mark is_first old before s ∙ listed_next mark is_first s g so_far.listed_are
+          ∙ ap (λ l. first_ids [] (map package_id l)) (IsBuilt-next g before s builder mark is_first (sym marked) first).packages_are;
       requested_is = requested ∙ or_swap (marks_request mark) old.requested
           ∙ (λ i. so_far.requested_is i || (ap marks_request marked ∙ sym (or_false (is_request s))) i)
           ∙ sym (list_any-append is_request before (s ∷ []));
@@ -115,37 +117,61 @@ declared_later : (before : List PlainStanza) (s : PlainStanza) → false ≡ is_
 declared_later [] s some = absurd cc
 declared_later (t ∷ before) s some = refl
 
-pub GoesOn-next : (old new : Linter) (left later text : PlainText) (s : PlainStanza) → GoesOn old left text → ◌≡◌ {A = PlainText} left (record later { stanzas = s ∷ later.stanzas })
+pub IsKnown-none : (k : Walk) → k.first ≡ None → k.ids ≡ [] → k.requested ≡ false → IsKnown k []
+IsKnown-none k first ids requested = record { first_is = first; ids_are = λ id. ap (λ l. list_any (is_id id) l) ids; listed_are = ids; requested_is = requested }
+
+pub GoesOn-next : (Old New : List PlainStanza → Type 0) (old new : Walk) (left later text : PlainText) (s : PlainStanza) → GoesOn Old old left text
+    → ◌≡◌ {A = PlainText} left (record later { stanzas = s ∷ later.stanzas })
     → ((before : List PlainStanza) → false ≡ is_empty before → old.declarations ≡ declared before → IsKnown old before → IsKnown new (before ++ s ∷ []))
-    → new.declarations ≡ old.declarations → GoesOn new later text
-GoesOn-next old new left later text s goes read knows same = record {
+    → ((before : List PlainStanza) → old.declarations ≡ declared before → Old before → New (before ++ s ∷ []))
+    → new.declarations ≡ old.declarations → GoesOn New new later text
+GoesOn-next Old New old new left later text s goes read knows keeps same = record {
   now = goes.now ++ s ∷ [];
   some = sym (is_empty-push goes.now s);
   declared_are = same ∙ goes.declared_are ∙ sym (declared_later goes.now s goes.some);
   known = knows goes.now goes.some goes.declared_are goes.known;
+  kept = keeps goes.now goes.declared_are goes.kept;
   whole = (λ i. let t : PlainText = record later { stanzas = append_assoc goes.now (s ∷ []) later.stanzas i } in t)
       ∙ (λ i. let t : PlainText = record (sym read i) { stanzas = goes.now ++ (sym read i).stanzas } in t) ∙ goes.whole;
 }
 
-pub GoesOn-end : (k : Linter) (left text : PlainText) (fault : Option Fault) (lines : ℕ) (none : Bool) (line : ℕ) → GoesOn k left text → ◌≡◌ {A = PlainText} left (record { stanzas = []; fault = fault; lines = lines })
-    → none ≡ not k.requested → line ≡ max 1 lines
-    → lesser (lesser fault k.first) (least (fault_if none line E13)) ≡ least (problem_faults text)
-GoesOn-end k left text fault lines none line goes read none_is line_is =
-    let end : ◌≡◌ {A = PlainText} (record { stanzas = goes.now ++ []; fault = fault; lines = lines }) text =
-    (λ i. let t : PlainText = record (sym read i) { stanzas = goes.now ++ (sym read i).stanzas } in t) ∙ goes.whole in
-    let ss : goes.now ≡ text.stanzas = sym (append-nil goes.now) ∙ (λ i. (end i).stanzas) in
-    (λ i. lesser (lesser ((end i).fault) k.first) (least (fault_if none line E13)))
-    ∙ problem_least text k.first none line
-    (goes.known.first_is ∙ ap (λ l. least (flat_map stanza_faults (with_earlier [] l))) ss)
-    (none_is ∙ ap not (goes.known.requested_is ∙ ap (list_any is_request) ss))
-    (line_is ∙ (λ i. max 1 (end i).lines))
+-- nothing is left behind these stanzas
+all_known : (Kept : List PlainStanza → Type 0) (old new : Walk) (now : List PlainStanza) (left text : PlainText) (fault : Option Fault) (lines : ℕ)
+    → old.declarations ≡ declared now → IsKnown old now → Kept now
+    → ◌≡◌ {A = PlainText} (record left { stanzas = now ++ left.stanzas }) text → ◌≡◌ {A = PlainText} left (record { stanzas = []; fault = fault; lines = lines })
+    → new.first ≡ lesser (lesser fault old.first) (least (fault_if (not old.requested) (max 1 lines) E13))
+    → new.declarations ≡ old.declarations → new.ids ≡ old.ids → IsWhole Kept new text
+all_known Kept old new now left text fault lines ds knows keeps whole read first same_ds same_ids =
+    let end : ◌≡◌ {A = PlainText} (record { stanzas = now ++ []; fault = fault; lines = lines }) text =
+    (λ i. let t : PlainText = record (sym read i) { stanzas = now ++ (sym read i).stanzas } in t) ∙ whole in
+    let ss : now ≡ text.stanzas = sym (append-nil now) ∙ (λ i. (end i).stanzas) in
+    record {
+      first_is = first
+          ∙ (λ i. lesser (lesser ((end i).fault) old.first) (least (fault_if (not old.requested) (max 1 lines) E13)))
+          ∙ problem_least text old.first (not old.requested) (max 1 lines)
+          (knows.first_is ∙ ap (λ l. least (flat_map stanza_faults (with_earlier [] l))) ss)
+          (ap not (knows.requested_is ∙ ap (list_any is_request) ss))
+          (λ i. max 1 (end i).lines);
+      declared_are = same_ds ∙ ds ∙ ap declared ss;
+      ids_are = λ id. ap (λ l. list_any (is_id id) l) same_ids ∙ knows.ids_are id ∙ ap (λ l. list_any (is_id id) (filter_map id_of l)) ss;
+      listed_are = same_ids ∙ knows.listed_are ∙ ap (λ l. first_ids [] (map package_id (packages_in l))) ss;
+      kept = subst Kept ss keeps;
+    }
 
-pub no_stanza : (text : PlainText) (fault : Option Fault) (lines line : ℕ) → ◌≡◌ {A = PlainText} text (record { stanzas = []; fault = fault; lines = lines }) → line ≡ max 1 lines
-    → lesser fault (least (fault_if true line E13)) ≡ least (problem_faults text)
-no_stanza text fault lines line read line_is =
-    ap (λ f. lesser f (least (fault_if true line E13))) (sym (lesser-none fault) ∙ (λ i. lesser (sym read i).fault None))
-    ∙ problem_least text None true line (λ i. least (flat_map stanza_faults (with_earlier [] (sym read i).stanzas))) (λ i. not (list_any is_request (sym read i).stanzas)) (line_is ∙ (λ i. max 1 (sym read i).lines))
+pub GoesOn-end : (Kept : List PlainStanza → Type 0) (old new : Walk) (left text : PlainText) (fault : Option Fault) (lines : ℕ) → GoesOn Kept old left text
+    → ◌≡◌ {A = PlainText} left (record { stanzas = []; fault = fault; lines = lines })
+    → new.first ≡ lesser (lesser fault old.first) (least (fault_if (not old.requested) (max 1 lines) E13))
+    → new.declarations ≡ old.declarations → new.ids ≡ old.ids → IsWhole Kept new text
+GoesOn-end Kept old new left text fault lines goes read first same_ds same_ids =
+    all_known Kept old new goes.now left text fault lines goes.declared_are goes.known goes.kept goes.whole read first same_ds same_ids
 
-pub GoesOn-first : (k : Linter) (later text : PlainText) (s : PlainStanza) → ◌≡◌ {A = PlainText} text (record later { stanzas = s ∷ later.stanzas })
-    → IsKnown k (s ∷ []) → k.declarations ≡ declared (s ∷ []) → GoesOn k later text
-GoesOn-first k later text s read knows ds = record { now = s ∷ []; some = refl; declared_are = ds; known = knows; whole = sym read }
+pub no_stanza : (Kept : List PlainStanza → Type 0) (old new : Walk) (text : PlainText) (fault : Option Fault) (lines : ℕ) → old.declarations ≡ [] → IsKnown old [] → Kept []
+    → ◌≡◌ {A = PlainText} text (record { stanzas = []; fault = fault; lines = lines })
+    → new.first ≡ lesser (lesser fault old.first) (least (fault_if (not old.requested) (max 1 lines) E13))
+    → new.declarations ≡ old.declarations → new.ids ≡ old.ids → IsWhole Kept new text
+no_stanza Kept old new text fault lines ds knows keeps read first same_ds same_ids =
+    all_known Kept old new [] text text fault lines ds knows keeps refl read first same_ds same_ids
+
+pub GoesOn-first : (Kept : List PlainStanza → Type 0) (k : Walk) (later text : PlainText) (s : PlainStanza) → ◌≡◌ {A = PlainText} text (record later { stanzas = s ∷ later.stanzas })
+    → IsKnown k (s ∷ []) → k.declarations ≡ declared (s ∷ []) → Kept (s ∷ []) → GoesOn Kept k later text
+GoesOn-first Kept k later text s read knows ds keeps = record { now = s ∷ []; some = refl; declared_are = ds; known = knows; kept = keeps; whole = sym read }

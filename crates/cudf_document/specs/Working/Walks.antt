@@ -1,18 +1,19 @@
--- What is known after some stanzas, where they are only judged.
-use Rattle.std.specs.Prelude.{◌≡◌, false, List, [], ◌++◌, filter_map, Option, Some, None}
+-- What is known after some stanzas of a problem, on the walk.
+use Rattle.std.specs.Prelude.{◌≡◌, false, List, [], ◌++◌, filter_map, map, Option, Some, None}
 use Rattle.std.specs.List.{list_any, flat_map}
 use Rattle.cudf_text.specs.Stanzas.{PlainStanza, PlainText}
-use Rattle.cudf_document.specs.declared.lint.Linter.{Linter}
-use Rattle.cudf_document.specs.Faults.{least}
-use Rattle.cudf_document.specs.Documents.{is_empty, with_earlier, is_request}
-use Rattle.cudf_document.specs.Ids.{Id, is_among, id_of, id_under, with_id}
-use Rattle.cudf_document.specs.ProblemFaults.{properties_faults, stanza_faults}
 use Rattle.cudf_text.specs.declared.fault.Fault.{Fault}
 use Rattle.cudf_value.specs.Declarations.{PlainDeclaration}
 use Rattle.cudf_document.specs.declared.postmark.Postmark.{Postmark}
 use Rattle.cudf_document.specs.declared.postmark.Postmark.TheVariants.{Package}
+use Rattle.cudf_document.specs.declared.walk.Walk.{Walk}
+use Rattle.cudf_document.specs.Faults.{least}
+use Rattle.cudf_document.specs.Documents.{is_empty, with_earlier, is_request}
+use Rattle.cudf_document.specs.Ids.{Id, is_among, id_of, id_under, with_id}
 use Rattle.cudf_document.specs.Preamble.{declared}
-use Rattle.cudf_document.specs.Working.ProblemBuilders.{package_faults}
+use Rattle.cudf_document.specs.ProblemFaults.{properties_faults, stanza_faults, problem_faults}
+use Rattle.cudf_document.specs.Universe.{package_id, packages_in}
+use Rattle.cudf_document.specs.Working.ProblemBuilders.{package_faults, first_ids}
 
 -- the faults inside a stanza with a postmark, after these declarations, names and versions
 abbrev pub judged_faults : Option Postmark → List PlainDeclaration → List Id → PlainStanza → List Fault
@@ -26,15 +27,25 @@ judged_ids (Some Package) ids s = with_id ids (id_under (Some Package) s.propert
 judged_ids _ ids s = ids
 
 -- the first fault of these stanzas, their names and versions, and whether one is a request
-pub record IsKnown (k : Linter) (before : List PlainStanza) : Type 0 where
+pub record IsKnown (k : Walk) (before : List PlainStanza) : Type 0 where
   pub first_is : k.first ≡ least (flat_map stanza_faults (with_earlier [] before))
   pub ids_are : (id : Id) → is_among k.ids id ≡ is_among (filter_map id_of before) id
+  pub listed_are : k.ids ≡ first_ids [] (map package_id (packages_in before))
   pub requested_is : k.requested ≡ list_any is_request before
 
--- some stanzas of the text are known, and these are left
-pub record GoesOn (k : Linter) (left text : PlainText) : Type 0 where
+-- some stanzas of the text are known, this was kept of them, and these are left
+pub record GoesOn (IsKept : List PlainStanza → Type 0) (k : Walk) (left text : PlainText) : Type 0 where
   pub now : List PlainStanza
   pub some : false ≡ is_empty now
   pub declared_are : k.declarations ≡ declared now
   pub known : IsKnown k now
+  pub kept : IsKept now
   pub whole : ◌≡◌ {A = PlainText} (record left { stanzas = now ++ left.stanzas }) text
+
+-- the whole text is known: its first fault, declarations, names and versions, and what was kept
+pub record IsWhole (IsKept : List PlainStanza → Type 0) (k : Walk) (text : PlainText) : Type 0 where
+  pub first_is : k.first ≡ least (problem_faults text)
+  pub declared_are : k.declarations ≡ declared text.stanzas
+  pub ids_are : (id : Id) → is_among k.ids id ≡ is_among (filter_map id_of text.stanzas) id
+  pub listed_are : k.ids ≡ first_ids [] (map package_id (packages_in text.stanzas))
+  pub kept : IsKept text.stanzas

@@ -1,0 +1,31 @@
+use Rattle.std.proofs.Common.{◌≡◌, [], ◌++◌, Some, sym, ap, ◌∙◌, is_none}
+use Rattle.std.proofs.lemmas.List.{append_assoc}
+use Rattle.std.specs.List.{flat_map}
+use Rattle.cudf_text.specs.declared.fault.Kind.TheVariants.{E11, E12}
+use Rattle.cudf_text.specs.Views.{stanza_view}
+use Rattle.cudf_document.specs.declared.postmark.Postmark.TheVariants.{Package}
+use Rattle.cudf_document.specs.Faults.{lesser, least, fault_if}
+use Rattle.cudf_document.specs.Documents.{with_earlier, line_of}
+use Rattle.cudf_document.specs.Ids.{is_known, with_id, id_with, id_under}
+use Rattle.cudf_document.specs.ProblemFaults.{property_faults, version_property}
+use Rattle.cudf_document.proofs.FaultLemmas.{least-append}
+use Rattle.cudf_document.proofs.walk.Walk.take_package.Goals as goal
+
+pub returns-clause-ids : goal.returns-clause-ids
+returns-clause-ids g c =
+    c.in_ok-is_repeated.ensures.ids
+    ∙ ap (with_id c.args.self.now.ids) (c.both-id.ensures ∙ (λ i. id_with (c.package_name.ensures i) (c.in_ok-fault.ensures.version i)))
+
+pub returns-clause-fault : goal.returns-clause-fault
+returns-clause-fault g c =
+    let s = stanza_view c.args.stanza.now in
+    let ids = c.args.self.now.ids in
+    let inner = flat_map (property_faults c.args.self.now.declarations (Some Package)) (with_earlier [] s.properties) in
+    let unversioned = fault_if (is_none (version_property s)) s.last E12 in
+    let repeated : c.in_ok-is_repeated.is_repeated ≡ is_known ids (id_under (Some Package) s.properties) =
+    c.in_ok-is_repeated.ensures.is_known
+    ∙ ap (is_known ids) (c.both-id.ensures ∙ (λ i. id_with (c.package_name.ensures i) (c.in_ok-fault.ensures.version i))) in
+    c.lesser.ensures ∙ (λ i. lesser (c.in_ok-fault.ensures.fault i) (c.package_fault.ensures i))
+    ∙ ap (λ b. lesser (least inner) (least (fault_if b (line_of (version_property s)) E11 ++ unversioned))) repeated
+    ∙ sym (least-append inner (fault_if (is_known ids (id_under (Some Package) s.properties)) (line_of (version_property s)) E11 ++ unversioned))
+    ∙ ap least (sym (append_assoc inner (fault_if (is_known ids (id_under (Some Package) s.properties)) (line_of (version_property s)) E11) unversioned))

@@ -1,0 +1,88 @@
+//! Reading a problem stanza by stanza.
+ghost use Rattle.std.specs.Prelude.{◌≡◌, [], IfOk, IfErr, IfSome};
+ghost use Rattle.cudf_document.specs.Faults.{IsFirstFault};
+ghost use Rattle.cudf_document.specs.ProblemFaults.{problem_faults};
+ghost use Rattle.cudf_document.specs.Universe.{plain_problem};
+
+use crate::error::ReadError;
+use crate::parts::Parts;
+use crate::problem::Problem;
+use crate::problem_reader::read_problem;
+use crate::walk::{Walk, walk_all};
+use cudf_text::{Stanza, Stanzas, Text};
+use std::alloc::Global;
+
+/// What a problem that is read stanza by stanza borrows besides the source: its first stanza,
+/// whose declarations may stand on several lines, and, where a later value does, the whole text.
+#[derive(Drop)]
+pub struct Room<'a> {
+    head: Stanza<'a>,
+    text: Text<'a>,
+}
+
+impl<'a> Room<'a> {
+    /// An empty room. Takes no memory.
+    pub fn new(alloc: Global) -> Self {
+        Room {
+            head: Stanza {
+                line: 0,
+                last: 0,
+                properties: Vec::new(alloc),
+            },
+            text: Text {
+                source: "",
+                stanzas: Vec::new(alloc),
+                fault: None,
+                lines: 0,
+            },
+        }
+    }
+}
+
+/// Reads a problem stanza by stanza: no text is held, unless a value behind the first stanza is
+/// joined of two texts. What the room held is dropped.
+///
+/// # Errors
+///
+/// The problem's first fault, of any kind but E1, or `Memory` where a growth is refused.
+pub fn problem_of<'t, 'a>(
+    alloc: Global,
+    stanzas: Stanzas<'a>,
+    room: &'t mut Room<'a>,
+) -> Result<Problem<'t>, ReadError>
+    // The problem has no fault,
+    ensures sound { IfOk result (λ _. problem_faults stanzas.entry.text ≡ []) }
+    // and this is what it says.
+    ensures problem { IfOk result (λ p. p ≡ plain_problem stanzas.entry.text) }
+    // The fault is the first of its faults.
+    ensures fault { IfErr result (IsFirstFault (problem_faults stanzas.entry.text)) }
+{
+    let Room { head, text } = room;
+    if let Some(problem) = problem_of_parts(alloc, stanzas.fork(), head)? {
+        return Ok(problem);
+    }
+    *text = stanzas.read_rest(alloc)?;
+    read_problem(alloc, text)
+}
+
+/// The problem, or `None` where a value that is to be kept is joined of two texts.
+#[tactic(auto, unfolding(crate::specs::Universe::plain_problem))]
+fn problem_of_parts<'h, 'a>(
+    alloc: Global,
+    stanzas: Stanzas<'a>,
+    head: &'h mut Stanza<'a>,
+) -> Result<Option<Problem<'h>>, ReadError>
+    ensures sound { IfOk result (λ r. IfSome r (λ _. problem_faults stanzas.entry.text ≡ [])) }
+    ensures problem { IfOk result (λ r. IfSome r (λ p. p ≡ plain_problem stanzas.entry.text)) }
+    ensures fault { IfErr result (IsFirstFault (problem_faults stanzas.entry.text)) }
+{
+    let (walk, parts): (Walk<'h, 'a>, Parts<'a>) = walk_all(alloc, stanzas, head)?;
+    if let Some(fault) = walk.first {
+        return Err(ReadError::Fault(fault));
+    }
+    if parts.joined {
+        return Ok(None);
+    }
+    let builder = parts.into_builder(walk);
+    Ok(Some(builder.into_problem(alloc)?))
+}

@@ -1,0 +1,369 @@
+//! The walk over a problem's stanzas, one at a time: their first fault, and what is kept of them.
+ghost use Rattle.std.specs.Prelude.{◌≡◌, ◌||◌, List, [], ◌∷◌, Some, max, option_map, option_copied, codes, find, IfOk, OnOk};
+ghost use Rattle.cudf_document.specs.Preamble.{declared};
+ghost use Rattle.cudf_text.specs.Stanzas.{PlainStanza, PlainText};
+ghost use Rattle.cudf_text.specs.Views.{stanza_view, property_view};
+ghost use Rattle.cudf_document.specs.Faults.{least};
+ghost use Rattle.cudf_document.specs.Documents.{value_of, has_name, marks_request};
+ghost use Rattle.cudf_document.specs.Ids.{id_with};
+ghost use Rattle.cudf_document.specs.Values.{name_value};
+ghost use Rattle.cudf_document.specs.ProblemFaults.{properties_faults};
+ghost use Rattle.cudf_document.specs.Working.Walks.{GoesOn, IsWhole};
+ghost use Rattle.cudf_document.specs.declared.postmark.Postmark.TheVariants.{Preamble as PreambleMark};
+
+use crate::declarations::Declarations;
+use crate::fault::{fault_if, lesser};
+use crate::ids::Ids;
+use crate::package_fields::source_name;
+use crate::postmark::{Postmark, postmark_of};
+use crate::preamble::read_preamble;
+use crate::problem_builder::{find_property, package_fault};
+use crate::problem_reader::place_fault;
+use crate::seen_names::SeenNames;
+use cudf_text::{Fault, Kind, Next, Property, Stanza, Stanzas};
+use std::alloc::{AllocError, Global};
+
+/// What is kept of a problem's stanzas on the walk.
+pub(crate) trait Kept<'a>: Sized + Drop {
+    ghost use Rattle.std.specs.Prelude.{◌≡◌, ◌++◌, ◌∷◌, [], List, Some, false, codes, IfOk, OnOk};
+    ghost use Rattle.cudf_text.specs.Stanzas.{PlainStanza};
+    ghost use Rattle.cudf_text.specs.Views.{stanza_view};
+    ghost use Rattle.cudf_document.specs.Faults.{least};
+    ghost use Rattle.cudf_document.specs.Documents.{postmark, value_of, is_package, is_request};
+    ghost use Rattle.cudf_document.specs.Preamble.{declared};
+    ghost use Rattle.cudf_document.specs.Values.{version_value};
+    ghost use Rattle.cudf_document.specs.ProblemFaults.{properties_faults};
+    ghost use Rattle.cudf_document.specs.declared.postmark.Postmark.TheVariants.{Package as PackageMark, Request as RequestMark};
+
+    // This was kept of the stanzas.
+    ghost IsKept: { List PlainStanza → Self → Type 0 };
+
+    fn new(alloc: Global) -> Self
+        ensures { IsKept [] result };
+
+    /// Keeps a package, and answers the first fault of its properties and its version.
+    fn take_package(
+        &mut self,
+        alloc: Global,
+        names: &mut SeenNames<'a>,
+        declarations: &Declarations<'_>,
+        stanza: &Stanza<'a>,
+    ) -> Result<(Option<Fault>, Option<u64>), AllocError>
+        ensures fault { IfOk result (λ r.
+            r.0
+            ≡ least (properties_faults declarations.now (Some PackageMark) (stanza_view stanza.now).properties)) }
+        ensures version { IfOk result (λ r.
+            r.1 ≡ value_of version_value (codes "version") (stanza_view stanza.now).properties) }
+        ensures kept { (before : List PlainStanza) →
+            postmark (stanza_view stanza.now) ≡ Some PackageMark →
+            declarations.now ≡ declared before →
+            IsKept before self.old →
+            OnOk result (IsKept (before ++ stanza_view stanza.now ∷ []) self.new) };
+
+    /// Keeps a request, and answers the first fault of its properties.
+    fn take_request(
+        &mut self,
+        alloc: Global,
+        names: &mut SeenNames<'a>,
+        stanza: &Stanza<'a>,
+    ) -> Result<Option<Fault>, AllocError>
+        ensures fault { IfOk result (λ fault.
+            fault ≡ least (properties_faults [] (Some RequestMark) (stanza_view stanza.now).properties)) }
+        ensures kept { (before : List PlainStanza) →
+            postmark (stanza_view stanza.now) ≡ Some RequestMark →
+            IsKept before self.old →
+            OnOk result (IsKept (before ++ stanza_view stanza.now ∷ []) self.new) };
+
+    /// Of any other stanza nothing is kept. (Does nothing: its contract is a law.)
+    fn pass(&self, stanza: &Stanza<'a>)
+        ensures { (before : List PlainStanza) →
+            is_package (stanza_view stanza.now) ≡ false →
+            is_request (stanza_view stanza.now) ≡ false →
+            IsKept before self.now →
+            IsKept (before ++ stanza_view stanza.now ∷ []) self.now };
+}
+
+/// Walks over all stanzas; the first one is held in `head`.
+pub(crate) fn walk_all<'h, 'a, K: Kept<'a>>(
+    alloc: Global,
+    stanzas: Stanzas<'a>,
+    head: &'h mut Stanza<'a>,
+) -> Result<(Walk<'h, 'a>, K), AllocError>
+    ensures { IfOk result (λ r. IsWhole (λ ss. K.IsKept ss r.1) r.0 stanzas.entry.text) }
+{
+    let mut stanzas = stanzas;
+    let mut kept = K::new(alloc);
+    match stanzas.next(alloc, &mut head.properties)? {
+        Next::End { fault, lines } => {
+            let mut walk: Walk<'h, 'a> = Walk::new(alloc);
+            walk.end(fault, lines);
+            Ok((walk, kept))
+        }
+        Next::Stanza { line, last } => {
+            head.line = line;
+            head.last = last;
+            let walk: Walk<'h, 'a> = Walk::start(alloc, &mut kept, head)?;
+            walk_on(alloc, walk, kept, stanzas)
+        }
+    }
+}
+
+/// Walks over the stanzas behind the first one.
+fn walk_on<'h, 'a, K: Kept<'a>>(
+    alloc: Global,
+    walk: Walk<'h, 'a>,
+    kept: K,
+    stanzas: Stanzas<'a>,
+) -> Result<(Walk<'h, 'a>, K), AllocError>
+    ensures { (text : PlainText) →
+        GoesOn (λ ss. K.IsKept ss kept) walk.entry stanzas.entry.text text →
+        IfOk result (λ r. IsWhole (λ ss. K.IsKept ss r.1) r.0 text) }
+{
+    let mut walk = walk;
+    let mut kept = kept;
+    let mut stanzas = stanzas;
+    let mut stanza = Stanza {
+        line: 0,
+        last: 0,
+        properties: Vec::new(alloc),
+    };
+    'stanzas: loop {
+        match stanzas.next(alloc, &mut stanza.properties)? {
+            Next::Stanza { line, last } => {
+                stanza.line = line;
+                stanza.last = last;
+                walk.take(alloc, &mut kept, false, &stanza)?;
+            }
+            Next::End { fault, lines } => {
+                walk.end(fault, lines);
+                return Ok((walk, kept));
+            }
+        }
+    }
+}
+
+/// The first fault of the stanzas so far, and what the faults of later ones rest on.
+#[derive(Drop)]
+pub(crate) struct Walk<'h, 'a> {
+    pub(crate) first: Option<Fault>,
+    /// What the first stanza declares.
+    pub(crate) declarations: Declarations<'h>,
+    pub(crate) ids: Ids<'a>,
+    /// Whether there was a request.
+    pub(crate) requested: bool,
+    pub(crate) names: SeenNames<'a>,
+}
+
+impl<'h, 'a> Walk<'h, 'a> {
+    ghost use Rattle.std.specs.Prelude.{◌≡◌, List, [], ◌∷◌, ◌++◌, not, max, IfOk, OnOk};
+    ghost use Rattle.cudf_text.specs.Stanzas.{PlainStanza};
+    ghost use Rattle.cudf_text.specs.Views.{stanza_view};
+    ghost use Rattle.cudf_text.specs.declared.fault.Kind.TheVariants.{E13};
+    ghost use Rattle.cudf_document.specs.Faults.{least, lesser, fault_if};
+    ghost use Rattle.cudf_document.specs.Ids.{with_id, id_under};
+    ghost use Rattle.cudf_document.specs.Working.ProblemBuilders.{package_faults};
+    ghost use Rattle.cudf_document.specs.Working.Walks.{IsKnown, judged_faults, judged_ids};
+    ghost use Rattle.cudf_document.specs.Documents.{is_empty, postmark};
+    ghost use Rattle.cudf_document.specs.Preamble.{declared};
+    ghost use Rattle.cudf_document.specs.declared.postmark.Postmark.TheVariants.{Package as PackageMark};
+
+    /// No stanza.
+    fn new(alloc: Global) -> Self
+        ensures known { IsKnown result [] }
+        ensures declared { result.declarations ≡ [] }
+    {
+        Walk {
+            first: None,
+            declarations: Declarations::new(alloc),
+            ids: Ids::new(alloc),
+            requested: false,
+            names: SeenNames::new(alloc),
+        }
+    }
+
+    /// The first stanza.
+    fn start<K: Kept<'a>>(
+        alloc: Global,
+        kept: &mut K,
+        head: &'h Stanza<'a>,
+    ) -> Result<Self, AllocError>
+        ensures known { IfOk result (λ k. IsKnown k (stanza_view head.now ∷ [])) }
+        ensures declared { IfOk result (λ k. k.declarations ≡ declared (stanza_view head.now ∷ [])) }
+        ensures kept { K.IsKept [] kept.old → OnOk result (K.IsKept (stanza_view head.now ∷ []) kept.new) }
+    {
+        let mut walk: Walk<'h, 'a> = Walk::new(alloc);
+        walk.take(alloc, kept, true, head)?;
+        declare(alloc, &mut walk.declarations, head)?;
+        Ok(walk)
+    }
+
+    /// Takes the next stanza; what it declares is left out.
+    fn take<K: Kept<'a>>(
+        &mut self,
+        alloc: Global,
+        kept: &mut K,
+        is_first: bool,
+        stanza: &Stanza<'a>,
+    ) -> Result<(), AllocError>
+        ensures known { (before : List PlainStanza) →
+            is_first ≡ is_empty before →
+            self.old.declarations ≡ declared before →
+            IsKnown self.old before →
+            OnOk result (IsKnown self.new (before ++ stanza_view stanza.now ∷ [])) }
+        ensures declarations { OnOk result (self.new.declarations ≡ self.old.declarations) }
+        ensures kept { (before : List PlainStanza) →
+            self.old.declarations ≡ declared before →
+            K.IsKept before kept.old →
+            OnOk result (K.IsKept (before ++ stanza_view stanza.now ∷ []) kept.new) }
+    {
+        let mark = postmark_of(stanza);
+        let place = place_fault(is_first, self.requested, mark, stanza.line);
+        let inside = self.judge(alloc, kept, mark, stanza)?;
+        self.first = lesser(self.first, place.or(inside));
+        self.requested = either(is_request(mark), self.requested);
+        Ok(())
+    }
+
+    /// The first fault inside a stanza; a package's name and version are added.
+    fn judge<K: Kept<'a>>(
+        &mut self,
+        alloc: Global,
+        kept: &mut K,
+        mark: Option<Postmark>,
+        stanza: &Stanza<'a>,
+    ) -> Result<Option<Fault>, AllocError>
+        ensures fault { IfOk result (λ fault.
+            fault ≡ least (judged_faults mark self.old.declarations self.old.ids (stanza_view stanza.now))) }
+        ensures ids { OnOk result (self.new.ids ≡ judged_ids mark self.old.ids (stanza_view stanza.now)) }
+        ensures declarations { OnOk result (self.new.declarations ≡ self.old.declarations) }
+        ensures requested { OnOk result (self.new.requested ≡ self.old.requested) }
+        ensures first { OnOk result (self.new.first ≡ self.old.first) }
+        ensures kept { (before : List PlainStanza) →
+            postmark (stanza_view stanza.now) ≡ mark →
+            self.old.declarations ≡ declared before →
+            K.IsKept before kept.old →
+            OnOk result (K.IsKept (before ++ stanza_view stanza.now ∷ []) kept.new) }
+    {
+        match mark {
+            Some(Postmark::Preamble) => {
+                kept.pass(stanza);
+                judge_preamble(alloc, stanza)
+            }
+            Some(Postmark::Package) => self.take_package(alloc, kept, stanza),
+            Some(Postmark::Request) => kept.take_request(alloc, &mut self.names, stanza),
+            None => {
+                kept.pass(stanza);
+                Ok(None)
+            }
+        }
+    }
+
+    /// Adds the name and version of a package, and answers the first fault inside it.
+    fn take_package<K: Kept<'a>>(
+        &mut self,
+        alloc: Global,
+        kept: &mut K,
+        stanza: &Stanza<'a>,
+    ) -> Result<Option<Fault>, AllocError>
+        ensures fault { IfOk result (λ fault.
+            fault ≡ least (package_faults self.old.declarations self.old.ids (stanza_view stanza.now))) }
+        ensures ids { OnOk result (self.new.ids
+            ≡ with_id self.old.ids (id_under (Some PackageMark) (stanza_view stanza.now).properties)) }
+        ensures declarations { OnOk result (self.new.declarations ≡ self.old.declarations) }
+        ensures requested { OnOk result (self.new.requested ≡ self.old.requested) }
+        ensures first { OnOk result (self.new.first ≡ self.old.first) }
+        ensures kept { (before : List PlainStanza) →
+            postmark (stanza_view stanza.now) ≡ Some PackageMark →
+            self.old.declarations ≡ declared before →
+            K.IsKept before kept.old →
+            OnOk result (K.IsKept (before ++ stanza_view stanza.now ∷ []) kept.new) }
+    {
+        let (fault, version) =
+            kept.take_package(alloc, &mut self.names, &self.declarations, stanza)?;
+        let id = both(package_name(stanza), version);
+        let is_repeated = self.ids.insert_some(id)?;
+        Ok(lesser(fault, package_fault(is_repeated, stanza)))
+    }
+
+    /// Takes the end of the text, with its first faulty line and the number of its lines.
+    fn end(&mut self, fault: Option<Fault>, lines: u64)
+        ensures first { self.new.first
+            ≡ lesser (lesser fault self.old.first) (least (fault_if (not self.old.requested) (max 1 lines) E13)) }
+        ensures declarations { self.new.declarations ≡ self.old.declarations }
+        ensures ids { self.new.ids ≡ self.old.ids }
+    {
+        let requestless = fault_if(!self.requested, at_least_one(lines), Kind::E13);
+        self.first = lesser(lesser(fault, self.first), requestless);
+    }
+}
+
+fn both<'a>(name: Option<&'a str>, version: Option<u64>) -> Option<(&'a str, u64)>
+    ensures { option_map (λ id. (id.0.now, id.1)) result ≡ id_with (option_copied name.entry) version }
+{
+    Some((name?, version?))
+}
+
+/// The name of a package, where its first `package` is one.
+fn package_name<'a>(stanza: &Stanza<'a>) -> Option<&'a str>
+    ensures { option_copied result ≡ value_of name_value (codes "package") (stanza_view stanza.now).properties }
+{
+    match first_named(stanza, "package") {
+        Some(property) => source_name(property),
+        None => None,
+    }
+}
+
+/// The first property of this name.
+fn first_named<'s, 'a>(stanza: &'s Stanza<'a>, name: &str) -> Option<&'s Property<'a>>
+    ensures { option_map (λ p. property_view p.now) result
+        ≡ find (has_name name.now) (stanza_view stanza.now).properties }
+{
+    find_property(&stanza.properties, name)
+}
+
+/// The first fault of the properties of a preamble.
+fn judge_preamble(alloc: Global, stanza: &Stanza<'_>) -> Result<Option<Fault>, AllocError>
+    ensures { IfOk result (λ fault.
+        fault ≡ least (properties_faults [] (Some PreambleMark) (stanza_view stanza.now).properties)) }
+{
+    let mut names = SeenNames::new(alloc);
+    let mut spare = Declarations::new(alloc);
+    read_preamble(alloc, &mut names, &mut spare, stanza)
+}
+
+fn is_request(mark: Option<Postmark>) -> bool
+    ensures { result ≡ marks_request mark }
+{
+    matches!(mark, Some(Postmark::Request))
+}
+
+fn either(one: bool, other: bool) -> bool
+    ensures { result ≡ (one || other) }
+{
+    one || other
+}
+
+/// Adds what the first stanza declares.
+fn declare<'h, 'a>(
+    alloc: Global,
+    declarations: &mut Declarations<'h>,
+    head: &'h Stanza<'a>,
+) -> Result<(), AllocError>
+    requires { declarations.old ≡ [] }
+    ensures { OnOk result (declarations.new ≡ declared (stanza_view head.now ∷ [])) }
+{
+    match postmark_of(head) {
+        Some(Postmark::Preamble) => {
+            let mut names = SeenNames::new(alloc);
+            let _fault = read_preamble(alloc, &mut names, declarations, head)?;
+            Ok(())
+        }
+        _ => Ok(()),
+    }
+}
+
+fn at_least_one(lines: u64) -> u64
+    ensures { result ≡ max 1 lines }
+{
+    lines.max(1)
+}
