@@ -186,8 +186,12 @@ where
     ensures version { IfOk result (λ r.
         r.1 ≡ value_of version_value (codes "version") (stanza_view stanza.now).properties) }
 {
-    let (fault, judged): (Option<Fault>, LintedPackage) =
-        read_properties(alloc, names, declarations, &stanza.properties)?;
+    let (fault, judged): (Option<Fault>, LintedPackage) = read_properties(
+        alloc,
+        names,
+        declarations,
+        &stanza.properties,
+    )?;
     Ok((fault, judged.version))
 }
 

@@ -166,10 +166,7 @@ pub(crate) fn read_source_request<'a>(
 }
 
 /// The first fault of the properties of a request.
-pub(crate) fn judge_request(
-    alloc: Global,
-    stanza: &Stanza<'_>,
-) -> Result<Option<Fault>, AllocError>
+pub(crate) fn judge_request(alloc: Global, stanza: &Stanza<'_>) -> Result<Option<Fault>, AllocError>
     ensures { IfOk result (λ fault.
         fault ≡ least (properties_faults [] (Some RequestMark) (stanza_view stanza.now).properties)) }
 {

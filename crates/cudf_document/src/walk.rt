@@ -278,8 +278,12 @@ impl<'h, 'a> Walk<'h, 'a> {
             K.IsKept before kept.old →
             OnOk result (K.IsKept (before ++ stanza_view stanza.now ∷ []) kept.new) }
     {
-        let (fault, version) =
-            kept.take_package(alloc, &mut self.names, &self.declarations, stanza)?;
+        let (fault, version) = kept.take_package(
+            alloc,
+            &mut self.names,
+            &self.declarations,
+            stanza,
+        )?;
         let id = both(package_name(stanza), version);
         let is_repeated = self.ids.insert_some(id)?;
         Ok(lesser(fault, package_fault(is_repeated, stanza)))
