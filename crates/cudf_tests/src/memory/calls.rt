@@ -2,7 +2,10 @@
 use super::{Answer, Refused, expect, made};
 use cudf_referee::{Key, Referee};
 use cudf_text::{Text, TextError, is_fail, read, stanzas};
-use cudf_universe::{Index, Problem, ReadError, first_fault, initial, read_problem, read_solution};
+use cudf_universe::{
+    Index, Problem, ReadError, Room, first_fault, initial, problem_of, read_problem, read_solution,
+    solution_of,
+};
 use cudf_value::{
     ValueType, fits, read_declarations, read_formula, read_veqpkglist, read_vpkg, read_vpkglist,
 };
@@ -76,6 +79,16 @@ fn reads_problem(alloc: Global) -> Answer {
     }
 }
 
+/// Reads a problem stanza by stanza.
+fn reads_stanzas(alloc: Global, problem: &[u8], packages: usize) -> Answer {
+    let mut room = Room::new(alloc);
+    match problem_of(alloc, made(stanzas(problem))?, &mut room) {
+        Ok(problem) => Ok(problem.packages().len() == packages),
+        Err(ReadError::Memory(_)) => Err(Refused::Here),
+        Err(ReadError::Fault(_)) => Ok(false),
+    }
+}
+
 fn finds_no_fault(alloc: Global) -> Answer {
     match first_fault(alloc, made(stanzas(PROBLEM))?) {
         Ok(fault) => Ok(fault.is_none()),
@@ -117,6 +130,17 @@ fn reads_proposed(alloc: Global, problem: &Problem<'_>, proposed: &Text<'_>) -> 
         return Ok(false);
     }
     match read_solution(alloc, proposed, problem) {
+        Ok(solution) => Ok(solution.status.holds(2) && solution.unknown.len() == 1),
+        Err(ReadError::Memory(_)) => Err(Refused::Here),
+        Err(ReadError::Fault(_)) => Ok(false),
+    }
+}
+
+/// Reads a solution stanza by stanza.
+fn reads_proposed_stanzas(alloc: Global) -> Answer {
+    let text = made(read(alloc, PROBLEM))?;
+    let problem = made(read_problem(alloc, &text))?;
+    match solution_of(alloc, made(stanzas(SOLUTION))?, &problem) {
         Ok(solution) => Ok(solution.status.holds(2) && solution.unknown.len() == 1),
         Err(ReadError::Memory(_)) => Err(Refused::Here),
         Err(ReadError::Fault(_)) => Ok(false),
@@ -209,6 +233,18 @@ fn problem(rt: HostRuntime) {
 }
 
 #[test]
+fn problem_of_stanzas(rt: HostRuntime) {
+    expect(&rt, reads_stanzas(rt.alloc(), PROBLEM, 2));
+}
+
+/// Values of it stand on several lines, so that its text is held.
+#[test]
+fn problem_of_joined_stanzas(rt: HostRuntime) {
+    let problem = b"package: a\nversion: 1\ndepends: b,\n c\n\nrequest: r\ninstall: a,\n b\n";
+    expect(&rt, reads_stanzas(rt.alloc(), problem, 1));
+}
+
+#[test]
 fn fault(rt: HostRuntime) {
     expect(&rt, finds_no_fault(rt.alloc()));
 }
@@ -226,6 +262,11 @@ fn index(rt: HostRuntime) {
 #[test]
 fn solution(rt: HostRuntime) {
     expect(&rt, reads_solution(rt.alloc()));
+}
+
+#[test]
+fn solution_of_stanzas(rt: HostRuntime) {
+    expect(&rt, reads_proposed_stanzas(rt.alloc()));
 }
 
 /// The referee alone, and then all that is asked of one, which takes no memory more.
