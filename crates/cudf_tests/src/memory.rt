@@ -1,5 +1,5 @@
 //! Each call that takes memory, on an input of its own, and those that take none. The tests pass with ample memory;
-//! `crosscheck/growths.py` runs each of them with each growth refused in turn, and reads from what they say whether it
+//! `crosscheck/refusals.py` runs each of them with each growth refused in turn, and reads from what they say whether it
 //! was refused in the call or before it.
 
 mod calls;

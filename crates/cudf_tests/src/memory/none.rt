@@ -1,4 +1,4 @@
-//! The calls that take no memory: `crosscheck/growths.py` runs these tests with every growth refused.
+//! The calls that take no memory: `crosscheck/refusals.py` runs these tests with every growth refused.
 use cudf_check::{Device, Outcome, RunError};
 use cudf_referee::{Aspect, Key, Part, Rule};
 use cudf_text::{Fault, Kind, TextError, cut_joined, is_fail, read};
