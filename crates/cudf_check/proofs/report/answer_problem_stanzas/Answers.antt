@@ -16,8 +16,8 @@ returns-in-Ok g c =
     ∙ ap (λ faults. faulty_or (codes "problem") (least faults) (solution_report (found_text c.args.found) (plain_problem text) solution)) (sym c.in-Ok.ensures.sound))
     c.answer_solution.ensures
 
-pub returns-in-Err : goal.returns-in-Err
-returns-in-Err g c =
+pub returns : goal.returns
+returns g c =
     let text = c.args.stanzas.text in
     let report = solution_report (found_text c.args.found) (plain_problem text) c.args.solution.now in
     c.answer_refusal.ensures (faulty_or (codes "problem") (least (problem_faults text)) report)
