@@ -22,13 +22,13 @@ use Rattle.std.proofs.lemmas.List.{append_assoc, append-nil}
 use Rattle.cudf_document.specs.Documents.{is_empty, with_earlier, postmark, is_request, marks_request}
 use Rattle.cudf_document.specs.Ids.{is_id, id_of}
 use Rattle.cudf_document.specs.Preamble.{declared}
-use Rattle.cudf_document.specs.ProblemFaults.{place_faults, stanza_faults, problem_faults}
+use Rattle.cudf_document.specs.ProblemFaults.{place_faults, stanza_faults}
 use Rattle.cudf_document.specs.Universe.{package_id, packages_in, request_in}
 use Rattle.cudf_document.specs.Values.{name_value}
 use Rattle.cudf_document.specs.Working.ProblemBuilders.{PlainBuilder, with_stanza, faults_inside, IsBuilt, first_ids}
 use Rattle.cudf_document.specs.Working.Walks.{IsKnown, GoesOn, IsWhole, judged_faults, judged_ids}
 use Rattle.cudf_document.proofs.ListLemmas.{or_false, is_empty-push}
-use Rattle.cudf_document.proofs.FaultLemmas.{faults-next, lesser-none}
+use Rattle.cudf_document.proofs.FaultLemmas.{faults-next}
 use Rattle.cudf_document.proofs.BuilderLemmas.{problem_least, requested_is, stanza_least, IsBuilt-next, listed_next}
 
 -- ---- a joined value is no name

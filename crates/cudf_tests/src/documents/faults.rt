@@ -192,11 +192,7 @@ const FAULTS: [FaultRow<'static>; 46] = [
         7,
         Kind::E11,
     ),
-    (
-        "package: a\nversion: 1\n 2\n\nrequest:\n",
-        2,
-        Kind::E9,
-    ),
+    ("package: a\nversion: 1\n 2\n\nrequest:\n", 2, Kind::E9),
     (
         "package: a\n b\nversion: 1\ndepends: c\ndepends: c,\n d\n\nrequest:\n",
         1,

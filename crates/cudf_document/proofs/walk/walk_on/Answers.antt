@@ -1,4 +1,4 @@
-use Rattle.std.proofs.Common.{◌∙◌, refl, ap, map}
+use Rattle.std.proofs.Common.{◌∙◌, ap, map}
 use Rattle.cudf_text.specs.Cursor.{Left, with_next}
 use Rattle.cudf_text.specs.Stanzas.{PlainStanza}
 use Rattle.cudf_text.specs.Views.{property_view}

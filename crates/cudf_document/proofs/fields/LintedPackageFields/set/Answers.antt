@@ -1,4 +1,4 @@
-use Rattle.std.proofs.Common.{sym, ap, codes, ◌∙◌}
+use Rattle.std.proofs.Common.{sym, codes, ◌∙◌}
 use Rattle.cudf_document.specs.Working.Lines.{line_view}
 use Rattle.cudf_document.specs.Values.{version_value}
 use Rattle.cudf_document.proofs.PackageLemmas.{value_first, value_kept}
