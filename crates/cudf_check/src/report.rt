@@ -10,6 +10,7 @@ ghost use Rattle.cudf_check.specs.Working.Found.{found_text};
 ghost use Rattle.cudf_check.specs.Working.Refusals.{IsReportOf};
 
 use crate::device::Sink;
+use crate::ending::Ending;
 use crate::job::Job;
 use crate::lines::{Found, answer, answer_fault, answer_judged};
 use crate::outcome::{Outcome, RunError};
@@ -36,6 +37,7 @@ fn answer_refusal<W: Sink>(
 
 /// Judges what a solution proposes.
 fn answer_proposal<W: Sink>(
+    ending: Ending,
     alloc: Global,
     out: &mut W,
     found: Found,
@@ -49,7 +51,9 @@ fn answer_proposal<W: Sink>(
     match Referee::new(alloc, problem, solution) {
         Ok(referee) => {
             ascending();
-            answer_judged(alloc, out, problem.packages(), &referee, found)
+            let answer = answer_judged(alloc, out, problem.packages(), &referee, found);
+            ending.end(referee);
+            answer
         }
         Err(_) => Err(RunError::Memory),
     }
@@ -57,6 +61,7 @@ fn answer_proposal<W: Sink>(
 
 /// Reads a solution that doesn't say FAIL, and judges it.
 fn answer_solution_stanzas<W: Sink>(
+    ending: Ending,
     alloc: Global,
     out: &mut W,
     found: Found,
@@ -66,13 +71,18 @@ fn answer_solution_stanzas<W: Sink>(
     ensures { Answers (W.state out.old) (W.state out.new) (solution_text_report (found_text found) problem.now stanzas.entry.text) result }
 {
     match solution_of(alloc, stanzas, problem) {
-        Ok(solution) => answer_proposal(alloc, out, found, problem, &solution),
+        Ok(solution) => {
+            let answer = answer_proposal(ending, alloc, out, found, problem, &solution);
+            ending.end(solution);
+            answer
+        }
         Err(error) => answer_refusal(alloc, out, "solution", error),
     }
 }
 
 /// Answers a solution beside a problem without fault.
 fn answer_solution<W: Sink>(
+    ending: Ending,
     alloc: Global,
     out: &mut W,
     found: Found,
@@ -86,7 +96,7 @@ fn answer_solution<W: Sink>(
             if is_fail(source) {
                 return answer(alloc, out, &["solution FAIL", "\n"], Outcome::Fail);
             }
-            answer_solution_stanzas(alloc, out, found, problem, Stanzas::new(source))
+            answer_solution_stanzas(ending, alloc, out, found, problem, Stanzas::new(source))
         }
         Err(fault) => answer_fault(alloc, out, "solution", fault),
     }
@@ -94,6 +104,7 @@ fn answer_solution<W: Sink>(
 
 /// Reads a problem, and then its solution.
 fn answer_problem_stanzas<W: Sink>(
+    ending: Ending,
     alloc: Global,
     out: &mut W,
     found: Found,
@@ -104,13 +115,18 @@ fn answer_problem_stanzas<W: Sink>(
 {
     let mut room = Room::new(alloc);
     match problem_of(alloc, stanzas, &mut room) {
-        Ok(problem) => answer_solution(alloc, out, found, &problem, solution),
+        Ok(problem) => {
+            let answer = answer_solution(ending, alloc, out, found, &problem, solution);
+            ending.end(problem);
+            answer
+        }
         Err(error) => answer_refusal(alloc, out, "problem", error),
     }
 }
 
 /// Judges a solution of a problem.
 fn check<W: Sink>(
+    ending: Ending,
     alloc: Global,
     out: &mut W,
     found: Found,
@@ -120,7 +136,7 @@ fn check<W: Sink>(
     ensures { Answers (W.state out.old) (W.state out.new) (pair_report (found_text found) problem.now solution.now) result }
 {
     match stanzas(problem) {
-        Ok(stanzas) => answer_problem_stanzas(alloc, out, found, stanzas, solution),
+        Ok(stanzas) => answer_problem_stanzas(ending, alloc, out, found, stanzas, solution),
         Err(fault) => answer_fault(alloc, out, "problem", fault),
     }
 }
@@ -166,6 +182,7 @@ fn lint<W: Sink>(alloc: Global, out: &mut W, problem: &[u8]) -> Result<Outcome, 
 /// Judges a solution of a problem. The second input is the solution; where there is none, the first
 /// is cut.
 fn check_inputs<W: Sink>(
+    ending: Ending,
     alloc: Global,
     out: &mut W,
     found: Found,
@@ -175,10 +192,10 @@ fn check_inputs<W: Sink>(
     ensures { Answers (W.state out.old) (W.state out.new) (inputs_report (found_text found) input.now (option_copied solution.entry)) result }
 {
     match solution {
-        Some(solution) => check(alloc, out, found, input, solution),
+        Some(solution) => check(ending, alloc, out, found, input, solution),
         None => {
             let (problem, solution) = cut_joined(input);
-            check(alloc, out, found, problem, solution)
+            check(ending, alloc, out, found, problem, solution)
         }
     }
 }
@@ -186,6 +203,7 @@ fn check_inputs<W: Sink>(
 /// Answers a job on its inputs.
 #[tactic(auto, unfolding(crate::specs::Report::report))]
 pub(crate) fn answer_job<W: Sink>(
+    ending: Ending,
     alloc: Global,
     job: &Job,
     input: &[u8],
@@ -201,8 +219,8 @@ pub(crate) fn answer_job<W: Sink>(
                 after: *after,
                 limit: *limit,
             };
-            check_inputs(alloc, out, found, input, solution)
+            check_inputs(ending, alloc, out, found, input, solution)
         }
-        Job::Score => check_inputs(alloc, out, Found::Score, input, solution),
+        Job::Score => check_inputs(ending, alloc, out, Found::Score, input, solution),
     }
 }

@@ -10,7 +10,7 @@ use crate::counting::count;
 use crate::criteria::Criteria;
 use crate::instance::{Instance, What};
 use crate::key::{Key, Part};
-use cudf_universe::{Index, Problem, Solution, initial};
+use cudf_universe::{GreatestNumbers, Index, Problem, Solution, initial};
 pub use instances::Instances;
 use std::alloc::{AllocError, Global};
 use std::marker::Model;
@@ -21,7 +21,7 @@ pub struct Referee<'p, 't> {
     problem: &'p Problem<'t>,
     solution: &'p Solution<'t>,
     now: Index<'p, 't>,
-    before: Index<'p, 't>,
+    before: GreatestNumbers<'p, 't>,
     /// For each package, whether the proposed status has one of its name.
     named: Vec<bool>,
     verdict: bool,
@@ -110,7 +110,7 @@ impl<'p, 't> Referee<'p, 't> {
             (map unknown_view solution.now.unknown.items)) }
     {
         let was_installed = initial(alloc, problem)?;
-        let before = Index::build(alloc, problem, &was_installed)?;
+        let before = GreatestNumbers::build(alloc, problem, &was_installed)?;
         let now = Index::build(alloc, problem, &solution.status)?;
         let named = named_in(alloc, problem, &now)?;
         let criteria = count(alloc, problem, &was_installed, &solution.status, &now)?;

@@ -23,7 +23,7 @@ mod upgrade;
 
 use crate::instance::Instance;
 use crate::key::{Key, Part};
-use cudf_universe::{Metered, Steps};
+use cudf_universe::{Metered, MeteredNumbers, Steps};
 pub(crate) use ground::Ground;
 use packages::{search_keyed, search_packages};
 use request::search_request;
@@ -33,7 +33,7 @@ use unknown::search_unknown;
 /// behind this many others.
 fn search_last<'p, 't>(
     now: &mut Metered<'_, '_, '_>,
-    before: &mut Metered<'_, '_, '_>,
+    before: &mut MeteredNumbers<'_, '_, '_>,
     steps: &mut Steps,
     ground: Ground<'_, 'p, 't>,
     key: Option<Key>,
@@ -56,7 +56,7 @@ fn search_last<'p, 't>(
 /// The first instance behind the package at this place, or of all where it is 0.
 fn search_from<'p, 't>(
     now: &mut Metered<'_, '_, '_>,
-    before: &mut Metered<'_, '_, '_>,
+    before: &mut MeteredNumbers<'_, '_, '_>,
     steps: &mut Steps,
     ground: Ground<'_, 'p, 't>,
     place: u64,
@@ -81,7 +81,7 @@ fn search_from<'p, 't>(
 /// as `unknown` says lie behind: none, where the key is of a package or the request.
 pub(crate) fn search<'p, 't>(
     now: &mut Metered<'_, '_, '_>,
-    before: &mut Metered<'_, '_, '_>,
+    before: &mut MeteredNumbers<'_, '_, '_>,
     steps: &mut Steps,
     ground: Ground<'_, 'p, 't>,
     key: Option<Key>,

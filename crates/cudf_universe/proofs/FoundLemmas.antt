@@ -61,10 +61,10 @@ row_push test (k' ∷ ks) (r' ∷ rs) k r same none = by (test k') (row_push tes
     by true rest = refl
     by false rest = rest
 
-same_text : (a b : List ℕ) → bytes_eq a b ≡ true → a ≡ b
+pub same_text : (a b : List ℕ) → bytes_eq a b ≡ true → a ≡ b
 same_text a b e = (bytes_eq-Decides a b).0 e
 
-text_same : (a b : List ℕ) → a ≡ b → bytes_eq a b ≡ true
+pub text_same : (a b : List ℕ) → a ≡ b → bytes_eq a b ≡ true
 text_same a b e = (bytes_eq-Decides a b).1 e
 
 -- one provision more in the row of a name

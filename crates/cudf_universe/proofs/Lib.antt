@@ -10,5 +10,6 @@ pub mod FirstLemmas
 pub mod TreeLemmas
 pub mod PriceLemmas
 pub mod SearchedLemmas
+pub mod GreatestLemmas
 mod SatisfactionExamples
 mod PriceExamples

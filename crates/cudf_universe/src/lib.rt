@@ -2,6 +2,7 @@
 //! from `cudf_document`.
 #![tactic(auto)]
 
+mod greatest;
 mod index;
 pub mod laws;
 mod steps;
@@ -10,6 +11,7 @@ pub use cudf_document::{
     Keep, Package, Problem, ReadError, Request, Room, Solution, Status, Unknown, first_fault,
     initial, problem_of, read_problem, read_solution, solution_of,
 };
+pub use greatest::{GreatestNumbers, MeteredNumbers};
 pub use index::Index;
 pub use index::metered::Metered;
 pub use steps::Steps;

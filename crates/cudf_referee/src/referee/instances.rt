@@ -17,7 +17,7 @@ use crate::instance::Instance;
 use crate::key::Key;
 use crate::position::{Position, first_unknown_behind, next_place, position_behind};
 use crate::walk::{self, Ground};
-use cudf_universe::{Index, Metered, Problem, Solution, Steps};
+use cudf_universe::{GreatestNumbers, Index, Metered, MeteredNumbers, Problem, Solution, Steps};
 use std::marker::Model;
 
 /// The walk over the violated instances, in key order. It holds none of them: each call of `next`
@@ -29,7 +29,7 @@ pub struct Instances<'r, 'p, 't> {
     problem: &'p Problem<'t>,
     solution: &'p Solution<'t>,
     now: Metered<'r, 'p, 't>,
-    before: Metered<'r, 'p, 't>,
+    before: MeteredNumbers<'r, 'p, 't>,
     /// For each package, whether the proposed status has one of its name.
     named: &'r [bool],
     position: Position,
@@ -68,7 +68,7 @@ impl<'r, 'p, 't> Instances<'r, 'p, 't> {
         problem: &'p Problem<'t>,
         solution: &'p Solution<'t>,
         now: &'r Index<'p, 't>,
-        before: &'r Index<'p, 't>,
+        before: &'r GreatestNumbers<'p, 't>,
         named: &'r [bool],
     ) -> Self
         requires { Agrees problem.now (set.contains solution.now.status) before.now now.now named.now (map unknown_view solution.now.unknown.items) }
@@ -127,7 +127,7 @@ fn search_behind<'p, 't>(
     solution: &'p Solution<'t>,
     named: &[bool],
     now: &mut Metered<'_, '_, '_>,
-    before: &mut Metered<'_, '_, '_>,
+    before: &mut MeteredNumbers<'_, '_, '_>,
     steps: &mut Steps,
     key: Option<Key>,
     unknown: usize,
@@ -154,7 +154,7 @@ fn search<'p, 't>(
     solution: &'p Solution<'t>,
     named: &[bool],
     now: &mut Metered<'_, '_, '_>,
-    before: &mut Metered<'_, '_, '_>,
+    before: &mut MeteredNumbers<'_, '_, '_>,
     steps: &mut Steps,
     position: Position,
     unknown: usize,

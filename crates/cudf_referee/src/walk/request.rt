@@ -13,12 +13,12 @@ use crate::walk::install::search_install;
 use crate::walk::left::passed;
 use crate::walk::remove::search_remove;
 use crate::walk::upgrade::search_upgrade;
-use cudf_universe::{Metered, Request, Steps};
+use cudf_universe::{Metered, MeteredNumbers, Request, Steps};
 
 /// The first instance of the request behind a key of it, or behind none.
 pub(super) fn search_request<'p, 't>(
     now: &mut Metered<'_, '_, '_>,
-    before: &mut Metered<'_, '_, '_>,
+    before: &mut MeteredNumbers<'_, '_, '_>,
     steps: &mut Steps,
     request: &'p Request<'t>,
     key: Option<Key>,

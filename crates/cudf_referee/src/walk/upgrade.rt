@@ -16,7 +16,7 @@ ghost use Rattle.cudf_referee.specs.Working.Searches.{Finds, aspects_left};
 use crate::instance::{Instance, What};
 use crate::key::{Aspect, Key, Rule};
 use crate::walk::left::comes_before;
-use cudf_universe::{Metered, Request, Steps};
+use cudf_universe::{Metered, MeteredNumbers, Request, Steps};
 use cudf_value::Vpkg;
 
 /// Whether the status gives two different numbers of the name.
@@ -32,7 +32,7 @@ fn has_many(now: &mut Metered<'_, '_, '_>, name: &str) -> bool
 }
 
 /// Whether the status gives a number of the name below one that was given before.
-fn has_lower(now: &mut Metered<'_, '_, '_>, before: &mut Metered<'_, '_, '_>, name: &str) -> bool
+fn has_lower(now: &mut Metered<'_, '_, '_>, before: &mut MeteredNumbers<'_, '_, '_>, name: &str) -> bool
     ensures answer { result ≡ are_lower (numbers_of name.now before.old.status) (numbers_of name.now now.old.status) }
     ensures now { now.new.status ≡ now.old.status }
     ensures before { before.new.status ≡ before.old.status }
@@ -47,7 +47,7 @@ fn has_lower(now: &mut Metered<'_, '_, '_>, before: &mut Metered<'_, '_, '_>, na
 /// Whether an aspect of an entry is violated.
 fn is_violated(
     now: &mut Metered<'_, '_, '_>,
-    before: &mut Metered<'_, '_, '_>,
+    before: &mut MeteredNumbers<'_, '_, '_>,
     vpkg: &Vpkg<'_>,
     aspect: Aspect,
 ) -> bool
@@ -67,7 +67,7 @@ fn is_violated(
 /// The instance of an aspect of an entry, if it is violated.
 fn judge<'p, 't>(
     now: &mut Metered<'_, '_, '_>,
-    before: &mut Metered<'_, '_, '_>,
+    before: &mut MeteredNumbers<'_, '_, '_>,
     steps: &mut Steps,
     request: &'p Request<'t>,
     entry: u64,
@@ -104,7 +104,7 @@ fn later_aspects(after: Option<Aspect>) -> &'static [Aspect]
 /// The first violated one of these aspects of an entry.
 fn search_aspects<'p, 't>(
     now: &mut Metered<'_, '_, '_>,
-    before: &mut Metered<'_, '_, '_>,
+    before: &mut MeteredNumbers<'_, '_, '_>,
     steps: &mut Steps,
     request: &'p Request<'t>,
     entry: u64,
@@ -129,7 +129,7 @@ fn search_aspects<'p, 't>(
 /// The first violated aspect of the entries behind the first ones.
 fn search_entries<'p, 't>(
     now: &mut Metered<'_, '_, '_>,
-    before: &mut Metered<'_, '_, '_>,
+    before: &mut MeteredNumbers<'_, '_, '_>,
     steps: &mut Steps,
     request: &'p Request<'t>,
     first: usize,
@@ -155,7 +155,7 @@ fn search_entries<'p, 't>(
 /// The first violated aspect of one entry, behind this many others, that comes after an aspect.
 fn search_entry<'p, 't>(
     now: &mut Metered<'_, '_, '_>,
-    before: &mut Metered<'_, '_, '_>,
+    before: &mut MeteredNumbers<'_, '_, '_>,
     steps: &mut Steps,
     request: &'p Request<'t>,
     index: usize,
@@ -180,7 +180,7 @@ fn search_entry<'p, 't>(
 /// The first violated aspect behind a key of `upgrade`.
 fn search_behind<'p, 't>(
     now: &mut Metered<'_, '_, '_>,
-    before: &mut Metered<'_, '_, '_>,
+    before: &mut MeteredNumbers<'_, '_, '_>,
     steps: &mut Steps,
     request: &'p Request<'t>,
     key: Key,
@@ -203,7 +203,7 @@ fn search_behind<'p, 't>(
 /// The first violated aspect behind a key of the request, or behind none.
 pub(super) fn search_upgrade<'p, 't>(
     now: &mut Metered<'_, '_, '_>,
-    before: &mut Metered<'_, '_, '_>,
+    before: &mut MeteredNumbers<'_, '_, '_>,
     steps: &mut Steps,
     request: &'p Request<'t>,
     key: Option<Key>,

@@ -1,0 +1,24 @@
+-- The greatest number of each name, as it is gathered (own).
+use Rattle.std.specs.Prelude.{ℕ, max, List, [], ◌∷◌, bytes_eq, filter_map, Option, Some, None, if◌then◌else◌}
+use Rattle.cudf_value.specs.Vpkgs.{PlainVpkg}
+use Rattle.cudf_universe.specs.Satisfaction.{Pair, entry_pair}
+use Rattle.cudf_universe.specs.Working.Kept.{found}
+use Rattle.cudf_universe.specs.declared.greatest.NumberedNames.{NumberedNames}
+
+-- the number that is kept of a name
+abbrev pub kept_greatest : List ℕ → NumberedNames → Option ℕ
+kept_greatest f kept = found (λ k. bytes_eq f k.now) kept.names.keys kept.numbers.items
+
+-- the greatest with one number more
+abbrev pub with_number : Option ℕ → ℕ → Option ℕ
+with_number None n = Some n
+with_number (Some m) n = Some (max m n)
+
+-- the greatest of a name, with the numbers of that name in more pairs
+unfoldable pub with_pairs : List ℕ → List Pair → Option ℕ → Option ℕ
+with_pairs f [] greatest = greatest
+with_pairs f (pair ∷ pairs) greatest = with_pairs f pairs (if bytes_eq pair.0 f then with_number greatest pair.1 else greatest)
+
+-- the same, with the entries of a package's `provides`
+abbrev pub with_entries : List ℕ → List PlainVpkg → Option ℕ → Option ℕ
+with_entries f entries greatest = with_pairs f (filter_map entry_pair entries) greatest
