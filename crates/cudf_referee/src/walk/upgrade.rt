@@ -32,7 +32,11 @@ fn has_many(now: &mut Metered<'_, '_, '_>, name: &str) -> bool
 }
 
 /// Whether the status gives a number of the name below one that was given before.
-fn has_lower(now: &mut Metered<'_, '_, '_>, before: &mut MeteredNumbers<'_, '_, '_>, name: &str) -> bool
+fn has_lower(
+    now: &mut Metered<'_, '_, '_>,
+    before: &mut MeteredNumbers<'_, '_, '_>,
+    name: &str,
+) -> bool
     ensures answer { result ≡ are_lower (numbers_of name.now before.old.status) (numbers_of name.now now.old.status) }
     ensures now { now.new.status ≡ now.old.status }
     ensures before { before.new.status ≡ before.old.status }

@@ -3,8 +3,8 @@ use super::{Answer, Refused, expect, made};
 use cudf_referee::{Key, Referee};
 use cudf_text::{Text, TextError, is_fail, read, stanzas};
 use cudf_universe::{
-    Index, Problem, ReadError, Room, first_fault, initial, problem_of, read_problem, read_solution,
-    solution_of,
+    GreatestNumbers, Index, Problem, ReadError, Room, first_fault, initial, problem_of,
+    read_problem, read_solution, solution_of,
 };
 use cudf_value::{
     ValueType, fits, read_declarations, read_formula, read_veqpkglist, read_vpkg, read_vpkglist,
@@ -114,6 +114,16 @@ fn builds_index(alloc: Global) -> Answer {
             (index.least("g"), index.greatest("g")) == (Some(1), Some(2))
                 && read_vpkg("e = 7").is_some_and(|vpkg| index.satisfies(&vpkg)),
         ),
+        Err(_) => Err(Refused::Here),
+    }
+}
+
+fn builds_greatest_numbers(alloc: Global) -> Answer {
+    let text = made(read(alloc, PROBLEM))?;
+    let problem = made(read_problem(alloc, &text))?;
+    let status = made(initial(alloc, &problem))?;
+    match GreatestNumbers::build(alloc, &problem, &status) {
+        Ok(numbers) => Ok((numbers.greatest("g"), numbers.greatest("e")) == (Some(2), None)),
         Err(_) => Err(Refused::Here),
     }
 }
@@ -257,6 +267,11 @@ fn initial_status(rt: HostRuntime) {
 #[test]
 fn index(rt: HostRuntime) {
     expect(&rt, builds_index(rt.alloc()));
+}
+
+#[test]
+fn greatest_numbers(rt: HostRuntime) {
+    expect(&rt, builds_greatest_numbers(rt.alloc()));
 }
 
 #[test]
