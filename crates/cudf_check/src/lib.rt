@@ -51,7 +51,10 @@ pub fn run<R: Source, S: Source, W: Sink>(
     // Where the solution isn't read, it is returned as it was lent.
     ensures unread { SkipsSolution job.now (change R.state input.old input.new) → returned solution.exit ≡ lent solution.entry }
 {
-    run_to(Ending::GivesBack, alloc, job, input, solution, out)
+    match solution {
+        Some(solution) => run_two(Ending::GivesBack, alloc, job, input, solution, out),
+        None => run_one(Ending::GivesBack, alloc, job, input, out),
+    }
 }
 
 /// As `run`, for a program that ends behind it: what the run held is left to the end of the process,
@@ -74,26 +77,9 @@ pub fn run_before_exit<R: Source, S: Source, W: Sink>(
     // Where the solution isn't read, it is returned as it was lent.
     ensures unread { SkipsSolution job.now (change R.state input.old input.new) → returned solution.exit ≡ lent solution.entry }
 {
-    run_to(Ending::Leaves, alloc, job, input, solution, out)
-}
-
-/// The run, to this end of what it holds.
-fn run_to<R: Source, S: Source, W: Sink>(
-    ending: Ending,
-    alloc: Global,
-    job: &Job,
-    input: &mut R,
-    solution: Option<&mut S>,
-    out: &mut W,
-) -> Result<Outcome, RunError>
-    ensures runs { Runs job.now (change R.state input.old input.new)
-        (change_of_lent S.state (lent solution.entry) (returned solution.exit))
-        (change W.state out.old out.new) result }
-    ensures unread { SkipsSolution job.now (change R.state input.old input.new) → returned solution.exit ≡ lent solution.entry }
-{
     match solution {
-        Some(solution) => run_two(ending, alloc, job, input, solution, out),
-        None => run_one(ending, alloc, job, input, out),
+        Some(solution) => run_two(Ending::Leaves, alloc, job, input, solution, out),
+        None => run_one(Ending::Leaves, alloc, job, input, out),
     }
 }
 

@@ -1,5 +1,5 @@
 use Rattle.std.proofs.Common.{Some, ap}
-use Rattle.cudf_check.proofs.run_to.Goals as goal
+use Rattle.cudf_check.proofs.run.Goals as goal
 
 pub returns-in-Some-clause-runs : goal.returns-in-Some-clause-runs
 returns-in-Some-clause-runs g c = rw c.in-Some.is c.run_two.ensures.runs
