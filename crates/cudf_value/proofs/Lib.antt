@@ -1,4 +1,4 @@
-mod AtomLemmas
+pub mod AtomLemmas
 mod ClassLemmas
 mod Examples
 pub mod Boundary

@@ -1,2 +1,3 @@
+pub mod Atoms
 pub mod Classes
 pub mod Rests

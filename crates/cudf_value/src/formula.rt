@@ -1,13 +1,14 @@
 //! The type `vpkgformula`.
-ghost use Rattle.std.specs.Prelude.{◌≡◌, option_map, option_copied, is_some, [], ◌∷◌, ◌++◌, ◌<◌, length, position, slice_index, IfSome, IfOk, OnOk};
+ghost use Rattle.std.specs.Prelude.{◌≡◌, option_map, is_some, ◌∷◌, ◌++◌, [], ◌<◌, length, IfSome, IfOk, OnOk};
 ghost use Rattle.std.specs.Str.{byte};
 ghost use Rattle.cudf_text.specs.Chars.{trim};
 ghost use Rattle.cudf_value.specs.Parts.{read_parts};
-ghost use Rattle.cudf_value.specs.Formulas.{atom_view, clause_view, formula_view, atom_part, clause, formula};
-ghost use Rattle.cudf_value.specs.Working.Rests.{ends_atom, atoms, atoms_after};
+ghost use Rattle.cudf_value.specs.Formulas.{formula_view, clause, formula};
+ghost use Rattle.cudf_value.specs.Working.Atoms.{with_clauses};
 
-use crate::text::{after, before, cut, room_for};
-use crate::vpkg::{Vpkg, vpkg_of};
+use crate::atom::{AtomEnd, first_atom};
+use crate::text::room_for;
+use crate::vpkg::Vpkg;
 use cudf_text::trim;
 use std::alloc::{AllocError, Global};
 
@@ -68,11 +69,11 @@ fn clauses_of(alloc: Global, text: &str) -> Result<Option<Formula<'_>>, AllocErr
     let mut clauses = Vec::with_capacity(alloc, room_for(text))?;
     let mut rest = text;
     loop {
-        let (part, next) = cut(rest, b',');
-        match clause_of(alloc, part)? {
-            Some(clause) => clauses.push(clause)?,
-            None => return Ok(None),
-        }
+        let Some(first) = first_clause(alloc, rest)? else {
+            return Ok(None);
+        };
+        let next = first.rest;
+        clauses.push(first.clause)?;
         match next {
             Some(more) => rest = more,
             None => {
@@ -83,21 +84,40 @@ fn clauses_of(alloc: Global, text: &str) -> Result<Option<Formula<'_>>, AllocErr
     }
 }
 
-/// The clause of the atoms between `|`.
-fn clause_of(alloc: Global, text: &str) -> Result<Option<Clause<'_>>, AllocError>
-    ensures { IfOk result (λ r. option_map clause_view r ≡ clause text.now) }
+/// A clause, and what stands after its comma, if there is one.
+#[derive(Drop)]
+pub(crate) struct FirstClause<'t> {
+    clause: Clause<'t>,
+    rest: Option<&'t str>,
+}
+
+/// The clause of the atoms up to the first comma.
+fn first_clause(alloc: Global, text: &str) -> Result<Option<FirstClause<'_>>, AllocError>
+    ensures clauses { IfOk result (λ r. read_parts (byte ",") clause text.now ≡ with_clauses r) }
+    ensures shorter { IfOk result (λ r. IfSome r (λ first. IfSome first.rest (λ more. length more.now < length text.now))) }
 {
     let mut atoms = Vec::with_capacity(alloc, 1)?;
     let mut rest = text;
     loop {
-        let (part, next) = cut(rest, b'|');
-        match atom_of(part) {
+        let (atom, end) = first_atom(rest);
+        match atom {
             Some(atom) => push_atom(&mut atoms, atom)?,
             None => return Ok(None),
         }
-        match next {
-            Some(more) => rest = more,
-            None => return Ok(Some(Clause { atoms })),
+        match end {
+            AtomEnd::Bar(more) => rest = more,
+            AtomEnd::Comma(more) => {
+                return Ok(Some(FirstClause {
+                    rest: Some(more),
+                    clause: Clause { atoms },
+                }));
+            }
+            AtomEnd::Text => {
+                return Ok(Some(FirstClause {
+                    rest: None,
+                    clause: Clause { atoms },
+                }));
+            }
         }
     }
 }
@@ -133,42 +153,13 @@ fn are_atoms(text: &str) -> bool
 {
     let mut rest = text;
     'atoms: loop {
-        let (part, next) = cut_atom(rest);
-        if atom_of(part).is_none() {
+        let (atom, end) = first_atom(rest);
+        if atom.is_none() {
             return false;
         }
-        match next {
+        match end.rest() {
             Some(more) => rest = more,
             None => return true,
         }
-    }
-}
-
-/// The text of the first atom, and what stands after its comma or bar, if there is one.
-fn cut_atom(text: &str) -> (&str, Option<&str>)
-    ensures atoms { atoms text.now ≡ result.0.now ∷ atoms_after (option_copied result.1) }
-    ensures shorter { IfSome result.1 (λ rest. length rest.now < length text.now) }
-{
-    match atom_end(text.as_bytes()) {
-        Some(n) => (before(text, n), Some(after(text, n + 1))),
-        None => (text, None),
-    }
-}
-
-fn atom_end(bytes: &[u8]) -> Option<usize>
-    ensures value { result ≡ position ends_atom bytes.now }
-    ensures here { IfSome result (λ n. (n < length bytes.now) × (slice_index bytes.now n < 128)) }
-{
-    bytes.iter().position(|b| *b == b',' || *b == b'|')
-}
-
-/// The atom, with blanks or none round it.
-fn atom_of(part: &str) -> Option<Atom<'_>>
-    ensures { option_map atom_view result ≡ atom_part part.now }
-{
-    match trim(part) {
-        "true!" => Some(Atom::Yes),
-        "false!" => Some(Atom::No),
-        text => vpkg_of(text).map(Atom::Is),
     }
 }

@@ -1,6 +1,7 @@
 //! Typed values of CUDF 2.0 and their printing. A reader gives the value exactly where the whole text is of the type.
 #![tactic(auto)]
 
+mod atom;
 mod class;
 mod declaration;
 mod default;

@@ -1,7 +1,5 @@
 -- What is left of a text while it is cut.
-use Rattle.std.specs.Prelude.{ℕ, Bool, ◌||◌, ◌==◌, List, [], Option, Some, None}
-use Rattle.std.specs.List.{slice_split}
-use Rattle.std.specs.Str.{byte}
+use Rattle.std.specs.Prelude.{ℕ, List, [], Option, Some, None}
 use Rattle.cudf_value.specs.LexStates.{pieces}
 use Rattle.cudf_value.specs.Parts.{parts}
 
@@ -14,14 +12,3 @@ parts_after separator (Some text) = parts separator text
 abbrev pub pieces_after : Option (List ℕ) → Option (List (List ℕ))
 pieces_after None = Some []
 pieces_after (Some text) = pieces text
-
-abbrev pub ends_atom : ℕ → Bool
-ends_atom b = b == byte "," || b == byte "|"
-
--- the parts of a text, cut at each comma and each bar
-abbrev pub atoms : List ℕ → List (List ℕ)
-atoms text = slice_split ends_atom text
-
-abbrev pub atoms_after : Option (List ℕ) → List (List ℕ)
-atoms_after None = []
-atoms_after (Some text) = atoms text

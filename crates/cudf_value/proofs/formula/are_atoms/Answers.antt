@@ -1,6 +1,26 @@
-use Rattle.std.proofs.Common.{sym}
-use Rattle.cudf_value.proofs.AtomLemmas.{is_formula-atoms}
+use Rattle.std.proofs.Common.{is_some, option_map, sym, ap, ◌∙◌, rules}
+use Rattle.cudf_value.specs.Formulas.{atom_view}
+use Rattle.cudf_value.proofs.AtomLemmas.{judged_none, judged_some, judged_after, is_some-map}
 use Rattle.cudf_value.proofs.formula.are_atoms.Goals as goal
 
-pub atoms-init : goal.atoms-init
-atoms-init c = (c.utf8.text, sym (is_formula-atoms c.args.text.now))
+pub returns-then-is_none : goal.returns-then-is_none
+returns-then-is_none c =
+    sym (judged_none c.atoms.rest.now (option_map atom_view c.first_atom.result.0) c.first_atom.result.1 c.first_atom.ensures.values
+    (is_some-map atom_view c.first_atom.result.0 ∙ c.if-is_none.ensures))
+    ∙ c.atoms.invariant.1
+
+pub atoms-preserved : goal.atoms-preserved
+atoms-preserved c = (
+  search rules,
+  ap judged_after c.in-Some.ensures
+      ∙ sym (judged_some c.atoms.rest.now (option_map atom_view c.first_atom.result.0) c.first_atom.result.1 c.first_atom.ensures.values
+      (is_some-map atom_view c.first_atom.result.0 ∙ c.if-is_none.ensures))
+      ∙ c.atoms.invariant.1,
+)
+
+pub returns-in-None : goal.returns-in-None
+returns-in-None c =
+    ap judged_after c.in-None.ensures
+    ∙ sym (judged_some c.atoms.rest.now (option_map atom_view c.first_atom.result.0) c.first_atom.result.1 c.first_atom.ensures.values
+    (is_some-map atom_view c.first_atom.result.0 ∙ c.if-is_none.ensures))
+    ∙ c.atoms.invariant.1

@@ -1,0 +1,115 @@
+//! The atoms of a formula, one after the other.
+ghost use Rattle.std.specs.Prelude.{◌≡◌, true, ◌++◌, ◌<◌, length, drop, position, slice_index, option_map, IfSome, IsTrue};
+ghost use Rattle.std.specs.List.{list_all};
+ghost use Rattle.cudf_value.specs.Formulas.{atom_view, atom_part};
+ghost use Rattle.cudf_value.specs.Working.Atoms.{ends_atom, is_inside, end_text, end_rest, values, values_of};
+
+use crate::class::Class;
+use crate::formula::Atom;
+use crate::text::{after, before, split_run, trim_start};
+use crate::vpkg::{Vpkg, vpkg_of};
+use cudf_text::trim;
+
+/// What ends an atom, with what stands after it.
+#[derive(Clone, Copy)]
+pub(crate) enum AtomEnd<'t> {
+    /// The end of the text.
+    Text,
+    /// A comma, which ends the clause too.
+    Comma(&'t str),
+    /// A bar.
+    Bar(&'t str),
+}
+
+impl<'t> AtomEnd<'t> {
+    ghost use Rattle.std.specs.Prelude.{◌≡◌, option_copied};
+    ghost use Rattle.cudf_value.specs.Working.Atoms.{end_rest};
+
+    /// What stands after a comma or a bar.
+    pub(crate) fn rest(self) -> Option<&'t str>
+        ensures { option_copied result ≡ end_rest self.entry }
+    {
+        match self {
+            AtomEnd::Comma(more) | AtomEnd::Bar(more) => Some(more),
+            AtomEnd::Text => None,
+        }
+    }
+}
+
+/// The first atom, with blanks or none round it, and what ends it. A name alone, which most atoms
+/// are, is read in one pass.
+pub(crate) fn first_atom(text: &str) -> (Option<Atom<'_>>, AtomEnd<'_>)
+    ensures values { values text.now ≡ values_of (option_map atom_view result.0) result.1 }
+    ensures shorter { IfSome (end_rest result.1) (λ rest. length rest < length text.now) }
+{
+    let (name, rest) = split_run(trim_start(text), Class::Name);
+    match end_at(rest) {
+        Some(end) if !name.is_empty() => (Some(Atom::Is(Vpkg { name, bound: None })), end),
+        _ => other_atom(text),
+    }
+}
+
+/// What ends an atom here, if it ends here.
+fn end_at(text: &str) -> Option<AtomEnd<'_>>
+    ensures { IfSome result (λ end. text.now ≡ end_text end) }
+{
+    match text.as_bytes().first() {
+        None => Some(AtomEnd::Text),
+        Some(b',') => Some(AtomEnd::Comma(after(text, 1))),
+        Some(b'|') => Some(AtomEnd::Bar(after(text, 1))),
+        Some(_) => None,
+    }
+}
+
+/// The first atom, whatever it is.
+fn other_atom(text: &str) -> (Option<Atom<'_>>, AtomEnd<'_>)
+    ensures values { values text.now ≡ values_of (option_map atom_view result.0) result.1 }
+    ensures shorter { IfSome (end_rest result.1) (λ rest. length rest < length text.now) }
+{
+    let (part, end) = cut_atom(text);
+    (atom_of(part), end)
+}
+
+/// The text of the first atom, and what ends it.
+fn cut_atom(text: &str) -> (&str, AtomEnd<'_>)
+    ensures text { text.now ≡ result.0.now ++ end_text result.1 }
+    ensures inside { list_all is_inside result.0.now ≡ true }
+{
+    match find_end(text.as_bytes()) {
+        Some(n) => (before(text, n), end_from(text, n)),
+        None => (text, AtomEnd::Text),
+    }
+}
+
+/// Where the first comma or bar stands.
+fn find_end(bytes: &[u8]) -> Option<usize>
+    ensures value { result ≡ position ends_atom bytes.now }
+    ensures here { IfSome result (λ n. (n < length bytes.now) × IsTrue (ends_atom (slice_index bytes.now n))) }
+{
+    bytes.iter().position(|b| *b == b',' || *b == b'|')
+}
+
+/// The comma or the bar at this place, with what stands after it.
+fn end_from(text: &str, n: usize) -> AtomEnd<'_>
+    requires inside { n < length text.now }
+    requires end { IsTrue (ends_atom (slice_index text.now n)) }
+    ensures { drop n text.now ≡ end_text result }
+{
+    let more = after(text, n + 1);
+    if text.as_bytes()[n] == b',' {
+        AtomEnd::Comma(more)
+    } else {
+        AtomEnd::Bar(more)
+    }
+}
+
+/// The atom, with blanks or none round it.
+fn atom_of(part: &str) -> Option<Atom<'_>>
+    ensures { option_map atom_view result ≡ atom_part part.now }
+{
+    match trim(part) {
+        "true!" => Some(Atom::Yes),
+        "false!" => Some(Atom::No),
+        text => vpkg_of(text).map(Atom::Is),
+    }
+}
