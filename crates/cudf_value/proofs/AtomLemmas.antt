@@ -1,5 +1,5 @@
 -- The atoms of a formula, one after the other.
-use Rattle.std.proofs.Common.{◌≡◌, ℕ, suc, ◌+◌, ◌-◌, ◌<◌, ◌≤◌, Bool, true, false, not, ◌&&◌, ◌||◌, ◌==◌, nat_lt, List, [], ◌∷◌, ◌++◌, map, length, take, drop, get_or, position, codes, Option, Some, None, is_some, option_map, bytes_eq, refl, sym, ap, ◌∙◌, arith}
+use Rattle.std.proofs.Common.{◌≡◌, ℕ, suc, ◌+◌, ◌-◌, ◌<◌, ◌≤◌, Bool, true, false, not, ◌&&◌, ◌==◌, nat_lt, List, [], ◌∷◌, ◌++◌, map, length, take, drop, get_or, position, codes, Option, Some, None, is_some, option_map, bytes_eq, refl, sym, ap, ◌∙◌, arith}
 use Rattle.std.specs.List.{list_all, onto_first, prefix_len, suffix_len, position_or_len}
 use Rattle.std.specs.Str.{byte}
 use Rattle.std.specs.Borrow.{Bor}
@@ -13,7 +13,7 @@ use Rattle.cudf_text.specs.Chars.{is_blank, trim_start, trim_end, trim}
 use Rattle.cudf_value.specs.declared.atom.AtomEnd.{AtomEnd}
 use Rattle.cudf_value.specs.declared.atom.AtomEnd.TheVariants.{Text, Comma, Bar}
 use Rattle.cudf_value.specs.Chars.{is_pkgname_char}
-use Rattle.cudf_value.specs.Vpkgs.{PlainVpkg, vpkg}
+use Rattle.cudf_value.specs.Vpkgs.{vpkg}
 use Rattle.cudf_value.specs.Parts.{parts, all_some, read_parts}
 use Rattle.cudf_value.proofs.PartsLemmas.{cond_none}
 use Rattle.cudf_value.specs.declared.formula.Atom.{Atom}
@@ -36,16 +36,16 @@ onto-push (x ∷ xs) y parts = ap (onto_first x) (onto-push xs y parts)
 
 -- ---- cutting a text whose front has no comma and no bar
 
-record IsInside (b : ℕ) : Type 0 where
-  no_comma : (b == byte ",") ≡ false
-  no_bar : (b == byte "|") ≡ false
+pub record IsInside (b : ℕ) : Type 0 where
+  pub no_comma : (b == byte ",") ≡ false
+  pub no_bar : (b == byte "|") ≡ false
 
-is-inside : (b : ℕ) → is_inside b ≡ true → IsInside b
+pub is-inside : (b : ℕ) → is_inside b ≡ true → IsInside b
 is-inside b is =
     let both = or_parts (b == byte ",") (b == byte "|") (not-true _ is) in
     record { no_comma = both.0; no_bar = both.1 }
 
-comma-none : (pre : List ℕ) → list_all is_inside pre ≡ true → parts (byte ",") pre ≡ pre ∷ []
+pub comma-none : (pre : List ℕ) → list_all is_inside pre ≡ true → parts (byte ",") pre ≡ pre ∷ []
 comma-none [] all = refl
 comma-none (b ∷ pre) all =
     let each = and_parts (is_inside b) (list_all is_inside pre) all in
@@ -59,7 +59,7 @@ bar-none (b ∷ pre) all =
     let no : (b == byte "|") ≡ false = (is-inside b each.0).no_bar in
     rw no (ap (onto_first b) (bar-none pre each.1))
 
-comma-at : (pre more : List ℕ) → list_all is_inside pre ≡ true → parts (byte ",") (pre ++ byte "," ∷ more) ≡ pre ∷ parts (byte ",") more
+pub comma-at : (pre more : List ℕ) → list_all is_inside pre ≡ true → parts (byte ",") (pre ++ byte "," ∷ more) ≡ pre ∷ parts (byte ",") more
 comma-at [] more all = refl
 comma-at (b ∷ pre) more all =
     let each = and_parts (is_inside b) (list_all is_inside pre) all in
@@ -152,7 +152,7 @@ name_inside : (b : ℕ) → is_pkgname_char b ≡ true → is_inside b ≡ true
 name_inside b is = ap not (false_from_ne_true (ends_atom b) (λ h. true≢false (sym is ∙ end_no_name b h)))
 
 -- what passes one test passes another
-all_pass : (one other : ℕ → Bool) → ((b : ℕ) → one b ≡ true → other b ≡ true) → (text : List ℕ) → list_all one text ≡ true → list_all other text ≡ true
+pub all_pass : (one other : ℕ → Bool) → ((b : ℕ) → one b ≡ true → other b ≡ true) → (text : List ℕ) → list_all one text ≡ true → list_all other text ≡ true
 all_pass one other passes [] all = refl
 all_pass one other passes (b ∷ text) all =
     let each = and_parts (one b) (list_all one text) all in
@@ -162,7 +162,7 @@ one_more : (n : ℕ) → 1 + n ≡ suc n
 one_more n = omega arith
 
 -- the run at the front passes
-run_passes : (test : ℕ → Bool) (text : List ℕ) → list_all test (take (prefix_len test text) text) ≡ true
+pub run_passes : (test : ℕ → Bool) (text : List ℕ) → list_all test (take (prefix_len test text) text) ≡ true
 run_passes test [] = refl
 run_passes test (b ∷ text) = by (test b) refl (run_passes test text)
   where
@@ -170,7 +170,7 @@ run_passes test (b ∷ text) = by (test b) refl (run_passes test text)
     by true e h = rw (e, one_more (prefix_len test text)) (rw e h)
     by false e h = rw e refl
 
-blanks_off : (blanks rest : List ℕ) → list_all is_blank blanks ≡ true → trim_start (blanks ++ rest) ≡ trim_start rest
+pub blanks_off : (blanks rest : List ℕ) → list_all is_blank blanks ≡ true → trim_start (blanks ++ rest) ≡ trim_start rest
 blanks_off [] rest all = refl
 blanks_off (b ∷ blanks) rest all =
     let each = and_parts (is_blank b) (list_all is_blank blanks) all in
@@ -189,11 +189,11 @@ at_passes name k d inside all = name_not_blank (get_or name k d) (AllPass-from_l
 name_end : (name : List ℕ) → list_all is_pkgname_char name ≡ true → trim_end name ≡ name
 name_end name all =
     let none : suffix_len is_blank name ≡ length name - length name =
-        suffix_len_is is_blank name (length name) 0 (omega arith) (λ k from to. absurd (omega (arith, from, to)))
-        (λ some. at_passes name (length name - 1) 0 (omega (arith, some)) all) in
+    suffix_len_is is_blank name (length name) 0 (omega arith) (λ k from to. absurd (omega (arith, from, to)))
+    (λ some. at_passes name (length name - 1) 0 (omega (arith, some)) all) in
     take_all (length name - suffix_len is_blank name) name (omega (arith, none))
 
-name_trimmed : (name : List ℕ) → list_all is_pkgname_char name ≡ true → trim name ≡ name
+pub name_trimmed : (name : List ℕ) → list_all is_pkgname_char name ≡ true → trim name ≡ name
 name_trimmed name all = ap trim_end (name_start name all) ∙ name_end name all
 
 -- a name isn't a constant, in which a mark stands
@@ -211,7 +211,7 @@ whole_prefix test (b ∷ text) all =
     let each = and_parts (test b) (list_all test text) all in
     rw each.0 (omega (arith, whole_prefix test text each.1))
 
-vpkg_named : (name : List ℕ) → list_all is_pkgname_char name ≡ true → 0 < length name → vpkg name ≡ Some (record { name = name; bound = None })
+pub vpkg_named : (name : List ℕ) → list_all is_pkgname_char name ≡ true → 0 < length name → vpkg name ≡ Some (record { name = name; bound = None })
 unfolding vpkg
 vpkg_named name all some =
     rw (
@@ -234,24 +234,37 @@ atom_named blanks name are_blanks all some =
     )
     refl
 
+-- a text begins with a name, with blanks or none before it
+abbrev pub blanks_of : List ℕ → List ℕ
+blanks_of text = take (prefix_len is_blank text) text
+
+abbrev pub name_of : List ℕ → List ℕ
+name_of text = take (prefix_len is_pkgname_char (trim_start text)) (trim_start text)
+
+abbrev pub after_name : List ℕ → List ℕ
+after_name text = drop (prefix_len is_pkgname_char (trim_start text)) (trim_start text)
+
+pub name_inside_front : (text : List ℕ) → list_all is_inside (blanks_of text ++ name_of text) ≡ true
+name_inside_front text =
+    list_all-append is_inside (blanks_of text) (name_of text)
+    ∙ (λ i. all_pass is_blank is_inside blank_inside (blanks_of text) (run_passes is_blank text) i
+    && all_pass is_pkgname_char is_inside name_inside (name_of text) (run_passes is_pkgname_char (trim_start text)) i)
+
+pub name_first : (text tail : List ℕ) → after_name text ≡ tail → text ≡ (blanks_of text ++ name_of text) ++ tail
+name_first text tail ends =
+    sym (take-append-drop (prefix_len is_blank text) text)
+    ∙ ap (λ t. blanks_of text ++ t) (sym (take-append-drop (prefix_len is_pkgname_char (trim_start text)) (trim_start text)))
+    ∙ ap (λ t. blanks_of text ++ (name_of text ++ t)) ends
+    ∙ sym (append_assoc (blanks_of text) (name_of text) tail)
+
 -- the first atom of a text is a name alone
-pub values_named : (text : List ℕ) (end : AtomEnd) → 0 < length (take (prefix_len is_pkgname_char (trim_start text)) (trim_start text))
-    → drop (prefix_len is_pkgname_char (trim_start text)) (trim_start text) ≡ end_text end
-    → values text ≡ values_of (Some (named (record { name = take (prefix_len is_pkgname_char (trim_start text)) (trim_start text); bound = None }))) end
+pub values_named : (text : List ℕ) (end : AtomEnd) → 0 < length (name_of text) → after_name text ≡ end_text end
+    → values text ≡ values_of (Some (named (record { name = name_of text; bound = None }))) end
 values_named text end some ends =
-    let blanks : List ℕ = take (prefix_len is_blank text) text in
-    let name : List ℕ = take (prefix_len is_pkgname_char (trim_start text)) (trim_start text) in
-    let are_blanks : list_all is_blank blanks ≡ true = run_passes is_blank text in
-    let are_name : list_all is_pkgname_char name ≡ true = run_passes is_pkgname_char (trim_start text) in
-    let inside : list_all is_inside (blanks ++ name) ≡ true =
-        list_all-append is_inside blanks name
-        ∙ (λ i. all_pass is_blank is_inside blank_inside blanks are_blanks i && all_pass is_pkgname_char is_inside name_inside name are_name i) in
-    let whole : text ≡ (blanks ++ name) ++ end_text end =
-        sym (take-append-drop (prefix_len is_blank text) text)
-        ∙ ap (λ t. blanks ++ t) (sym (take-append-drop (prefix_len is_pkgname_char (trim_start text)) (trim_start text)))
-        ∙ ap (λ t. blanks ++ (name ++ t)) ends
-        ∙ sym (append_assoc blanks name (end_text end)) in
-    ap values whole ∙ values_cut (blanks ++ name) end inside ∙ ap (λ a. values_of a end) (atom_named blanks name are_blanks are_name some)
+    ap values (name_first text (end_text end) ends)
+    ∙ values_cut (blanks_of text ++ name_of text) end (name_inside_front text)
+    ∙ ap (λ a. values_of a end)
+    (atom_named (blanks_of text) (name_of text) (run_passes is_blank text) (run_passes is_pkgname_char (trim_start text)) some)
 
 -- the front of a text, up to the first comma or bar
 pub inside_found : (text : List ℕ) (n : ℕ) → position ends_atom text ≡ Some n → list_all is_inside (take n text) ≡ true

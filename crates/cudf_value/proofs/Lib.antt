@@ -1,4 +1,5 @@
 pub mod AtomLemmas
+pub mod EntryLemmas
 mod ClassLemmas
 mod Examples
 pub mod Boundary

@@ -17,7 +17,7 @@ use Rattle.cudf_value.specs.Laws.{IsPosintBound, IsReadBack}
 use Rattle.cudf_value.proofs.NumberLemmas.{own, test_true}
 
 -- the run at the front ends where the first list does
-prefix_through : {X : Type 0} (test : X → Bool) (xs ys : List X) → list_all test xs ≡ true → prefix_len test ys ≡ 0 → prefix_len test (xs ++ ys) ≡ length xs
+pub prefix_through : {X : Type 0} (test : X → Bool) (xs ys : List X) → list_all test xs ≡ true → prefix_len test ys ≡ 0 → prefix_len test (xs ++ ys) ≡ length xs
 prefix_through test [] ys all none = none
 prefix_through test (x ∷ xs) ys all none =
     let each = and_parts (test x) (list_all test xs) all in

@@ -1,3 +1,4 @@
 pub mod Atoms
 pub mod Classes
+pub mod Entries
 pub mod Rests

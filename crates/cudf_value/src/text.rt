@@ -1,6 +1,6 @@
 //! Cutting a text at ASCII characters.
 ghost use Rattle.std.specs.Prelude.{◌≡◌, ◌-◌, ◌<◌, ◌≤◌, ◌==◌, ◌∷◌, length, take, drop, take_while, position, slice_index, IfSome, option_copied};
-ghost use Rattle.std.specs.List.{prefix_len};
+ghost use Rattle.std.specs.List.{prefix_len, before_first};
 ghost use Rattle.cudf_text.specs.Chars.{trim_start};
 ghost use Rattle.cudf_value.specs.Chars.{rest_after, between};
 ghost use Rattle.cudf_value.specs.Working.Classes.{is_in_class};
@@ -48,6 +48,7 @@ fn run_len(text: &str, class: Class) -> usize
 /// The part before the first separator, and what stands after it, if there is one.
 pub(crate) fn cut(text: &str, separator: u8) -> (&str, Option<&str>)
     requires { separator < 128 }
+    ensures first { result.0.now ≡ before_first (λ b. b == separator) text.now }
     ensures parts { parts separator text.now ≡ result.0.now ∷ parts_after separator (option_copied result.1) }
     ensures shorter { IfSome result.1 (λ rest. length rest.now < length text.now) }
 {

@@ -1,12 +1,15 @@
 //! The types `vpkglist` and `veqpkglist`.
-ghost use Rattle.std.specs.Prelude.{◌≡◌, map, option_map, is_some, IfOk};
+ghost use Rattle.std.specs.Prelude.{◌≡◌, ◌∷◌, ◌<◌, length, map, option_map, option_copied, is_some, IfOk, IfSome, IsTrue};
 ghost use Rattle.std.specs.Str.{byte};
 ghost use Rattle.cudf_text.specs.Chars.{trim};
-ghost use Rattle.cudf_value.specs.Parts.{read_parts, comma_list};
+ghost use Rattle.cudf_value.specs.Parts.{parts, read_parts, comma_list};
 ghost use Rattle.cudf_value.specs.Vpkgs.{vpkg_view};
 ghost use Rattle.cudf_value.specs.Formulas.{vpkg_part, vpkglist, veqpkglist};
+ghost use Rattle.cudf_value.specs.Working.Rests.{parts_after};
+ghost use Rattle.cudf_value.specs.Working.Entries.{first_part, ends_entry, entry_end};
 
-use crate::text::{cut, room_for};
+use crate::class::Class;
+use crate::text::{after, cut, first_byte, room_for, split_run, trim_start};
 use crate::vpkg::{Vpkg, veqpkg_of, vpkg_of};
 use cudf_text::trim;
 use std::alloc::{AllocError, Global};
@@ -68,8 +71,8 @@ fn entries_of(alloc: Global, text: &str, exact: bool) -> Result<Option<Vec<Vpkg<
     let mut vpkgs = Vec::with_capacity(alloc, room_for(text))?;
     let mut rest = text;
     loop {
-        let (part, next) = cut(rest, b',');
-        match entry_of(part, exact) {
+        let (entry, next) = first_entry(rest, exact);
+        match entry {
             Some(vpkg) => vpkgs.push(vpkg)?,
             None => return Ok(None),
         }
@@ -122,8 +125,8 @@ fn are_entries(text: &str, exact: bool) -> bool
 {
     let mut rest = text;
     'parts: loop {
-        let (part, next) = cut(rest, b',');
-        if entry_of(part, exact).is_none() {
+        let (entry, next) = first_entry(rest, exact);
+        if entry.is_none() {
             return false;
         }
         match next {
@@ -131,6 +134,49 @@ fn are_entries(text: &str, exact: bool) -> bool
             None => return true,
         }
     }
+}
+
+/// The first entry, and what stands after its comma, if there is one. A name alone, which many
+/// entries are, is read in one pass.
+fn first_entry(text: &str, exact: bool) -> (Option<Vpkg<'_>>, Option<&str>)
+    ensures part { parts (byte ",") text.now ≡ first_part text.now ∷ parts_after (byte ",") (option_copied result.1) }
+    ensures entry { option_map vpkg_view result.0 ≡ vpkg_part exact (first_part text.now) }
+    ensures shorter { IfSome result.1 (λ rest. length rest.now < length text.now) }
+{
+    let (name, rest) = split_run(trim_start(text), Class::Name);
+    if name.is_empty() || !ends_entry(rest) {
+        return other_entry(text, exact);
+    }
+    (Some(Vpkg { name, bound: None }), after_comma(rest))
+}
+
+/// Whether an entry ends here.
+fn ends_entry(text: &str) -> bool
+    ensures { result ≡ ends_entry text.now }
+{
+    text.is_empty() || first_byte(text) == b','
+}
+
+/// What stands after the comma here, if it isn't the end.
+fn after_comma(text: &str) -> Option<&str>
+    requires { IsTrue (ends_entry text.now) }
+    ensures { text.now ≡ entry_end (option_copied result) }
+{
+    if text.is_empty() {
+        None
+    } else {
+        Some(after(text, 1))
+    }
+}
+
+/// The first entry, whatever it is.
+fn other_entry(text: &str, exact: bool) -> (Option<Vpkg<'_>>, Option<&str>)
+    ensures part { parts (byte ",") text.now ≡ first_part text.now ∷ parts_after (byte ",") (option_copied result.1) }
+    ensures entry { option_map vpkg_view result.0 ≡ vpkg_part exact (first_part text.now) }
+    ensures shorter { IfSome result.1 (λ rest. length rest.now < length text.now) }
+{
+    let (part, next) = cut(text, b',');
+    (entry_of(part, exact), next)
 }
 
 /// The vpkg or veqpkg, with blanks or none round it.

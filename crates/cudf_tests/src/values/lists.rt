@@ -79,7 +79,7 @@ fn is_veqpkglist_row(alloc: Global, row: &Row<'_>) -> bool {
     }
 }
 
-const LISTS: [Row<'static>; 18] = [
+const LISTS: [Row<'static>; 20] = [
     ("", Some(""), Some("")),
     (" \t", Some(""), Some("")),
     ("a", Some("a;"), Some("a;")),
@@ -89,7 +89,9 @@ const LISTS: [Row<'static>; 18] = [
     ("f = 2, g", Some("f = 2;g;"), Some("f = 2;g;")),
     ("f > 2", Some("f > 2;"), None),
     ("true!=3", Some("true != 3;"), None),
+    ("a ,b", Some("a;b;"), Some("a;b;")),
     ("a,", None, None),
+    ("aé,b", None, None),
     (",a", None, None),
     (",", None, None),
     ("a,,b", None, None),
@@ -116,7 +118,7 @@ fn is_formula_row(alloc: Global, row: &(&str, Option<&str>)) -> bool {
     }
 }
 
-const FORMULAS: [(&'static str, Option<&'static str>); 17] = [
+const FORMULAS: [(&'static str, Option<&'static str>); 22] = [
     ("", Some("")),
     ("\t ", Some("")),
     ("a | b, true!", Some("a | b;true!;")),
@@ -128,6 +130,8 @@ const FORMULAS: [(&'static str, Option<&'static str>); 17] = [
     ("a, a", Some("a;a;")),
     ("true", Some("true;")),
     ("(a | b), c", Some("(a | b);c;")),
+    ("a ,\tb |c", Some("a;b | c;")),
+    ("true,false|a", Some("true;false | a;")),
     ("a || b", None),
     ("true ! = 3", None),
     ("true! = 3", None),
@@ -137,6 +141,9 @@ const FORMULAS: [(&'static str, Option<&'static str>); 17] = [
     ("| a", None),
     ("a,,b", None),
     ("a b", None),
+    (",", None),
+    ("|", None),
+    ("aé, b", None),
 ];
 
 #[test]

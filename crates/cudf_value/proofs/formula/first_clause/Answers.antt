@@ -1,6 +1,4 @@
-use Rattle.std.proofs.Common.{option_map, arith, rules}
-use Rattle.cudf_value.specs.Formulas.{atom_view}
-use Rattle.cudf_value.specs.Working.Atoms.{values_of}
+use Rattle.std.proofs.Common.{arith, rules}
 use Rattle.cudf_value.proofs.AtomLemmas.{none_step, bar_step, comma_step, text_step, formula_in}
 use Rattle.cudf_value.proofs.formula.first_clause.Goals as goal
 
