@@ -2,6 +2,7 @@ mod Examples
 mod JoinedLemmas
 mod LawLemmas
 mod LineLemmas
+mod NameLineLemmas
 mod OrderLemmas
 mod ReadLemmas
 mod RunLemmas

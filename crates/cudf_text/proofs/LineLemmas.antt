@@ -1,9 +1,9 @@
 -- Where the first line of a text ends.
-use Rattle.std.proofs.Common.{◌≡◌, ℕ, ◌+◌, ◌-◌, suc, ◌<◌, ◌≤◌, List, [], ◌∷◌, length, take, drop, get_or, Option, Some, None, position, unwrap_or, IsUtf8, refl, sym, ◌∙◌, ap, subst, inl, inr, min, eqb, ltb, arith}
+use Rattle.std.proofs.Common.{◌≡◌, ℕ, ◌+◌, ◌-◌, suc, ◌<◌, ◌≤◌, List, [], ◌∷◌, length, take, drop, get_or, Option, Some, None, unwrap_or, IsUtf8, refl, sym, ◌∙◌, ap, subst, inl, inr, min, eqb, arith}
 use Rattle.std.specs.List.{position_or_len, before_first, onto_first}
 use Rattle.std.proofs.lemmas.List.{take-take, get_or-take, length-take, take_min, drop_min}
 use Rattle.std.proofs.lemmas.List.Sums.{position_or_len_is, prefix_len-le-length, fails_before_first, passes_at_first}
-use Rattle.std.proofs.lemmas.Bool.{cases_Bool, false_from_ne_true, cond-true, cond-false, lt-ltb, le-ltb}
+use Rattle.std.proofs.lemmas.Bool.{cases_Bool, false_from_ne_true}
 use Rattle.std.proofs.lemmas.Str.{lead_after_ascii}
 use Rattle.memchr.specs.Find.{IsFirstByte, is_byte}
 use Rattle.std.specs.Str.Lines.{strip_carriage_return}
@@ -28,16 +28,6 @@ place-some b text k h =
 pub place-is : (b : ℕ) (text : List ℕ) (r : Option ℕ) → IsFirstByte (is_byte b) text r → unwrap_or r (length text) ≡ position_or_len (λ x. eqb x b) text
 place-is b text None h = sym (place-none b text h)
 place-is b text (Some k) h = sym (place-some b text k h)
-
-pub position-is : (b : ℕ) (text : List ℕ) (r : Option ℕ) → IsFirstByte (is_byte b) text r → r ≡ position (λ x. eqb x b) text
-position-is b text None h =
-    let n : ℕ = position_or_len (λ x. eqb x b) text in
-    let e : n ≡ length text = place-none b text h in
-    sym (cond-false (ltb n (length text)) (Some n) None (le-ltb n (length text) (omega arith)))
-position-is b text (Some k) h =
-    let e = place-some b text k h in
-    let l : k < length text = h.0.high in
-    rw e (sym (cond-true _ _ _ (lt-ltb k (length text) l)))
 
 -- the first line with its end goes through the first LF
 onto_first_line : (b : ℕ) (bs : List ℕ) (n : ℕ) → raw_lines bs ≡ take (n + 1) bs ∷ raw_lines (drop (n + 1) bs)

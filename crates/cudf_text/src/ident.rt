@@ -18,7 +18,7 @@ fn are_ident_chars(bytes: &[u8]) -> bool
     bytes.iter().all(|byte| is_ident_char(*byte))
 }
 
-fn is_ident_char(byte: u8) -> bool
+pub(crate) fn is_ident_char(byte: u8) -> bool
     ensures { result ≡ is_ident_char byte }
 {
     byte.is_ascii_alphanumeric() || byte == b'-' || byte == b'_'

@@ -1,11 +1,12 @@
-ghost use Rattle.std.specs.Prelude.{◌≡◌, ◌<◌, length, slice_index, position, IfSome};
+ghost use Rattle.std.specs.Prelude.{◌≡◌, ◌≤◌, length, position};
+ghost use Rattle.std.specs.List.{prefix_len};
+ghost use Rattle.cudf_text.specs.Chars.{is_ident_char};
 ghost use Rattle.cudf_text.specs.Lines.{class, class_by_colon, is_colon};
-ghost use Rattle.cudf_text.specs.Working.LineView.{line_view};
+ghost use Rattle.cudf_text.specs.Working.LineView.{line_view, ends_name};
 
 use crate::blanks::{is_blank, is_blank_text, trim};
 use crate::cut::{after, before};
-use crate::ident::is_ident;
-use memchr::memchr;
+use crate::ident::is_ident_char;
 
 /// What a line is, with its texts trimmed.
 pub(crate) enum Line<'a> {
@@ -38,20 +39,30 @@ pub(crate) fn classify(line: &str) -> Line<'_>
 fn name_line(line: &str) -> Line<'_>
     ensures { line_view result ≡ class_by_colon line.now (position is_colon line.now) }
 {
-    let Some(colon) = colon_place(line.as_bytes()) else {
-        return Line::Faulty;
-    };
-    let name = before(line, colon);
-    if is_ident(name) {
-        Line::Named(name, trim(after(line, colon + 1)))
+    let bytes = line.as_bytes();
+    let n = name_len(bytes);
+    if ends_name(bytes, n) {
+        Line::Named(before(line, n), trim(after(line, n + 1)))
     } else {
         Line::Faulty
     }
 }
 
-fn colon_place(line: &[u8]) -> Option<usize>
-    ensures value { result ≡ position is_colon line.now }
-    ensures here { IfSome result (λ k. (k < length line.now) × (slice_index line.now k ≡ 58)) }
+/// How many characters of idents stand at the front.
+fn name_len(line: &[u8]) -> usize
+    ensures inside { result ≤ length line.now }
+    ensures value { result ≡ prefix_len is_ident_char line.now }
 {
-    memchr(b':', line)
+    let mut n = 0;
+    while n < line.len() && is_ident_char(line[n]) {
+        n += 1;
+    }
+    n
+}
+
+/// Whether the line begins with a letter, and the first `n` bytes with a colon after them.
+fn ends_name(line: &[u8], n: usize) -> bool
+    ensures { result ≡ ends_name line.now n }
+{
+    line.get(n).copied() == Some(b':') && line[0].is_ascii_alphabetic()
 }
