@@ -1,4 +1,5 @@
 mod Examples
+mod IdentLemmas
 mod JoinedLemmas
 mod LawLemmas
 mod LineLemmas
