@@ -1,24 +1,23 @@
 -- The atoms of a formula, one after the other.
-use Rattle.std.proofs.Common.{◌≡◌, ℕ, suc, ◌+◌, ◌-◌, ◌<◌, ◌≤◌, Bool, true, false, not, ◌&&◌, ◌==◌, nat_lt, List, [], ◌∷◌, ◌++◌, map, length, take, drop, get_or, position, codes, Option, Some, None, is_some, option_map, bytes_eq, refl, sym, ap, ◌∙◌, arith}
-use Rattle.std.specs.List.{list_all, onto_first, prefix_len, suffix_len, position_or_len}
+use Rattle.std.proofs.Common.{◌≡◌, ℕ, ◌≤◌, Bool, true, false, ◌&&◌, ◌==◌, nat_lt, List, [], ◌∷◌, ◌++◌, map, length, take, position, codes, Option, Some, None, is_some, option_map, bytes_eq, refl, sym, ap, ◌∙◌}
+use Rattle.std.specs.List.{list_all, onto_first, position_or_len}
 use Rattle.std.specs.Str.{byte}
 use Rattle.std.specs.Borrow.{Bor}
-use Rattle.std.proofs.lemmas.Bool.{true≢false, and_parts, or_parts, not-true, eqb-true, ne_eqb, false_from_ne_true, ltb-false}
+use Rattle.std.proofs.lemmas.Bool.{and_parts, or_parts, not-true, false_from_ne_true, ltb-false}
 use Rattle.std.proofs.lemmas.Option.{cond_some}
-use Rattle.std.proofs.lemmas.List.{append-nil, append_assoc, take-append-drop, take_all, drop_all, map_push}
-use Rattle.std.proofs.lemmas.List.Folds.{list_all-append}
-use Rattle.std.proofs.lemmas.List.Sums.{suffix_len_is, AllPass-from_list_all}
+use Rattle.std.proofs.lemmas.List.{append-nil, take_all, map_push}
 use Rattle.std.proofs.lemmas.Slice.Eq.{bytes_eq-Decides}
-use Rattle.cudf_text.specs.Chars.{is_blank, trim_start, trim_end, trim}
+use Rattle.cudf_text.specs.Chars.{trim}
 use Rattle.cudf_value.specs.declared.atom.AtomEnd.{AtomEnd}
 use Rattle.cudf_value.specs.declared.atom.AtomEnd.TheVariants.{Text, Comma, Bar}
-use Rattle.cudf_value.specs.Chars.{is_pkgname_char}
-use Rattle.cudf_value.specs.Vpkgs.{vpkg}
+use Rattle.cudf_value.specs.Vpkgs.{PlainVpkg, vpkg}
 use Rattle.cudf_value.specs.Parts.{parts, all_some, read_parts}
 use Rattle.cudf_value.proofs.PartsLemmas.{cond_none}
 use Rattle.cudf_value.specs.declared.formula.Atom.{Atom}
-use Rattle.cudf_value.specs.Formulas.{PlainAtom, named, atom_view, atom_part, clause}
+use Rattle.cudf_value.specs.Formulas.{PlainAtom, named, atom_view, atom, atom_part, clause}
 use Rattle.cudf_value.specs.Working.Atoms.{ends_atom, is_inside, end_text, end_rest, values, values_of}
+use Rattle.cudf_value.specs.Working.Rests.{BeginsWith}
+use Rattle.cudf_value.proofs.VpkgLemmas.{run_passes}
 
 -- ---- lists put before the first of others
 
@@ -119,152 +118,38 @@ values_cut pre (Comma more) all =
 values_cut pre (Bar more) all =
     ap (map atoms_in) (comma-beyond pre more.now all) ∙ beyond pre (parts (byte ",") more.now) all (has_first more.now)
 
--- ---- a name alone
+-- ---- the first atom is a vpkg
 
-blank_no_name : (b : ℕ) → is_blank b ≡ true → is_pkgname_char b ≡ false
-blank_no_name b h = by (b == 32) (b == 9) refl refl
-  where
-    by : (x y : Bool) → (b == 32) ≡ x → (b == 9) ≡ y → is_pkgname_char b ≡ false
-    by true y e f = ap is_pkgname_char (eqb-true b 32 e)
-    by false true e f = ap is_pkgname_char (eqb-true b 9 f)
-    by false false e f = let never : false ≡ true = rw (e, f) at h in absurd cc
+-- a constant is no vpkg
+other_text : (text constant : List ℕ) (v : PlainVpkg) → vpkg text ≡ Some v → vpkg constant ≡ None → bytes_eq text constant ≡ false
+other_text text constant v is none =
+    false_from_ne_true (bytes_eq text constant) (λ h.
+    let never : None ≡ Some v = sym none ∙ ap vpkg (sym ((bytes_eq-Decides text constant).0 h)) ∙ is in
+    absurd cc)
 
-blank_inside : (b : ℕ) → is_blank b ≡ true → is_inside b ≡ true
-blank_inside b h = by (b == 32) (b == 9) refl refl
-  where
-    by : (x y : Bool) → (b == 32) ≡ x → (b == 9) ≡ y → is_inside b ≡ true
-    by true y e f = ap is_inside (eqb-true b 32 e)
-    by false true e f = ap is_inside (eqb-true b 9 f)
-    by false false e f = let never : false ≡ true = rw (e, f) at h in absurd cc
-
-end_no_name : (b : ℕ) → ends_atom b ≡ true → is_pkgname_char b ≡ false
-end_no_name b h = by (b == 44) (b == 124) refl refl
-  where
-    by : (x y : Bool) → (b == 44) ≡ x → (b == 124) ≡ y → is_pkgname_char b ≡ false
-    by true y e f = ap is_pkgname_char (eqb-true b 44 e)
-    by false true e f = ap is_pkgname_char (eqb-true b 124 f)
-    by false false e f = let never : false ≡ true = rw (e, f) at h in absurd cc
-
-name_not_blank : (b : ℕ) → is_pkgname_char b ≡ true → is_blank b ≡ false
-name_not_blank b is = false_from_ne_true (is_blank b) (λ h. true≢false (sym is ∙ blank_no_name b h))
-
-name_inside : (b : ℕ) → is_pkgname_char b ≡ true → is_inside b ≡ true
-name_inside b is = ap not (false_from_ne_true (ends_atom b) (λ h. true≢false (sym is ∙ end_no_name b h)))
-
--- what passes one test passes another
-pub all_pass : (one other : ℕ → Bool) → ((b : ℕ) → one b ≡ true → other b ≡ true) → (text : List ℕ) → list_all one text ≡ true → list_all other text ≡ true
-all_pass one other passes [] all = refl
-all_pass one other passes (b ∷ text) all =
-    let each = and_parts (one b) (list_all one text) all in
-    rw (passes b each.0) (all_pass one other passes text each.1)
-
-one_more : (n : ℕ) → 1 + n ≡ suc n
-one_more n = omega arith
-
--- the run at the front passes
-pub run_passes : (test : ℕ → Bool) (text : List ℕ) → list_all test (take (prefix_len test text) text) ≡ true
-run_passes test [] = refl
-run_passes test (b ∷ text) = by (test b) refl (run_passes test text)
-  where
-    by : (x : Bool) → test b ≡ x → list_all test (take (prefix_len test text) text) ≡ true → list_all test (take (prefix_len test (b ∷ text)) (b ∷ text)) ≡ true
-    by true e h = rw (e, one_more (prefix_len test text)) (rw e h)
-    by false e h = rw e refl
-
-pub blanks_off : (blanks rest : List ℕ) → list_all is_blank blanks ≡ true → trim_start (blanks ++ rest) ≡ trim_start rest
-blanks_off [] rest all = refl
-blanks_off (b ∷ blanks) rest all =
-    let each = and_parts (is_blank b) (list_all is_blank blanks) all in
-    rw (each.0, one_more (prefix_len is_blank (blanks ++ rest))) (blanks_off blanks rest each.1)
-
--- a name has no blanks to be trimmed
-name_start : (name : List ℕ) → list_all is_pkgname_char name ≡ true → trim_start name ≡ name
-name_start [] all = refl
-name_start (b ∷ name) all =
-    let no : is_blank b ≡ false = name_not_blank b (and_parts (is_pkgname_char b) (list_all is_pkgname_char name) all).0 in
-    rw no refl
-
-at_passes : (name : List ℕ) (k d : ℕ) → k < length name → list_all is_pkgname_char name ≡ true → is_blank (get_or name k d) ≡ false
-at_passes name k d inside all = name_not_blank (get_or name k d) (AllPass-from_list_all is_pkgname_char name all k d inside)
-
-name_end : (name : List ℕ) → list_all is_pkgname_char name ≡ true → trim_end name ≡ name
-name_end name all =
-    let none : suffix_len is_blank name ≡ length name - length name =
-    suffix_len_is is_blank name (length name) 0 (omega arith) (λ k from to. absurd (omega (arith, from, to)))
-    (λ some. at_passes name (length name - 1) 0 (omega (arith, some)) all) in
-    take_all (length name - suffix_len is_blank name) name (omega (arith, none))
-
-pub name_trimmed : (name : List ℕ) → list_all is_pkgname_char name ≡ true → trim name ≡ name
-name_trimmed name all = ap trim_end (name_start name all) ∙ name_end name all
-
--- a name isn't a constant, in which a mark stands
-same_text : (a b : List ℕ) → bytes_eq a b ≡ true → a ≡ b
-same_text a b h = (bytes_eq-Decides a b).0 h
-
-no_constant : (name constant : List ℕ) → list_all is_pkgname_char name ≡ true → list_all is_pkgname_char constant ≡ false → bytes_eq name constant ≡ false
-no_constant name constant all not_all =
-    false_from_ne_true (bytes_eq name constant) (λ h.
-    true≢false (sym all ∙ ap (list_all is_pkgname_char) (same_text name constant h) ∙ not_all))
-
-whole_prefix : (test : ℕ → Bool) (text : List ℕ) → list_all test text ≡ true → prefix_len test text ≡ length text
-whole_prefix test [] all = refl
-whole_prefix test (b ∷ text) all =
-    let each = and_parts (test b) (list_all test text) all in
-    rw each.0 (omega (arith, whole_prefix test text each.1))
-
-pub vpkg_named : (name : List ℕ) → list_all is_pkgname_char name ≡ true → 0 < length name → vpkg name ≡ Some (record { name = name; bound = None })
+no_yes : vpkg (codes "true!") ≡ None
 unfolding vpkg
-vpkg_named name all some =
+no_yes = refl
+
+no_no : vpkg (codes "false!") ≡ None
+unfolding vpkg
+no_no = refl
+
+-- so the atom is the vpkg
+atom_is : (text : List ℕ) (v : PlainVpkg) → vpkg text ≡ Some v → atom text ≡ Some (named v)
+atom_is text v is =
     rw (
-      whole_prefix is_pkgname_char name all,
-      take_all (length name) name (omega arith),
-      drop_all (length name) name (omega arith),
-      ne_eqb (length name) 0 (λ e. omega (arith, some, e)),
+      other_text text (codes "true!") v is no_yes,
+      other_text text (codes "false!") v is no_no,
+      is,
     )
     refl
 
-atom_named : (blanks name : List ℕ) → list_all is_blank blanks ≡ true → list_all is_pkgname_char name ≡ true → 0 < length name
-    → atom_part (blanks ++ name) ≡ Some (named (record { name = name; bound = None }))
-atom_named blanks name are_blanks all some =
-    let trimmed : trim (blanks ++ name) ≡ name = ap trim_end (blanks_off blanks name are_blanks) ∙ name_trimmed name all in
-    rw (
-      trimmed,
-      no_constant name (codes "true!") all refl,
-      no_constant name (codes "false!") all refl,
-      vpkg_named name all some,
-    )
-    refl
-
--- a text begins with a name, with blanks or none before it
-abbrev pub blanks_of : List ℕ → List ℕ
-blanks_of text = take (prefix_len is_blank text) text
-
-abbrev pub name_of : List ℕ → List ℕ
-name_of text = take (prefix_len is_pkgname_char (trim_start text)) (trim_start text)
-
-abbrev pub after_name : List ℕ → List ℕ
-after_name text = drop (prefix_len is_pkgname_char (trim_start text)) (trim_start text)
-
-pub name_inside_front : (text : List ℕ) → list_all is_inside (blanks_of text ++ name_of text) ≡ true
-name_inside_front text =
-    list_all-append is_inside (blanks_of text) (name_of text)
-    ∙ (λ i. all_pass is_blank is_inside blank_inside (blanks_of text) (run_passes is_blank text) i
-    && all_pass is_pkgname_char is_inside name_inside (name_of text) (run_passes is_pkgname_char (trim_start text)) i)
-
-pub name_first : (text tail : List ℕ) → after_name text ≡ tail → text ≡ (blanks_of text ++ name_of text) ++ tail
-name_first text tail ends =
-    sym (take-append-drop (prefix_len is_blank text) text)
-    ∙ ap (λ t. blanks_of text ++ t) (sym (take-append-drop (prefix_len is_pkgname_char (trim_start text)) (trim_start text)))
-    ∙ ap (λ t. blanks_of text ++ (name_of text ++ t)) ends
-    ∙ sym (append_assoc (blanks_of text) (name_of text) tail)
-
--- the first atom of a text is a name alone
-pub values_named : (text : List ℕ) (end : AtomEnd) → 0 < length (name_of text) → after_name text ≡ end_text end
-    → values text ≡ values_of (Some (named (record { name = name_of text; bound = None }))) end
-values_named text end some ends =
-    ap values (name_first text (end_text end) ends)
-    ∙ values_cut (blanks_of text ++ name_of text) end (name_inside_front text)
-    ∙ ap (λ a. values_of a end)
-    (atom_named (blanks_of text) (name_of text) (run_passes is_blank text) (run_passes is_pkgname_char (trim_start text)) some)
+pub values_begun : (v : PlainVpkg) (text rest : List ℕ) (end : AtomEnd) → BeginsWith v text rest → rest ≡ end_text end → values text ≡ values_of (Some (named v)) end
+values_begun v text rest end begins ends =
+    ap values (begins.whole ∙ ap (λ t. begins.part ++ t) ends)
+    ∙ values_cut begins.part end begins.inside
+    ∙ ap (λ a. values_of a end) (atom_is (trim begins.part) v begins.value)
 
 -- the front of a text, up to the first comma or bar
 pub inside_found : (text : List ℕ) (n : ℕ) → position ends_atom text ≡ Some n → list_all is_inside (take n text) ≡ true
@@ -394,7 +279,3 @@ judged_none rest atom end cut none = judged_step rest atom end cut ∙ ap (λ b.
 pub judged_some : (rest : List ℕ) (atom : Option PlainAtom) (end : AtomEnd) → values rest ≡ values_of atom end → is_some atom ≡ true
     → is_some (formula_in rest) ≡ judged_after (end_rest end)
 judged_some rest atom end cut some = judged_step rest atom end cut ∙ ap (λ b. b && judged_after (end_rest end)) some
-
-pub some_name : (name : List ℕ) → false ≡ (length name == 0) → 0 < length name
-some_name [] none = absurd cc
-some_name (b ∷ name) some = omega arith

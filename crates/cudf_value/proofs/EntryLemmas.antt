@@ -1,19 +1,19 @@
 -- The entries of a list, one after the other.
-use Rattle.std.proofs.Common.{◌≡◌, ℕ, ◌<◌, Bool, true, false, not, ◌==◌, List, ◌∷◌, ◌++◌, length, take, Option, Some, None, refl, sym, ap, ◌∙◌}
+use Rattle.std.proofs.Common.{◌≡◌, ℕ, Bool, true, false, not, ◌||◌, ◌==◌, List, ◌∷◌, ◌++◌, take, Option, Some, None, refl, sym, ap, ◌∙◌}
 use Rattle.std.specs.List.{list_all, prefix_len}
 use Rattle.std.specs.Str.{byte}
 use Rattle.std.proofs.Math.Seq.{take-append_seam}
 use Rattle.std.proofs.lemmas.List.{append-nil}
-use Rattle.cudf_text.specs.Chars.{is_blank, trim_start, trim_end, trim}
-use Rattle.cudf_value.specs.Chars.{is_pkgname_char}
-use Rattle.cudf_value.specs.Vpkgs.{PlainVpkg, vpkg, veqpkg}
+use Rattle.cudf_text.specs.Chars.{trim}
+use Rattle.cudf_value.specs.Vpkgs.{PlainVpkg, vpkg, veqpkg, is_exact}
 use Rattle.cudf_value.specs.Formulas.{vpkg_part}
-use Rattle.cudf_value.specs.Parts.{parts}
+use Rattle.cudf_value.specs.Parts.{some_if, parts}
 use Rattle.cudf_value.specs.Working.Atoms.{is_inside}
 use Rattle.cudf_value.specs.Working.Entries.{first_part, entry_end}
-use Rattle.cudf_value.specs.Working.Rests.{parts_after}
+use Rattle.cudf_value.specs.Working.Rests.{parts_after, BeginsWith}
 use Rattle.cudf_value.proofs.ReadBack.{prefix_through}
-use Rattle.cudf_value.proofs.AtomLemmas.{is-inside, all_pass, run_passes, comma-none, comma-at, blanks_off, name_trimmed, vpkg_named, blanks_of, name_of, after_name, name_inside_front, name_first}
+use Rattle.cudf_value.proofs.AtomLemmas.{is-inside, comma-none, comma-at}
+use Rattle.cudf_value.proofs.VpkgLemmas.{all_pass}
 
 inside_no_comma : (b : ℕ) → is_inside b ≡ true → not (b == byte ",") ≡ true
 inside_no_comma b is = ap not (is-inside b is).no_comma
@@ -32,29 +32,27 @@ parts_at : (pre : List ℕ) (rest : Option (List ℕ)) → list_all is_inside pr
 parts_at pre None all = ap (parts (byte ",")) (append-nil pre) ∙ comma-none pre all
 parts_at pre (Some more) all = comma-at pre more all
 
--- a name alone is the first part
-pub named_parts : (text : List ℕ) (rest : Option (List ℕ)) → after_name text ≡ entry_end rest → parts (byte ",") text ≡ first_part text ∷ parts_after (byte ",") rest
-named_parts text rest ends =
-    let whole = name_first text (entry_end rest) ends in
-    ap (parts (byte ",")) whole
-    ∙ parts_at (blanks_of text ++ name_of text) rest (name_inside_front text)
-    ∙ ap (λ p. p ∷ parts_after (byte ",") rest) (sym (ap first_part whole ∙ first_at (blanks_of text ++ name_of text) rest (name_inside_front text)))
+begun_whole : (v : PlainVpkg) (text rest : List ℕ) (next : Option (List ℕ)) → (begins : BeginsWith v text rest) → rest ≡ entry_end next → text ≡ begins.part ++ entry_end next
+begun_whole v text rest next begins ends = begins.whole ∙ ap (λ t. begins.part ++ t) ends
 
-abbrev plain : List ℕ → PlainVpkg
-plain name = record { name = name; bound = None }
+begun_first : (v : PlainVpkg) (text rest : List ℕ) (next : Option (List ℕ)) → (begins : BeginsWith v text rest) → rest ≡ entry_end next → first_part text ≡ begins.part
+begun_first v text rest next begins ends = ap first_part (begun_whole v text rest next begins ends) ∙ first_at begins.part next begins.inside
 
-part_named : (exact : Bool) (part name : List ℕ) → trim part ≡ name → vpkg name ≡ Some (plain name) → vpkg_part exact part ≡ Some (plain name)
+-- the vpkg at the front is the first part
+pub begun_parts : (v : PlainVpkg) (text rest : List ℕ) (next : Option (List ℕ)) → BeginsWith v text rest → rest ≡ entry_end next
+    → parts (byte ",") text ≡ first_part text ∷ parts_after (byte ",") next
+begun_parts v text rest next begins ends =
+    ap (parts (byte ",")) (begun_whole v text rest next begins ends)
+    ∙ parts_at begins.part next begins.inside
+    ∙ ap (λ p. p ∷ parts_after (byte ",") next) (sym (begun_first v text rest next begins ends))
+
+part_is : (exact : Bool) (part : List ℕ) (v : PlainVpkg) → vpkg (trim part) ≡ Some v → vpkg_part exact part ≡ some_if (not exact || is_exact v.bound) v
 unfolding veqpkg
-part_named false part name trimmed is = ap vpkg trimmed ∙ is
-part_named true part name trimmed is = rw (trimmed, is) refl
+part_is false part v is = is
+part_is true part v is = rw is refl
 
--- and its value is the name
-pub named_value : (exact : Bool) (text : List ℕ) (rest : Option (List ℕ)) → 0 < length (name_of text) → after_name text ≡ entry_end rest
-    → Some (record { name = name_of text; bound = None }) ≡ vpkg_part exact (first_part text)
-named_value exact text rest some ends =
-    let whole = name_first text (entry_end rest) ends in
-    let are_name : list_all is_pkgname_char (name_of text) ≡ true = run_passes is_pkgname_char (trim_start text) in
-    sym (ap (vpkg_part exact) (ap first_part whole ∙ first_at (blanks_of text ++ name_of text) rest (name_inside_front text))
-    ∙ part_named exact (blanks_of text ++ name_of text) (name_of text)
-    (ap trim_end (blanks_off (blanks_of text) (name_of text) (run_passes is_blank text)) ∙ name_trimmed (name_of text) are_name)
-    (vpkg_named (name_of text) are_name some))
+-- and its value is the vpkg, where it is as exact as it has to be
+pub begun_value : (exact : Bool) (v : PlainVpkg) (text rest : List ℕ) (next : Option (List ℕ)) → BeginsWith v text rest → rest ≡ entry_end next
+    → vpkg_part exact (first_part text) ≡ some_if (not exact || is_exact v.bound) v
+begun_value exact v text rest next begins ends =
+    ap (vpkg_part exact) (begun_first v text rest next begins ends) ∙ part_is exact begins.part v begins.value

@@ -11,3 +11,4 @@ pub mod PrintingLemmas
 pub mod ReadBack
 mod TokenLemmas
 pub mod TypeLemmas
+pub mod VpkgLemmas

@@ -4,10 +4,9 @@ ghost use Rattle.std.specs.List.{list_all};
 ghost use Rattle.cudf_value.specs.Formulas.{atom_view, atom_part};
 ghost use Rattle.cudf_value.specs.Working.Atoms.{ends_atom, is_inside, end_text, end_rest, values, values_of};
 
-use crate::class::Class;
 use crate::formula::Atom;
-use crate::text::{after, before, split_run, trim_start};
-use crate::vpkg::{Vpkg, vpkg_of};
+use crate::text::{after, before};
+use crate::vpkg::{vpkg_at, vpkg_of};
 use cudf_text::trim;
 
 /// What ends an atom, with what stands after it.
@@ -36,16 +35,18 @@ impl<'t> AtomEnd<'t> {
     }
 }
 
-/// The first atom, with blanks or none round it, and what ends it. A name alone, which most atoms
-/// are, is read in one pass.
+/// The first atom, with blanks or none round it, and what ends it. A name alone is read in one
+/// pass, with the blanks round it.
 pub(crate) fn first_atom(text: &str) -> (Option<Atom<'_>>, AtomEnd<'_>)
     ensures values { values text.now ≡ values_of (option_map atom_view result.0) result.1 }
     ensures shorter { IfSome (end_rest result.1) (λ rest. length rest < length text.now) }
 {
-    let (name, rest) = split_run(trim_start(text), Class::Name);
+    let Some((vpkg, rest)) = vpkg_at(text) else {
+        return other_atom(text);
+    };
     match end_at(rest) {
-        Some(end) if !name.is_empty() => (Some(Atom::Is(Vpkg { name, bound: None })), end),
-        _ => other_atom(text),
+        Some(end) => (Some(Atom::Is(vpkg)), end),
+        None => other_atom(text),
     }
 }
 

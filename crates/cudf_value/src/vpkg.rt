@@ -1,7 +1,8 @@
 //! The types `vpkg` and `veqpkg`.
-ghost use Rattle.std.specs.Prelude.{◌≡◌, option_map, length, ◌<◌};
+ghost use Rattle.std.specs.Prelude.{◌≡◌, option_map, length, ◌<◌, ◌≤◌, IfSome};
 ghost use Rattle.cudf_text.specs.Chars.{trim};
 ghost use Rattle.cudf_value.specs.Vpkgs.{vpkg_view, vpkg, veqpkg, vpkg_after, is_exact};
+ghost use Rattle.cudf_value.specs.Working.Rests.{BeginsWith};
 
 use crate::class::Class;
 use crate::number::posint_of;
@@ -48,6 +49,19 @@ pub(crate) fn vpkg_of(text: &str) -> Option<Vpkg<'_>>
     }
 }
 
+/// The name at the front, with blanks or none round it, as a vpkg, and what stands after them.
+/// `None` is answered where no name stands there.
+pub(crate) fn vpkg_at(text: &str) -> Option<(Vpkg<'_>, &str)>
+    ensures begins { IfSome result (λ at. BeginsWith (vpkg_view at.0) text.now at.1.now) }
+    ensures shorter { IfSome result (λ at. length at.1.now ≤ length text.now) }
+{
+    let (name, rest) = split_run(trim_start(text), Class::Name);
+    if name.is_empty() {
+        return None;
+    }
+    Some((Vpkg { name, bound: None }, trim_start(rest)))
+}
+
 /// The vpkg of a name, with `rest` after it.
 fn vpkg_before<'t>(name: &'t str, rest: &str) -> Option<Vpkg<'t>>
     ensures { option_map vpkg_view result ≡ vpkg_after name.now rest.now }
@@ -77,7 +91,7 @@ pub(crate) fn veqpkg_of(text: &str) -> Option<Vpkg<'_>>
 }
 
 /// Whether the bound admits all numbers, or one.
-fn is_exact(bound: Option<(Relop, u64)>) -> bool
+pub(crate) fn is_exact(bound: Option<(Relop, u64)>) -> bool
     ensures { result ≡ is_exact bound }
 {
     matches!(bound, None | Some((Relop::Eq, _)))

@@ -1,16 +1,15 @@
 //! The types `vpkglist` and `veqpkglist`.
-ghost use Rattle.std.specs.Prelude.{◌≡◌, ◌∷◌, ◌<◌, length, map, option_map, option_copied, is_some, IfOk, IfSome, IsTrue};
+ghost use Rattle.std.specs.Prelude.{◌≡◌, not, ◌||◌, ◌∷◌, ◌<◌, length, map, option_map, option_copied, is_some, IfOk, IfSome, IsTrue};
 ghost use Rattle.std.specs.Str.{byte};
 ghost use Rattle.cudf_text.specs.Chars.{trim};
-ghost use Rattle.cudf_value.specs.Parts.{parts, read_parts, comma_list};
-ghost use Rattle.cudf_value.specs.Vpkgs.{vpkg_view};
+ghost use Rattle.cudf_value.specs.Parts.{some_if, parts, read_parts, comma_list};
+ghost use Rattle.cudf_value.specs.Vpkgs.{vpkg_view, is_exact};
 ghost use Rattle.cudf_value.specs.Formulas.{vpkg_part, vpkglist, veqpkglist};
 ghost use Rattle.cudf_value.specs.Working.Rests.{parts_after};
 ghost use Rattle.cudf_value.specs.Working.Entries.{first_part, ends_entry, entry_end};
 
-use crate::class::Class;
-use crate::text::{after, cut, first_byte, room_for, split_run, trim_start};
-use crate::vpkg::{Vpkg, veqpkg_of, vpkg_of};
+use crate::text::{after, cut, first_byte, room_for};
+use crate::vpkg::{Vpkg, is_exact, veqpkg_of, vpkg_at, vpkg_of};
 use cudf_text::trim;
 use std::alloc::{AllocError, Global};
 
@@ -136,18 +135,31 @@ fn are_entries(text: &str, exact: bool) -> bool
     }
 }
 
-/// The first entry, and what stands after its comma, if there is one. A name alone, which many
-/// entries are, is read in one pass.
+/// The first entry, and what stands after its comma, if there is one. A name alone is read in one
+/// pass, with the blanks round it.
 fn first_entry(text: &str, exact: bool) -> (Option<Vpkg<'_>>, Option<&str>)
     ensures part { parts (byte ",") text.now ≡ first_part text.now ∷ parts_after (byte ",") (option_copied result.1) }
     ensures entry { option_map vpkg_view result.0 ≡ vpkg_part exact (first_part text.now) }
     ensures shorter { IfSome result.1 (λ rest. length rest.now < length text.now) }
 {
-    let (name, rest) = split_run(trim_start(text), Class::Name);
-    if name.is_empty() || !ends_entry(rest) {
+    let Some((vpkg, rest)) = vpkg_at(text) else {
+        return other_entry(text, exact);
+    };
+    if !ends_entry(rest) {
         return other_entry(text, exact);
     }
-    (Some(Vpkg { name, bound: None }), after_comma(rest))
+    (exact_where_asked(vpkg, exact), after_comma(rest))
+}
+
+/// The vpkg, where it is exact or needn't be.
+fn exact_where_asked(vpkg: Vpkg<'_>, exact: bool) -> Option<Vpkg<'_>>
+    ensures { option_map vpkg_view result ≡ some_if (not exact || is_exact vpkg.entry.bound) (vpkg_view vpkg.entry) }
+{
+    if !exact || is_exact(vpkg.bound) {
+        Some(vpkg)
+    } else {
+        None
+    }
 }
 
 /// Whether an entry ends here.
