@@ -29,7 +29,7 @@ no_prefix test [] some fails = absurd (omega arith)
 no_prefix test (x ∷ xs) some fails = rw fails refl
 
 -- a vpkg is cut after its name
-cut_at_name : (name rest : List ℕ) → is_pkgname name ≡ true → prefix_len is_pkgname_char rest ≡ 0 → vpkg (name ++ rest) ≡ vpkg_after name (trim_start rest)
+pub cut_at_name : (name rest : List ℕ) → is_pkgname name ≡ true → prefix_len is_pkgname_char rest ≡ 0 → vpkg (name ++ rest) ≡ vpkg_after name (trim_start rest)
 unfolding vpkg is_pkgname
 cut_at_name name rest is_name none =
     let parts = and_parts (nat_lt 0 (length name)) (list_all is_pkgname_char name) is_name in

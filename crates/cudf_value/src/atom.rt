@@ -35,8 +35,8 @@ impl<'t> AtomEnd<'t> {
     }
 }
 
-/// The first atom, with blanks or none round it, and what ends it. A name alone is read in one
-/// pass, with the blanks round it.
+/// The first atom, with blanks or none round it, and what ends it. A vpkg is read in one pass, with
+/// the blanks round it.
 pub(crate) fn first_atom(text: &str) -> (Option<Atom<'_>>, AtomEnd<'_>)
     ensures values { values text.now ≡ values_of (option_map atom_view result.0) result.1 }
     ensures shorter { IfSome (end_rest result.1) (λ rest. length rest < length text.now) }

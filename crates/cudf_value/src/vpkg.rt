@@ -2,7 +2,7 @@
 ghost use Rattle.std.specs.Prelude.{◌≡◌, option_map, length, ◌<◌, ◌≤◌, IfSome};
 ghost use Rattle.cudf_text.specs.Chars.{trim};
 ghost use Rattle.cudf_value.specs.Vpkgs.{vpkg_view, vpkg, veqpkg, vpkg_after, is_exact};
-ghost use Rattle.cudf_value.specs.Working.Rests.{BeginsWith};
+ghost use Rattle.cudf_value.specs.Working.Rests.{BeginsWith, BoundBegins};
 
 use crate::class::Class;
 use crate::number::posint_of;
@@ -49,8 +49,8 @@ pub(crate) fn vpkg_of(text: &str) -> Option<Vpkg<'_>>
     }
 }
 
-/// The name at the front, with blanks or none round it, as a vpkg, and what stands after them.
-/// `None` is answered where no name stands there.
+/// A vpkg at the front, with blanks or none round it, and what stands after them: a name with its
+/// bound, or alone where no bound stands after it. `None` is answered where no name stands there.
 pub(crate) fn vpkg_at(text: &str) -> Option<(Vpkg<'_>, &str)>
     ensures begins { IfSome result (λ at. BeginsWith (vpkg_view at.0) text.now at.1.now) }
     ensures shorter { IfSome result (λ at. length at.1.now ≤ length text.now) }
@@ -59,7 +59,26 @@ pub(crate) fn vpkg_at(text: &str) -> Option<(Vpkg<'_>, &str)>
     if name.is_empty() {
         return None;
     }
-    Some((Vpkg { name, bound: None }, trim_start(rest)))
+    let rest = trim_start(rest);
+    match bound_at(rest) {
+        Some((relop, number, more)) => {
+            let bound = Some((relop, number));
+            Some((Vpkg { name, bound }, more))
+        }
+        None => Some((Vpkg { name, bound: None }, rest)),
+    }
+}
+
+/// The operator and the number at the front, and what stands after them and blanks.
+fn bound_at(text: &str) -> Option<(Relop, u64, &str)>
+    ensures begins { IfSome result (λ at. BoundBegins at.0 at.1 text.now at.2.now) }
+    ensures shorter { IfSome result (λ at. length at.2.now ≤ length text.now) }
+{
+    let (symbol, rest) = split_run(text, Class::Operator);
+    let relop = Relop::of_symbol(symbol)?;
+    let (digits, rest) = split_run(trim_start(rest), Class::Name);
+    let number = posint_of(digits)?;
+    Some((relop, number, trim_start(rest)))
 }
 
 /// The vpkg of a name, with `rest` after it.

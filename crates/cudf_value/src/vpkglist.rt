@@ -135,8 +135,8 @@ fn are_entries(text: &str, exact: bool) -> bool
     }
 }
 
-/// The first entry, and what stands after its comma, if there is one. A name alone is read in one
-/// pass, with the blanks round it.
+/// The first entry, and what stands after its comma, if there is one. A vpkg is read in one pass,
+/// with the blanks round it.
 fn first_entry(text: &str, exact: bool) -> (Option<Vpkg<'_>>, Option<&str>)
     ensures part { parts (byte ",") text.now ≡ first_part text.now ∷ parts_after (byte ",") (option_copied result.1) }
     ensures entry { option_map vpkg_view result.0 ≡ vpkg_part exact (first_part text.now) }

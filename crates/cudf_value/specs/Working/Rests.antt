@@ -1,10 +1,13 @@
 -- What is left of a text while it is cut.
-use Rattle.std.specs.Prelude.{◌≡◌, ℕ, true, List, [], ◌++◌, Option, Some, None}
+use Rattle.std.specs.Prelude.{◌≡◌, ℕ, true, List, [], ◌++◌, take_while, Option, Some, None}
 use Rattle.std.specs.List.{list_all}
-use Rattle.cudf_text.specs.Chars.{trim}
+use Rattle.cudf_text.specs.Chars.{trim_start, trim}
+use Rattle.cudf_value.specs.declared.relop.Relop.{Relop}
+use Rattle.cudf_value.specs.Chars.{is_pkgname_char, is_operator_char, rest_after}
+use Rattle.cudf_value.specs.Numbers.{positive}
 use Rattle.cudf_value.specs.LexStates.{pieces}
 use Rattle.cudf_value.specs.Parts.{parts}
-use Rattle.cudf_value.specs.Vpkgs.{PlainVpkg, vpkg}
+use Rattle.cudf_value.specs.Vpkgs.{PlainVpkg, relop, vpkg}
 use Rattle.cudf_value.specs.Working.Atoms.{is_inside}
 
 -- the parts of what stands after a separator, if there is one
@@ -23,3 +26,13 @@ pub record BeginsWith (v : PlainVpkg) (text rest : List ℕ) : Type 0 where
   pub whole : text ≡ part ++ rest
   pub inside : list_all is_inside part ≡ true
   pub value : vpkg (trim part) ≡ Some v
+
+-- what stands after the operator at the front, and blanks
+abbrev pub number_text : List ℕ → List ℕ
+number_text text = trim_start (rest_after is_operator_char text)
+
+-- the text begins with the operator and the number, blanks or none after each, and the rest stands after these
+pub record BoundBegins (r : Relop) (n : ℕ) (text rest : List ℕ) : Type 0 where
+  pub operator : relop (take_while is_operator_char text) ≡ Some r
+  pub number : positive (take_while is_pkgname_char (number_text text)) ≡ Some n
+  pub behind : rest ≡ trim_start (rest_after is_pkgname_char (number_text text))
