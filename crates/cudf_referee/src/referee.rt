@@ -1,7 +1,9 @@
 //! The referee of a proposed status: its verdict and its counts, and the walk over the violated instances.
 ghost use Rattle.std.specs.Prelude.{◌≡◌, map, IfOk};
+ghost use Rattle.cudf_document.specs.Universe.{package_view};
 ghost use Rattle.cudf_referee.specs.Entries.{is_empty};
-ghost use Rattle.cudf_referee.specs.Violations.{has_package, package_place};
+ghost use Rattle.cudf_referee.specs.Violations.{package_place};
+ghost use Rattle.cudf_referee.specs.Working.Named.{has_kept_name};
 ghost use Rattle.cudf_referee.specs.Walks.{left};
 
 mod instances;
@@ -10,7 +12,7 @@ use crate::counting::count;
 use crate::criteria::Criteria;
 use crate::instance::{Instance, What};
 use crate::key::{Key, Part};
-use cudf_universe::{GreatestNumbers, Index, Problem, Solution, initial};
+use cudf_universe::{GreatestNumbers, Index, Keep, Package, Problem, Solution, initial};
 pub use instances::Instances;
 use std::alloc::{AllocError, Global};
 use std::marker::Model;
@@ -22,7 +24,7 @@ pub struct Referee<'p, 't> {
     solution: &'p Solution<'t>,
     now: Index<'p, 't>,
     before: GreatestNumbers<'p, 't>,
-    /// For each package, whether the proposed status has one of its name.
+    /// For each package, whether its name is to be kept, and the proposed status has one of it.
     named: Vec<bool>,
     verdict: bool,
     criteria: Criteria,
@@ -47,19 +49,28 @@ impl<'p, 't> Model for Referee<'p, 't> {
         × (r.criteria ≡ counts (put_forward r.problem.now r.before r.now (map unknown_view r.solution.now.unknown.items))) };
 }
 
-/// For each package of the universe, whether the status has a package of its name.
+/// For each package of the universe, whether its name is to be kept, and the status has a package of it.
 fn named_in(
     alloc: Global,
     problem: &Problem<'_>,
     status: &Index<'_, '_>,
 ) -> Result<Vec<bool>, AllocError>
-    ensures { IfOk result (λ named. named.items ≡ map (λ p. has_package status.now p.name) problem.now.packages) }
+    ensures { IfOk result (λ named. named.items ≡ map (has_kept_name status.now) problem.now.packages) }
 {
-    let mut named = Vec::new(alloc);
-    for package in problem.packages() {
-        named.push(status.has_package(package.name))?;
+    let packages = problem.packages();
+    let mut named = Vec::with_capacity(alloc, packages.len())?;
+    for package in packages {
+        named.push(has_kept_name(package, status))?;
     }
     Ok(named)
+}
+
+/// Whether the package's name is to be kept, and the status has a package of it. Other names aren't
+/// looked up.
+fn has_kept_name(package: &Package<'_>, status: &Index<'_, '_>) -> bool
+    ensures { result ≡ has_kept_name status.now (package_view «package».now) }
+{
+    package.keep == Keep::Package && status.has_package(package.name)
 }
 
 /// The place of the package that the part is.

@@ -6,14 +6,14 @@ use Rattle.cudf_universe.specs.Satisfaction.{Placed, members}
 use Rattle.cudf_referee.specs.Keys.{PlainKey}
 use Rattle.cudf_referee.specs.Proposals.{Proposal}
 use Rattle.cudf_referee.specs.Sites.{Stop, walk}
-use Rattle.cudf_referee.specs.Violations.{has_package}
+use Rattle.cudf_referee.specs.Working.Named.{has_kept_name}
 use Rattle.cudf_referee.specs.Working.Searches.{stops_left}
 
--- the statuses are those of the problem and of what is proposed, and each package's flag says whether its name is there
+-- the statuses are those of the problem and of what is proposed, and each package's flag says whether its name is to be kept and is there
 pub record Agrees (problem : PlainProblem) (is_installed : ℕ → Bool) (before now : List Placed) (named : List Bool) (unknown : List PlainUnknown) : Type 0 where
   pub was : before ≡ members (is_initial problem) problem.packages
   pub is : now ≡ members is_installed problem.packages
-  pub flags : named ≡ map (λ p. has_package now p.name) problem.packages
+  pub flags : named ≡ map (has_kept_name now) problem.packages
   pub ascends : IsTrue (ascend_above 0 unknown)
 
 -- the stops behind a key, or all of them

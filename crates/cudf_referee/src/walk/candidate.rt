@@ -13,7 +13,7 @@ pub(crate) struct Candidate<'p, 't> {
     pub(crate) package: &'p Package<'t>,
     /// Whether it is to be installed.
     pub(crate) is_installed: bool,
-    /// Whether a package of its name is to be installed.
+    /// Whether its name is to be kept, and a package of it is to be installed.
     pub(crate) is_named: bool,
     ghost placed: { 0 < place },
 }

@@ -7,7 +7,7 @@ ghost use Rattle.cudf_referee.specs.Working.Named.{names_held};
 use crate::walk::candidate::Candidate;
 use cudf_universe::{Package, Problem, Solution};
 
-/// A problem, a solution of it, and of which packages a package of the same name is proposed.
+/// A problem, a solution of it, and of which packages the name is to be kept and proposed.
 #[derive(Clone, Copy)]
 pub(crate) struct Ground<'r, 'p, 't> {
     pub(crate) problem: &'p Problem<'t>,

@@ -5,7 +5,7 @@ use Rattle.cudf_referee.specs.PositionViews.{position_view}
 use Rattle.cudf_referee.specs.Proposals.{put_forward}
 use Rattle.cudf_referee.specs.Sites.{PlainPosition}
 use Rattle.cudf_referee.specs.Views.{instance_view}
-use Rattle.cudf_referee.specs.Violations.{has_package}
+use Rattle.cudf_referee.specs.Working.Named.{has_kept_name}
 use Rattle.cudf_referee.specs.Walks.{Walking}
 use Rattle.cudf_referee.specs.Working.Places.{IsFitting, BeginsAt, next_place}
 use Rattle.cudf_referee.proofs.MoveLemmas.{moves, moves-same, moved-on}
@@ -24,7 +24,7 @@ invariant_of-self c =
       record {
         was = c.search-found.ensures.before ∙ agrees.was;
         is = c.search-found.ensures.now ∙ agrees.is;
-        flags = agrees.flags ∙ ap (λ status. map (λ p. has_package status p.name) i.problem.now.packages) (sym c.search-found.ensures.now);
+        flags = agrees.flags ∙ ap (λ status. map (has_kept_name status) i.problem.now.packages) (sym c.search-found.ensures.now);
         ascends = agrees.ascends;
       },
       subst IsFitting (sym there) c.position_behind-self-inside.ensures.fits,

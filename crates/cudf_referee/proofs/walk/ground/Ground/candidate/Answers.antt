@@ -3,10 +3,10 @@ use Rattle.std.specs.FinSet as set
 use Rattle.std.proofs.lemmas.List.{length-map}
 use Rattle.std.proofs.lemmas.Option.{slice_get_within}
 use Rattle.cudf_value.specs.Vpkgs.{vpkg_view}
-use Rattle.cudf_document.specs.Universe.{PlainPackage, package_view}
+use Rattle.cudf_document.specs.Universe.{package_view}
 use Rattle.cudf_document.specs.Statuses.{is_initial}
 use Rattle.cudf_universe.specs.Satisfaction.{members}
-use Rattle.cudf_referee.specs.Violations.{has_package}
+use Rattle.cudf_referee.specs.Working.Named.{has_kept_name}
 use Rattle.cudf_referee.proofs.GroundLemmas.{held-at, initial-at, own-at, flag-at}
 use Rattle.cudf_referee.proofs.walk.ground.Ground.candidate.Goals as goal
 
@@ -19,6 +19,6 @@ returns-clause-fits c =
     record {
       was = held-at (is_initial problem) problem.packages c.args.index below ∙ initial-at problem c.args.index p c.requires;
       is = held-at is problem.packages c.args.index below ∙ sym c.holds.ensures;
-      named = flag-at (λ (q : PlainPackage). has_package (members is problem.packages) q.name) c.args.self.named.now problem.packages c.args.index p false c.args.self.flagged c.requires;
+      named = flag-at (has_kept_name (members is problem.packages)) c.args.self.named.now problem.packages c.args.index p false c.args.self.flagged c.requires;
       own = omega (arith, own-at is problem.packages c.args.index p c.requires, length-map c.args.package.now.provides.items vpkg_view);
     }
