@@ -1,12 +1,13 @@
 -- Names that stand once each, and what is kept of each of them.
-use Rattle.std.proofs.Common.{◌≡◌, ℕ, suc, ◌+◌, Bool, true, false, not, ◌&&◌, ◌||◌, cond, List, [], ◌∷◌, ◌++◌, length, get_or, map, filter, Bor, bytes_eq, refl, ap, sym, ◌∙◌, arith}
+use Rattle.std.proofs.Common.{◌≡◌, ℕ, suc, ◌+◌, Bool, true, false, not, ◌&&◌, ◌||◌, cond, List, [], ◌∷◌, ◌++◌, length, get_or, map, filter, Bor, bytes_eq, Option, Some, None, IfSome, nat_lt, subst, refl, ap, sym, ◌∙◌, arith}
 use Rattle.std.proofs.Math.ListN.{set}
-use Rattle.std.specs.List.{list_any, position_or_len}
+use Rattle.std.specs.List.{list_any, position, position_or_len, count_by}
 use Rattle.std.proofs.lemmas.Bool.{true≢false, false_from_ne_true}
 use Rattle.std.proofs.lemmas.List.{append-nil}
 use Rattle.std.proofs.lemmas.List.Elements.{filter-append}
 use Rattle.std.proofs.lemmas.Slice.Eq.{bytes_eq-Decides}
 use Rattle.indexmap.specs.IndexSet.{insert_key}
+use Rattle.cudf_universe.proofs.CountLemmas.{count-cons}
 use Rattle.cudf_referee.specs.Criteria.{each_once}
 use Rattle.cudf_referee.proofs.ListLemmas.{and_left, and_right}
 
@@ -112,16 +113,91 @@ pub distinct-once : (xs : List Name) → distinct (each_once xs) ≡ true
 distinct-once [] = refl
 distinct-once (x ∷ xs) = λ i. not (none_filtered x (each_once xs) i) && distinct-filter (λ o. not (bytes_eq x o)) (each_once xs) (distinct-once xs) i
 
--- ---- numbers of names
+-- ---- counting names
 
-pub absent_number : (n : Name) (ns : List Name) → list_any (bytes_eq n) ns ≡ false → position_or_len (bytes_eq n) ns ≡ length ns
-absent_number n [] none = refl
-absent_number n (m ∷ ns) none = by (bytes_eq n m) refl none (absent_number n ns)
+others_kept : (x : Name) (ys : List Name) → list_any (bytes_eq x) ys ≡ false → filter (λ o. not (bytes_eq x o)) ys ≡ ys
+others_kept x [] none = refl
+others_kept x (y ∷ ys) none = by (bytes_eq x y) refl none (others_kept x ys)
   where
-    by : (b : Bool) → bytes_eq n m ≡ b → (b || list_any (bytes_eq n) ns) ≡ false → (list_any (bytes_eq n) ns ≡ false → position_or_len (bytes_eq n) ns ≡ length ns)
-        → position_or_len (bytes_eq n) (m ∷ ns) ≡ suc (length ns)
+    by : (b : Bool) → bytes_eq x y ≡ b → (b || list_any (bytes_eq x) ys) ≡ false → (list_any (bytes_eq x) ys ≡ false → filter (λ o. not (bytes_eq x o)) ys ≡ ys)
+        → cond (not b) (y ∷ filter (λ o. not (bytes_eq x o)) ys) (filter (λ o. not (bytes_eq x o)) ys) ≡ y ∷ ys
     by true e h rest = absurd (true≢false h)
-    by false e h rest = ap (λ b. cond (not b) (1 + position_or_len (bytes_eq n) ns) 0) e ∙ ap (λ k. 1 + k) (rest h) ∙ omega arith
+    by false e h rest = ap (λ zs. y ∷ zs) (rest h)
+
+no-not : (b : Bool) → not b ≡ true → b ≡ false
+no-not true e = sym e
+no-not false e = refl
+
+-- without a name that passes there is one less
+count_less : (t : Name → Bool) (x : Name) (ys : List Name) → distinct ys ≡ true → list_any (bytes_eq x) ys ≡ true → t x ≡ true
+    → count_by t ys ≡ 1 + count_by t (filter (λ o. not (bytes_eq x o)) ys)
+count_less t x [] apart there passes = absurd (true≢false (sym there))
+count_less t x (y ∷ ys) apart there passes =
+    by (bytes_eq x y) refl there (λ h. count_less t x ys (and_right (not (list_any (bytes_eq y) ys)) (distinct ys) apart) h passes)
+  where
+    less : List Name
+    less = filter (λ o. not (bytes_eq x o)) ys
+
+    by : (b : Bool) → bytes_eq x y ≡ b → (b || list_any (bytes_eq x) ys) ≡ true → (list_any (bytes_eq x) ys ≡ true → count_by t ys ≡ 1 + count_by t less)
+        → count_by t (y ∷ ys) ≡ 1 + count_by t (cond (not b) (y ∷ less) less)
+    by true e h rest =
+        let is : x ≡ y = same_text x y e in
+        let alone : list_any (bytes_eq x) ys ≡ false = ap (λ k. list_any (bytes_eq k) ys) is ∙ no-not (list_any (bytes_eq y) ys) (and_left (not (list_any (bytes_eq y) ys)) (distinct ys) apart) in
+        count-cons t y ys ∙ ap (λ b. cond b 1 0 + count_by t ys) (ap t (sym is) ∙ passes) ∙ ap (λ zs. 1 + count_by t zs) (sym (others_kept x ys alone))
+    by false e h rest = count-cons t y ys ∙ ap (λ n. cond (t y) 1 0 + n) (rest h) ∙ swap (cond (t y) 1 0) (count_by t less) ∙ ap (λ n. 1 + n) (sym (count-cons t y less))
+      where
+        swap : (a n : ℕ) → a + (1 + n) ≡ 1 + (a + n)
+        swap a n = omega arith
+
+or_right : (a b : Bool) → (a || b) ≡ false → b ≡ false
+or_right true b h = absurd (true≢false h)
+or_right false b h = h
+
+none_counted : (t : Name → Bool) (zs : List Name) → ((f : Name) → t f ≡ true → list_any (bytes_eq f) zs ≡ false) → count_by t zs ≡ 0
+none_counted t [] none = refl
+none_counted t (z ∷ zs) none =
+    count-cons t z zs ∙ by (t z) refl (none_counted t zs (λ f passes. or_right (bytes_eq f z) (list_any (bytes_eq f) zs) (none f passes)))
+  where
+    by : (b : Bool) → t z ≡ b → count_by t zs ≡ 0 → cond b 1 0 + count_by t zs ≡ 0
+    by true e rest = absurd (true≢false (sym (ap (λ b. b || list_any (bytes_eq z) zs) (text_same z z refl)) ∙ none z e))
+    by false e rest = omega (arith, rest)
+
+-- names that stand once each are as many as others of which the same ones pass
+pub same_count : (t : Name → Bool) (xs ys : List Name) → distinct xs ≡ true → distinct ys ≡ true
+    → ((f : Name) → t f ≡ true → list_any (bytes_eq f) xs ≡ list_any (bytes_eq f) ys) → count_by t xs ≡ count_by t ys
+same_count t [] ys apart_x apart_y same = sym (none_counted t ys (λ f passes. sym (same f passes)))
+same_count t (x ∷ xs) ys apart_x apart_y same = count-cons t x xs ∙ by (t x) refl (λ zs apart same_xs. same_count t xs zs below apart same_xs)
+  where
+    lone : list_any (bytes_eq x) xs ≡ false
+    lone = no-not (list_any (bytes_eq x) xs) (and_left (not (list_any (bytes_eq x) xs)) (distinct xs) apart_x)
+
+    below : distinct xs ≡ true
+    below = and_right (not (list_any (bytes_eq x) xs)) (distinct xs) apart_x
+
+    less : List Name
+    less = filter (λ o. not (bytes_eq x o)) ys
+
+    Rest : Type 0
+    Rest = (zs : List Name) → distinct zs ≡ true → ((f : Name) → t f ≡ true → list_any (bytes_eq f) xs ≡ list_any (bytes_eq f) zs) → count_by t xs ≡ count_by t zs
+
+    by : (b : Bool) → t x ≡ b → Rest → cond b 1 0 + count_by t xs ≡ count_by t ys
+    by true e rest =
+        let there : list_any (bytes_eq x) ys ≡ true = sym (same x e) ∙ ap (λ b. b || list_any (bytes_eq x) xs) (text_same x x refl) in
+        ap (λ n. 1 + n) (rest less (distinct-filter (λ o. not (bytes_eq x o)) ys apart_y) (λ f passes. inside f (same f passes) (bytes_eq f x) refl))
+        ∙ sym (count_less t x ys apart_y there e)
+      where
+        inside : (f : Name) → (bytes_eq f x || list_any (bytes_eq f) xs) ≡ list_any (bytes_eq f) ys → (b : Bool) → bytes_eq f x ≡ b → list_any (bytes_eq f) xs ≡ list_any (bytes_eq f) less
+        inside f h true is =
+            let own : f ≡ x = same_text f x is in
+            ap (λ k. list_any (bytes_eq k) xs) own ∙ lone ∙ sym (none_filtered x ys) ∙ ap (λ k. list_any (bytes_eq k) less) (sym own)
+        inside f h false is = (λ i. sym is i || list_any (bytes_eq f) xs) ∙ h ∙ sym (any_filtered f x ys is)
+    by false e rest = omega (arith, rest ys apart_y (λ f passes. inside f passes (bytes_eq f x) refl (same f passes)))
+      where
+        inside : (f : Name) → t f ≡ true → (b : Bool) → bytes_eq f x ≡ b → (bytes_eq f x || list_any (bytes_eq f) xs) ≡ list_any (bytes_eq f) ys → list_any (bytes_eq f) xs ≡ list_any (bytes_eq f) ys
+        inside f passes true is h = absurd (true≢false (sym passes ∙ ap t (same_text f x is) ∙ e))
+        inside f passes false is h = (λ i. sym is i || list_any (bytes_eq f) xs) ∙ h
+
+-- ---- numbers of names
 
 -- names that aren't this one keep what they have
 pub kept_others : {R : Type 0} (F F' : Name → R) (n : Name) (ns : List Name) → ((f : Name) → bytes_eq n f ≡ false → F' f ≡ F f) → list_any (bytes_eq n) ns ≡ false → map F ns ≡ map F' ns
@@ -170,6 +246,13 @@ any_now n (k ∷ ks) = ap (λ b. bytes_eq n k.now || b) (any_now n ks)
 pub number_now : (n : Name) (keys : List (Bor Name)) → position_or_len (λ k. bytes_eq n k.now) keys ≡ position_or_len (bytes_eq n) (map (λ k. k.now) keys)
 number_now n [] = refl
 number_now n (k ∷ ks) = ap (λ p. cond (not (bytes_eq n k.now)) (1 + p) 0) (number_now n ks)
+
+pub found_number : (n : Name) (keys : List (Bor Name)) (r : Option ℕ) → r ≡ position (λ k. bytes_eq n k.now) keys → IfSome r (λ i. i ≡ position_or_len (bytes_eq n) (map (λ k. k.now) keys))
+found_number n keys r is = subst (λ o. IfSome o (λ i. i ≡ position_or_len (bytes_eq n) (map (λ k. k.now) keys))) (sym is) (by (nat_lt (position_or_len (λ k. bytes_eq n k.now) keys) (length keys)))
+  where
+    by : (b : Bool) → IfSome (cond b (Some (position_or_len (λ k. bytes_eq n k.now) keys)) None) (λ i. i ≡ position_or_len (bytes_eq n) (map (λ k. k.now) keys))
+    by true = number_now n keys
+    by false = tt
 
 now-append : (xs ys : List (Bor Name)) → map (λ k. k.now) (xs ++ ys) ≡ map (λ k. k.now) xs ++ map (λ k. k.now) ys
 now-append [] ys = refl

@@ -1,7 +1,6 @@
 -- The standing of a name, with one more package.
 use Rattle.std.proofs.Common.{◌≡◌, ℕ, suc, ◌+◌, ◌<◌, ◌≤◌, max, Bool, true, false, not, ◌&&◌, ◌||◌, ◌==◌, nat_lt, cond, List, [], ◌∷◌, ◌++◌, length, get_or, take, map, filter, Bor, ◌^◌, bytes_eq, if◌then◌else◌, refl, ap, sym, subst, ◌∙◌, arith, eq-eqb, eqb-true}
 use Rattle.std.proofs.Math.ListN.{set}
-use Rattle.std.proofs.Math.Seq.{set-append_seam, get_or-append_seam}
 use Rattle.std.specs.List.{list_any, list_all, position_or_len, count_by, enumerate_from}
 use Rattle.std.proofs.lemmas.Bool.{true≢false, false_from_ne_true, ltb-true, ltb-false, lt-ltb}
 use Rattle.std.proofs.lemmas.List.{append-nil, map-append, length-map, take-map, get_or-map, length-take-le, map_push, take_more}
@@ -17,10 +16,10 @@ use Rattle.cudf_referee.specs.declared.counting.standing.Standing.{Standing}
 use Rattle.cudf_referee.specs.declared.counting.standings.Standings.{Standings}
 use Rattle.cudf_referee.specs.Criteria.{each_once, names_of, versions_of, is_among, is_same_set, greatest, at_most_max}
 use Rattle.cudf_referee.specs.Violations.{has_package}
-use Rattle.cudf_referee.specs.Working.Standings.{no_standing, differ, standing_with, held, standing_of, standings_of, StandsFor}
+use Rattle.cudf_referee.specs.Working.Standings.{no_standing, differ, standing_with, held, names_held, standing_of, standings_of, StandsFor}
 use Rattle.cudf_referee.proofs.EntryLemmas.{enumerate-push}
 use Rattle.cudf_referee.proofs.ListLemmas.{and_false, and_true}
-use Rattle.cudf_referee.proofs.NameLemmas.{text_same, other_way, any_once, once_push, distinct-once, absent_number, kept_others, at_number, same_text}
+use Rattle.cudf_referee.proofs.NameLemmas.{text_same, other_way, any_once, once_push, distinct-once, kept_others, at_number, same_text, same_count}
 
 -- ---- truth
 
@@ -199,70 +198,64 @@ none_named f t (x ∷ xs) none = by (bytes_eq f x.1.name) (t x.0) refl none (non
           (below h).2,
         )
 
-no_package : (was is : ℕ → Bool) (xs : List Placed) (f : List ℕ) → list_any (bytes_eq f) (names_of xs) ≡ false → standing_of was is xs f ≡ no_standing
-no_package was is xs f none =
-    let unnamed : list_any (bytes_eq f) (map (λ p. p.1.name) xs) ≡ false = sym (any_once f (map (λ p. p.1.name) xs)) ∙ none in
-    let w = none_named f was xs unnamed in
-    let n = none_named f is xs unnamed in
-    λ i. record {
-      was_installed = w.2 i;
-      is_installed = n.2 i;
-      is_changed = not (is_same_set (map (λ q. q.1.version) (w.1 i)) (map (λ q. q.1.version) (n.1 i)));
-      greatest = greatest (map (λ q. q.1.version) (w.0 i));
-      greatest_installed = greatest (map (λ q. q.1.version) (n.1 i));
-    }
+-- ---- the names that a status has
 
--- ---- the standings of all names, with one package more
+abbrev either : (ℕ → Bool) → (ℕ → Bool) → ℕ → Bool
+either was is = λ place. was place || is place
 
-pub stands_more : (was is : ℕ → Bool) (xs : List Placed) (p : Placed) (names names' : List (List ℕ)) (rows rows' now : List Standing) (n : ℕ) (row row' : Standing)
-    → is_among (versions_of p.1.name xs) p.1.version ≡ false → names ≡ names_of xs → rows ≡ standings_of was is xs
-    → names' ≡ insert_key bytes_eq names p.1.name
-    → rows' ≡ (if list_any (bytes_eq p.1.name) names then rows else rows ++ no_standing ∷ [])
-    → n ≡ position_or_len (bytes_eq p.1.name) names
-    → row ≡ get_or rows' n row
-    → row' ≡ standing_with row p.1.version (was p.0) (is p.0)
-    → now ≡ set rows' n row'
-    → (names' ≡ names_of (xs ++ p ∷ [])) × (now ≡ standings_of was is (xs ++ p ∷ []))
-stands_more was is xs p names names' rows rows' now n row row' fresh names_are rows_are inserted pushed at read with_it written = (inserted ∙ named, written ∙ by (list_any (bytes_eq p.1.name) (names_of xs)) refl)
+-- one package more, which one of the statuses has or neither
+pub held_more : (was is : ℕ → Bool) (xs : List Placed) (p : Placed)
+    → names_held was is (xs ++ p ∷ []) ≡ (if was p.0 || is p.0 then insert_key bytes_eq (names_held was is xs) p.1.name else names_held was is xs)
+held_more was is xs p = ap names_of (held-push (either was is) xs p) ∙ by (was p.0 || is p.0)
   where
-    f : List ℕ
-    f = p.1.name
+    by : (b : Bool) → names_of (held (either was is) xs ++ cond b (p ∷ []) []) ≡ (if b then insert_key bytes_eq (names_held was is xs) p.1.name else names_held was is xs)
+    by true = ap each_once (map-append (λ (q : Placed). q.1.name) (held (either was is) xs) (p ∷ [])) ∙ once_push (map (λ q. q.1.name) (held (either was is) xs)) p.1.name
+    by false = ap names_of (append-nil (held (either was is) xs))
 
-    F : List ℕ → Standing
-    F = standing_of was is xs
+-- a name more, without packages
+pub name_more : (was is : ℕ → Bool) (f : List ℕ) (names : List (List ℕ)) (rows rows' : List Standing) → rows ≡ map (standing_of was is []) names
+    → rows' ≡ (if list_any (bytes_eq f) names then rows else rows ++ no_standing ∷ []) → rows' ≡ map (standing_of was is []) (insert_key bytes_eq names f)
+name_more was is f names rows rows' rows_are pushed = pushed ∙ by (list_any (bytes_eq f) names)
+  where
+    by : (b : Bool) → (if b then rows else rows ++ no_standing ∷ []) ≡ map (standing_of was is []) (cond b names (names ++ f ∷ []))
+    by true = rows_are
+    by false = ap (λ zs. zs ++ no_standing ∷ []) rows_are ∙ sym (map-append (standing_of was is []) names (f ∷ []))
 
-    named : insert_key bytes_eq names p.1.name ≡ names_of (xs ++ p ∷ [])
-    named = ap (λ ns. insert_key bytes_eq ns p.1.name) names_are ∙ sym (once_push (map (λ q. q.1.name) xs) p.1.name) ∙ ap each_once (sym (map-append (λ (q : Placed). q.1.name) xs (p ∷ [])))
+-- ---- the standings of some names, with one package more
 
-    other : (g : List ℕ) → bytes_eq p.1.name g ≡ false → standing_of was is (xs ++ p ∷ []) g ≡ standing_of was is xs g
-    other g e = standing-push was is xs p g ∙ ap (grown was is xs p g) e ∙ grown_other was is xs p g
+module _ (was is : ℕ → Bool) (xs : List Placed) (p : Placed) where
+  other : (g : List ℕ) → bytes_eq p.1.name g ≡ false → standing_of was is (xs ++ p ∷ []) g ≡ standing_of was is xs g
+  other g e = standing-push was is xs p g ∙ ap (grown was is xs p g) e ∙ grown_other was is xs p g
 
-    here : standing_of was is (xs ++ p ∷ []) p.1.name ≡ standing_with (standing_of was is xs p.1.name) p.1.version (was p.0) (is p.0)
-    here = standing-push was is xs p p.1.name ∙ ap (grown was is xs p p.1.name) (text_same p.1.name p.1.name refl) ∙ grown_own was is xs p p.1.name fresh
+  here : is_among (versions_of p.1.name xs) p.1.version ≡ false
+      → standing_of was is (xs ++ p ∷ []) p.1.name ≡ standing_with (standing_of was is xs p.1.name) p.1.version (was p.0) (is p.0)
+  here fresh = standing-push was is xs p p.1.name ∙ ap (grown was is xs p p.1.name) (text_same p.1.name p.1.name refl) ∙ grown_own was is xs p p.1.name fresh
 
-    number : n ≡ position_or_len (bytes_eq p.1.name) (names_of xs)
-    number = at ∙ ap (position_or_len (bytes_eq p.1.name)) names_are
+  -- a package of one of the names
+  pub stands_more : (all : List Placed) (rows now : List Standing) (n : ℕ) (row row' : Standing)
+      → is_among (versions_of p.1.name xs) p.1.version ≡ false → rows ≡ map (standing_of was is xs) (names_held was is all)
+      → list_any (bytes_eq p.1.name) (names_held was is all) ≡ true
+      → n ≡ position_or_len (bytes_eq p.1.name) (names_held was is all)
+      → row ≡ get_or rows n row
+      → row' ≡ standing_with row p.1.version (was p.0) (is p.0)
+      → now ≡ set rows n row'
+      → now ≡ map (standing_of was is (xs ++ p ∷ [])) (names_held was is all)
+  stands_more all rows now n row row' fresh rows_are known at read with_it written =
+      written ∙ (λ i. set (rows_are i) (at i) (with_it i))
+      ∙ ap (λ r. set old place (standing_with r p.1.version (was p.0) (is p.0))) (read ∙ (λ i. get_or (rows_are i) (at i) row))
+      ∙ at_number (standing_of was is xs) (standing_of was is (xs ++ p ∷ [])) (λ r. standing_with r p.1.version (was p.0) (is p.0)) p.1.name (names_held was is all) row
+      (distinct-once (map (λ q. q.1.name) (held (either was is) all))) known other (here fresh)
+    where
+      old : List Standing
+      old = map (standing_of was is xs) (names_held was is all)
 
-    rows_now : rows' ≡ cond (list_any (bytes_eq p.1.name) (names_of xs)) (standings_of was is xs) (standings_of was is xs ++ no_standing ∷ [])
-    rows_now = pushed ∙ (λ i. cond (list_any (bytes_eq p.1.name) (names_are i)) (rows_are i) (rows_are i ++ no_standing ∷ []))
+      place : ℕ
+      place = position_or_len (bytes_eq p.1.name) (names_held was is all)
 
-    given : (zs : List Standing) (k : ℕ) → rows' ≡ zs → n ≡ k → set rows' n row' ≡ set zs k (standing_with (get_or zs k row) p.1.version (was p.0) (is p.0))
-    given zs k zs_is k_is = (λ i. set (zs_is i) (k_is i) (with_it i)) ∙ ap (λ r. set zs k (standing_with r p.1.version (was p.0) (is p.0))) (read ∙ (λ i. get_or (zs_is i) (k_is i) row))
-
-    by : (b : Bool) → list_any (bytes_eq p.1.name) (names_of xs) ≡ b → set rows' n row' ≡ standings_of was is (xs ++ p ∷ [])
-    by true e =
-        given (standings_of was is xs) (position_or_len (bytes_eq p.1.name) (names_of xs)) (rows_now ∙ (λ i. cond (e i) (standings_of was is xs) (standings_of was is xs ++ no_standing ∷ []))) number
-        ∙ at_number (standing_of was is xs) (standing_of was is (xs ++ p ∷ [])) (λ r. standing_with r p.1.version (was p.0) (is p.0)) p.1.name (names_of xs) row
-        (distinct-once (map (λ q. q.1.name) xs)) e other here
-        ∙ ap (map (standing_of was is (xs ++ p ∷ []))) (sym (sym named ∙ ap (λ ns. insert_key bytes_eq ns p.1.name) names_are ∙ (λ i. cond (e i) (names_of xs) (names_of xs ++ p.1.name ∷ []))))
-    by false e =
-        let count : position_or_len (bytes_eq p.1.name) (names_of xs) ≡ length (standings_of was is xs) = absent_number p.1.name (names_of xs) e ∙ sym (length-map (names_of xs) (standing_of was is xs)) in
-        given (standings_of was is xs ++ no_standing ∷ []) (length (standings_of was is xs)) (rows_now ∙ (λ i. cond (e i) (standings_of was is xs) (standings_of was is xs ++ no_standing ∷ []))) (number ∙ count)
-        ∙ set-append_seam (standings_of was is xs) no_standing [] (standing_with (get_or (standings_of was is xs ++ no_standing ∷ []) (length (standings_of was is xs)) row) p.1.version (was p.0) (is p.0))
-        ∙ ap (λ r. standings_of was is xs ++ standing_with r p.1.version (was p.0) (is p.0) ∷ []) (get_or-append_seam (standings_of was is xs) no_standing [] row ∙ sym (no_package was is xs p.1.name e))
-        ∙ (λ i. kept_others (standing_of was is xs) (standing_of was is (xs ++ p ∷ [])) p.1.name (names_of xs) other e i ++ sym here i ∷ [])
-        ∙ sym (map-append (standing_of was is (xs ++ p ∷ [])) (names_of xs) (p.1.name ∷ []))
-        ∙ ap (map (standing_of was is (xs ++ p ∷ []))) (sym (sym named ∙ ap (λ ns. insert_key bytes_eq ns p.1.name) names_are ∙ (λ i. cond (e i) (names_of xs) (names_of xs ++ p.1.name ∷ []))))
+  -- a package of none of them
+  pub stands_on : (names : List (List ℕ)) (rows : List Standing) → rows ≡ map (standing_of was is xs) names → list_any (bytes_eq p.1.name) names ≡ false
+      → rows ≡ map (standing_of was is (xs ++ p ∷ [])) names
+  stands_on names rows rows_are unknown = rows_are ∙ kept_others (standing_of was is xs) (standing_of was is (xs ++ p ∷ [])) p.1.name names other unknown
 
 -- ---- packages that come in turn
 
@@ -308,9 +301,9 @@ module _ {A : Type 0} (view : A → PlainPackage) where
       ∙ sym (enumerate-push 1 (map view (take i xs)) (view item))
       ∙ ap (enumerate_from 1) (ap (λ x. map view (take i xs) ++ view x ∷ []) is ∙ sym (map_push view (take i xs) (get_or xs i item)) ∙ ap (map view) (sym (take_more xs i item within)))
 
-pub same_length : (was is : ℕ → Bool) (packages : List Placed) (s : Standings) → StandsFor was is packages s → length s.standings.items ≡ length s.names.keys
-same_length was is packages s stands =
-    omega (arith, ap length stands.standings, length-map (names_of packages) (standing_of was is packages), ap length stands.names, length-map s.names.keys (λ (name : Bor (List ℕ)). name.now))
+pub same_length : (was is : ℕ → Bool) (names : List (List ℕ)) (packages : List Placed) (s : Standings) → StandsFor was is names packages s → length s.standings.items ≡ length s.names.keys
+same_length was is names packages s stands =
+    omega (arith, ap length stands.standings_are, length-map names (standing_of was is packages), ap length stands.names_are, length-map s.names.keys (λ (name : Bor (List ℕ)). name.now))
 
 -- ---- counting
 
@@ -386,9 +379,71 @@ outdated is xs f = by (has_package (held is xs) f) refl
 
 -- ---- what is counted of all names
 
--- the count of the names of a status's universe, from their standings
-pub names_counted : (was is : ℕ → Bool) (xs : List Placed) (rows : List Standing) (result : ℕ) (test : Standing → Bool) (named : List ℕ → Bool) → rows ≡ standings_of was is xs
+-- the standing of a name that neither status has
+abbrev pub idle : ℕ → ℕ → Standing
+idle top top_installed = record { was_installed = false; is_installed = false; is_changed = false; greatest = top; greatest_installed = top_installed }
+
+held_within : (t e : ℕ → Bool) (xs : List Placed) → ((n : ℕ) → t n ≡ true → e n ≡ true) → held t (held e xs) ≡ held t xs
+held_within t e [] within = refl
+held_within t e (x ∷ xs) within = by (e x.0) (t x.0) refl refl (held_within t e xs within)
+  where
+    by : (a b : Bool) → e x.0 ≡ a → t x.0 ≡ b → held t (held e xs) ≡ held t xs → held t (cond a (x ∷ held e xs) (held e xs)) ≡ cond b (x ∷ held t xs) (held t xs)
+    by true true is_e is_t below = (λ i. cond (is_t i) (x ∷ held t (held e xs)) (held t (held e xs))) ∙ ap (λ ps. x ∷ ps) below
+    by true false is_e is_t below = (λ i. cond (is_t i) (x ∷ held t (held e xs)) (held t (held e xs))) ∙ below
+    by false true is_e is_t below = absurd (true≢false (sym (within x.0 is_t) ∙ is_e))
+    by false false is_e is_t below = below
+
+idle_unheld : (was is : ℕ → Bool) (xs : List Placed) (f : List ℕ) → list_any (bytes_eq f) (names_held was is xs) ≡ false
+    → standing_of was is xs f ≡ idle (greatest (versions_of f xs)) (greatest (versions_of f (held is xs)))
+idle_unheld was is xs f none =
+    let e = either was is in
+    let unnamed : list_any (bytes_eq f) (map (λ p. p.1.name) (held e xs)) ≡ false = sym (any_once f (map (λ p. p.1.name) (held e xs))) ∙ none in
+    let w = none_named f was (held e xs) unnamed in
+    let n = none_named f is (held e xs) unnamed in
+    let same_was : held was xs ≡ held was (held e xs) = sym (held_within was e xs (λ k h. ap (λ b. b || is k) h)) in
+    let same_is : held is xs ≡ held is (held e xs) = sym (held_within is e xs (λ k h. ap (λ b. was k || b) h ∙ or_true (was k))) in
+    let old = ap (filter (is_named f)) same_was ∙ w.1 in
+    let new = ap (filter (is_named f)) same_is ∙ n.1 in
+    λ i. record {
+      was_installed = (ap (λ ps. has_package ps f) same_was ∙ w.2) i;
+      is_installed = (ap (λ ps. has_package ps f) same_is ∙ n.2) i;
+      is_changed = not (is_same_set (map (λ q. q.1.version) (old i)) (map (λ q. q.1.version) (new i)));
+      greatest = greatest (versions_of f xs);
+      greatest_installed = greatest (versions_of f (held is xs));
+    }
+
+-- the names of some packages are among those of all
+named_anywhere : (f : List ℕ) (e : ℕ → Bool) (xs : List Placed) → list_any (bytes_eq f) (map (λ p. p.1.name) (held e xs)) ≡ true → list_any (bytes_eq f) (map (λ p. p.1.name) xs) ≡ true
+named_anywhere f e [] h = h
+named_anywhere f e (x ∷ xs) h = by (e x.0) (bytes_eq f x.1.name) refl h (named_anywhere f e xs)
+  where
+    by : (a b : Bool) → bytes_eq f x.1.name ≡ b → list_any (bytes_eq f) (map (λ p. p.1.name) (cond a (x ∷ held e xs) (held e xs))) ≡ true
+        → (list_any (bytes_eq f) (map (λ p. p.1.name) (held e xs)) ≡ true → list_any (bytes_eq f) (map (λ p. p.1.name) xs) ≡ true)
+        → (b || list_any (bytes_eq f) (map (λ p. p.1.name) xs)) ≡ true
+    by a true same h below = refl
+    by true false same h below = below ((λ i. sym same i || list_any (bytes_eq f) (map (λ p. p.1.name) (held e xs))) ∙ h)
+    by false false same h below = below h
+
+-- the names that a status has are counted as all are, where no other passes the test
+count_held : (was is : ℕ → Bool) (xs : List Placed) (test : Standing → Bool) → ((top top_installed : ℕ) → test (idle top top_installed) ≡ false)
+    → count_by (λ f. test (standing_of was is xs f)) (names_of xs) ≡ count_by (λ f. test (standing_of was is xs f)) (names_held was is xs)
+count_held was is xs test quiet =
+    same_count passes (names_of xs) (names_held was is xs) (distinct-once (map (λ q. q.1.name) xs)) (distinct-once (map (λ q. q.1.name) (held (either was is) xs)))
+    (λ f passed. by f passed (list_any (bytes_eq f) (names_held was is xs)) refl)
+  where
+    passes : List ℕ → Bool
+    passes f = test (standing_of was is xs f)
+
+    by : (f : List ℕ) → passes f ≡ true → (b : Bool) → list_any (bytes_eq f) (names_held was is xs) ≡ b → list_any (bytes_eq f) (names_of xs) ≡ b
+    by f passed true there =
+        any_once f (map (λ q. q.1.name) xs) ∙ named_anywhere f (either was is) xs (sym (any_once f (map (λ q. q.1.name) (held (either was is) xs))) ∙ there)
+    by f passed false none = absurd (true≢false (sym passed ∙ ap test (idle_unheld was is xs f none) ∙ quiet (greatest (versions_of f xs)) (greatest (versions_of f (held is xs)))))
+
+-- the count of the names of a status's universe, from the standings
+pub names_counted : (was is : ℕ → Bool) (xs : List Placed) (rows : List Standing) (result : ℕ) (test : Standing → Bool) (named : List ℕ → Bool)
+    → ((top top_installed : ℕ) → test (idle top top_installed) ≡ false) → rows ≡ standings_of was is xs
     → ((f : List ℕ) → test (standing_of was is xs f) ≡ named f) → result ≡ count_by test rows → result < 2 ^ 64 → result ≡ at_most_max (count_by named (names_of xs))
-names_counted was is xs rows result test named rows_are same counted small =
+names_counted was is xs rows result test named quiet rows_are same counted small =
     sym (capped result small)
-    ∙ ap at_most_max (counted ∙ ap (count_by test) rows_are ∙ count-map (standing_of was is xs) test (names_of xs) ∙ ap (λ p. count_by p (names_of xs)) (λ i f. same f i))
+    ∙ ap at_most_max (counted ∙ ap (count_by test) rows_are ∙ count-map (standing_of was is xs) test (names_held was is xs)
+    ∙ sym (count_held was is xs test quiet) ∙ ap (λ p. count_by p (names_of xs)) (λ i f. same f i))

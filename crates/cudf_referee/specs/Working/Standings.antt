@@ -37,15 +37,19 @@ standing_of was is packages name = record {
   greatest_installed = greatest (versions_of name (held is packages));
 }
 
--- the standings of their names
+-- the names of the packages that one of the statuses has
+abbrev pub names_held : (ℕ → Bool) → (ℕ → Bool) → List Placed → List (List ℕ)
+names_held was is packages = names_of (held (λ place. was place || is place) packages)
+
+-- the standings of these names: any other has none of what is counted
 abbrev pub standings_of : (ℕ → Bool) → (ℕ → Bool) → List Placed → List Standing
-standings_of was is packages = map (standing_of was is packages) (names_of packages)
+standings_of was is packages = map (standing_of was is packages) (names_held was is packages)
 
 -- the names that were gathered
 abbrev pub names_in : Standings → List (List ℕ)
 names_in s = map (λ name. name.now) s.names.keys
 
--- what was gathered of these packages
-pub record StandsFor (was is : ℕ → Bool) (packages : List Placed) (s : Standings) : Type 0 where
-  pub names : names_in s ≡ names_of packages
-  pub standings : s.standings.items ≡ standings_of was is packages
+-- what was gathered of these packages for these names
+pub record StandsFor (was is : ℕ → Bool) (names : List (List ℕ)) (packages : List Placed) (s : Standings) : Type 0 where
+  pub names_are : names_in s ≡ names
+  pub standings_are : s.standings.items ≡ map (standing_of was is packages) names

@@ -1,17 +1,21 @@
-use Rattle.std.proofs.Common.{◌<◌, length, map, take, subst, List, arith}
+use Rattle.std.proofs.Common.{◌≡◌, ◌<◌, length, map, take, subst, List, arith, ap, ◌∙◌}
 use Rattle.std.specs.FinSet as set
 use Rattle.std.specs.List.{enumerate_from}
+use Rattle.std.proofs.lemmas.List.{take_all}
 use Rattle.cudf_document.specs.Universe.{package_view}
 use Rattle.cudf_universe.specs.Satisfaction.{Placed}
-use Rattle.cudf_referee.specs.Working.Standings.{StandsFor}
+use Rattle.cudf_referee.specs.Working.Standings.{StandsFor, names_held, standing_of}
 use Rattle.cudf_referee.proofs.StandingLemmas.{next_fresh, next_places, same_length}
 use Rattle.cudf_referee.proofs.counting.standings.standings_of.Goals as goal
 
-pub add-requires : goal.add-requires
-add-requires c = same_length (set.contains c.args.before.now) (set.contains c.args.proposed.now) (enumerate_from 1 (map package_view (take c.loop-index.index c.packages-package-items.result.now))) c.loop-index.standings c.loop-index.invariant
-
 pub loop-index-init : goal.loop-index-init
-loop-index-init c = c.new-standings.ensures (set.contains c.args.before.now) (set.contains c.args.proposed.now)
+loop-index-init c = c.in_ok-standings.ensures
+
+pub add-requires : goal.add-requires
+add-requires c =
+    let before = set.contains c.args.before.now in
+    let proposed = set.contains c.args.proposed.now in
+    same_length before proposed (names_held before proposed (enumerate_from 1 c.args.problem.now.packages)) (enumerate_from 1 (map package_view (take c.loop-index.index c.packages-package-items.result.now))) c.loop-index.standings c.loop-index.invariant
 
 pub loop-index-preserved : goal.loop-index-preserved
 loop-index-preserved c =
@@ -20,9 +24,19 @@ loop-index-preserved c =
     let item = c.package-item.result in
     let before = set.contains c.args.before.now in
     let proposed = set.contains c.args.proposed.now in
+    let all = enumerate_from 1 c.args.problem.now.packages in
     let below : i < length xs = omega arith in
-    let P : List Placed → Type 0 = λ ps. StandsFor before proposed ps c.add.new.self in
+    let P : List Placed → Type 0 = λ ps. StandsFor before proposed (names_held before proposed all) ps c.add.new.self in
     subst P (next_places package_view xs i item below c.package-item.is)
-    (c.in_ok-add.ensures.stands (enumerate_from 1 (map package_view (take i xs)))
+    (c.add.ensures all (enumerate_from 1 (map package_view (take i xs)))
     (next_fresh package_view xs c.args.problem.now.packages i item c.packages-package-items.ensures.packages c.packages-package-items.ensures.distinct below c.package-item.is)
     c.loop-index.invariant)
+
+pub returns : goal.returns
+returns c =
+    let xs = c.packages-package-items.result.now in
+    let before = set.contains c.args.before.now in
+    let proposed = set.contains c.args.proposed.now in
+    let all : map package_view (take c.loop-index.index xs) ≡ c.args.problem.now.packages = ap (map package_view) (take_all c.loop-index.index xs (omega arith)) ∙ c.packages-package-items.ensures.packages in
+    c.loop-index.invariant.standings_are
+    ∙ ap (λ ps. map (standing_of before proposed (enumerate_from 1 ps)) (names_held before proposed (enumerate_from 1 c.args.problem.now.packages))) all

@@ -1,32 +1,9 @@
-use Rattle.std.proofs.Common.{[], ◌∷◌, ◌++◌, map, bytes_eq, if◌then◌else◌, ap, sym, ◌∙◌}
-use Rattle.std.proofs.lemmas.Bool.{not-true}
-use Rattle.std.specs.List.{list_any}
-use Rattle.cudf_referee.specs.Working.Standings.{no_standing}
-use Rattle.cudf_referee.proofs.NameLemmas.{any_now, number_now, inserted_now, not-false}
+use Rattle.std.proofs.Common.{◌∙◌}
+use Rattle.cudf_referee.proofs.NameLemmas.{any_now, found_number}
 use Rattle.cudf_referee.proofs.counting.standings.Standings.number_of.Goals as goal
 
-pub returns-in_ok-push-clause-names : goal.returns-in_ok-push-clause-names
-returns-in_ok-push-clause-names c = ap (map (λ j. j.now)) c.in_ok-number.ensures.keys ∙ inserted_now c.args.self.now.names.keys c.args.name
+pub returns-clause-known : goal.returns-clause-known
+returns-clause-known c = c.get_index_of.ensures.found ∙ any_now c.args.name.now c.args.self.now.names.keys
 
-pub returns-in_ok-push-clause-standings : goal.returns-in_ok-push-clause-standings
-returns-in_ok-push-clause-standings c =
-    let old = c.args.self.now.standings.items in
-    let keys = c.args.self.now.names.keys in
-    let unknown = sym (any_now c.args.name.now keys) ∙ not-true (list_any (λ k. bytes_eq c.args.name.now k.now) keys) (sym c.in_ok-number.ensures.added ∙ c.if-is_new.true) in
-    c.in_ok-push.ensures.items ∙ ap (λ s. old ++ s ∷ []) c.new.ensures ∙ ap (λ b. if b then old else old ++ no_standing ∷ []) (sym unknown)
-
-pub returns-in_ok-push-clause-number : goal.returns-in_ok-push-clause-number
-returns-in_ok-push-clause-number c = c.in_ok-number.ensures.index ∙ number_now c.args.name.now c.args.self.now.names.keys
-
-pub returns-else-is_new-clause-names : goal.returns-else-is_new-clause-names
-returns-else-is_new-clause-names c = ap (map (λ j. j.now)) c.in_ok-number.ensures.keys ∙ inserted_now c.args.self.now.names.keys c.args.name
-
-pub returns-else-is_new-clause-standings : goal.returns-else-is_new-clause-standings
-returns-else-is_new-clause-standings c =
-    let old = c.args.self.now.standings.items in
-    let keys = c.args.self.now.names.keys in
-    let known = sym (any_now c.args.name.now keys) ∙ not-false (list_any (λ k. bytes_eq c.args.name.now k.now) keys) (sym c.in_ok-number.ensures.added ∙ c.if-is_new.false) in
-    ap (λ b. if b then old else old ++ no_standing ∷ []) (sym known)
-
-pub returns-else-is_new-clause-number : goal.returns-else-is_new-clause-number
-returns-else-is_new-clause-number c = c.in_ok-number.ensures.index ∙ number_now c.args.name.now c.args.self.now.names.keys
+pub returns-clause-number : goal.returns-clause-number
+returns-clause-number c = found_number c.args.name.now c.args.self.now.names.keys c.get_index_of.result c.get_index_of.ensures.index

@@ -1,0 +1,32 @@
+use Rattle.std.proofs.Common.{◌≡◌, ◌<◌, length, map, take, subst, List, [], arith, ap, ◌∙◌}
+use Rattle.std.specs.FinSet as set
+use Rattle.std.specs.List.{enumerate_from}
+use Rattle.std.proofs.lemmas.List.{take_all}
+use Rattle.cudf_document.specs.Universe.{package_view}
+use Rattle.cudf_universe.specs.Satisfaction.{Placed}
+use Rattle.cudf_referee.specs.Working.Standings.{StandsFor, names_held}
+use Rattle.cudf_referee.proofs.StandingLemmas.{next_places}
+use Rattle.cudf_referee.proofs.counting.standings.names_of_either.Goals as goal
+
+pub loop-index-init : goal.loop-index-init
+loop-index-init c = c.new-standings.ensures (set.contains c.args.before.now) (set.contains c.args.proposed.now)
+
+pub loop-index-preserved : goal.loop-index-preserved
+loop-index-preserved c =
+    let xs = c.packages-package-items.result.now in
+    let i = c.loop-index.index in
+    let item = c.package-item.result in
+    let before = set.contains c.args.before.now in
+    let proposed = set.contains c.args.proposed.now in
+    let below : i < length xs = omega arith in
+    let P : List Placed → Type 0 = λ ps. StandsFor before proposed (names_held before proposed ps) [] c.add_held.new.self in
+    subst P (next_places package_view xs i item below c.package-item.is)
+    (c.in_ok-add_held.ensures (enumerate_from 1 (map package_view (take i xs))) c.loop-index.invariant)
+
+pub returns : goal.returns
+returns c =
+    let xs = c.packages-package-items.result.now in
+    let before = set.contains c.args.before.now in
+    let proposed = set.contains c.args.proposed.now in
+    let all : map package_view (take c.loop-index.index xs) ≡ c.args.problem.now.packages = ap (map package_view) (take_all c.loop-index.index xs (omega arith)) ∙ c.packages-package-items.ensures.packages in
+    subst (λ ps. StandsFor before proposed (names_held before proposed (enumerate_from 1 ps)) [] c.loop-index.standings) all c.loop-index.invariant
