@@ -16,6 +16,16 @@ pub(crate) fn lesser(one: Option<Fault>, other: Option<Fault>) -> Option<Fault>
     }
 }
 
+/// Puts the fault in the place of the first one, if it comes before that. Where there is no fault,
+/// as mostly, nothing is copied.
+pub(crate) fn keep_lesser(first: &mut Option<Fault>, fault: Option<Fault>)
+    ensures { first.new ≡ lesser first.old fault }
+{
+    if fault.is_some() {
+        *first = lesser(*first, fault);
+    }
+}
+
 fn precedes(f: Fault, g: Fault) -> bool
     ensures { result ≡ precedes f g }
 {

@@ -13,7 +13,7 @@ ghost use Rattle.cudf_document.specs.Working.PackageFields.{fault_on, kind_after
 ghost use Rattle.cudf_document.specs.declared.postmark.Postmark.TheVariants.{Package as PackageMark};
 
 use crate::declarations::{Declarations, mistyped_unless};
-use crate::fault::{fault_on, lesser};
+use crate::fault::{fault_on, keep_lesser};
 use crate::line::{Line, line_of, source_line};
 use crate::package_fields::read_keep;
 use crate::package_property::{PackageProperty, package_property_named};
@@ -81,7 +81,7 @@ where
     for property in properties {
         let line = line_of(property);
         let fault = read_property(alloc, names, declarations, &mut sink, line)?;
-        first = lesser(first, fault);
+        keep_lesser(&mut first, fault);
     }
     Ok((first, sink))
 }
@@ -108,7 +108,7 @@ pub(crate) fn read_source_properties<'a, S: Fields<'a>>(
             return Ok(None);
         };
         let fault = read_property(alloc, names, declarations, &mut sink, line)?;
-        first = lesser(first, fault);
+        keep_lesser(&mut first, fault);
     }
     Ok(Some((first, sink)))
 }

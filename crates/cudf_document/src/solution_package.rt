@@ -8,7 +8,7 @@ ghost use Rattle.cudf_document.specs.SolutionFaults.{value_faults};
 ghost use Rattle.cudf_document.specs.Working.SolutionPackages.{solution_property_named, solution_package_view, solution_package_of};
 
 use crate::declarations::mistyped_unless;
-use crate::fault::{fault_on, lesser};
+use crate::fault::{fault_on, keep_lesser};
 use crate::package_fields::source_name;
 use cudf_text::{Fault, Kind, Property, Stanza};
 use cudf_value::{read_bool, read_posint};
@@ -143,7 +143,7 @@ pub(crate) fn read_solution_package<'a>(stanza: &Stanza<'a>) -> (Option<Fault>, 
     let mut entry = SolutionPackage::new();
     for property in &stanza.properties {
         let fault = entry.read(property);
-        first = lesser(first, fault);
+        keep_lesser(&mut first, fault);
     }
     (first, entry)
 }

@@ -12,7 +12,7 @@ ghost use Rattle.cudf_document.specs.Working.Walks.{GoesOn, IsWhole};
 ghost use Rattle.cudf_document.specs.declared.postmark.Postmark.TheVariants.{Preamble as PreambleMark};
 
 use crate::declarations::Declarations;
-use crate::fault::{fault_if, lesser};
+use crate::fault::{fault_if, keep_lesser, lesser};
 use crate::ids::Ids;
 use crate::package_fields::source_name;
 use crate::postmark::{Postmark, postmark_of};
@@ -219,7 +219,7 @@ impl<'h, 'a> Walk<'h, 'a> {
         let mark = postmark_of(stanza);
         let place = place_fault(is_first, self.requested, mark, stanza.line);
         let inside = self.judge(alloc, kept, mark, stanza)?;
-        self.first = lesser(self.first, place.or(inside));
+        keep_lesser(&mut self.first, place.or(inside));
         self.requested = either(is_request(mark), self.requested);
         Ok(())
     }

@@ -19,11 +19,11 @@ loop-property-preserved g c =
     let ps = map property_view (take i items) in
     let p = property_view c.property-item.result in
     let more : map property_view (take (i + 1) items) ≡ ps ++ p ∷ [] = map_next property_view items items i c.property-item.result (omega arith) c.property-item.is refl in (
-      IsJudgedTo-next ds ps names c.loop-property.first p (map property_view (take (i + 1) items)) c.read_property.new.names c.in_ok-fault.fault c.lesser-first.result
+      IsJudgedTo-next ds ps names c.loop-property.first p (map property_view (take (i + 1) items)) c.read_property.new.names c.in_ok-fault.fault c.keep_lesser.new.first
           c.loop-property.invariant.0 more
           (c.in_ok-fault.ensures.names ∙ ap (λ (q : PlainProperty). insert_key bytes_eq names q.name) c.line_of-line.ensures)
           (c.in_ok-fault.ensures.fault ∙ ap (λ (q : PlainProperty). fault_on q.line (kind_after ds names q)) c.line_of-line.ensures)
-          c.lesser-first.ensures,
+          c.keep_lesser.ensures,
       subst (λ qs. g.S.Fields.IsRead ds qs c.read_property.new.sink) (ap (λ q. ps ++ q ∷ []) c.line_of-line.ensures ∙ sym more)
           (c.in_ok-fault.ensures.read ps c.loop-property.invariant.0.names_are c.loop-property.invariant.1),
     )

@@ -8,6 +8,6 @@ pub returns-clause-known : goal.returns-clause-known
 returns-clause-known g c = λ before first ds so_far.
     IsKnown-next c.args.self.now _ before (stanza_view c.args.stanza.now) c.postmark_of-mark.result c.args.is_first c.place_fault-place.result c.in_ok-inside.inside
     first ds so_far c.postmark_of-mark.ensures c.place_fault-place.ensures c.in_ok-inside.ensures.fault
-    (c.lesser-self.ensures ∙ (λ i. lesser (c.in_ok-inside.ensures.first i) (c.or.ensures i)))
+    (c.keep_lesser.ensures ∙ (λ i. lesser (c.in_ok-inside.ensures.first i) (c.or.ensures i)))
     c.in_ok-inside.ensures.ids
     (c.either-self.ensures ∙ (λ i. c.is_request.ensures i || c.in_ok-inside.ensures.requested i))
