@@ -114,6 +114,7 @@ pub(crate) fn read_source_properties<'a, S: Fields<'a>>(
 }
 
 /// Reads a property into the sink, if it is the first of its name, and answers its fault.
+#[inline(always)]
 fn read_property<'n, 's, S: Fields<'s>>(
     alloc: Global,
     names: &mut SeenNames<'n>,

@@ -48,6 +48,7 @@ impl<'t> SeenNames<'t> {
     }
 
     /// Adds the name, and says whether it is new.
+    #[inline(always)]
     pub(crate) fn insert(&mut self, name: &'t str) -> Result<bool, AllocError>
         ensures is_new { IfOk result (λ is_new.
             is_new ≡ not (list_any (bytes_eq name.now) self.old)) }
@@ -72,6 +73,7 @@ impl<'t> SeenNames<'t> {
 }
 
 /// Whether the name is one of these.
+#[inline(always)]
 fn is_among(name: &str, names: &[&str]) -> bool
     ensures { result ≡ list_any (λ seen. bytes_eq name.now seen.now) names.now }
 {

@@ -16,6 +16,7 @@ pub(crate) struct LineEnd {
 }
 
 /// The end of the first line.
+#[inline(always)]
 pub(crate) fn line_end(bytes: &[u8]) -> LineEnd
     requires { 0 < length bytes.now }
     ensures inside { (result.text ≤ result.next) × (0 < result.next) × (result.next ≤ length bytes.now) }

@@ -37,20 +37,22 @@ impl<'t> AtomEnd<'t> {
 
 /// The first atom, with blanks or none round it, and what ends it. A vpkg is read in one pass, with
 /// the blanks round it.
+#[inline(always)]
 pub(crate) fn first_atom(text: &str) -> (Option<Atom<'_>>, AtomEnd<'_>)
     ensures values { values text.now ≡ values_of (option_map atom_view result.0) result.1 }
     ensures shorter { IfSome (end_rest result.1) (λ rest. length rest < length text.now) }
 {
-    let Some((vpkg, rest)) = vpkg_at(text) else {
-        return other_atom(text);
-    };
-    match end_at(rest) {
-        Some(end) => (Some(Atom::Is(vpkg)), end),
-        None => other_atom(text),
+    if let Some((vpkg, rest)) = vpkg_at(text) {
+        if let Some(end) = end_at(rest) {
+            return (Some(Atom::Is(vpkg)), end);
+        }
     }
+    let (atom, end) = other_atom(text);
+    (atom, end)
 }
 
 /// What ends an atom here, if it ends here.
+#[inline(always)]
 fn end_at(text: &str) -> Option<AtomEnd<'_>>
     ensures { IfSome result (λ end. text.now ≡ end_text end) }
 {
@@ -63,6 +65,7 @@ fn end_at(text: &str) -> Option<AtomEnd<'_>>
 }
 
 /// The first atom, whatever it is.
+#[inline(never)]
 fn other_atom(text: &str) -> (Option<Atom<'_>>, AtomEnd<'_>)
     ensures values { values text.now ≡ values_of (option_map atom_view result.0) result.1 }
     ensures shorter { IfSome (end_rest result.1) (λ rest. length rest < length text.now) }

@@ -137,18 +137,19 @@ fn are_entries(text: &str, exact: bool) -> bool
 
 /// The first entry, and what stands after its comma, if there is one. A vpkg is read in one pass,
 /// with the blanks round it.
+#[inline(always)]
 fn first_entry(text: &str, exact: bool) -> (Option<Vpkg<'_>>, Option<&str>)
     ensures part { parts (byte ",") text.now ≡ first_part text.now ∷ parts_after (byte ",") (option_copied result.1) }
     ensures entry { option_map vpkg_view result.0 ≡ vpkg_part exact (first_part text.now) }
     ensures shorter { IfSome result.1 (λ rest. length rest.now < length text.now) }
 {
-    let Some((vpkg, rest)) = vpkg_at(text) else {
-        return other_entry(text, exact);
-    };
-    if !ends_entry(rest) {
-        return other_entry(text, exact);
+    if let Some((vpkg, rest)) = vpkg_at(text) {
+        if ends_entry(rest) {
+            return (exact_where_asked(vpkg, exact), after_comma(rest));
+        }
     }
-    (exact_where_asked(vpkg, exact), after_comma(rest))
+    let (entry, next) = other_entry(text, exact);
+    (entry, next)
 }
 
 /// The vpkg, where it is exact or needn't be.
@@ -182,6 +183,7 @@ fn after_comma(text: &str) -> Option<&str>
 }
 
 /// The first entry, whatever it is.
+#[inline(never)]
 fn other_entry(text: &str, exact: bool) -> (Option<Vpkg<'_>>, Option<&str>)
     ensures part { parts (byte ",") text.now ≡ first_part text.now ∷ parts_after (byte ",") (option_copied result.1) }
     ensures entry { option_map vpkg_view result.0 ≡ vpkg_part exact (first_part text.now) }
