@@ -134,6 +134,7 @@ impl<'t> PackageFields<'t> {
     }
 
     /// The package of these values, if there are a name and a version.
+    #[inline(always)]
     pub(crate) fn into_package(self, alloc: Global, line: u64) -> Option<Package<'t>>
         ensures { option_map package_view result ≡ package_from line (package_fields_view self.entry) }
     {

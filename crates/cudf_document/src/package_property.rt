@@ -17,6 +17,7 @@ pub(crate) enum PackageProperty {
 }
 
 /// The field of this name, if there is one.
+#[inline(always)]
 pub(crate) fn package_property_named(name: &str) -> Option<PackageProperty>
     ensures { result ≡ package_property_named name.now }
 {

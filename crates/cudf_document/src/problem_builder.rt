@@ -149,6 +149,7 @@ impl<'t> ProblemBuilder<'t> {
 }
 
 /// Adds the package, if there is one.
+#[inline(always)]
 pub(crate) fn push_some<'t>(
     packages: &mut Vec<Package<'t>>,
     added: Option<Package<'t>>,

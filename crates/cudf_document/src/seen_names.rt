@@ -77,5 +77,10 @@ impl<'t> SeenNames<'t> {
 fn is_among(name: &str, names: &[&str]) -> bool
     ensures { result ≡ list_any (λ seen. bytes_eq name.now seen.now) names.now }
 {
-    names.iter().any(|seen| name == *seen)
+    for seen in names {
+        if name == *seen {
+            return true;
+        }
+    }
+    false
 }
