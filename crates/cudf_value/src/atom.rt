@@ -47,6 +47,7 @@ pub(crate) fn first_atom(text: &str) -> (Option<Atom<'_>>, AtomEnd<'_>)
             return (Some(Atom::Is(vpkg)), end);
         }
     }
+    // taken apart, so that the values of the way above needn't be put into memory
     let (atom, end) = other_atom(text);
     (atom, end)
 }

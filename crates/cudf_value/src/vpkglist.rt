@@ -148,6 +148,7 @@ fn first_entry(text: &str, exact: bool) -> (Option<Vpkg<'_>>, Option<&str>)
             return (exact_where_asked(vpkg, exact), after_comma(rest));
         }
     }
+    // taken apart, as in `first_atom`
     let (entry, next) = other_entry(text, exact);
     (entry, next)
 }
