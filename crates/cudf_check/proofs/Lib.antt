@@ -4,4 +4,5 @@ mod Examples
 pub mod OutputLemmas
 pub mod PageLemmas
 pub mod PrintLemmas
+pub mod ThinLemmas
 pub mod WalkLemmas

@@ -1,4 +1,5 @@
 pub mod Answering
+pub mod Chosen
 pub mod Found
 pub mod Pages
 pub mod Printing

@@ -1,11 +1,12 @@
 //! Decides which report the inputs have.
-ghost use Rattle.std.specs.Prelude.{◌≡◌, IsTrue, codes, map, option_copied};
+ghost use Rattle.std.specs.Prelude.{◌≡◌, IsTrue, IfOk, codes, map, option_copied};
 ghost use Rattle.std.specs.FinSet as set;
 ghost use Rattle.cudf_document.specs.Statuses.{is_initial, unknown_view, ascend_above};
 ghost use Rattle.cudf_referee.specs.Proposals.{proposal};
 ghost use Rattle.cudf_check.specs.declared.outcome.Outcome.TheVariants.{Yes};
 ghost use Rattle.cudf_check.specs.Report.{Report, alone, faulty, faulty_or, judged_report, solution_text_report, solution_report, problem_text_report, pair_report, lint_text_report, lint_report, inputs_report, report};
 ghost use Rattle.cudf_check.specs.Working.Answering.{Answers};
+ghost use Rattle.cudf_check.specs.Working.Chosen.{AreChosen};
 ghost use Rattle.cudf_check.specs.Working.Found.{found_text};
 ghost use Rattle.cudf_check.specs.Working.Refusals.{IsReportOf};
 
@@ -15,10 +16,12 @@ use crate::job::Job;
 use crate::lines::{Found, answer, answer_fault, answer_judged};
 use crate::outcome::{Outcome, RunError};
 use cudf_referee::Referee;
-use cudf_referee::laws::ascending;
+use cudf_referee::laws::{ascending, thin};
 use cudf_text::{Fault, Stanzas, cut_joined, is_fail, source_of, stanzas};
-use cudf_universe::{Problem, ReadError, Room, Solution, first_fault, problem_of, solution_of};
-use std::alloc::Global;
+use cudf_universe::{
+    Chosen, Problem, ReadError, Room, Solution, first_fault, problem_for, solution_of,
+};
+use std::alloc::{AllocError, Global};
 
 /// Answers a document that isn't judged.
 fn answer_refusal<W: Sink>(
@@ -102,7 +105,43 @@ fn answer_solution<W: Sink>(
     }
 }
 
-/// Reads a problem, and then its solution.
+/// What a solution installs. Where its bytes are no text, that is answered once the problem was read.
+fn chosen_by(alloc: Global, solution: &[u8]) -> Result<Chosen<'_>, AllocError>
+    ensures { IfOk result (λ chosen. AreChosen chosen solution.now) }
+{
+    match stanzas(solution) {
+        Ok(stanzas) => Chosen::of(alloc, stanzas),
+        Err(_) => Ok(Chosen::none(alloc)),
+    }
+}
+
+/// Reads a problem, and then its solution, which installs these.
+fn answer_chosen<W: Sink>(
+    ending: Ending,
+    alloc: Global,
+    out: &mut W,
+    found: Found,
+    stanzas: Stanzas<'_>,
+    solution: &[u8],
+    chosen: &Chosen<'_>,
+) -> Result<Outcome, RunError>
+    requires { AreChosen chosen.now solution.now }
+    ensures { Answers (W.state out.old) (W.state out.new) (problem_text_report (found_text found) solution.now stanzas.entry.text) result }
+{
+    let mut room = Room::new(alloc);
+    match problem_for(alloc, stanzas, &mut room, chosen) {
+        Ok(problem) => {
+            thin();
+            let answer = answer_solution(ending, alloc, out, found, &problem, solution);
+            ending.end(problem);
+            answer
+        }
+        Err(error) => answer_refusal(alloc, out, "problem", error),
+    }
+}
+
+/// Reads a problem, and then its solution. Of the problem what is needed by packages that the solution
+/// doesn't install isn't kept.
 fn answer_problem_stanzas<W: Sink>(
     ending: Ending,
     alloc: Global,
@@ -113,14 +152,9 @@ fn answer_problem_stanzas<W: Sink>(
 ) -> Result<Outcome, RunError>
     ensures { Answers (W.state out.old) (W.state out.new) (problem_text_report (found_text found) solution.now stanzas.entry.text) result }
 {
-    let mut room = Room::new(alloc);
-    match problem_of(alloc, stanzas, &mut room) {
-        Ok(problem) => {
-            let answer = answer_solution(ending, alloc, out, found, &problem, solution);
-            ending.end(problem);
-            answer
-        }
-        Err(error) => answer_refusal(alloc, out, "problem", error),
+    match chosen_by(alloc, solution) {
+        Ok(chosen) => answer_chosen(ending, alloc, out, found, stanzas, solution, &chosen),
+        Err(_) => Err(RunError::Memory),
     }
 }
 

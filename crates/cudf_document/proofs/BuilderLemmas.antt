@@ -49,7 +49,7 @@ same_pair x y same =
     let parts = and_parts (bytes_eq x.0 y.0) (nat_eq x.1 y.1) same in
     λ i. (same_bytes x.0 y.0 parts.0 i, eqb-true x.1 y.1 parts.1 i)
 
-with_id-append : (ids : List Id) (o : Option Id) (id : Id) → is_among (with_id ids o) id ≡ is_among (ids ++ cons_option o []) id
+pub with_id-append : (ids : List Id) (o : Option Id) (id : Id) → is_among (with_id ids o) id ≡ is_among (ids ++ cons_option o []) id
 with_id-append ids None id = ap (λ l. is_among l id) (sym (append-nil ids))
 with_id-append ids (Some new) id =
     list_any-insert_key is_id (is_id id) ids new (λ k same. ap (is_id id) (sym (same_pair new k same)))

@@ -18,3 +18,5 @@ mod Examples
 pub mod StatusLemmas
 mod WalkLemmas
 mod PartsLemmas
+pub mod ThinLemmas
+pub mod ChosenLemmas

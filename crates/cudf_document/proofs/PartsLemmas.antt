@@ -1,6 +1,7 @@
 -- What is kept of stanzas on the walk, where no value is joined.
-use Rattle.std.proofs.Common.{◌≡◌, true, false, List, [], ◌∷◌, ◌++◌, map, filter_map, Option, Some, None, option_map, option_to_list, is_some, IsSome, if◌then◌else◌, refl, sym, ap, ◌∙◌}
+use Rattle.std.proofs.Common.{◌≡◌, Bool, true, false, List, [], ◌∷◌, ◌++◌, map, filter_map, Option, Some, None, option_map, option_to_list, is_some, find, if◌then◌else◌, refl, sym, ap, ◌∙◌}
 use Rattle.std.proofs.lemmas.Bool.{true≢false}
+use Rattle.std.proofs.lemmas.List.{map-append}
 use Rattle.cudf_text.specs.Stanzas.{PlainStanza, PlainText}
 use Rattle.cudf_value.specs.Declarations.{PlainDeclaration}
 use Rattle.cudf_document.specs.declared.parts.Parts.{Parts}
@@ -8,79 +9,119 @@ use Rattle.cudf_document.specs.declared.walk.Walk.{Walk}
 use Rattle.cudf_document.specs.declared.postmark.Postmark.{Postmark}
 use Rattle.cudf_document.specs.declared.postmark.Postmark.TheVariants.{Preamble, Package, Request}
 use Rattle.cudf_document.specs.Documents.{is_empty, postmark, marks_package, marks_request, is_package, is_request}
-use Rattle.cudf_document.specs.Ids.{id_of, are_distinct}
+use Rattle.cudf_document.specs.Ids.{Id, id_of, are_distinct}
 use Rattle.cudf_document.specs.Preamble.{declared}
-use Rattle.cudf_document.specs.Universe.{PlainPackage, PlainRequest, package_id, package_view, request_view, request_of, packages_in, request_in}
-use Rattle.cudf_document.specs.Working.Kept.{IsParts}
-use Rattle.cudf_document.specs.Working.PackageFields.{package_fields_of, package_from}
-use Rattle.cudf_document.specs.Working.ProblemBuilders.{PlainBuilder, builder_view, with_stanza, IsBuilt, IsListed, first_ids}
+use Rattle.cudf_document.specs.Thin.{thin_package, thin_problem}
+use Rattle.cudf_document.specs.Universe.{PlainPackage, PlainRequest, plain_problem, package_id, package_view, request_view, request_of, packages_in, request_in}
+use Rattle.cudf_document.specs.Working.Kept.{IsParts, kept_by}
+use Rattle.cudf_document.specs.Working.PackageFields.{package_fields_of, package_from, fields_if}
+use Rattle.cudf_document.specs.Working.ProblemBuilders.{PlainBuilder, with_stanza, problem_of, IsBuilt}
 use Rattle.cudf_document.specs.Working.Walks.{IsWhole}
-use Rattle.cudf_document.proofs.BuilderLemmas.{IsBuilt-next, requested_is}
+use Rattle.cudf_document.proofs.BuilderLemmas.{IsBuilt-next, all_ids}
 use Rattle.cudf_document.proofs.FaultLemmas.{least-none}
 use Rattle.cudf_document.proofs.FaultlessLemmas.{has_request, ids_distinct}
-use Rattle.cudf_document.proofs.ListLemmas.{is_some-option_map, IsSome-from}
+use Rattle.cudf_document.proofs.ListLemmas.{is_some-option_map, is_some-find}
+use Rattle.cudf_document.proofs.ThinLemmas.{package_from-thin, ids-thin, option_to_list-map}
 use Rattle.cudf_document.specs.ProblemFaults.{problem_faults}
-use Rattle.cudf_document.specs.declared.problem_builder.ProblemBuilder.{ProblemBuilder}
 
 abbrev builder : List PlainDeclaration → List PlainPackage → Option PlainRequest → List PlainStanza → PlainBuilder
 builder ds packages request before = record { declared = ds; ids = filter_map id_of before; packages = packages; request = request }
 
-gathered : (ds : List PlainDeclaration) (packages : List PlainPackage) (request : Option PlainRequest) (before : List PlainStanza) (s : PlainStanza) (mark : Option Postmark)
-    → postmark s ≡ mark → ds ≡ declared before → packages ≡ packages_in before → request ≡ request_in before
-    → IsBuilt (with_stanza mark (is_empty before) s (builder ds packages request before)) (before ++ s ∷ [])
-gathered ds packages request before s mark marked ds_are packages_are request_is =
-    IsBuilt-next (builder ds packages request before) before s
-    (record { declared_are = ds_are; ids_are = λ id. refl; packages_are = packages_are; request_is = request_is })
+gathered : (ds : List PlainDeclaration) (request : Option PlainRequest) (before : List PlainStanza) (s : PlainStanza) (mark : Option Postmark)
+    → postmark s ≡ mark → ds ≡ declared before → request ≡ request_in before
+    → IsBuilt (with_stanza mark (is_empty before) s (builder ds (packages_in before) request before)) (before ++ s ∷ [])
+gathered ds request before s mark marked ds_are request_is =
+    IsBuilt-next (builder ds (packages_in before) request before) before s
+    (record { declared_are = ds_are; ids_are = λ id. refl; packages_are = refl; request_is = request_is })
     mark (is_empty before) marked refl
 
-pub package_kept : (ds : List PlainDeclaration) (before : List PlainStanza) (s : PlainStanza) (old new : Parts)
-    → postmark s ≡ Some Package → ds ≡ declared before → IsParts before old
-    → map package_view new.packages.items ≡ map package_view old.packages.items ++ option_to_list (package_from s.line (package_fields_of ds s.properties))
-    → new.request ≡ old.request → new.joined ≡ old.joined → IsParts (before ++ s ∷ []) new
-package_kept ds before s old new marked ds_are so_far packages request joined = λ unjoined.
-    let was = so_far (sym joined ∙ unjoined) in
-    let next = gathered ds (map package_view old.packages.items) (option_map request_view old.request) before s (Some Package) marked ds_are was.0 was.1 in
-    (packages ∙ next.packages_are, ap (option_map request_view) request ∙ next.request_is)
+pub package_kept : (is_kept : Id → Bool) (ds : List PlainDeclaration) (before : List PlainStanza) (s : PlainStanza) (old new : Parts)
+    → postmark s ≡ Some Package → ds ≡ declared before → IsParts is_kept before old
+    → map package_view new.packages.items
+    ≡ map package_view old.packages.items ++ option_to_list (package_from s.line (fields_if (kept_by old.chosen) (package_fields_of ds s.properties)))
+    → new.request ≡ old.request → new.joined ≡ old.joined → new.chosen ≡ old.chosen → IsParts is_kept (before ++ s ∷ []) new
+package_kept is_kept ds before s old new marked ds_are so_far packages request joined chosen = record {
+  kept_are = ap kept_by chosen ∙ so_far.kept_are;
+  parts_are = λ unjoined.
+      let was = so_far.parts_are (sym joined ∙ unjoined) in
+      let next = gathered ds (option_map request_view old.request) before s (Some Package) marked ds_are was.1 in
+      let added = package_from s.line (package_fields_of ds s.properties) in (
+        packages
+            ∙ (λ i. was.0 i ++ option_to_list (package_from s.line (fields_if (so_far.kept_are i) (package_fields_of ds s.properties))))
+            ∙ ap (λ o. map (thin_package is_kept) (packages_in before) ++ option_to_list o) (package_from-thin is_kept s.line (package_fields_of ds s.properties))
+            ∙ ap (λ l. map (thin_package is_kept) (packages_in before) ++ l) (option_to_list-map (thin_package is_kept) added)
+            ∙ sym (map-append (thin_package is_kept) (packages_in before) (option_to_list added))
+            ∙ ap (map (thin_package is_kept)) next.packages_are,
+        ap (option_map request_view) request ∙ next.request_is,
+      );
+}
 
-pub request_kept : (before : List PlainStanza) (s : PlainStanza) (old new : Parts) → postmark s ≡ Some Request → IsParts before old
+pub request_kept : (is_kept : Id → Bool) (before : List PlainStanza) (s : PlainStanza) (old new : Parts) → postmark s ≡ Some Request → IsParts is_kept before old
     → option_map request_view new.request ≡ (if is_some (option_map request_view old.request) then option_map request_view old.request else Some (request_of s))
-    → new.packages ≡ old.packages → new.joined ≡ old.joined → IsParts (before ++ s ∷ []) new
-request_kept before s old new marked so_far request packages joined = λ unjoined.
-    let was = so_far (sym joined ∙ unjoined) in
-    let next = gathered (declared before) (map package_view old.packages.items) (option_map request_view old.request) before s (Some Request) marked refl was.0 was.1 in
-    ((λ i. map package_view (packages i).items) ∙ next.packages_are, request ∙ next.request_is)
+    → new.packages ≡ old.packages → new.joined ≡ old.joined → new.chosen ≡ old.chosen → IsParts is_kept (before ++ s ∷ []) new
+request_kept is_kept before s old new marked so_far request packages joined chosen = record {
+  kept_are = ap kept_by chosen ∙ so_far.kept_are;
+  parts_are = λ unjoined.
+      let was = so_far.parts_are (sym joined ∙ unjoined) in
+      let next = gathered (declared before) (option_map request_view old.request) before s (Some Request) marked refl was.1 in
+      ((λ i. map package_view (packages i).items) ∙ was.0 ∙ ap (map (thin_package is_kept)) next.packages_are, request ∙ next.request_is);
+}
 
-pub passed : (before : List PlainStanza) (s : PlainStanza) (p : Parts) → is_package s ≡ false → is_request s ≡ false → IsParts before p → IsParts (before ++ s ∷ []) p
-passed before s p no_package no_request so_far = λ unjoined. by (so_far unjoined) (postmark s) refl
+pub passed : (is_kept : Id → Bool) (before : List PlainStanza) (s : PlainStanza) (p : Parts) → is_package s ≡ false → is_request s ≡ false → IsParts is_kept before p
+    → IsParts is_kept (before ++ s ∷ []) p
+passed is_kept before s p no_package no_request so_far = record { kept_are = so_far.kept_are; parts_are = λ unjoined. by (so_far.parts_are unjoined) (postmark s) refl }
   where
-    by : (map package_view p.packages.items ≡ packages_in before) × (option_map request_view p.request ≡ request_in before) → (mark : Option Postmark) → postmark s ≡ mark
-        → (map package_view p.packages.items ≡ packages_in (before ++ s ∷ [])) × (option_map request_view p.request ≡ request_in (before ++ s ∷ []))
-    by was None marked =
-        let next = gathered (declared before) (map package_view p.packages.items) (option_map request_view p.request) before s None marked refl was.0 was.1 in
-        (next.packages_are, next.request_is)
-    by was (Some Preamble) marked =
-        let next = gathered (declared before) (map package_view p.packages.items) (option_map request_view p.request) before s (Some Preamble) marked refl was.0 was.1 in
-        (next.packages_are, next.request_is)
+    other : (mark : Option Postmark) → IsBuilt (with_stanza mark (is_empty before) s (builder (declared before) (packages_in before) (option_map request_view p.request) before)) (before ++ s ∷ [])
+        → (with_stanza mark (is_empty before) s (builder (declared before) (packages_in before) (option_map request_view p.request) before)).packages ≡ packages_in before
+        → (with_stanza mark (is_empty before) s (builder (declared before) (packages_in before) (option_map request_view p.request) before)).request ≡ option_map request_view p.request
+        → map package_view p.packages.items ≡ map (thin_package is_kept) (packages_in before)
+        → (map package_view p.packages.items ≡ map (thin_package is_kept) (packages_in (before ++ s ∷ []))) × (option_map request_view p.request ≡ request_in (before ++ s ∷ []))
+    other mark next same asked was = (was ∙ ap (map (thin_package is_kept)) (sym same ∙ next.packages_are), sym asked ∙ next.request_is)
+
+    by : (map package_view p.packages.items ≡ map (thin_package is_kept) (packages_in before)) × (option_map request_view p.request ≡ request_in before)
+        → (mark : Option Postmark) → postmark s ≡ mark
+        → (map package_view p.packages.items ≡ map (thin_package is_kept) (packages_in (before ++ s ∷ []))) × (option_map request_view p.request ≡ request_in (before ++ s ∷ []))
+    by was None marked = other None (gathered (declared before) (option_map request_view p.request) before s None marked refl was.1) refl refl was.0
+    by was (Some Preamble) marked = other (Some Preamble) (gathered (declared before) (option_map request_view p.request) before s (Some Preamble) marked refl was.1) refl refl was.0
     by was (Some Package) marked = absurd (true≢false (sym (ap marks_package marked) ∙ no_package))
     by was (Some Request) marked = absurd (true≢false (sym (ap marks_request marked) ∙ no_request))
 
-pub joined_says_nothing : (before : List PlainStanza) (p : Parts) → p.joined ≡ true → IsParts before p
-joined_says_nothing before p joined = λ unjoined. absurd (true≢false (sym joined ∙ unjoined))
+pub joined_says_nothing : (is_kept : Id → Bool) (before : List PlainStanza) (p : Parts) → kept_by p.chosen ≡ is_kept → p.joined ≡ true → IsParts is_kept before p
+joined_says_nothing is_kept before p kept joined = record { kept_are = kept; parts_are = λ unjoined. absurd (true≢false (sym joined ∙ unjoined)) }
 
-pub built : (p : Parts) (w : Walk) (text : PlainText) → IsWhole (λ ss. IsParts ss p) w text → p.joined ≡ false
-    → IsBuilt (record { declared = w.declarations; ids = w.ids; packages = map package_view p.packages.items; request = option_map request_view p.request }) text.stanzas
-built p w text whole unjoined = record { declared_are = whole.declared_are; ids_are = whole.ids_are; packages_are = (whole.kept unjoined).0; request_is = (whole.kept unjoined).1 }
+-- ---- the whole text
 
-pub listed : (p : Parts) (w : Walk) (text : PlainText) → IsWhole (λ ss. IsParts ss p) w text → p.joined ≡ false
-    → IsListed (record { declared = w.declarations; ids = w.ids; packages = map package_view p.packages.items; request = option_map request_view p.request })
-listed p w text whole unjoined = whole.listed_are ∙ ap (λ l. first_ids [] (map package_id l)) (sym (whole.kept unjoined).0)
+-- what is gathered of a walk and what was kept on it
+abbrev pub gathered_of : Walk → Parts → PlainBuilder
+gathered_of w p = record { declared = w.declarations; ids = w.ids; packages = map package_view p.packages.items; request = option_map request_view p.request }
 
 pub faultless : (IsKept : List PlainStanza → Type 0) (w : Walk) (text : PlainText) → IsWhole IsKept w text → w.first ≡ None → problem_faults text ≡ []
 faultless IsKept w text whole none = least-none (problem_faults text) (sym whole.first_is ∙ none)
 
-pub requested : (b : ProblemBuilder) (text : PlainText) → problem_faults text ≡ [] → IsBuilt (builder_view b) text.stanzas → IsSome b.request
-requested b text none so_far =
-    IsSome-from b.request (sym (is_some-option_map request_view b.request) ∙ requested_is (builder_view b) text.stanzas so_far ∙ has_request text none)
+module _ (is_kept : Id → Bool) (p : Parts) (w : Walk) (text : PlainText) (whole : IsWhole (λ ss. IsParts is_kept ss p) w text) (unjoined : p.joined ≡ false) where
+  pub requested : w.first ≡ None → is_some (gathered_of w p).request ≡ true
+  requested none =
+      ap is_some (whole.kept.parts_are unjoined).1 ∙ is_some-option_map request_of (find is_request text.stanzas) ∙ is_some-find is_request text.stanzas
+      ∙ has_request text (faultless (λ ss. IsParts is_kept ss p) w text whole none)
 
-pub distinct : (b : ProblemBuilder) (text : PlainText) → problem_faults text ≡ [] → IsBuilt (builder_view b) text.stanzas → are_distinct (map package_id (builder_view b).packages) ≡ true
-distinct b text none so_far = ap (λ l. are_distinct (map package_id l)) so_far.packages_are ∙ ids_distinct text none
+  -- the names and versions are those of the text's packages
+  same_ids : map package_id (gathered_of w p).packages ≡ map package_id (packages_in text.stanzas)
+  same_ids = ap (map package_id) (whole.kept.parts_are unjoined).0 ∙ ids-thin is_kept (packages_in text.stanzas)
+
+  pub distinct : w.first ≡ None → are_distinct (map package_id (gathered_of w p).packages) ≡ true
+  distinct none = ap are_distinct same_ids ∙ ids_distinct text (faultless (λ ss. IsParts is_kept ss p) w text whole none)
+
+  pub listed : w.first ≡ None → (gathered_of w p).ids ≡ map package_id (gathered_of w p).packages
+  listed none =
+      all_ids (record { declared = w.declarations; ids = w.ids; packages = packages_in text.stanzas; request = request_in text.stanzas }) whole.listed_are
+      (ids_distinct text (faultless (λ ss. IsParts is_kept ss p) w text whole none))
+      ∙ sym same_ids
+
+  pub thin_problem_is : problem_of (gathered_of w p) ≡ thin_problem is_kept (plain_problem text)
+  unfolding plain_problem
+  thin_problem_is = λ i. problem_of (record {
+    declared = whole.declared_are i;
+    ids = w.ids;
+    packages = (whole.kept.parts_are unjoined).0 i;
+    request = (whole.kept.parts_are unjoined).1 i;
+  })

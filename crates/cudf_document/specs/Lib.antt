@@ -7,5 +7,6 @@ pub mod ProblemFaults
 pub mod SolutionFaults
 pub mod Universe
 pub mod Statuses
+pub mod Thin
 pub mod Laws
 pub mod Working

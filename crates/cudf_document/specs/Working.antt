@@ -1,3 +1,4 @@
+pub mod Chosen
 pub mod Enums
 pub mod Flags
 pub mod Kept

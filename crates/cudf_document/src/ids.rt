@@ -52,6 +52,13 @@ impl<'t> Ids<'t> {
         }
     }
 
+    /// Whether the pair is there.
+    pub(crate) fn contains(&self, name: &str, version: u64) -> bool
+        ensures { result ≡ is_among self.now (name.now, version) }
+    {
+        self.pairs.contains(&(name, version))
+    }
+
     /// How many pairs came before this one, if it is there.
     pub(crate) fn index_of(&self, name: &str, version: u64) -> Option<usize>
         ensures { result ≡ position (is_id (name.now, version)) self.now }

@@ -2,6 +2,7 @@
 //! proposes, and the first fault of a document that has one.
 #![tactic(auto)]
 
+mod chosen;
 mod declarations;
 mod declared;
 mod error;
@@ -31,6 +32,7 @@ mod source_problem;
 mod status;
 mod walk;
 
+pub use chosen::Chosen;
 pub use error::ReadError;
 pub use lint::first_fault;
 pub use package::{Keep, Package};
@@ -38,5 +40,5 @@ pub use problem::Problem;
 pub use problem_reader::read_problem;
 pub use request::Request;
 pub use solution::{Solution, Unknown, read_solution, solution_of};
-pub use source_problem::{Room, problem_of};
+pub use source_problem::{Room, problem_for, problem_of};
 pub use status::{Status, initial};

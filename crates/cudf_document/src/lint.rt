@@ -20,7 +20,7 @@ pub fn first_fault(alloc: Global, stanzas: Stanzas<'_>) -> Result<Option<Fault>,
         last: 0,
         properties: Vec::new(alloc),
     };
-    let (walk, _nothing): (Walk<'_, '_>, Nothing) = walk_all(alloc, stanzas, &mut head)?;
+    let (walk, _nothing): (Walk<'_, '_>, Nothing) = walk_all(alloc, stanzas, &mut head, Nothing)?;
     Ok(walk.first)
 }
 
@@ -31,11 +31,7 @@ struct Nothing;
 impl<'a> Kept<'a> for Nothing {
     ghost use Rattle.std.specs.Prelude.{⊤};
 
-    ghost IsKept = { λ before nothing. ⊤ };
-
-    fn new(alloc: Global) -> Self {
-        Nothing
-    }
+    ghost IsKept = { λ is_kept before nothing. ⊤ };
 
     fn take_package(
         &mut self,

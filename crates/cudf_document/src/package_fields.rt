@@ -38,7 +38,7 @@ impl<'t> PackageFields<'t> {
     ghost use Rattle.cudf_text.specs.Views.{property_view};
     ghost use Rattle.cudf_document.specs.Values.{declared_test, test_of};
     ghost use Rattle.indexmap.specs.IndexSet.{insert_key};
-    ghost use Rattle.cudf_document.specs.Working.PackageFields.{package_property_named, package_property_test, wrong_kind, fault_on, package_fields_view, no_package_fields, with_package_property, kind_after, package_fields_after, package_from};
+    ghost use Rattle.cudf_document.specs.Working.PackageFields.{package_property_named, package_property_test, wrong_kind, fault_on, package_fields_view, no_package_fields, with_package_property, kind_after, package_fields_after, package_from, without_needs};
     ghost use Rattle.cudf_document.specs.Universe.{package_view};
     ghost use Rattle.cudf_document.specs.Ids.{id_with};
     ghost use Rattle.cudf_document.specs.declared.package_property.PackageProperty.TheVariants.{Recommends};
@@ -131,6 +131,18 @@ impl<'t> PackageFields<'t> {
             ≡ id_with (package_fields_view self.now).name (package_fields_view self.now).version }
     {
         Some((self.name?, self.version?))
+    }
+
+    /// The values without what the package needs.
+    #[inline(always)]
+    pub(crate) fn without_needs(self) -> Self
+        ensures { package_fields_view result ≡ without_needs (package_fields_view self.entry) }
+    {
+        let mut fields = self;
+        fields.depends = None;
+        fields.conflicts = None;
+        fields.recommends = None;
+        fields
     }
 
     /// The package of these values, if there are a name and a version.

@@ -1,8 +1,13 @@
 //! What is kept of a problem whose values are all parts of the source.
+ghost use Rattle.std.specs.Prelude.{◌≡◌, option_map};
+ghost use Rattle.cudf_document.specs.Ids.{is_among};
+ghost use Rattle.cudf_document.specs.Working.PackageFields.{passes};
+
+use crate::chosen::Chosen;
 use crate::declarations::Declarations;
 use crate::fields::judge_package;
 use crate::package::Package;
-use crate::package_fields::read_source_package;
+use crate::package_fields::{PackageFields, read_source_package};
 use crate::problem_builder::{ProblemBuilder, push_some};
 use crate::request::Request;
 use crate::request_fields::{judge_request, read_source_request};
@@ -13,20 +18,60 @@ use std::alloc::{AllocError, Global};
 
 /// The packages and the first request of the stanzas so far, unless a value was joined.
 #[derive(Drop)]
-pub(crate) struct Parts<'a> {
+pub(crate) struct Parts<'a, 'c, 's> {
+    /// The packages of which what they need is kept; all, where it isn't known which are chosen.
+    pub(crate) chosen: Option<&'c Chosen<'s>>,
     pub(crate) packages: Vec<Package<'a>>,
     pub(crate) request: Option<Request<'a>>,
     /// Whether a package or request had a value that is joined of two texts: it isn't kept.
     pub(crate) joined: bool,
 }
 
-impl<'a> Parts<'a> {
-    ghost use Rattle.std.specs.Prelude.{◌≡◌, Some, false, option_map, is_some, if◌then◌else◌};
-    ghost use Rattle.cudf_text.specs.Stanzas.{PlainText};
-    ghost use Rattle.cudf_document.specs.Universe.{request_view};
-    ghost use Rattle.cudf_document.specs.Working.Walks.{IsWhole};
-    ghost use Rattle.cudf_document.specs.Working.Kept.{IsParts};
-    ghost use Rattle.cudf_document.specs.Working.ProblemBuilders.{builder_view, IsBuilt, IsListed};
+impl<'a, 'c, 's> Parts<'a, 'c, 's> {
+    ghost use Rattle.std.specs.Prelude.{◌≡◌, [], false, Some, map, option_map, is_some, if◌then◌else◌};
+    ghost use Rattle.cudf_document.specs.Universe.{package_view, request_view};
+    ghost use Rattle.cudf_document.specs.Ids.{id_with};
+    ghost use Rattle.cudf_document.specs.Working.Kept.{IsParts, kept_by};
+    ghost use Rattle.cudf_document.specs.Working.PackageFields.{package_fields_view, passes, fields_if};
+    ghost use Rattle.cudf_document.specs.Working.ProblemBuilders.{builder_view};
+
+    /// Before the first stanza.
+    pub(crate) fn new(alloc: Global, chosen: Option<&'c Chosen<'s>>) -> Self
+        ensures parts { IsParts (kept_by chosen.entry) [] result }
+        ensures joined { result.joined ≡ false }
+    {
+        Parts {
+            chosen,
+            packages: Vec::new(alloc),
+            request: None,
+            joined: false,
+        }
+    }
+
+    /// The values of a package, without what it needs if others are chosen.
+    #[inline(always)]
+    fn kept_of(&self, fields: PackageFields<'a>) -> PackageFields<'a>
+        ensures { package_fields_view result
+            ≡ fields_if (kept_by self.now.chosen) (package_fields_view fields.entry) }
+    {
+        if self.keeps(fields.id()) {
+            fields
+        } else {
+            fields.without_needs()
+        }
+    }
+
+    /// Whether what the package of this name and version needs is kept.
+    #[inline(always)]
+    fn keeps(&self, id: Option<(&str, u64)>) -> bool
+        ensures { result
+            ≡ passes (kept_by self.now.chosen) (option_map (λ id. (id.0.now, id.1)) id.entry) }
+    {
+        match self.chosen {
+            Some(chosen) => is_chosen(chosen, id),
+            None => true,
+        }
+    }
 
     /// Keeps a request, if it is the first.
     fn keep_first(&mut self, request: Request<'a>)
@@ -34,6 +79,7 @@ impl<'a> Parts<'a> {
             ≡ (if is_some (option_map request_view self.old.request) then option_map request_view self.old.request else Some (request_view request.entry)) }
         ensures packages { self.new.packages ≡ self.old.packages }
         ensures joined { self.new.joined ≡ self.old.joined }
+        ensures chosen { self.new.chosen ≡ self.old.chosen }
     {
         if self.request.is_none() {
             self.request = Some(request);
@@ -44,14 +90,12 @@ impl<'a> Parts<'a> {
     pub(crate) fn into_builder<'h>(self, walk: Walk<'h, 'a>) -> ProblemBuilder<'h>
     where
         'a: 'h,
-        ensures built { (text : PlainText) →
-            IsWhole (λ ss. IsParts ss self.entry) walk.entry text →
-            self.entry.joined ≡ false →
-            IsBuilt (builder_view result) text.stanzas }
-        ensures listed { (text : PlainText) →
-            IsWhole (λ ss. IsParts ss self.entry) walk.entry text →
-            self.entry.joined ≡ false →
-            IsListed (builder_view result) }
+        ensures { builder_view result ≡ record {
+          declared = walk.entry.declarations;
+          ids = walk.entry.ids;
+          packages = map package_view self.entry.packages.items;
+          request = option_map request_view self.entry.request;
+        } }
     {
         ProblemBuilder {
             declarations: walk.declarations,
@@ -63,18 +107,20 @@ impl<'a> Parts<'a> {
     }
 }
 
-impl<'a> Kept<'a> for Parts<'a> {
+/// Whether the pair is chosen, if there is one.
+fn is_chosen(chosen: &Chosen<'_>, id: Option<(&str, u64)>) -> bool
+    ensures { result ≡ passes (is_among chosen.now) (option_map (λ id. (id.0.now, id.1)) id.entry) }
+{
+    match id {
+        Some((name, version)) => chosen.has(name, version),
+        None => true,
+    }
+}
+
+impl<'a, 'c, 's> Kept<'a> for Parts<'a, 'c, 's> {
     ghost use Rattle.cudf_document.specs.Working.Kept.{IsParts};
 
-    ghost IsKept = { λ before parts. IsParts before parts };
-
-    fn new(alloc: Global) -> Self {
-        Parts {
-            packages: Vec::new(alloc),
-            request: None,
-            joined: false,
-        }
-    }
+    ghost IsKept = { λ is_kept before parts. IsParts is_kept before parts };
 
     fn take_package(
         &mut self,
@@ -86,7 +132,8 @@ impl<'a> Kept<'a> for Parts<'a> {
         match read_source_package(alloc, names, declarations, stanza)? {
             Some(read) => {
                 let version = read.1.version;
-                push_some(&mut self.packages, read.1.into_package(alloc, stanza.line))?;
+                let fields = self.kept_of(read.1);
+                push_some(&mut self.packages, fields.into_package(alloc, stanza.line))?;
                 Ok((read.0, version))
             }
             None => {

@@ -92,7 +92,7 @@ impl<'a> SolutionReader<'a> {
 }
 
 /// The first fault of a stanza, and the pair that it installs, if it installs one.
-fn read_stanza<'a>(stanza: &Stanza<'a>) -> (Option<Fault>, Option<(&'a str, u64)>)
+pub(crate) fn read_stanza<'a>(stanza: &Stanza<'a>) -> (Option<Fault>, Option<(&'a str, u64)>)
     ensures fault { result.0 ≡ least (solution_stanza_faults (stanza_view stanza.now)) }
     ensures installed { option_map (λ id. (id.0.now, id.1)) result.1
         ≡ installed_id (stanza_view stanza.now) }

@@ -1,9 +1,13 @@
 //! Reading a problem stanza by stanza.
 ghost use Rattle.std.specs.Prelude.{◌≡◌, [], IfOk, IfErr, IfSome};
 ghost use Rattle.cudf_document.specs.Faults.{IsFirstFault};
+ghost use Rattle.cudf_document.specs.Ids.{is_among};
 ghost use Rattle.cudf_document.specs.ProblemFaults.{problem_faults};
+ghost use Rattle.cudf_document.specs.Thin.{IsThinFor, thin_problem};
 ghost use Rattle.cudf_document.specs.Universe.{plain_problem};
+ghost use Rattle.cudf_document.specs.Working.Kept.{kept_by};
 
+use crate::chosen::Chosen;
 use crate::error::ReadError;
 use crate::parts::Parts;
 use crate::problem::Problem;
@@ -57,8 +61,46 @@ pub fn problem_of<'t, 'a>(
     // The fault is the first of its faults.
     ensures fault { IfErr result (IsFirstFault (problem_faults stanzas.entry.text)) }
 {
+    problem_with(alloc, stanzas, room, None)
+}
+
+/// Reads a problem as `problem_of` does, for a solution that installs these: what other packages
+/// need is judged, but may be left out.
+///
+/// # Errors
+///
+/// As those of `problem_of`.
+pub fn problem_for<'t, 'a>(
+    alloc: Global,
+    stanzas: Stanzas<'a>,
+    room: &'t mut Room<'a>,
+    chosen: &Chosen<'_>,
+) -> Result<Problem<'t>, ReadError>
+    // The problem has no fault,
+    ensures sound { IfOk result (λ _. problem_faults stanzas.entry.text ≡ []) }
+    // and this is what it says, but for what some packages need that aren't chosen.
+    ensures problem { IfOk result (λ p.
+        IsThinFor (is_among chosen.now) p (plain_problem stanzas.entry.text)) }
+    // The fault is the first of its faults.
+    ensures fault { IfErr result (IsFirstFault (problem_faults stanzas.entry.text)) }
+{
+    problem_with(alloc, stanzas, room, Some(chosen))
+}
+
+/// Reads a problem, where what packages need may be left out unless they are chosen.
+fn problem_with<'t, 'a>(
+    alloc: Global,
+    stanzas: Stanzas<'a>,
+    room: &'t mut Room<'a>,
+    chosen: Option<&Chosen<'_>>,
+) -> Result<Problem<'t>, ReadError>
+    ensures sound { IfOk result (λ _. problem_faults stanzas.entry.text ≡ []) }
+    ensures problem { IfOk result (λ p.
+        IsThinFor (kept_by chosen.entry) p (plain_problem stanzas.entry.text)) }
+    ensures fault { IfErr result (IsFirstFault (problem_faults stanzas.entry.text)) }
+{
     let Room { head, text } = room;
-    if let Some(problem) = problem_of_parts(alloc, stanzas.fork(), head)? {
+    if let Some(problem) = problem_of_parts(alloc, stanzas.fork(), head, chosen)? {
         return Ok(problem);
     }
     *text = stanzas.read_rest(alloc)?;
@@ -66,17 +108,23 @@ pub fn problem_of<'t, 'a>(
 }
 
 /// The problem, or `None` where a value that is to be kept is joined of two texts.
-#[tactic(auto, unfolding(crate::specs::Universe::plain_problem))]
-fn problem_of_parts<'h, 'a>(
+fn problem_of_parts<'h, 'a, 'c, 's>(
     alloc: Global,
     stanzas: Stanzas<'a>,
     head: &'h mut Stanza<'a>,
+    chosen: Option<&'c Chosen<'s>>,
 ) -> Result<Option<Problem<'h>>, ReadError>
     ensures sound { IfOk result (λ r. IfSome r (λ _. problem_faults stanzas.entry.text ≡ [])) }
-    ensures problem { IfOk result (λ r. IfSome r (λ p. p ≡ plain_problem stanzas.entry.text)) }
+    ensures problem { IfOk result (λ r.
+        IfSome r (λ p. p ≡ thin_problem (kept_by chosen.entry) (plain_problem stanzas.entry.text))) }
     ensures fault { IfErr result (IsFirstFault (problem_faults stanzas.entry.text)) }
 {
-    let (walk, parts): (Walk<'h, 'a>, Parts<'a>) = walk_all(alloc, stanzas, head)?;
+    let (walk, parts): (Walk<'h, 'a>, Parts<'a, 'c, 's>) = walk_all(
+        alloc,
+        stanzas,
+        head,
+        Parts::new(alloc, chosen),
+    )?;
     if let Some(fault) = walk.first {
         return Err(ReadError::Fault(fault));
     }

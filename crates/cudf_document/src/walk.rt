@@ -1,11 +1,11 @@
 //! The walk over a problem's stanzas, one at a time: their first fault, and what is kept of them.
-ghost use Rattle.std.specs.Prelude.{◌≡◌, ◌||◌, List, [], ◌∷◌, Some, max, option_map, option_copied, codes, find, IfOk, OnOk};
+ghost use Rattle.std.specs.Prelude.{◌≡◌, Bool, ◌||◌, List, [], ◌∷◌, Some, max, option_map, option_copied, codes, find, IfOk, OnOk};
 ghost use Rattle.cudf_document.specs.Preamble.{declared};
 ghost use Rattle.cudf_text.specs.Stanzas.{PlainStanza, PlainText};
 ghost use Rattle.cudf_text.specs.Views.{stanza_view, property_view};
 ghost use Rattle.cudf_document.specs.Faults.{least};
 ghost use Rattle.cudf_document.specs.Documents.{value_of, has_name, marks_request};
-ghost use Rattle.cudf_document.specs.Ids.{id_with};
+ghost use Rattle.cudf_document.specs.Ids.{Id, id_with};
 ghost use Rattle.cudf_document.specs.Values.{name_value};
 ghost use Rattle.cudf_document.specs.ProblemFaults.{properties_faults};
 ghost use Rattle.cudf_document.specs.Working.Walks.{GoesOn, IsWhole};
@@ -25,21 +25,19 @@ use std::alloc::{AllocError, Global};
 
 /// What is kept of a problem's stanzas on the walk.
 pub(crate) trait Kept<'a>: Sized + Drop {
-    ghost use Rattle.std.specs.Prelude.{◌≡◌, ◌++◌, ◌∷◌, [], List, Some, false, codes, IfOk, OnOk};
+    ghost use Rattle.std.specs.Prelude.{◌≡◌, Bool, ◌++◌, ◌∷◌, [], List, Some, false, codes, IfOk, OnOk};
     ghost use Rattle.cudf_text.specs.Stanzas.{PlainStanza};
     ghost use Rattle.cudf_text.specs.Views.{stanza_view};
     ghost use Rattle.cudf_document.specs.Faults.{least};
     ghost use Rattle.cudf_document.specs.Documents.{postmark, value_of, is_package, is_request};
+    ghost use Rattle.cudf_document.specs.Ids.{Id};
     ghost use Rattle.cudf_document.specs.Preamble.{declared};
     ghost use Rattle.cudf_document.specs.Values.{version_value};
     ghost use Rattle.cudf_document.specs.ProblemFaults.{properties_faults};
     ghost use Rattle.cudf_document.specs.declared.postmark.Postmark.TheVariants.{Package as PackageMark, Request as RequestMark};
 
-    // This was kept of the stanzas.
-    ghost IsKept: { List PlainStanza → Self → Type 0 };
-
-    fn new(alloc: Global) -> Self
-        ensures { IsKept [] result };
+    // This was kept of the stanzas, where the test tells of which packages what they need is kept.
+    ghost IsKept: { (Id → Bool) → List PlainStanza → Self → Type 0 };
 
     /// Keeps a package, and answers the first fault of its properties and its version.
     fn take_package(
@@ -54,11 +52,12 @@ pub(crate) trait Kept<'a>: Sized + Drop {
             ≡ least (properties_faults declarations.now (Some PackageMark) (stanza_view stanza.now).properties)) }
         ensures version { IfOk result (λ r.
             r.1 ≡ value_of version_value (codes "version") (stanza_view stanza.now).properties) }
-        ensures kept { (before : List PlainStanza) →
+        ensures kept { (is_kept : Id → Bool) →
+            (before : List PlainStanza) →
             postmark (stanza_view stanza.now) ≡ Some PackageMark →
             declarations.now ≡ declared before →
-            IsKept before self.old →
-            OnOk result (IsKept (before ++ stanza_view stanza.now ∷ []) self.new) };
+            IsKept is_kept before self.old →
+            OnOk result (IsKept is_kept (before ++ stanza_view stanza.now ∷ []) self.new) };
 
     /// Keeps a request, and answers the first fault of its properties.
     fn take_request(
@@ -69,30 +68,35 @@ pub(crate) trait Kept<'a>: Sized + Drop {
     ) -> Result<Option<Fault>, AllocError>
         ensures fault { IfOk result (λ fault.
             fault ≡ least (properties_faults [] (Some RequestMark) (stanza_view stanza.now).properties)) }
-        ensures kept { (before : List PlainStanza) →
+        ensures kept { (is_kept : Id → Bool) →
+            (before : List PlainStanza) →
             postmark (stanza_view stanza.now) ≡ Some RequestMark →
-            IsKept before self.old →
-            OnOk result (IsKept (before ++ stanza_view stanza.now ∷ []) self.new) };
+            IsKept is_kept before self.old →
+            OnOk result (IsKept is_kept (before ++ stanza_view stanza.now ∷ []) self.new) };
 
     /// Of any other stanza nothing is kept. (Does nothing: its contract is a law.)
     fn pass(&self, stanza: &Stanza<'a>)
-        ensures { (before : List PlainStanza) →
+        ensures { (is_kept : Id → Bool) →
+            (before : List PlainStanza) →
             is_package (stanza_view stanza.now) ≡ false →
             is_request (stanza_view stanza.now) ≡ false →
-            IsKept before self.now →
-            IsKept (before ++ stanza_view stanza.now ∷ []) self.now };
+            IsKept is_kept before self.now →
+            IsKept is_kept (before ++ stanza_view stanza.now ∷ []) self.now };
 }
 
-/// Walks over all stanzas; the first one is held in `head`.
+/// Walks over all stanzas; the first one is held in `head`. Before it nothing is kept.
 pub(crate) fn walk_all<'h, 'a, K: Kept<'a>>(
     alloc: Global,
     stanzas: Stanzas<'a>,
     head: &'h mut Stanza<'a>,
+    kept: K,
 ) -> Result<(Walk<'h, 'a>, K), AllocError>
-    ensures { IfOk result (λ r. IsWhole (λ ss. K.IsKept ss r.1) r.0 stanzas.entry.text) }
+    ensures { (is_kept : Id → Bool) →
+        K.IsKept is_kept [] kept →
+        IfOk result (λ r. IsWhole (λ ss. K.IsKept is_kept ss r.1) r.0 stanzas.entry.text) }
 {
     let mut stanzas = stanzas;
-    let mut kept = K::new(alloc);
+    let mut kept = kept;
     match stanzas.next(alloc, &mut head.properties)? {
         Next::End { fault, lines } => {
             let mut walk: Walk<'h, 'a> = Walk::new(alloc);
@@ -115,9 +119,10 @@ fn walk_on<'h, 'a, K: Kept<'a>>(
     kept: K,
     stanzas: Stanzas<'a>,
 ) -> Result<(Walk<'h, 'a>, K), AllocError>
-    ensures { (text : PlainText) →
-        GoesOn (λ ss. K.IsKept ss kept) walk.entry stanzas.entry.text text →
-        IfOk result (λ r. IsWhole (λ ss. K.IsKept ss r.1) r.0 text) }
+    ensures { (is_kept : Id → Bool) →
+        (text : PlainText) →
+        GoesOn (λ ss. K.IsKept is_kept ss kept) walk.entry stanzas.entry.text text →
+        IfOk result (λ r. IsWhole (λ ss. K.IsKept is_kept ss r.1) r.0 text) }
 {
     let mut walk = walk;
     let mut kept = kept;
@@ -155,12 +160,12 @@ pub(crate) struct Walk<'h, 'a> {
 }
 
 impl<'h, 'a> Walk<'h, 'a> {
-    ghost use Rattle.std.specs.Prelude.{◌≡◌, List, [], ◌∷◌, ◌++◌, not, max, IfOk, OnOk};
+    ghost use Rattle.std.specs.Prelude.{◌≡◌, Bool, List, [], ◌∷◌, ◌++◌, not, max, IfOk, OnOk};
     ghost use Rattle.cudf_text.specs.Stanzas.{PlainStanza};
     ghost use Rattle.cudf_text.specs.Views.{stanza_view};
     ghost use Rattle.cudf_text.specs.declared.fault.Kind.TheVariants.{E13};
     ghost use Rattle.cudf_document.specs.Faults.{least, lesser, fault_if};
-    ghost use Rattle.cudf_document.specs.Ids.{with_id, id_under};
+    ghost use Rattle.cudf_document.specs.Ids.{Id, with_id, id_under};
     ghost use Rattle.cudf_document.specs.Working.ProblemBuilders.{package_faults};
     ghost use Rattle.cudf_document.specs.Working.Walks.{IsKnown, judged_faults, judged_ids};
     ghost use Rattle.cudf_document.specs.Documents.{is_empty, postmark};
@@ -189,7 +194,9 @@ impl<'h, 'a> Walk<'h, 'a> {
     ) -> Result<Self, AllocError>
         ensures known { IfOk result (λ k. IsKnown k (stanza_view head.now ∷ [])) }
         ensures declared { IfOk result (λ k. k.declarations ≡ declared (stanza_view head.now ∷ [])) }
-        ensures kept { K.IsKept [] kept.old → OnOk result (K.IsKept (stanza_view head.now ∷ []) kept.new) }
+        ensures kept { (is_kept : Id → Bool) →
+            K.IsKept is_kept [] kept.old →
+            OnOk result (K.IsKept is_kept (stanza_view head.now ∷ []) kept.new) }
     {
         let mut walk: Walk<'h, 'a> = Walk::new(alloc);
         walk.take(alloc, kept, true, head)?;
@@ -211,10 +218,11 @@ impl<'h, 'a> Walk<'h, 'a> {
             IsKnown self.old before →
             OnOk result (IsKnown self.new (before ++ stanza_view stanza.now ∷ [])) }
         ensures declarations { OnOk result (self.new.declarations ≡ self.old.declarations) }
-        ensures kept { (before : List PlainStanza) →
+        ensures kept { (is_kept : Id → Bool) →
+            (before : List PlainStanza) →
             self.old.declarations ≡ declared before →
-            K.IsKept before kept.old →
-            OnOk result (K.IsKept (before ++ stanza_view stanza.now ∷ []) kept.new) }
+            K.IsKept is_kept before kept.old →
+            OnOk result (K.IsKept is_kept (before ++ stanza_view stanza.now ∷ []) kept.new) }
     {
         let mark = postmark_of(stanza);
         let place = place_fault(is_first, self.requested, mark, stanza.line);
@@ -238,11 +246,12 @@ impl<'h, 'a> Walk<'h, 'a> {
         ensures declarations { OnOk result (self.new.declarations ≡ self.old.declarations) }
         ensures requested { OnOk result (self.new.requested ≡ self.old.requested) }
         ensures first { OnOk result (self.new.first ≡ self.old.first) }
-        ensures kept { (before : List PlainStanza) →
+        ensures kept { (is_kept : Id → Bool) →
+            (before : List PlainStanza) →
             postmark (stanza_view stanza.now) ≡ mark →
             self.old.declarations ≡ declared before →
-            K.IsKept before kept.old →
-            OnOk result (K.IsKept (before ++ stanza_view stanza.now ∷ []) kept.new) }
+            K.IsKept is_kept before kept.old →
+            OnOk result (K.IsKept is_kept (before ++ stanza_view stanza.now ∷ []) kept.new) }
     {
         match mark {
             Some(Postmark::Preamble) => {
@@ -272,11 +281,12 @@ impl<'h, 'a> Walk<'h, 'a> {
         ensures declarations { OnOk result (self.new.declarations ≡ self.old.declarations) }
         ensures requested { OnOk result (self.new.requested ≡ self.old.requested) }
         ensures first { OnOk result (self.new.first ≡ self.old.first) }
-        ensures kept { (before : List PlainStanza) →
+        ensures kept { (is_kept : Id → Bool) →
+            (before : List PlainStanza) →
             postmark (stanza_view stanza.now) ≡ Some PackageMark →
             self.old.declarations ≡ declared before →
-            K.IsKept before kept.old →
-            OnOk result (K.IsKept (before ++ stanza_view stanza.now ∷ []) kept.new) }
+            K.IsKept is_kept before kept.old →
+            OnOk result (K.IsKept is_kept (before ++ stanza_view stanza.now ∷ []) kept.new) }
     {
         let (fault, version) = kept.take_package(
             alloc,

@@ -22,5 +22,6 @@ pub mod SiteLemmas
 pub mod SolutionLemmas
 pub mod StandingLemmas
 pub mod StatusLemmas
+pub mod ThinLemmas
 pub mod UnknownLemmas
 pub mod VpkgItems

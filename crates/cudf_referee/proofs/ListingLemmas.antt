@@ -14,7 +14,7 @@ use Rattle.cudf_referee.proofs.ListLemmas.{and_left, and_right}
 use Rattle.cudf_referee.proofs.StatusLemmas.{holds-filter, holds-own, flat_map-held}
 
 -- the packages are judged by what their statuses hold
-rules_of_members : (was is : ℕ → Bool) (packages : List PlainPackage) (status : List Placed)
+pub rules_of_members : (was is : ℕ → Bool) (packages : List PlainPackage) (status : List Placed)
     → flat_map (λ p. package_rules (holds_place (members was packages) p.0) (holds_place (members is packages) p.0) status p) (enumerate_from 1 packages)
     ≡ flat_map (λ p. package_rules (was p.0) (is p.0) status p) (enumerate_from 1 packages)
 rules_of_members was is packages status =

@@ -1,12 +1,15 @@
 -- Laws over the definitions alone: own.
-use Rattle.std.specs.Prelude.{◌≡◌, ◌≤◌, ℕ, Bool, List, All, length, map, take, sum, Option, None, IsTrue}
+use Rattle.std.specs.Prelude.{◌≡◌, ◌≤◌, ℕ, Bool, true, List, All, length, map, take, sum, Option, Some, None, IsTrue}
 use Rattle.std.specs.List.{flat_map}
-use Rattle.cudf_document.specs.Universe.{PlainProblem}
+use Rattle.cudf_document.specs.Ids.{Id}
+use Rattle.cudf_document.specs.Thin.{thin_problem}
+use Rattle.cudf_document.specs.Universe.{PlainPackage, PlainProblem, package_at, package_id}
 use Rattle.cudf_document.specs.Statuses.{PlainUnknown, ascend_above}
+use Rattle.cudf_referee.specs.Criteria.{criteria}
 use Rattle.cudf_referee.specs.Entries.{is_empty}
 use Rattle.cudf_referee.specs.Keys.{PlainKey, IsWritable, ascend, key_text}
 use Rattle.cudf_referee.specs.Pages.{pages, ReadsKeys, page_bound, page_price}
-use Rattle.cudf_referee.specs.Proposals.{proposal}
+use Rattle.cudf_referee.specs.Proposals.{Proposal, proposal}
 use Rattle.cudf_referee.specs.Violations.{listing}
 use Rattle.cudf_referee.specs.Solutions.{is_solution}
 
@@ -50,3 +53,16 @@ PagesAreBound = (problem : PlainProblem) (was_installed is_installed : ℕ → B
     → IsTrue (ascend_above 0 unknown)
     → let s = proposal problem was_installed is_installed unknown in
     (key : Option PlainKey) (n : ℕ) → page_price s key n ≤ page_bound s key n
+
+-- the proposals have the same proposed status, and it is judged alike
+pub record AreJudgedAlike (s t : Proposal) : Type 0 where
+  pub proposed_are : s.proposed ≡ t.proposed
+  pub listing_is : listing s ≡ listing t
+  pub verdict_is : is_solution s ≡ is_solution t
+  pub criteria_are : criteria s ≡ criteria t
+
+-- what a package needs counts where it is proposed: a problem without the needs of others says the same
+abbrev pub ThinIsEnough : Type 0
+ThinIsEnough = (problem : PlainProblem) (is_kept : Id → Bool) (was_installed is_installed : ℕ → Bool) (unknown : List PlainUnknown)
+    → ((place : ℕ) (p : PlainPackage) → package_at problem place ≡ Some p → is_installed place ≡ true → is_kept (package_id p) ≡ true)
+    → AreJudgedAlike (proposal (thin_problem is_kept problem) was_installed is_installed unknown) (proposal problem was_installed is_installed unknown)

@@ -2,7 +2,7 @@
 ghost use Rattle.std.specs.Prelude.{◌≡◌, ◌↔◌, true};
 ghost use Rattle.cudf_referee.specs.KeyViews.{key_view};
 ghost use Rattle.cudf_referee.specs.Keys.{key_cmp};
-ghost use Rattle.cudf_referee.specs.Laws.{SolutionIsEmpty, ListingAscends, TextsTellKeys, PagesJoin, PagesSuffice, PagesAreBound};
+ghost use Rattle.cudf_referee.specs.Laws.{SolutionIsEmpty, ListingAscends, TextsTellKeys, PagesJoin, PagesSuffice, PagesAreBound, ThinIsEnough};
 
 use crate::key::Key;
 
@@ -36,4 +36,10 @@ pub fn pages()
     ensures joined { PagesJoin }
     ensures whole { PagesSuffice }
     ensures price { PagesAreBound }
+{}
+
+/// A proposed status is judged by what its own packages need: a problem in which others need nothing has the same
+/// violated instances, verdict and counts.
+pub fn thin()
+    ensures { ThinIsEnough }
 {}

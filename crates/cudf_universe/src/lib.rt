@@ -8,8 +8,8 @@ pub mod laws;
 mod steps;
 
 pub use cudf_document::{
-    Keep, Package, Problem, ReadError, Request, Room, Solution, Status, Unknown, first_fault,
-    initial, problem_of, read_problem, read_solution, solution_of,
+    Chosen, Keep, Package, Problem, ReadError, Request, Room, Solution, Status, Unknown,
+    first_fault, initial, problem_for, problem_of, read_problem, read_solution, solution_of,
 };
 pub use greatest::{GreatestNumbers, MeteredNumbers};
 pub use index::Index;

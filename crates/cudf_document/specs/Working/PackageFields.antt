@@ -1,5 +1,5 @@
 -- The values of a package's properties while they are gathered.
-use Rattle.std.specs.Prelude.{ℕ, Bool, false, List, [], map, Option, Some, None, is_some, option_map, option_copied, bytes_eq, codes, if◌then◌else◌}
+use Rattle.std.specs.Prelude.{ℕ, Bool, true, false, List, [], map, Option, Some, None, is_some, option_map, option_copied, bytes_eq, codes, if◌then◌else◌}
 use Rattle.std.specs.List.{list_any}
 use Rattle.cudf_text.specs.declared.fault.Fault.{Fault}
 use Rattle.cudf_text.specs.declared.fault.Kind.{Kind}
@@ -16,7 +16,7 @@ use Rattle.cudf_document.specs.declared.package_fields.PackageFields.{PackageFie
 use Rattle.cudf_document.specs.Documents.{value_of}
 use Rattle.cudf_document.specs.Preamble.{recommends_in}
 use Rattle.cudf_document.specs.Universe.{PlainPackage, list_view, or_default, own_recommends}
-use Rattle.cudf_document.specs.Ids.{id_with}
+use Rattle.cudf_document.specs.Ids.{Id, id_with}
 use Rattle.cudf_document.specs.Values.{Test, name_value, version_value, formula_value, list_value, exact_list_value, truth_value, keep_value, can_be, is_anything, declared_test, test_of}
 
 -- ---- fields
@@ -131,3 +131,16 @@ package_from line v = option_map (λ id. record {
   keep = or_default Nothing v.keep;
   recommends = v.recommends;
 }) (id_with v.name v.version)
+
+-- the values without what the package needs
+abbrev pub without_needs : PlainPackageFields → PlainPackageFields
+without_needs v = record v { depends = None; conflicts = None; recommends = None }
+
+-- a pair passes the test, if there is one
+abbrev pub passes : (Id → Bool) → Option Id → Bool
+passes test None = true
+passes test (Some id) = test id
+
+-- the values, with what the package needs if its name and version pass the test
+abbrev pub fields_if : (Id → Bool) → PlainPackageFields → PlainPackageFields
+fields_if test v = if passes test (id_with v.name v.version) then v else without_needs v

@@ -1,6 +1,6 @@
 //! The first fault of a problem, of each kind and of several at once.
 use crate::table::assert_rows;
-use cudf_document::{ReadError, Room, first_fault, problem_of, read_problem};
+use cudf_document::{Chosen, ReadError, Room, first_fault, problem_for, problem_of, read_problem};
 use cudf_text::{Fault, Kind, read, stanzas};
 use std::alloc::{AllocError, Global};
 
@@ -30,6 +30,19 @@ fn walk_fault(alloc: Global, bytes: &[u8]) -> Option<Fault> {
     }
 }
 
+/// The fault that reading for a solution answers that installs nothing.
+fn chosen_fault(alloc: Global, bytes: &[u8]) -> Option<Fault> {
+    let mut room = Room::new(alloc);
+    let chosen = Chosen::none(alloc);
+    match stanzas(bytes) {
+        Ok(stanzas) => match problem_for(alloc, stanzas, &mut room, &chosen) {
+            Err(ReadError::Fault(fault)) => Some(fault),
+            _ => None,
+        },
+        Err(fault) => Some(fault),
+    }
+}
+
 /// The fault that is found with no problem made.
 fn found_fault(alloc: Global, bytes: &[u8]) -> Option<Fault> {
     match stanzas(bytes) {
@@ -48,6 +61,7 @@ fn is_fault(fault: Option<Fault>, row: &FaultRow<'_>) -> bool {
 fn has_fault(alloc: Global, bytes: &[u8], row: &FaultRow<'_>) -> bool {
     is_fault(read_fault(alloc, bytes), row)
         && is_fault(walk_fault(alloc, bytes), row)
+        && is_fault(chosen_fault(alloc, bytes), row)
         && is_fault(found_fault(alloc, bytes), row)
 }
 

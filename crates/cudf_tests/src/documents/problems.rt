@@ -1,7 +1,9 @@
 //! What problems say.
 use crate::table::{Listed, assert_rows, prints};
-use cudf_document::{Keep, Package, Problem, ReadError, Room, problem_of, read_problem};
-use cudf_text::{Fault, Kind, read, stanzas};
+use cudf_document::{
+    Chosen, Keep, Package, Problem, ReadError, Room, problem_for, problem_of, read_problem,
+};
+use cudf_text::{Fault, Kind, Stanzas, read, stanzas};
 use std::alloc::{AllocError, Global};
 use std::fmt;
 
@@ -219,6 +221,64 @@ const RECOMMENDED: [(&'static str, &'static str, Option<&'static str>); 8] = [
 #[test]
 fn recommended(rt: HostRuntime) {
     assert_rows(&rt, rt.alloc(), &RECOMMENDED, recommends);
+}
+
+/// Whether the problem is shown so where it is read for the solution.
+fn reads_for(alloc: Global, row: &(&str, &str, &str)) -> bool {
+    match (stanzas(row.0.as_bytes()), stanzas(row.1.as_bytes())) {
+        (Ok(problem), Ok(solution)) => match Chosen::of(alloc, solution) {
+            Ok(chosen) => chosen_read_as(alloc, problem, &chosen, row.2),
+            Err(_) => false,
+        },
+        _ => false,
+    }
+}
+
+fn chosen_read_as(alloc: Global, problem: Stanzas<'_>, chosen: &Chosen<'_>, want: &str) -> bool {
+    let mut room = Room::new(alloc);
+    match problem_for(alloc, problem, &mut room, chosen) {
+        Ok(problem) => prints(alloc, &ShownProblem(&problem), want),
+        Err(_) => false,
+    }
+}
+
+/// A problem, a solution, and the problem without what the packages need that the solution doesn't install.
+const CHOSEN: [(&'static str, &'static str, &'static str); 6] = [
+    (
+        "package: a\nversion: 1\ndepends: b\nconflicts: c\nprovides: e\ninstalled: true\nkeep: feature\n\npackage: a\nversion: 2\ndepends: b\nconflicts: c\n\nrequest:\ninstall: a\n",
+        "package: a\nversion: 2\ninstalled: true\n",
+        "1 a 1[][][e;]installed feature;9 a 2[b;][c;][];14[a;][][]",
+    ),
+    (
+        "package: a\nversion: 1\ndepends: b\n\nrequest:\n",
+        "",
+        "1 a 1[][][];5[][][]",
+    ),
+    (
+        "package: a\nversion: 1\ndepends: b\n\nrequest:\n",
+        "package: a\nversion: 1\ninstalled: false\n",
+        "1 a 1[][][];5[][][]",
+    ),
+    (
+        "package: a\nversion: 1\ndepends: b\n\nrequest:\n",
+        "package: b\nversion: 1\ninstalled: true\n\npackage: a\ninstalled: true\nversion: 01\n",
+        "1 a 1[b;][][];5[][][]",
+    ),
+    (
+        "preamble:\nproperty: recommends: vpkgformula = [z]\n\npackage: a\nversion: 1\nrecommends: b\n\npackage: b\nversion: 1\nrecommends: c\n\nrequest:\n",
+        "package: b\nversion: 1\ninstalled: true\n",
+        "4 a 1[][][];8 b 1[][][][c;];12[][][]",
+    ),
+    (
+        "package: a\nversion: 1\ndepends: b\n\npackage: b\nversion: 3\nconflicts: a\n\nrequest:\n",
+        "package: a\nversion: 1\ninstalled: true\n\npackage: a\nversion: 1\ninstalled: false\n\npackage: b\nversion: 3\ninstalled: true\n",
+        "1 a 1[b;][][];5 b 3[][a;][];9[][][]",
+    ),
+];
+
+#[test]
+fn chosen(rt: HostRuntime) {
+    assert_rows(&rt, rt.alloc(), &CHOSEN, reads_for);
 }
 
 fn says(alloc: Global, row: &(ReadError, &str)) -> bool {

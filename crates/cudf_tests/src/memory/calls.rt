@@ -3,8 +3,8 @@ use super::{Answer, Refused, expect, made};
 use cudf_referee::{Key, Referee};
 use cudf_text::{Text, TextError, is_fail, read, stanzas};
 use cudf_universe::{
-    GreatestNumbers, Index, Problem, ReadError, Room, first_fault, initial, problem_of,
-    read_problem, read_solution, solution_of,
+    Chosen, GreatestNumbers, Index, Problem, ReadError, Room, first_fault, initial, problem_for,
+    problem_of, read_problem, read_solution, solution_of,
 };
 use cudf_value::{
     ValueType, fits, read_declarations, read_formula, read_veqpkglist, read_vpkg, read_vpkglist,
@@ -84,6 +84,25 @@ fn reads_stanzas(alloc: Global, problem: &[u8], packages: usize) -> Answer {
     let mut room = Room::new(alloc);
     match problem_of(alloc, made(stanzas(problem))?, &mut room) {
         Ok(problem) => Ok(problem.packages().len() == packages),
+        Err(ReadError::Memory(_)) => Err(Refused::Here),
+        Err(ReadError::Fault(_)) => Ok(false),
+    }
+}
+
+/// Finds what the solution installs.
+fn chooses(alloc: Global) -> Answer {
+    match Chosen::of(alloc, made(stanzas(SOLUTION))?) {
+        Ok(_) => Ok(true),
+        Err(_) => Err(Refused::Here),
+    }
+}
+
+/// Reads a problem stanza by stanza, for a solution that installs its packages.
+fn reads_chosen(alloc: Global) -> Answer {
+    let chosen = made(Chosen::of(alloc, made(stanzas(SOLUTION))?))?;
+    let mut room = Room::new(alloc);
+    match problem_for(alloc, made(stanzas(PROBLEM))?, &mut room, &chosen) {
+        Ok(problem) => Ok(problem.packages().iter().all(|p| p.conflicts.len() == 2)),
         Err(ReadError::Memory(_)) => Err(Refused::Here),
         Err(ReadError::Fault(_)) => Ok(false),
     }
@@ -252,6 +271,16 @@ fn problem_of_stanzas(rt: HostRuntime) {
 fn problem_of_joined_stanzas(rt: HostRuntime) {
     let problem = b"package: a\nversion: 1\ndepends: b,\n c\n\nrequest: r\ninstall: a,\n b\n";
     expect(&rt, reads_stanzas(rt.alloc(), problem, 1));
+}
+
+#[test]
+fn chosen(rt: HostRuntime) {
+    expect(&rt, chooses(rt.alloc()));
+}
+
+#[test]
+fn problem_for_chosen(rt: HostRuntime) {
+    expect(&rt, reads_chosen(rt.alloc()));
 }
 
 #[test]

@@ -3,4 +3,4 @@ use Rattle.cudf_document.proofs.PartsLemmas.{passed}
 use Rattle.cudf_document.proofs.parts.PartsKept.pass.Goals as goal
 
 pub returns : goal.returns
-returns c = λ before no_package no_request so_far. passed before (stanza_view c.args.stanza.now) c.args.self.now no_package no_request so_far
+returns c = λ is_kept before no_package no_request so_far. passed is_kept before (stanza_view c.args.stanza.now) c.args.self.now no_package no_request so_far

@@ -5,14 +5,15 @@ use Rattle.cudf_document.specs.Universe.{plain_problem}
 use Rattle.cudf_check.specs.Report.{faulty_or, solution_report}
 use Rattle.cudf_check.specs.Working.Found.{found_text}
 use Rattle.cudf_check.proofs.AnswerLemmas.{answers_as, document_refused}
-use Rattle.cudf_check.proofs.report.answer_problem_stanzas.Goals as goal
+use Rattle.cudf_check.proofs.ThinLemmas.{report-thin}
+use Rattle.cudf_check.proofs.report.answer_chosen.Goals as goal
 
 pub returns-in-Ok : goal.returns-in-Ok
 returns-in-Ok g c =
     let text = c.args.stanzas.text in
     let solution = c.args.solution.now in
     answers_as _ _ _ _ _
-    (ap (λ problem. solution_report (found_text c.args.found) problem solution) c.in-Ok.ensures.problem
+    (report-thin c.thin.ensures c.args.chosen.now c.in-Ok.problem (plain_problem text) c.in-Ok.ensures.problem solution c.requires c.args.found
     ∙ ap (λ faults. faulty_or (codes "problem") (least faults) (solution_report (found_text c.args.found) (plain_problem text) solution)) (sym c.in-Ok.ensures.sound))
     c.answer_solution-answer.ensures
 

@@ -1,0 +1,153 @@
+-- A problem without what packages need that the solution doesn't install has the same report.
+use Rattle.std.proofs.Common.{◌≡◌, ℕ, ◌-◌, ◌==◌, Bool, true, false, List, [], ◌∷◌, ◌++◌, map, filter, filter_map, slice_get, Option, Some, None, option_map, option_and_then, refl, sym, ap, ◌∙◌, codes, if◌then◌else◌}
+use Rattle.std.specs.List.{flat_map, enumerate_from}
+use Rattle.std.specs.Option.{option_map_or}
+use Rattle.std.specs.Ordering.{is_lt}
+use Rattle.std.specs.Str.{is_utf8}
+use Rattle.std.proofs.lemmas.Option.{slice_get-map}
+use Rattle.cudf_text.specs.Joined.{is_fail}
+use Rattle.cudf_text.specs.Stanzas.{PlainStanza, PlainText, plain_text}
+use Rattle.cudf_text.specs.Views.{utf8_fault}
+use Rattle.cudf_document.specs.Faults.{least}
+use Rattle.cudf_document.specs.Ids.{Id, is_among}
+use Rattle.cudf_document.specs.SolutionFaults.{solution_faults}
+use Rattle.cudf_document.specs.Statuses.{is_initial, is_proposed, installed_id, installed_ids, unknown_with, unknown_of, unknown_stanzas}
+use Rattle.cudf_document.specs.Thin.{thin_package, thin_problem, IsThinFor}
+use Rattle.cudf_document.specs.Universe.{PlainPackage, PlainProblem, package_id, package_at}
+use Rattle.cudf_referee.specs.Entries.{is_empty}
+use Rattle.cudf_referee.specs.Instances.{PlainWhat, needs, conflicts_with, keep_version, keep_package, keep_feature, install, remove, upgrade, unknown, PlainInstance}
+use Rattle.cudf_referee.specs.Keys.{PlainKey, key_cmp, key_text}
+use Rattle.cudf_referee.specs.KeyViews.{key_view}
+use Rattle.cudf_referee.specs.Laws.{AreJudgedAlike, ThinIsEnough}
+use Rattle.cudf_referee.specs.Proposals.{Proposal, proposal}
+use Rattle.cudf_referee.specs.Violations.{listing, met_by}
+use Rattle.cudf_referee.specs.declared.key.Aspect.{Aspect}
+use Rattle.cudf_check.specs.Report as report
+use Rattle.cudf_check.specs.declared.outcome.Outcome.TheVariants.{Yes, No, Fail}
+use Rattle.cudf_check.specs.Report.{Report, line, what_text, place_text, met_line, instance_line, listed, limited, last_key, more_text, page_text, check_text, score_text, criteria_text, verdict_text, judged_report, proposal_of, solution_report, faulty_or, alone, faulty}
+use Rattle.cudf_check.specs.Working.Chosen.{AreChosen}
+use Rattle.cudf_check.specs.Working.Found.{found_text}
+use Rattle.cudf_check.specs.declared.lines.judged.Found.{Found}
+use Rattle.cudf_check.specs.declared.lines.judged.Found.TheVariants.{Page, Score}
+
+-- ---- what is found of proposals that are judged alike
+
+-- the needs of the package that meets an entry aren't printed
+what-same : (k : Id → Bool) (what : PlainWhat) (aspect : Option Aspect) (met : Option PlainPackage)
+    → what_text what aspect (option_map (thin_package k) met) ≡ what_text what aspect met
+what-same k (needs clause) aspect met = refl
+what-same k (conflicts_with v) aspect None = refl
+what-same k (conflicts_with v) aspect (Some p) = refl
+what-same k keep_version aspect met = refl
+what-same k keep_package aspect met = refl
+what-same k (keep_feature v) aspect met = refl
+what-same k (install v) aspect met = refl
+what-same k (remove v) aspect None = refl
+what-same k (remove v) aspect (Some p) = refl
+what-same k (upgrade v) aspect met = refl
+what-same k unknown aspect met = refl
+
+met-same : (k : Id → Bool) (packages : List PlainPackage) (place : Option ℕ)
+    → report.package_at (map (thin_package k) packages) place ≡ option_map (thin_package k) (report.package_at packages place)
+met-same k packages None = refl
+met-same k packages (Some place) = slice_get-map (thin_package k) packages (place - 1)
+
+line-same : (k : Id → Bool) (s t : Proposal) → s.packages ≡ map (thin_package k) t.packages → s.proposed ≡ t.proposed
+    → (i : PlainInstance) → instance_line s i ≡ instance_line t i
+line-same k s t thin proposed i =
+    (λ j. met_line i (report.package_at (thin j) (met_by (proposed j) i)))
+    ∙ ap (met_line i) (met-same k t.packages (met_by t.proposed i))
+    ∙ ap (λ text. line (key_text i.key ++ place_text i.subject i.line ++ text)) (what-same k i.what i.key.aspect (report.package_at t.packages (met_by t.proposed i)))
+
+more-same : (s t : Proposal) → listing s ≡ listing t → (last : Option PlainKey) → more_text s last ≡ more_text t last
+more-same s t same None = refl
+more-same s t same (Some key) = ap (λ is. if is_empty (filter (λ i. is_lt (key_cmp key i.key)) is) then [] else line (codes "more after " ++ key_text key)) same
+
+listed-same : (s t : Proposal) → listing s ≡ listing t → (after : Option PlainKey) → listed after s ≡ listed after t
+listed-same s t same None = same
+listed-same s t same (Some key) = ap (filter (λ i. is_lt (key_cmp key i.key))) same
+
+found-same : (k : Id → Bool) (s t : Proposal) → s.packages ≡ map (thin_package k) t.packages → AreJudgedAlike s t → (found : Found) → found_text found s ≡ found_text found t
+found-same k s t thin alike Score = ap criteria_text alike.criteria_are
+found-same k s t thin alike (Page after limit) =
+    ap (λ is. page_text s (limited limit is)) (listed-same s t alike.listing_is (option_map key_view after))
+    ∙ page (limited limit (listed (option_map key_view after) t))
+  where
+    page : (is : List PlainInstance) → page_text s is ≡ page_text t is
+    page is = λ j. flat_map (λ i. line-same k s t thin alike.proposed_are i j) is ++ more-same s t alike.listing_is (last_key is) j
+
+judged-same : (k : Id → Bool) (s t : Proposal) → s.packages ≡ map (thin_package k) t.packages → AreJudgedAlike s t → (found : Found)
+    → judged_report (found_text found) s ≡ judged_report (found_text found) t
+judged-same k s t thin alike found = λ j. record {
+  text = found-same k s t thin alike found j ++ line (verdict_text (alike.verdict_is j));
+  outcome = if alike.verdict_is j then Yes else No;
+}
+
+-- ---- what a thinned problem says of statuses
+
+-- a test that no need counts for answers the same of the package at a place
+at-same : (k : Id → Bool) (problem : PlainProblem) (test : PlainPackage → Bool) → ((p : PlainPackage) → test (thin_package k p) ≡ test p)
+    → (place : ℕ) → option_map_or test (package_at (thin_problem k problem) place) false ≡ option_map_or test (package_at problem place) false
+at-same k problem test same place = by (place == 0)
+  where
+    there : (o : Option PlainPackage) → option_map_or test (option_map (thin_package k) o) false ≡ option_map_or test o false
+    there None = refl
+    there (Some p) = same p
+
+    by : (b : Bool) → option_map_or test (if b then None else slice_get (map (thin_package k) problem.packages) (place - 1)) false
+        ≡ option_map_or test (if b then None else slice_get problem.packages (place - 1)) false
+    by true = refl
+    by false = ap (λ o. option_map_or test o false) (slice_get-map (thin_package k) problem.packages (place - 1)) ∙ there (slice_get problem.packages (place - 1))
+
+ids-same : (k : Id → Bool) (packages : List PlainPackage) → map package_id (map (thin_package k) packages) ≡ map package_id packages
+ids-same k [] = refl
+ids-same k (p ∷ packages) = ap (λ ids. package_id p ∷ ids) (ids-same k packages)
+
+unknown-same : (k : Id → Bool) (problem : PlainProblem) (x : ℕ × PlainStanza) → unknown_of (thin_problem k problem) x ≡ unknown_of problem x
+unknown-same k problem (n, s) = by (installed_id s)
+  where
+    by : (o : Option Id) → option_and_then (unknown_with (thin_problem k problem) n s.line) o ≡ option_and_then (unknown_with problem n s.line) o
+    by None = refl
+    by (Some id) = ap (λ ids. if is_among ids (id.0, id.1) then None else Some (record { stanza = n; line = s.line; name = id.0; version = id.1 }))
+        (ids-same k problem.packages)
+
+proposal-same : (k : Id → Bool) (problem : PlainProblem) (text : PlainText)
+    → proposal_of (thin_problem k problem) text
+    ≡ proposal (thin_problem k problem) (is_initial problem) (is_proposed problem text.stanzas) (unknown_stanzas problem text.stanzas)
+proposal-same k problem text = λ i. proposal (thin_problem k problem)
+    (λ place. at-same k problem (λ p. p.installed) (λ p. refl) place i)
+    (λ place. at-same k problem (λ p. is_among (installed_ids text.stanzas) (package_id p)) (λ p. refl) place i)
+    (filter_map (λ x. unknown-same k problem x i) (enumerate_from 1 text.stanzas))
+
+-- ---- the report
+
+judged-thin : ThinIsEnough → (is_chosen : Id → Bool) (thin whole : PlainProblem) → IsThinFor is_chosen thin whole
+    → (text : PlainText) → ((id : Id) → is_chosen id ≡ is_among (installed_ids text.stanzas) id)
+    → (found : Found) → judged_report (found_text found) (proposal_of thin text) ≡ judged_report (found_text found) (proposal_of whole text)
+judged-thin law is_chosen thin whole fits text same found =
+    ap (λ problem. judged_report (found_text found) (proposal_of problem text)) fits.is
+    ∙ ap (judged_report (found_text found)) (proposal-same fits.is_kept whole text)
+    ∙ judged-same fits.is_kept
+        (proposal (thin_problem fits.is_kept whole) (is_initial whole) (is_proposed whole text.stanzas) (unknown_stanzas whole text.stanzas))
+        (proposal_of whole text) refl
+        (law whole fits.is_kept (is_initial whole) (is_proposed whole text.stanzas) (unknown_stanzas whole text.stanzas) premise) found
+  where
+    premise : (place : ℕ) (p : PlainPackage) → package_at whole place ≡ Some p → is_proposed whole text.stanzas place ≡ true → fits.is_kept (package_id p) ≡ true
+    premise place p there proposed = fits.covers (package_id p)
+        (same (package_id p) ∙ sym (ap (λ o. option_map_or (λ q. is_among (installed_ids text.stanzas) (package_id q)) o false) there) ∙ proposed)
+
+-- a problem that is thinned for what the bytes install has the report of the whole one
+pub report-thin : ThinIsEnough → (chosen : List Id) (thin whole : PlainProblem) → IsThinFor (is_among chosen) thin whole
+    → (bytes : List ℕ) → AreChosen chosen bytes
+    → (found : Found) → solution_report (found_text found) thin bytes ≡ solution_report (found_text found) whole bytes
+report-thin law chosen thin whole fits bytes same found = by (is_utf8 bytes) refl
+  where
+    judged : PlainProblem → Report
+    judged problem = if is_fail bytes then alone (codes "solution FAIL") Fail
+        else faulty_or (codes "solution") (least (solution_faults (plain_text bytes))) (judged_report (found_text found) (proposal_of problem (plain_text bytes)))
+
+    by : (b : Bool) → is_utf8 bytes ≡ b
+        → (if b then judged thin else faulty (codes "solution") (utf8_fault bytes)) ≡ (if b then judged whole else faulty (codes "solution") (utf8_fault bytes))
+    by true is = ap (λ r. if is_fail bytes then alone (codes "solution FAIL") Fail else faulty_or (codes "solution") (least (solution_faults (plain_text bytes))) r)
+        (judged-thin law (is_among chosen) thin whole fits (plain_text bytes) (same is) found)
+    by false is = refl
