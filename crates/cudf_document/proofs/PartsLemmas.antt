@@ -13,7 +13,7 @@ use Rattle.cudf_document.specs.Ids.{Id, id_of, are_distinct}
 use Rattle.cudf_document.specs.Preamble.{declared}
 use Rattle.cudf_document.specs.Thin.{thin_package, thin_problem}
 use Rattle.cudf_document.specs.Universe.{PlainPackage, PlainRequest, plain_problem, package_id, package_view, request_view, request_of, packages_in, request_in}
-use Rattle.cudf_document.specs.Working.Kept.{IsParts, kept_by}
+use Rattle.cudf_document.specs.Working.Kept.{AreParts, IsParts, kept_by}
 use Rattle.cudf_document.specs.Working.PackageFields.{package_fields_of, package_from, fields_if}
 use Rattle.cudf_document.specs.Working.ProblemBuilders.{PlainBuilder, with_stanza, problem_of, IsBuilt}
 use Rattle.cudf_document.specs.Working.Walks.{IsWhole}
@@ -67,26 +67,27 @@ request_kept is_kept before s old new marked so_far request packages joined chos
       ((λ i. map package_view (packages i).items) ∙ was.0 ∙ ap (map (thin_package is_kept)) next.packages_are, request ∙ next.request_is);
 }
 
-pub passed : (is_kept : Id → Bool) (before : List PlainStanza) (s : PlainStanza) (p : Parts) → is_package s ≡ false → is_request s ≡ false → IsParts is_kept before p
-    → IsParts is_kept (before ++ s ∷ []) p
+pub passed : (is_kept : Id → Bool) (before : List PlainStanza) (s : PlainStanza) (p : Parts)
+    → is_package s ≡ false → is_request s ≡ false → IsParts is_kept before p → IsParts is_kept (before ++ s ∷ []) p
 passed is_kept before s p no_package no_request so_far = record { kept_are = so_far.kept_are; parts_are = λ unjoined. by (so_far.parts_are unjoined) (postmark s) refl }
   where
-    other : (mark : Option Postmark) → IsBuilt (with_stanza mark (is_empty before) s (builder (declared before) (packages_in before) (option_map request_view p.request) before)) (before ++ s ∷ [])
-        → (with_stanza mark (is_empty before) s (builder (declared before) (packages_in before) (option_map request_view p.request) before)).packages ≡ packages_in before
-        → (with_stanza mark (is_empty before) s (builder (declared before) (packages_in before) (option_map request_view p.request) before)).request ≡ option_map request_view p.request
-        → map package_view p.packages.items ≡ map (thin_package is_kept) (packages_in before)
-        → (map package_view p.packages.items ≡ map (thin_package is_kept) (packages_in (before ++ s ∷ []))) × (option_map request_view p.request ≡ request_in (before ++ s ∷ []))
-    other mark next same asked was = (was ∙ ap (map (thin_package is_kept)) (sym same ∙ next.packages_are), sym asked ∙ next.request_is)
+    -- what stands there without a package and a request
+    as_before : AreParts is_kept before p → packages_in before ≡ packages_in (before ++ s ∷ []) → option_map request_view p.request ≡ request_in (before ++ s ∷ [])
+        → AreParts is_kept (before ++ s ∷ []) p
+    as_before was packages request = (was.0 ∙ ap (map (thin_package is_kept)) packages, request)
 
-    by : (map package_view p.packages.items ≡ map (thin_package is_kept) (packages_in before)) × (option_map request_view p.request ≡ request_in before)
-        → (mark : Option Postmark) → postmark s ≡ mark
-        → (map package_view p.packages.items ≡ map (thin_package is_kept) (packages_in (before ++ s ∷ []))) × (option_map request_view p.request ≡ request_in (before ++ s ∷ []))
-    by was None marked = other None (gathered (declared before) (option_map request_view p.request) before s None marked refl was.1) refl refl was.0
-    by was (Some Preamble) marked = other (Some Preamble) (gathered (declared before) (option_map request_view p.request) before s (Some Preamble) marked refl was.1) refl refl was.0
+    by : AreParts is_kept before p → (mark : Option Postmark) → postmark s ≡ mark → AreParts is_kept (before ++ s ∷ []) p
+    by was None marked =
+        let next = gathered (declared before) (option_map request_view p.request) before s None marked refl was.1 in
+        as_before was next.packages_are next.request_is
+    by was (Some Preamble) marked =
+        let next = gathered (declared before) (option_map request_view p.request) before s (Some Preamble) marked refl was.1 in
+        as_before was next.packages_are next.request_is
     by was (Some Package) marked = absurd (true≢false (sym (ap marks_package marked) ∙ no_package))
     by was (Some Request) marked = absurd (true≢false (sym (ap marks_request marked) ∙ no_request))
 
-pub joined_says_nothing : (is_kept : Id → Bool) (before : List PlainStanza) (p : Parts) → kept_by p.chosen ≡ is_kept → p.joined ≡ true → IsParts is_kept before p
+pub joined_says_nothing : (is_kept : Id → Bool) (before : List PlainStanza) (p : Parts)
+    → kept_by p.chosen ≡ is_kept → p.joined ≡ true → IsParts is_kept before p
 joined_says_nothing is_kept before p kept joined = record { kept_are = kept; parts_are = λ unjoined. absurd (true≢false (sym joined ∙ unjoined)) }
 
 -- ---- the whole text

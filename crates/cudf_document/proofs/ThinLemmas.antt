@@ -1,6 +1,5 @@
 -- Packages without what they need.
 use Rattle.std.proofs.Common.{◌≡◌, ℕ, Bool, true, false, List, [], ◌∷◌, map, Option, Some, None, option_map, option_to_list, if◌then◌else◌, refl, sym, ap, ◌∙◌}
-use Rattle.std.proofs.lemmas.List.{map-id}
 use Rattle.cudf_document.specs.Ids.{Id, id_with}
 use Rattle.cudf_document.specs.Thin.{thinned, thin_package, thin_problem, IsThinFor}
 use Rattle.cudf_document.specs.Universe.{PlainPackage, PlainProblem, package_id}
@@ -10,10 +9,6 @@ use Rattle.cudf_document.proofs.ListLemmas.{option_map-option_map}
 pub option_to_list-map : {A B : Type 0} (f : A → B) (o : Option A) → option_to_list (option_map f o) ≡ map f (option_to_list o)
 option_to_list-map f None = refl
 option_to_list-map f (Some x) = refl
-
-pub passes-all : (o : Option Id) → passes (λ id. true) o ≡ true
-passes-all None = refl
-passes-all (Some id) = refl
 
 with_needs : (o : Option PlainPackage) → o ≡ option_map (thinned true) o
 with_needs None = refl
@@ -29,7 +24,8 @@ thin_made : (test : Id → Bool) (make : Id → PlainPackage) → ((id : Id) →
 thin_made test make same None = refl
 thin_made test make same (Some id) = ap (λ i. Some (thinned (test i) (make id))) (sym (same id))
 
-pub package_from-thin : (test : Id → Bool) (line : ℕ) (v : PlainPackageFields) → package_from line (fields_if test v) ≡ option_map (thin_package test) (package_from line v)
+pub package_from-thin : (test : Id → Bool) (line : ℕ) (v : PlainPackageFields)
+    → package_from line (fields_if test v) ≡ option_map (thin_package test) (package_from line v)
 package_from-thin test line v =
     from_kept (passes test (id_with v.name v.version)) line v ∙ thin_made test _ (λ id. refl) (id_with v.name v.version)
 
@@ -38,20 +34,20 @@ ids-thin test [] = refl
 ids-thin test (p ∷ packages) = ap (λ l. package_id p ∷ l) (ids-thin test packages)
 
 -- where all are kept the problem is the whole
-pub thin_problem-all : (problem : PlainProblem) → thin_problem (λ id. true) problem ≡ problem
-thin_problem-all problem = ap (λ (packages : List PlainPackage). let t : PlainProblem = record problem { packages = packages } in t) (map-id problem.packages)
-
 same_thin : (test : Id → Bool) → ((id : Id) → test id ≡ true) → (packages : List PlainPackage) → map (thin_package test) packages ≡ packages
 same_thin test all [] = refl
 same_thin test all (p ∷ packages) = (λ i. thinned (all (package_id p) i) p ∷ same_thin test all packages i)
 
+thin_problem-all : (test : Id → Bool) → ((id : Id) → test id ≡ true) → (problem : PlainProblem) → thin_problem test problem ≡ problem
+thin_problem-all test all problem = λ i. record problem { packages = same_thin test all problem.packages i }
+
 pub whole_of : (thin whole : PlainProblem) → IsThinFor (λ id. true) thin whole → thin ≡ whole
-whole_of thin whole it =
-    it.is ∙ ap (λ (packages : List PlainPackage). let t : PlainProblem = record whole { packages = packages } in t) (same_thin it.is_kept (λ id. it.covers id refl) whole.packages)
+whole_of thin whole it = it.is ∙ thin_problem-all it.is_kept (λ id. it.covers id refl) whole
 
 -- the whole is enough for any choice
 pub whole_is_thin : (is_chosen : Id → Bool) (thin whole : PlainProblem) → thin ≡ whole → IsThinFor is_chosen thin whole
-whole_is_thin is_chosen thin whole same = record { is_kept = λ id. true; covers = λ id chosen. refl; is = same ∙ sym (thin_problem-all whole) }
-
-pub thin_for : (is_chosen : Id → Bool) (thin whole : PlainProblem) → thin ≡ thin_problem is_chosen whole → IsThinFor is_chosen thin whole
-thin_for is_chosen thin whole same = record { is_kept = is_chosen; covers = λ id chosen. chosen; is = same }
+whole_is_thin is_chosen thin whole same = record {
+  is_kept = λ id. true;
+  covers = λ id chosen. refl;
+  is = same ∙ sym (thin_problem-all (λ id. true) (λ id. refl) whole);
+}

@@ -12,7 +12,12 @@ abbrev pub kept_by : Option (Bor (List Id)) → Id → Bool
 kept_by None = λ id. true
 kept_by (Some chosen) = is_among chosen.now
 
--- what is kept of a package is told by this test, and where no value was joined, these are the packages and the request of the stanzas
+-- the packages and the request of the stanzas, where this test tells of which packages what they need is kept
+abbrev pub AreParts : (Id → Bool) → List PlainStanza → Parts → Type 0
+AreParts is_kept before p =
+    (map package_view p.packages.items ≡ map (thin_package is_kept) (packages_in before)) × (option_map request_view p.request ≡ request_in before)
+
+-- this is the test, and where no value was joined, these are the stanzas' packages and request
 pub record IsParts (is_kept : Id → Bool) (before : List PlainStanza) (p : Parts) : Type 0 where
   pub kept_are : kept_by p.chosen ≡ is_kept
-  pub parts_are : p.joined ≡ false → (map package_view p.packages.items ≡ map (thin_package is_kept) (packages_in before)) × (option_map request_view p.request ≡ request_in before)
+  pub parts_are : p.joined ≡ false → AreParts is_kept before p
