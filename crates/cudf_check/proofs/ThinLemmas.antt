@@ -128,9 +128,9 @@ judged-thin law is_chosen thin whole fits text same found =
     ap (λ problem. judged_report (found_text found) (proposal_of problem text)) fits.is
     ∙ ap (judged_report (found_text found)) (proposal-same fits.is_kept whole text)
     ∙ judged-same fits.is_kept
-        (proposal (thin_problem fits.is_kept whole) (is_initial whole) (is_proposed whole text.stanzas) (unknown_stanzas whole text.stanzas))
-        (proposal_of whole text) refl
-        (law whole fits.is_kept (is_initial whole) (is_proposed whole text.stanzas) (unknown_stanzas whole text.stanzas) premise) found
+    (proposal (thin_problem fits.is_kept whole) (is_initial whole) (is_proposed whole text.stanzas) (unknown_stanzas whole text.stanzas))
+    (proposal_of whole text) refl
+    (law whole fits.is_kept (is_initial whole) (is_proposed whole text.stanzas) (unknown_stanzas whole text.stanzas) premise) found
   where
     premise : (place : ℕ) (p : PlainPackage) → package_at whole place ≡ Some p → is_proposed whole text.stanzas place ≡ true → fits.is_kept (package_id p) ≡ true
     premise place p there proposed = fits.covers (package_id p)
