@@ -3,8 +3,8 @@
 
 usage: crosscheck.py PROGRAM SEED COUNT [WORKERS]
 
-Each input is a random problem with a random solution, spoilt ones and, of a thousand inputs one, long ones among them. Of
-each the program is asked for `lint`; `check` of two files, one of which may be standard input, and of both in one input;
+Each input is a random problem with a random solution, spoilt ones and, of a thousand inputs one, long ones among them;
+every second problem has a long comment behind it, beside which its solution is short. Of each the program is asked for `lint`; `check` of two files, one of which may be standard input, and of both in one input;
 `score` of both forms; the whole listing in pages of 1, 2 and 3, each continued from the key that the page before printed
 (of a faulty document one page); two pages behind random keys, which may name no instance; and two behind random words,
 many of which are no keys or no limits. What a program doesn't know (`score`, pages) is left out, and the last line says
@@ -37,6 +37,8 @@ class Comparison:
         self.program, self.inputs = program, Inputs(f"{seed}/{number}")
         pairs = self.inputs.pairs()
         self.problem, self.solution = self.inputs.problem(pairs), self.inputs.solution(pairs)
+        if self.inputs.now_and_then(0.5):
+            self.problem += long_comment(self.solution)
         self.joined = self.problem + b"\n" * self.inputs.now_and_then(0.9) + self.solution
         self.files = [programs.write(folder, "problem", self.problem), programs.write(folder, "solution", self.solution)]
         self.second = reports.Second(self.problem, self.solution)
@@ -96,6 +98,11 @@ class Comparison:
         wanted = self.second.check()[0][:-1]
         if walked != wanted:
             self.differing.append(f"pages of {size}: {walked}\n  second: {wanted}")
+
+
+def long_comment(solution):
+    """A comment beside which the solution is short: then it is asked first what it installs."""
+    return b"\n#" + b"." * 10 * len(solution)
 
 
 def kind_of(line):

@@ -19,7 +19,7 @@ use cudf_referee::Referee;
 use cudf_referee::laws::{ascending, thin};
 use cudf_text::{Fault, Stanzas, cut_joined, is_fail, source_of, stanzas};
 use cudf_universe::{
-    Chosen, Problem, ReadError, Room, Solution, first_fault, problem_for, solution_of,
+    Chosen, Problem, ReadError, Room, Solution, first_fault, problem_for, problem_of, solution_of,
 };
 use std::alloc::{AllocError, Global};
 
@@ -142,7 +142,7 @@ fn answer_chosen<W: Sink>(
 
 /// Reads a problem, and then its solution. Of the problem what is needed by packages that the solution
 /// doesn't install isn't kept.
-fn answer_problem_stanzas<W: Sink>(
+fn answer_thin<W: Sink>(
     ending: Ending,
     alloc: Global,
     out: &mut W,
@@ -158,6 +158,53 @@ fn answer_problem_stanzas<W: Sink>(
     }
 }
 
+/// Reads a problem, and then its solution. Of the problem all is kept.
+fn answer_whole<W: Sink>(
+    ending: Ending,
+    alloc: Global,
+    out: &mut W,
+    found: Found,
+    stanzas: Stanzas<'_>,
+    solution: &[u8],
+) -> Result<Outcome, RunError>
+    ensures { Answers (W.state out.old) (W.state out.new) (problem_text_report (found_text found) solution.now stanzas.entry.text) result }
+{
+    let mut room = Room::new(alloc);
+    match problem_of(alloc, stanzas, &mut room) {
+        Ok(problem) => {
+            let answer = answer_solution(ending, alloc, out, found, &problem, solution);
+            ending.end(problem);
+            answer
+        }
+        Err(error) => answer_refusal(alloc, out, "problem", error),
+    }
+}
+
+/// Whether the solution is so short beside the problem that it pays to ask first what it installs.
+/// (Says nothing of the report, which is the same either way.)
+fn is_short_beside(solution: &[u8], problem: &[u8]) -> bool {
+    solution.len() < problem.len() / 8
+}
+
+/// Reads a problem, and then its solution.
+fn answer_problem_stanzas<W: Sink>(
+    ending: Ending,
+    alloc: Global,
+    out: &mut W,
+    found: Found,
+    stanzas: Stanzas<'_>,
+    solution: &[u8],
+    is_short: bool,
+) -> Result<Outcome, RunError>
+    ensures { Answers (W.state out.old) (W.state out.new) (problem_text_report (found_text found) solution.now stanzas.entry.text) result }
+{
+    if is_short {
+        answer_thin(ending, alloc, out, found, stanzas, solution)
+    } else {
+        answer_whole(ending, alloc, out, found, stanzas, solution)
+    }
+}
+
 /// Judges a solution of a problem.
 fn check<W: Sink>(
     ending: Ending,
@@ -170,7 +217,10 @@ fn check<W: Sink>(
     ensures { Answers (W.state out.old) (W.state out.new) (pair_report (found_text found) problem.now solution.now) result }
 {
     match stanzas(problem) {
-        Ok(stanzas) => answer_problem_stanzas(ending, alloc, out, found, stanzas, solution),
+        Ok(stanzas) => {
+            let is_short = is_short_beside(solution, problem);
+            answer_problem_stanzas(ending, alloc, out, found, stanzas, solution, is_short)
+        }
         Err(fault) => answer_fault(alloc, out, "problem", fault),
     }
 }

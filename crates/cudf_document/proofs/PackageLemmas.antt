@@ -16,7 +16,7 @@ use Rattle.cudf_document.specs.Documents.{with_earlier, same_name, value_of}
 use Rattle.cudf_document.specs.Values.{name_value, version_value, formula_value, list_value, exact_list_value, truth_value, keep_value, can_be, package_tests, declared_test, test_of}
 use Rattle.cudf_document.specs.Preamble.{is_formula_type, recommends_in}
 use Rattle.cudf_document.specs.ProblemFaults.{property_faults}
-use Rattle.cudf_document.specs.Working.PackageFields.{PlainPackageFields, package_property_named, package_property_test, wrong_kind, fault_on, package_fields_of, with_package_property, no_package_fields, kind_after}
+use Rattle.cudf_document.specs.Working.PackageFields.{PlainPackageFields, package_property_named, package_property_test, wrong_kind, fault_on, package_fields_of, with_package_property, no_package_fields, kind_after, without_needs, is_need}
 use Rattle.cudf_document.proofs.FaultLemmas.{faults-next}
 use Rattle.cudf_document.proofs.NameLemmas.{AreNames-more, same_bytes, value_of-repeated, value_next}
 use Rattle.cudf_document.specs.Working.SeenNames.{AreNames}
@@ -195,6 +195,43 @@ pub package_fields_of-first : (ds : List PlainDeclaration) (ps : List PlainPrope
     → with_package_property ds (package_property_named p.name) p.value old ≡ package_fields_of ds (ps ++ p ∷ [])
 package_fields_of-first ds ps p old is new = ap (with_package_property ds (package_property_named p.name) p.value) is ∙ with_package_property-says ds ps p.value p.name ∙ sym (package_fields_of-says ds ps p new)
 
+-- ---- without what the package needs
+
+need_left : (ds : List PlainDeclaration) (named : Option PackageProperty) (text : List ℕ) (v : PlainPackageFields)
+    → is_need named ≡ true → without_needs v ≡ without_needs (with_package_property ds named text v)
+need_left ds (Some Depends) text v need = refl
+need_left ds (Some Conflicts) text v need = refl
+need_left ds (Some Recommends) text v need = refl
+need_left ds _ text v need = absurd cc
+
+other_set : (ds : List PlainDeclaration) (named : Option PackageProperty) (text : List ℕ) (v : PlainPackageFields)
+    → is_need named ≡ false → with_package_property ds named text (without_needs v) ≡ without_needs (with_package_property ds named text v)
+other_set ds (Some Package) text v other = refl
+other_set ds (Some Version) text v other = refl
+other_set ds (Some Provides) text v other = refl
+other_set ds (Some Installed) text v other = refl
+other_set ds (Some Keep) text v other = refl
+other_set ds (Some WasInstalled) text v other = refl
+other_set ds None text v other = refl
+other_set ds _ text v other = absurd cc
+
+-- a property that says what the package needs changes nothing else
+pub bare-need : (ds : List PlainDeclaration) (ps : List PlainProperty) (p : PlainProperty) (named : Option PackageProperty) → named ≡ package_property_named p.name
+    → is_need named ≡ true → list_any (same_name p) ps ≡ false → without_needs (package_fields_of ds ps) ≡ without_needs (package_fields_of ds (ps ++ p ∷ []))
+bare-need ds ps p named is need new =
+    need_left ds named p.value (package_fields_of ds ps) need
+    ∙ ap (λ f. without_needs (with_package_property ds f p.value (package_fields_of ds ps))) is
+    ∙ ap without_needs (package_fields_of-first ds ps p (package_fields_of ds ps) refl new)
+
+-- any other says the same
+pub bare-other : (ds : List PlainDeclaration) (ps : List PlainProperty) (p : PlainProperty) (named : Option PackageProperty) → named ≡ package_property_named p.name
+    → is_need named ≡ false → list_any (same_name p) ps ≡ false
+    → with_package_property ds named p.value (without_needs (package_fields_of ds ps)) ≡ without_needs (package_fields_of ds (ps ++ p ∷ []))
+bare-other ds ps p named is other new =
+    other_set ds named p.value (package_fields_of ds ps) other
+    ∙ ap (λ f. without_needs (with_package_property ds f p.value (package_fields_of ds ps))) is
+    ∙ ap without_needs (package_fields_of-first ds ps p (package_fields_of ds ps) refl new)
+
 -- ---- a package's properties, one after the other
 
 pub record IsJudgedTo (ds : List PlainDeclaration) (ps : List PlainProperty) (names : List (List ℕ)) (first : Option Fault) : Type 0 where
@@ -217,15 +254,3 @@ IsJudgedTo-next ds ps names first p more new_names fault new_first so_far more_i
       ∙ sym (package_property p.line (list_any (same_name p) ps) (test_of p.name (package_tests ++ map declared_test ds)) p.value))
       ∙ ap (λ qs. least (flat_map (property_faults ds (Some PackageMark)) (with_earlier [] qs))) (sym more_is);
 }
-
-pub version_kind : (ds : List PlainDeclaration) (name text : List ℕ) → bytes_eq name (codes "version") ≡ true
-    → wrong_kind (package_property_test ds (package_property_named name) name) text ≡ wrong_kind (Some (can_be version_value)) text
-version_kind ds name text same = ap (λ n. wrong_kind (package_property_test ds (package_property_named n) n) text) (same_bytes name (codes "version") same)
-
-pub value_first : {A : Type 0} (read : List ℕ → Option A) (name : List ℕ) (ps : List PlainProperty) (p : PlainProperty) → bytes_eq p.name name ≡ true
-    → list_any (same_name p) ps ≡ false → read p.value ≡ value_of read name (ps ++ p ∷ [])
-value_first read name ps p same new = sym (value_next read name ps p new ∙ ap (λ b. if b then read p.value else value_of read name ps) same)
-
-pub value_kept : {A : Type 0} (read : List ℕ → Option A) (name : List ℕ) (ps : List PlainProperty) (p : PlainProperty) → bytes_eq p.name name ≡ false
-    → list_any (same_name p) ps ≡ false → value_of read name ps ≡ value_of read name (ps ++ p ∷ [])
-value_kept read name ps p other new = sym (value_next read name ps p new ∙ ap (λ b. if b then read p.value else value_of read name ps) other)

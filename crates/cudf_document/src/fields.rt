@@ -1,15 +1,13 @@
 //! What a package's properties are read into.
-ghost use Rattle.std.specs.Prelude.{◌≡◌, ◌++◌, ◌∷◌, [], List, Some, bytes_eq, codes, map, IfOk, IfSome, OnOk};
+ghost use Rattle.std.specs.Prelude.{◌≡◌, ◌++◌, ◌∷◌, [], List, Some, bytes_eq, map, IfOk, IfSome, OnOk};
 ghost use Rattle.indexmap.specs.IndexSet.{insert_key};
 ghost use Rattle.cudf_text.specs.Stanzas.{PlainProperty};
 ghost use Rattle.cudf_text.specs.Views.{property_view, stanza_view};
 ghost use Rattle.cudf_document.specs.Faults.{least};
-ghost use Rattle.cudf_document.specs.Documents.{value_of};
-ghost use Rattle.cudf_document.specs.Values.{version_value};
 ghost use Rattle.cudf_document.specs.Working.Lines.{line_view};
 ghost use Rattle.cudf_document.specs.Working.SeenNames.{AreNames};
 ghost use Rattle.cudf_document.specs.ProblemFaults.{properties_faults};
-ghost use Rattle.cudf_document.specs.Working.PackageFields.{fault_on, kind_after, package_property_named, package_property_test, wrong_kind};
+ghost use Rattle.cudf_document.specs.Working.PackageFields.{fault_on, kind_after, package_property_test, wrong_kind};
 ghost use Rattle.cudf_document.specs.declared.postmark.Postmark.TheVariants.{Package as PackageMark};
 
 use crate::declarations::{Declarations, mistyped_unless};
@@ -139,21 +137,17 @@ fn read_property<'n, 's, S: Fields<'s>>(
     Ok(fault_on(line.line, kind))
 }
 
-/// The version, which is all that is kept of a package that is only judged.
+/// Where a package is only judged: nothing is read of it.
 #[derive(Drop)]
-pub(crate) struct LintedPackage {
-    pub(crate) version: Option<u64>,
-}
+struct Judged;
 
-impl<'s> Fields<'s> for LintedPackage {
-    ghost use Rattle.std.specs.Prelude.{◌≡◌, codes};
-    ghost use Rattle.cudf_document.specs.Documents.{value_of};
-    ghost use Rattle.cudf_document.specs.Values.{version_value};
+impl<'s> Fields<'s> for Judged {
+    ghost use Rattle.std.specs.Prelude.{⊤};
 
-    ghost IsRead = { λ ds ps s. s.version ≡ value_of version_value (codes "version") ps };
+    ghost IsRead = { λ ds ps s. ⊤ };
 
     fn start() -> Self {
-        LintedPackage { version: None }
+        Judged
     }
 
     fn set<'n>(
@@ -162,51 +156,47 @@ impl<'s> Fields<'s> for LintedPackage {
         declarations: &Declarations<'_>,
         line: Line<'n, 's>,
     ) -> Result<Option<Kind>, AllocError> {
-        if line.name == "version" {
-            self.version = read_posint(line.value);
-            return Ok(mistyped_unless(self.version.is_some()));
-        }
-        judge(alloc, declarations, line.name, line.value)
+        let named = package_property_named(line.name);
+        judge(alloc, declarations, named, line.name, line.value)
     }
 
     fn skip<'n>(&self, declarations: &Declarations<'_>, line: Line<'n, 's>) {}
 }
 
-/// The first fault of a package's properties, and its version.
+/// The first fault of a package's properties.
 pub(crate) fn judge_package<'n, 'a>(
     alloc: Global,
     names: &mut SeenNames<'n>,
     declarations: &Declarations<'_>,
     stanza: &Stanza<'a>,
-) -> Result<(Option<Fault>, Option<u64>), AllocError>
+) -> Result<Option<Fault>, AllocError>
 where
     'a: 'n,
-    ensures fault { IfOk result (λ r.
-        r.0
+    ensures { IfOk result (λ fault.
+        fault
         ≡ least (properties_faults declarations.now (Some PackageMark) (stanza_view stanza.now).properties)) }
-    ensures version { IfOk result (λ r.
-        r.1 ≡ value_of version_value (codes "version") (stanza_view stanza.now).properties) }
 {
-    let (fault, judged): (Option<Fault>, LintedPackage) = read_properties(
+    let (fault, _judged): (Option<Fault>, Judged) = read_properties(
         alloc,
         names,
         declarations,
         &stanza.properties,
     )?;
-    Ok((fault, judged.version))
+    Ok(fault)
 }
 
-/// What is wrong with a property that stands once.
-fn judge(
+/// What is wrong with a property that stands once, if it has this place in a package, or else this name.
+pub(crate) fn judge(
     alloc: Global,
     declarations: &Declarations<'_>,
+    named: Option<PackageProperty>,
     name: &str,
     text: &str,
 ) -> Result<Option<Kind>, AllocError>
     ensures { IfOk result (λ kind.
-        kind ≡ wrong_kind (package_property_test declarations.now (package_property_named name.now) name.now) text.now) }
+        kind ≡ wrong_kind (package_property_test declarations.now named name.now) text.now) }
 {
-    match package_property_named(name) {
+    match named {
         Some(PackageProperty::Package) => Ok(mistyped_unless(is_pkgname(text))),
         Some(PackageProperty::Version) => Ok(mistyped_unless(read_posint(text).is_some())),
         Some(PackageProperty::Depends) => Ok(mistyped_unless(is_formula(text))),

@@ -2,6 +2,7 @@
 //! proposes, and the first fault of a document that has one.
 #![tactic(auto)]
 
+mod bare_package;
 mod chosen;
 mod declarations;
 mod declared;

@@ -38,8 +38,9 @@ impl<'a> Kept<'a> for Nothing {
         alloc: Global,
         names: &mut SeenNames<'a>,
         declarations: &Declarations<'_>,
+        id: Option<(&'a str, u64)>,
         stanza: &Stanza<'a>,
-    ) -> Result<(Option<Fault>, Option<u64>), AllocError> {
+    ) -> Result<Option<Fault>, AllocError> {
         judge_package(alloc, names, declarations, stanza)
     }
 

@@ -38,12 +38,12 @@ impl<'t> PackageFields<'t> {
     ghost use Rattle.cudf_text.specs.Views.{property_view};
     ghost use Rattle.cudf_document.specs.Values.{declared_test, test_of};
     ghost use Rattle.indexmap.specs.IndexSet.{insert_key};
-    ghost use Rattle.cudf_document.specs.Working.PackageFields.{package_property_named, package_property_test, wrong_kind, fault_on, package_fields_view, no_package_fields, with_package_property, kind_after, package_fields_after, package_from, without_needs};
+    ghost use Rattle.cudf_document.specs.Working.PackageFields.{package_property_named, package_property_test, wrong_kind, fault_on, package_fields_view, no_package_fields, with_package_property, kind_after, package_fields_after, package_from};
     ghost use Rattle.cudf_document.specs.Universe.{package_view};
     ghost use Rattle.cudf_document.specs.Ids.{id_with};
     ghost use Rattle.cudf_document.specs.declared.package_property.PackageProperty.TheVariants.{Recommends};
 
-    fn new() -> Self
+    pub(crate) fn new() -> Self
         ensures { package_fields_view result ≡ no_package_fields }
     {
         PackageFields {
@@ -59,19 +59,20 @@ impl<'t> PackageFields<'t> {
     }
 
     /// Keeps what a property says, if it has a place here, and says what is wrong with it.
-    fn keep(
+    pub(crate) fn keep(
         &mut self,
         alloc: Global,
         declarations: &Declarations<'_>,
+        named: Option<PackageProperty>,
         name: &str,
         text: &'t str,
     ) -> Result<Option<Kind>, AllocError>
         ensures kind { IfOk result (λ kind.
-            kind ≡ wrong_kind (package_property_test declarations.now (package_property_named name.now) name.now) text.now) }
+            kind ≡ wrong_kind (package_property_test declarations.now named name.now) text.now) }
         ensures values { OnOk result (package_fields_view self.new
-            ≡ with_package_property declarations.now (package_property_named name.now) text.now (package_fields_view self.old)) }
+            ≡ with_package_property declarations.now named text.now (package_fields_view self.old)) }
     {
-        match package_property_named(name) {
+        match named {
             Some(PackageProperty::Package) => {
                 self.name = read_name(text);
                 Ok(mistyped_unless(self.name.is_some()))
@@ -131,18 +132,6 @@ impl<'t> PackageFields<'t> {
             ≡ id_with (package_fields_view self.now).name (package_fields_view self.now).version }
     {
         Some((self.name?, self.version?))
-    }
-
-    /// The values without what the package needs.
-    #[inline(always)]
-    pub(crate) fn without_needs(self) -> Self
-        ensures { package_fields_view result ≡ without_needs (package_fields_view self.entry) }
-    {
-        let mut fields = self;
-        fields.depends = None;
-        fields.conflicts = None;
-        fields.recommends = None;
-        fields
     }
 
     /// The package of these values, if there are a name and a version.
@@ -246,7 +235,8 @@ impl<'t> Fields<'t> for PackageFields<'t> {
         declarations: &Declarations<'_>,
         line: Line<'n, 't>,
     ) -> Result<Option<Kind>, AllocError> {
-        self.keep(alloc, declarations, line.name, line.value)
+        let named = package_property_named(line.name);
+        self.keep(alloc, declarations, named, line.name, line.value)
     }
 
     fn skip<'n>(&self, declarations: &Declarations<'_>, line: Line<'n, 't>) {}

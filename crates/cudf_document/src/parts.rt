@@ -3,6 +3,7 @@ ghost use Rattle.std.specs.Prelude.{◌≡◌, option_map};
 ghost use Rattle.cudf_document.specs.Ids.{is_among};
 ghost use Rattle.cudf_document.specs.Working.PackageFields.{passes};
 
+use crate::bare_package::read_bare_package;
 use crate::chosen::Chosen;
 use crate::declarations::Declarations;
 use crate::fields::judge_package;
@@ -28,11 +29,14 @@ pub(crate) struct Parts<'a, 'c, 's> {
 }
 
 impl<'a, 'c, 's> Parts<'a, 'c, 's> {
-    ghost use Rattle.std.specs.Prelude.{◌≡◌, [], false, Some, map, option_map, is_some, if◌then◌else◌};
+    ghost use Rattle.std.specs.Prelude.{◌≡◌, [], false, Some, map, option_map, is_some, if◌then◌else◌, IfOk, IfSome};
+    ghost use Rattle.cudf_text.specs.Views.{stanza_view};
+    ghost use Rattle.cudf_document.specs.Faults.{least};
+    ghost use Rattle.cudf_document.specs.ProblemFaults.{properties_faults};
     ghost use Rattle.cudf_document.specs.Universe.{package_view, request_view};
-    ghost use Rattle.cudf_document.specs.Ids.{id_with};
+    ghost use Rattle.cudf_document.specs.declared.postmark.Postmark.TheVariants.{Package as PackageMark};
     ghost use Rattle.cudf_document.specs.Working.Kept.{IsParts, kept_by};
-    ghost use Rattle.cudf_document.specs.Working.PackageFields.{package_fields_view, passes, fields_if};
+    ghost use Rattle.cudf_document.specs.Working.PackageFields.{package_fields_view, package_fields_of, passes, needing_if};
     ghost use Rattle.cudf_document.specs.Working.ProblemBuilders.{builder_view};
 
     /// Before the first stanza.
@@ -48,16 +52,30 @@ impl<'a, 'c, 's> Parts<'a, 'c, 's> {
         }
     }
 
-    /// The values of a package, without what it needs if others are chosen.
+    /// The first fault of a package's properties, and what they say, without what it needs if others
+    /// are chosen; `None` where a value is joined of two texts.
     #[inline(always)]
-    fn kept_of(&self, fields: PackageFields<'a>) -> PackageFields<'a>
-        ensures { package_fields_view result
-            ≡ fields_if (kept_by self.now.chosen) (package_fields_view fields.entry) }
+    fn read_kept(
+        &self,
+        alloc: Global,
+        names: &mut SeenNames<'a>,
+        declarations: &Declarations<'_>,
+        id: Option<(&'a str, u64)>,
+        stanza: &Stanza<'a>,
+    ) -> Result<Option<(Option<Fault>, PackageFields<'a>)>, AllocError>
+        ensures fault { IfOk result (λ r.
+            IfSome r (λ s.
+            s.0
+            ≡ least (properties_faults declarations.now (Some PackageMark) (stanza_view stanza.now).properties))) }
+        ensures values { IfOk result (λ r.
+            IfSome r (λ s.
+            package_fields_view s.1
+            ≡ needing_if (passes (kept_by self.now.chosen) (option_map (λ id. (id.0.now, id.1)) id.entry)) (package_fields_of declarations.now (stanza_view stanza.now).properties))) }
     {
-        if self.keeps(fields.id()) {
-            fields
+        if self.keeps(id) {
+            read_source_package(alloc, names, declarations, stanza)
         } else {
-            fields.without_needs()
+            read_bare_package(alloc, names, declarations, stanza)
         }
     }
 
@@ -127,14 +145,13 @@ impl<'a, 'c, 's> Kept<'a> for Parts<'a, 'c, 's> {
         alloc: Global,
         names: &mut SeenNames<'a>,
         declarations: &Declarations<'_>,
+        id: Option<(&'a str, u64)>,
         stanza: &Stanza<'a>,
-    ) -> Result<(Option<Fault>, Option<u64>), AllocError> {
-        match read_source_package(alloc, names, declarations, stanza)? {
+    ) -> Result<Option<Fault>, AllocError> {
+        match self.read_kept(alloc, names, declarations, id, stanza)? {
             Some(read) => {
-                let version = read.1.version;
-                let fields = self.kept_of(read.1);
-                push_some(&mut self.packages, fields.into_package(alloc, stanza.line))?;
-                Ok((read.0, version))
+                push_some(&mut self.packages, read.1.into_package(alloc, stanza.line))?;
+                Ok(read.0)
             }
             None => {
                 self.joined = true;

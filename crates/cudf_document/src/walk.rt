@@ -5,11 +5,11 @@ ghost use Rattle.cudf_text.specs.Stanzas.{PlainStanza, PlainText};
 ghost use Rattle.cudf_text.specs.Views.{stanza_view, property_view};
 ghost use Rattle.cudf_document.specs.Faults.{least};
 ghost use Rattle.cudf_document.specs.Documents.{value_of, has_name, marks_request};
-ghost use Rattle.cudf_document.specs.Ids.{Id, id_with};
-ghost use Rattle.cudf_document.specs.Values.{name_value};
+ghost use Rattle.cudf_document.specs.Ids.{Id, id_with, id_under};
+ghost use Rattle.cudf_document.specs.Values.{name_value, version_value};
 ghost use Rattle.cudf_document.specs.ProblemFaults.{properties_faults};
 ghost use Rattle.cudf_document.specs.Working.Walks.{GoesOn, IsWhole};
-ghost use Rattle.cudf_document.specs.declared.postmark.Postmark.TheVariants.{Preamble as PreambleMark};
+ghost use Rattle.cudf_document.specs.declared.postmark.Postmark.TheVariants.{Preamble as PreambleMark, Package as PackageMark};
 
 use crate::declarations::Declarations;
 use crate::fault::{fault_if, keep_lesser, lesser};
@@ -21,40 +21,41 @@ use crate::problem_builder::{find_property, package_fault};
 use crate::problem_reader::place_fault;
 use crate::seen_names::SeenNames;
 use cudf_text::{Fault, Kind, Next, Property, Stanza, Stanzas};
+use cudf_value::read_posint;
 use std::alloc::{AllocError, Global};
 
 /// What is kept of a problem's stanzas on the walk.
 pub(crate) trait Kept<'a>: Sized + Drop {
-    ghost use Rattle.std.specs.Prelude.{◌≡◌, Bool, ◌++◌, ◌∷◌, [], List, Some, false, codes, IfOk, OnOk};
+    ghost use Rattle.std.specs.Prelude.{◌≡◌, Bool, ◌++◌, ◌∷◌, [], List, Some, false, option_map, IfOk, OnOk};
     ghost use Rattle.cudf_text.specs.Stanzas.{PlainStanza};
     ghost use Rattle.cudf_text.specs.Views.{stanza_view};
     ghost use Rattle.cudf_document.specs.Faults.{least};
-    ghost use Rattle.cudf_document.specs.Documents.{postmark, value_of, is_package, is_request};
-    ghost use Rattle.cudf_document.specs.Ids.{Id};
+    ghost use Rattle.cudf_document.specs.Documents.{postmark, is_package, is_request};
+    ghost use Rattle.cudf_document.specs.Ids.{Id, id_under};
     ghost use Rattle.cudf_document.specs.Preamble.{declared};
-    ghost use Rattle.cudf_document.specs.Values.{version_value};
     ghost use Rattle.cudf_document.specs.ProblemFaults.{properties_faults};
     ghost use Rattle.cudf_document.specs.declared.postmark.Postmark.TheVariants.{Package as PackageMark, Request as RequestMark};
 
     // This was kept of the stanzas, where the test tells of which packages what they need is kept.
     ghost IsKept: { (Id → Bool) → List PlainStanza → Self → Type 0 };
 
-    /// Keeps a package, and answers the first fault of its properties and its version.
+    /// Keeps a package of this name and version, and answers the first fault of its properties.
     fn take_package(
         &mut self,
         alloc: Global,
         names: &mut SeenNames<'a>,
         declarations: &Declarations<'_>,
+        id: Option<(&'a str, u64)>,
         stanza: &Stanza<'a>,
-    ) -> Result<(Option<Fault>, Option<u64>), AllocError>
-        ensures fault { IfOk result (λ r.
-            r.0
+    ) -> Result<Option<Fault>, AllocError>
+        ensures fault { IfOk result (λ fault.
+            fault
             ≡ least (properties_faults declarations.now (Some PackageMark) (stanza_view stanza.now).properties)) }
-        ensures version { IfOk result (λ r.
-            r.1 ≡ value_of version_value (codes "version") (stanza_view stanza.now).properties) }
         ensures kept { (is_kept : Id → Bool) →
             (before : List PlainStanza) →
             postmark (stanza_view stanza.now) ≡ Some PackageMark →
+            option_map (λ id. (id.0.now, id.1)) id.entry
+            ≡ id_under (Some PackageMark) (stanza_view stanza.now).properties →
             declarations.now ≡ declared before →
             IsKept is_kept before self.old →
             OnOk result (IsKept is_kept (before ++ stanza_view stanza.now ∷ []) self.new) };
@@ -288,13 +289,8 @@ impl<'h, 'a> Walk<'h, 'a> {
             K.IsKept is_kept before kept.old →
             OnOk result (K.IsKept is_kept (before ++ stanza_view stanza.now ∷ []) kept.new) }
     {
-        let (fault, version) = kept.take_package(
-            alloc,
-            &mut self.names,
-            &self.declarations,
-            stanza,
-        )?;
-        let id = both(package_name(stanza), version);
+        let id = package_id(stanza);
+        let fault = kept.take_package(alloc, &mut self.names, &self.declarations, id, stanza)?;
         let is_repeated = self.ids.insert_some(id)?;
         Ok(lesser(fault, package_fault(is_repeated, stanza)))
     }
@@ -311,6 +307,14 @@ impl<'h, 'a> Walk<'h, 'a> {
     }
 }
 
+/// The name and the version of a package, where both are of their types.
+fn package_id<'a>(stanza: &Stanza<'a>) -> Option<(&'a str, u64)>
+    ensures { option_map (λ id. (id.0.now, id.1)) result
+        ≡ id_under (Some PackageMark) (stanza_view stanza.now).properties }
+{
+    both(package_name(stanza), package_version(stanza))
+}
+
 fn both<'a>(name: Option<&'a str>, version: Option<u64>) -> Option<(&'a str, u64)>
     ensures { option_map (λ id. (id.0.now, id.1)) result ≡ id_with (option_copied name.entry) version }
 {
@@ -323,6 +327,16 @@ fn package_name<'a>(stanza: &Stanza<'a>) -> Option<&'a str>
 {
     match first_named(stanza, "package") {
         Some(property) => source_name(property),
+        None => None,
+    }
+}
+
+/// The version of a package, where its first `version` is one.
+fn package_version(stanza: &Stanza<'_>) -> Option<u64>
+    ensures { result ≡ value_of version_value (codes "version") (stanza_view stanza.now).properties }
+{
+    match first_named(stanza, "version") {
+        Some(property) => read_posint(property.value.as_str()),
         None => None,
     }
 }

@@ -6,6 +6,7 @@ mod lints;
 mod made;
 mod pages;
 mod scores;
+mod short;
 mod worked;
 
 use cudf_check::{Device, Job, Outcome, run};
@@ -24,7 +25,12 @@ const CHECK: Job = Job::Check {
 
 /// Whether the run of the job on two inputs writes this report and ends so.
 fn is_checked(alloc: Global, row: &Pair) -> bool {
-    let mut problem = Device::new(row.0);
+    is_checked_for(alloc, row.0, row)
+}
+
+/// Whether it is so with these bytes in place of the row's problem.
+fn is_checked_for(alloc: Global, problem: &[u8], row: &Pair) -> bool {
+    let mut problem = Device::new(problem);
     let mut solution = Device::new(row.1);
     let mut out = Device::new(Vec::new(alloc));
     match run(alloc, &CHECK, &mut problem, Some(&mut solution), &mut out) {

@@ -136,6 +136,17 @@ package_from line v = option_map (λ id. record {
 abbrev pub without_needs : PlainPackageFields → PlainPackageFields
 without_needs v = record v { depends = None; conflicts = None; recommends = None }
 
+-- the field is one of those
+abbrev pub is_need : Option PackageProperty → Bool
+is_need (Some Depends) = true
+is_need (Some Conflicts) = true
+is_need (Some Recommends) = true
+is_need _ = false
+
+-- the values with or without them
+abbrev pub needing_if : Bool → PlainPackageFields → PlainPackageFields
+needing_if needing v = if needing then v else without_needs v
+
 -- a pair passes the test, if there is one
 abbrev pub passes : (Id → Bool) → Option Id → Bool
 passes test None = true
@@ -143,4 +154,4 @@ passes test (Some id) = test id
 
 -- the values, with what the package needs if its name and version pass the test
 abbrev pub fields_if : (Id → Bool) → PlainPackageFields → PlainPackageFields
-fields_if test v = if passes test (id_with v.name v.version) then v else without_needs v
+fields_if test v = needing_if (passes test (id_with v.name v.version)) v

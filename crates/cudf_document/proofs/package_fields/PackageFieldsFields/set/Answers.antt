@@ -1,6 +1,6 @@
-use Rattle.std.proofs.Common.{◌∙◌}
+use Rattle.std.proofs.Common.{ap, ◌∙◌}
 use Rattle.cudf_document.specs.Working.Lines.{line_view}
-use Rattle.cudf_document.specs.Working.PackageFields.{package_fields_view}
+use Rattle.cudf_document.specs.Working.PackageFields.{package_fields_view, with_package_property}
 use Rattle.cudf_document.proofs.PackageLemmas.{package_fields_of-first}
 use Rattle.cudf_document.proofs.ListLemmas.{OnOk-along}
 use Rattle.cudf_document.proofs.package_fields.PackageFieldsFields.set.Goals as goal
@@ -12,5 +12,5 @@ returns-clause-read c =
     let old = package_fields_view c.args.self.now in
     λ ps new is.
     OnOk-along c.keep.result
-    (λ e. e ∙ package_fields_of-first ds ps p old is new)
+    (λ e. e ∙ ap (λ f. with_package_property ds f p.value old) c.package_property_named-named.ensures ∙ package_fields_of-first ds ps p old is new)
     c.keep.ensures.values

@@ -6,7 +6,7 @@ use Rattle.cudf_text.specs.Views.{stanza_view}
 use Rattle.cudf_document.specs.declared.postmark.Postmark.TheVariants.{Package}
 use Rattle.cudf_document.specs.Faults.{lesser, least, fault_if}
 use Rattle.cudf_document.specs.Documents.{with_earlier, line_of}
-use Rattle.cudf_document.specs.Ids.{is_known, with_id, id_with, id_under}
+use Rattle.cudf_document.specs.Ids.{is_known, with_id, id_under}
 use Rattle.cudf_document.specs.ProblemFaults.{property_faults, version_property}
 use Rattle.cudf_document.proofs.FaultLemmas.{least-append}
 use Rattle.cudf_document.proofs.walk.Walk.take_package.Goals as goal
@@ -14,7 +14,7 @@ use Rattle.cudf_document.proofs.walk.Walk.take_package.Goals as goal
 pub returns-clause-ids : goal.returns-clause-ids
 returns-clause-ids g c =
     c.in_ok-is_repeated.ensures.ids
-    ∙ ap (with_id c.args.self.now.ids) (c.both-id.ensures ∙ (λ i. id_with (c.package_name.ensures i) (c.in_ok-fault.ensures.version i)))
+    ∙ ap (with_id c.args.self.now.ids) c.package_id-id.ensures
 
 pub returns-clause-fault : goal.returns-clause-fault
 returns-clause-fault g c =
@@ -24,7 +24,7 @@ returns-clause-fault g c =
     let unversioned = fault_if (is_none (version_property s)) s.last E12 in
     let repeated : c.in_ok-is_repeated.is_repeated ≡ is_known ids (id_under (Some Package) s.properties) =
     c.in_ok-is_repeated.ensures.is_known
-    ∙ ap (is_known ids) (c.both-id.ensures ∙ (λ i. id_with (c.package_name.ensures i) (c.in_ok-fault.ensures.version i))) in
+    ∙ ap (is_known ids) c.package_id-id.ensures in
     c.lesser.ensures ∙ (λ i. lesser (c.in_ok-fault.ensures.fault i) (c.package_fault.ensures i))
     ∙ ap (λ b. lesser (least inner) (least (fault_if b (line_of (version_property s)) E11 ++ unversioned))) repeated
     ∙ sym (least-append inner (fault_if (is_known ids (id_under (Some Package) s.properties)) (line_of (version_property s)) E11 ++ unversioned))

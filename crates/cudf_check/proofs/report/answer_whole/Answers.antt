@@ -1,0 +1,24 @@
+use Rattle.std.proofs.Common.{ap, sym, ◌∙◌, codes}
+use Rattle.cudf_document.specs.Faults.{least}
+use Rattle.cudf_document.specs.ProblemFaults.{problem_faults}
+use Rattle.cudf_document.specs.Universe.{plain_problem}
+use Rattle.cudf_check.specs.Report.{faulty_or, solution_report}
+use Rattle.cudf_check.specs.Working.Found.{found_text}
+use Rattle.cudf_check.proofs.AnswerLemmas.{answers_as, document_refused}
+use Rattle.cudf_check.proofs.report.answer_whole.Goals as goal
+
+pub returns-in-Ok : goal.returns-in-Ok
+returns-in-Ok g c =
+    let text = c.args.stanzas.text in
+    let solution = c.args.solution.now in
+    answers_as _ _ _ _ _
+    (ap (λ problem. solution_report (found_text c.args.found) problem solution) c.in-Ok.ensures.problem
+    ∙ ap (λ faults. faulty_or (codes "problem") (least faults) (solution_report (found_text c.args.found) (plain_problem text) solution)) (sym c.in-Ok.ensures.sound))
+    c.answer_solution-answer.ensures
+
+pub returns : goal.returns
+returns g c =
+    let text = c.args.stanzas.text in
+    let report = solution_report (found_text c.args.found) (plain_problem text) c.args.solution.now in
+    c.answer_refusal.ensures (faulty_or (codes "problem") (least (problem_faults text)) report)
+    (document_refused (codes "problem") (problem_faults text) report c.in-Err.error c.in-Err.ensures.fault)
