@@ -55,11 +55,10 @@ impl<'t> Fields<'t> for BarePackage<'t> {
 fn is_need(named: Option<PackageProperty>) -> bool
     ensures { result ≡ is_need named }
 {
-    match named {
-        Some(PackageProperty::Depends | PackageProperty::Conflicts | PackageProperty::Recommends) =>
-            { true }
-        _ => false,
-    }
+    matches!(
+        named,
+        Some(PackageProperty::Depends | PackageProperty::Conflicts | PackageProperty::Recommends)
+    )
 }
 
 /// The first fault of a package's properties, and what they say, but what the package needs; `None`
