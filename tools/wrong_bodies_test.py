@@ -1,0 +1,62 @@
+#!/usr/bin/env python3
+"""Tests wrong_bodies.py on the smallest crate, cudf_text: what isn't a wrong body must be told, and the status be 1.
+
+    wrong_bodies_test.py [--behind-ci]
+
+Planted are a changed comment, an equal body beside a refused callee, an edit that doesn't compile, and one whose old
+text isn't there. A wrong body beside them must be refused.
+"""
+import subprocess
+import sys
+import tempfile
+from pathlib import Path
+
+SCRIPT = Path(__file__).resolve().parent / "wrong_bodies.py"
+CRATE = "cudf_text"
+
+# by the edit's name: its lines, and how what is told of it must begin
+PLANTS = {
+    "callee": (
+        "file: src/blanks.rt\nold: byte == b' ' || byte == b'\\t'\nnew: byte == b' ' || byte == b'\\t' || byte == b'\\r'\n",
+        "refused: ",
+    ),
+    "comment": (
+        "file: src/cut.rt\nold: // Both cut beside an ASCII byte\nnew: // Each cuts beside an ASCII byte\n",
+        "missed: NOT REFUSED",
+    ),
+    "equal_caller": (
+        "file: src/blanks.rt\nold: bytes.iter().all(|byte| is_blank(*byte))\nnew: bytes.iter().all(|one| is_blank(*one))\n",
+        "missed: NOT REFUSED",
+    ),
+    "no_type": (
+        "file: src/blanks.rt\nold: let mut n = bytes.len();\nnew: let mut n = true;\n",
+        "bad: BAD EDIT",
+    ),
+    "no_place": (
+        "file: src/blanks.rt\nold: byte == b'no such byte'\nnew: byte == b' '\n",
+        "bad: BAD EDIT",
+    ),
+}
+
+
+def main():
+    with tempfile.TemporaryDirectory() as folder:
+        for name, (lines, _) in PLANTS.items():
+            Path(folder, f"{name}.edit").write_text(lines, encoding="utf-8")
+        words = [sys.executable, str(SCRIPT), "--verbose", "--edits", folder, *sys.argv[1:], CRATE]
+        ran = subprocess.run(words, stdout=subprocess.PIPE, stderr=subprocess.STDOUT, text=True, check=False)
+    told = dict(it.split(".edit: ", 1) for it in ran.stdout.splitlines() if ".edit: " in it)
+    wrong = [f"the status is {ran.returncode} and not 1"] if ran.returncode != 1 else []
+    for name, (_, wanted) in PLANTS.items():
+        said = told.get(f"{CRATE}/{name}", "nothing")
+        if not said.startswith(wanted):
+            wrong.append(f"{name}: '{wanted}' is wanted, and told is '{said[:200]}'")
+    if wrong:
+        print(ran.stdout)
+    checks = len(PLANTS) + 1
+    print("\n".join([*wrong, "wrong_bodies_test:", f"{checks - len(wrong)} passed, {len(wrong)} failed"]), flush=True)
+    return 1 if wrong else 0
+
+
+if __name__ == "__main__":
+    sys.exit(main())
