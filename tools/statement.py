@@ -106,7 +106,7 @@ def use_lines(text):
     """Each `use` of a text; whether it is one of definitions is said first."""
     for begin in USE_BEGINS.finditer(text):
         line = use_from(text, begin)
-        yield bool(begin.group(1)) or "Rattle." in line or not line.rstrip().endswith(";"), line
+        yield bool(begin.group(1)) or "." in line or not line.rstrip().endswith(";"), line
 
 
 def unreadable(line):
@@ -265,11 +265,11 @@ def called_in(text):
         names[path] = path
     called = []
     for name, path in names.items():
-        last = path.split("::")[-1]
-        if last[0].islower() and last not in ENTRIES and "::" not in path.removeprefix("cudf_check::").rstrip(":"):
+        entry = path.removeprefix("cudf_check::")
+        if path.islower() and entry not in ENTRIES:
             raise Broken(f"the program uses `{path}`, which doesn't carry the headline")
-        if last in ENTRIES and re.search(r"(?<![\w.:])%s\s*(?:::\s*<|\()" % re.escape(name), body):
-            called.append(last)
+        if entry in ENTRIES and re.search(r"(?<![\w.:])%s\s*(?:::\s*<|\()" % re.escape(name), body):
+            called.append(entry)
     return called
 
 
@@ -325,6 +325,8 @@ def types_in_fields(kind, name, declared):
         variants = parts_of(body[body.index("{") + 1:body.rindex("}")])
         body = " ".join(re.sub(r"^\s*\w+", "", variant) for variant in variants)
     parameters = set(re.findall(r"\b([A-Z]\w*)\b", head))
+    if re.search(r"::\s*[A-Z]", body):
+        raise Layout(f"a field of {name} names its type by a path, and not by a `use` line")
     return [word for word in dict.fromkeys(re.findall(r"(?<![\w'])([A-Z]\w*)\b", body)) if word not in parameters]
 
 
@@ -459,28 +461,29 @@ def outside_crates():
 
 def definitions_in(text, names):
     """The definitions of these names in a text, and of what they name there in turn."""
-    heads = list(re.finditer(r"^(?:abbrev |pub |record |data |unfoldable )*([^\W\d]\S*)(?=[^\n]* : )", text, re.M))
+    heads = list(re.finditer(r"^(?:(?:abbrev|pub|record|data|unfoldable)\s+)*(?!use\b)(\S+)", text, re.M))
     ends = [head.start() for head in heads[1:]] + [len(text)]
-    blocks = {head.group(1): text[head.start():end] for head, end in zip(heads, ends)}
-    known, wanted = {}, list(names)
+    blocks = {}
+    for head, end in zip(heads, ends):
+        blocks[head.group(1)] = blocks.get(head.group(1), "") + text[head.start():end]
+    known, wanted = {}, [name for name in blocks if name in names]
     while wanted:
         name = wanted.pop()
         if name not in known:
             known[name] = blocks[name]
             wanted += [other for other in blocks if is_named(other, known[name])]
+    if not known:
+        raise Layout("the definitions of the laws aren't found")
     return "\n".join(known.values())
 
 
 def laws():
-    """The files of the laws that the headline leans on, each with the names of definitions that they cite of it."""
+    """The files of the laws that the headline leans on, each with the words of the contracts that cite it."""
     cited = {}
     for name in LAWS:
         _, text, contract = needed("cudf_referee", name)
-        for module in uses_of(text, contract):
-            path = file_of(module)
-            if path is not None:
-                names = re.findall(r"[A-Z]\w*", contract)
-                cited.setdefault(path, []).extend(name for name in names if is_named(name, code_of(path)))
+        for path in below(uses_of(text, contract)):
+            cited.setdefault(path, set()).update(re.findall(r"[^\W\d][\w'-]*", contract))
     return cited
 
 
@@ -494,9 +497,13 @@ def uses_of_file(path, cited):
 
 
 def roots():
-    """The modules that the contract of `run` names, and the types of its signature."""
+    """The modules that the contract of `run` names, and the types of its signature and of those of the laws."""
     _, text, signature = needed("cudf_check", "run")
-    return uses_of(text, signature) + signature_uses("cudf_check", text, signature)
+    found = uses_of(text, signature) + signature_uses("cudf_check", text, signature)
+    for name in LAWS:
+        _, text, signature = needed("cudf_referee", name)
+        found += signature_uses("cudf_referee", text, signature)
+    return found
 
 
 def statement():
@@ -505,13 +512,17 @@ def statement():
 
     def visit(path, above):
         # what a type shows may lead back to a file that names it
+        if path in cited and above:
+            raise Layout(f"{path.relative_to(ROOT)} has laws, of which a part is read, and another file uses it")
         if path not in files and path not in above:
             for further in reversed(below(uses_of_file(path, cited))):
                 visit(further, above + [path])
             files.append(path)
 
-    for path in list(cited) + list(reversed(below(roots()))):
+    for path in cited:
         visit(path, [])
+    for path in reversed(below(roots())):
+        visit(path, ["run"])
     crates = order_of_crates()
     return sorted(reversed(files), key=lambda path: -crates.index(path.relative_to(CRATES).parts[0]))
 

@@ -58,8 +58,8 @@ class Entries(Copy):
             self.skipTest("there is one entry alone")
 
     def test_weaker_clause(self):
-        self.plant("cudf_check/src/lib.rt", "→ returned solution.exit ≡ lent solution.entry }", "→ lent solution.entry ≡ lent solution.entry }",
-                   behind="pub fn run_before_exit")
+        self.plant("cudf_check/src/lib.rt", "→ returned solution.exit ≡ lent solution.entry }",
+                   "→ lent solution.entry ≡ lent solution.entry }", behind="pub fn run_before_exit")
         self.assert_refused(1, "the contract of `run_before_exit` isn't that of `run` word for word")
 
     def test_further_bound(self):
@@ -90,6 +90,17 @@ class Program(Copy):
         self.assert_refused(1, "`answer_job` of crates/cudf_check/src/report.rt writes beside `run`")
 
 
+class Laws(Copy):
+    def test_law_over_working_state(self):
+        self.plant("cudf_referee/specs/Laws.antt", "use Rattle.cudf_referee.specs.Violations.{listing}",
+                   "use Rattle.cudf_referee.specs.Working.Places.{listing}")
+        self.assert_refused(1, "the headline rests on crates/cudf_referee/specs/Working/Places.antt")
+
+    def test_law_not_found(self):
+        self.plant("cudf_referee/src/laws.rt", "pub fn ascending()", "pub fn ascends()")
+        self.assert_refused(2, "`pub fn ascending` isn't found")
+
+
 class Types(Copy):
     MODEL = ("impl Model for LexState {\n    ghost use Rattle.cudf_value.specs.Working.Rests.{rest};\n\n"
              "    ghost view = { rest };\n}\n\nimpl LexState {")
@@ -100,9 +111,10 @@ class Types(Copy):
         self.assert_refused(1, "the headline rests on crates/cudf_value/specs/Working/Rests.antt")
 
     def test_type_of_a_field(self):
-        self.plant("cudf_document/src/package.rt", "use cudf_value::{Formula, Vpkg};", "use crate::seen_names::{\n    SeenNames as Seen,\n};\n"
-                   "use cudf_value::{Formula, Vpkg};")
-        self.plant("cudf_document/src/package.rt", "    pub keep: Keep,", "    pub keep: Keep,\n    pub(crate) seen: Option<Box<Seen<'t>>>,")
+        self.plant("cudf_document/src/package.rt", "use cudf_value::{Formula, Vpkg};",
+                   "use crate::seen_names::{\n    SeenNames as Seen,\n};\nuse cudf_value::{Formula, Vpkg};")
+        self.plant("cudf_document/src/package.rt", "    pub keep: Keep,",
+                   "    pub keep: Keep,\n    pub(crate) seen: Option<Box<Seen<'t>>>,")
         self.plant("cudf_document/src/seen_names.rt", "    ghost Value = { List (List ℕ) };",
                    "    ghost use Rattle.cudf_document.specs.Working.SeenNames.{seen};\n\n    ghost Value = { List (List ℕ) };")
         self.plant("cudf_document/src/seen_names.rt", "    ghost view = { λ n. map", "    ghost view = { λ n. seen map")
