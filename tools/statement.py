@@ -1,13 +1,17 @@
 #!/usr/bin/env python3
 """Computes what a reader has to believe: the files of definitions on which the headline rests.
 
-The headline is the contract of `run`, a public function of the crate `cudf_check`. It rests on
+The headline is the contract of `run`, a public function of the crate `cudf_check`, with the two laws of
+`cudf_referee` on which its prose leans. It rests on
 
-- the definitions that its clauses name, and those that the traits and types of its signature name: in a
+- the definitions that their clauses name, and those that the traits and types of the signature name: in a
   trait's members, and in the contracts of a type's own methods;
-- what a type that a definition speaks of shows to contracts: the ghost fields of its declaration, and its
-  view, where it has an `impl Model`;
-- and so on, down the `use` lines of each file that is reached.
+- what a type shows to contracts, be it public or the crate's own: the ghost fields of its declaration, and its
+  view, where it has an `impl Model`; and the same of the types of its fields;
+- and so on, down the `use` lines of each file that is reached. Of the file of laws only what the two laws name.
+
+The program has to call `run`, or `run_before_exit`, while there is one, whose contract has to be that of `run`
+word for word; and no other public function of `cudf_check` may write.
 
 What a file uses of `specs.declared` is made from src/ by the toolchain, and is no file of its own. The standard
 library and the crates from outside are believed as they are.
@@ -17,8 +21,10 @@ library and the crates from outside are believed as they are.
     statement.py --write   writes the table of docs/PROOFS.md anew
 
 Status 0: the table says what was computed. 1: it doesn't, or the headline rests on working state of proofs (a file
-in specs/Working, or in proofs/). 2: the sources aren't laid out as this script expects.
+in specs/Working, or in proofs/), or the program calls what doesn't carry it. 2: there is something that this script
+can't read or find: a `use` line, a type, a file.
 """
+import functools
 import re
 import sys
 from pathlib import Path
@@ -29,10 +35,21 @@ PROOFS = ROOT / "docs" / "PROOFS.md"
 BEGIN = "<!-- statement: written by tools/statement.py -->"
 END = "<!-- end of statement -->"
 
-# `use Rattle.crate.specs.Module.{a, b}`, `use Rattle.crate.specs.Module as m`, and both as `ghost use`
-USE = re.compile(r"^\s*(?:pub\s+)?(?:ghost\s+)?use\s+Rattle\.([\w.]+?)(?:\.\{([^}]*)\}|\s+as\s+(\w+))?\s*;?\s*$", re.M)
+# the entries of cudf_check that may carry the headline, and the laws that it leans on
+ENTRIES = ("run", "run_before_exit")
+LAWS = ("ascending", "empty")
+
+# where a line begins a `use`, and the two forms that are read: of definitions, and of Rust's items
+USE_BEGINS = re.compile(r"^[^\S\n]*(?:pub(?:\([^)]*\))?\s+)?(ghost\s+)?use\b", re.M)
+USE_OF_DEFINITIONS = re.compile(r"\s*(?:pub\s+)?(?:ghost\s+)?use\s+Rattle\.(\w+(?:\.\w+)*)(?:\.\{([^{}]*)\}|\s+as\s+(\w+))?\s*;?\s*")
+USE_OF_ITEMS = re.compile(r"\s*(?:pub(?:\([^)]*\))?\s+)?use\s+([\w:{},\s]+);\s*")
+ITEM = re.compile(r"\s*([\w:]+?)(?:\s+as\s+(\w+))?\s*")
+NAME = re.compile(r"\s*(?!\*(?:\s|$))(\S+)(?:\s+as\s+(\S+))?\s*")
 WORD = r"(?<![\w'-])%s(?![\w'-])"
-RUN = re.compile(r"^pub fn run\b", re.M)
+
+# strings and characters are kept, comments are not
+RUST_COMMENT = re.compile(r"""("(?:\\.|[^"\\])*"|'(?:\\.|[^'\\\n])')|//[^\n]*""", re.S)
+ANTT_COMMENT = re.compile(r"(?:^|(?<=\s))--[^\n]*", re.M)
 
 # the brace that opens a clause, or else the body
 BRACE = re.compile(r"(?:\b((?:requires|ensures)\b\*?(?:\s+\w+)?|ghost\s+\w+:))?\s*\{")
@@ -40,33 +57,31 @@ BRACE = re.compile(r"(?:\b((?:requires|ensures)\b\*?(?:\s+\w+)?|ghost\s+\w+:))?\
 # a ghost field or member; an invariant is the type's own affair
 GHOST = re.compile(r"\bghost (?!use\b|invariant\b)\w+\s*[:=]")
 
+VISIBLE = r"^ *(?:pub(?:\([^)]*\))? +)?"
+KINDS = r"(trait|struct|enum|union|type)"
+
+# names that every file has without a `use` line
+PRELUDE = {"Self", "Option", "Some", "None", "Result", "Ok", "Err", "Vec", "Box", "String", "Copy", "Clone", "Drop", "Fn", "FnMut",
+           "FnOnce", "Sized", "Send", "Sync", "Iterator", "PartialEq", "Eq", "PartialOrd", "Ord", "Default", "From", "Into"}
+
 
 class Layout(Exception):
     """The sources aren't laid out as this script expects."""
 
 
+class Broken(Exception):
+    """The sources are read, and the headline isn't what the program does."""
+
+
 # ---- texts
 
+@functools.cache
 def code_of(path):
-    """A file's text without the lines that are comments."""
-    return "\n".join(line for line in path.read_text().splitlines() if not line.lstrip().startswith(("--", "//")))
-
-
-def names_of(names, alias, module):
-    """The names that a `use` line brings into its file."""
-    if names is None:
-        return [alias or module.rsplit(".", 1)[-1]]
-    return [name.split(" as ")[-1].strip() for name in names.split(",") if name.strip()]
-
-
-def uses_of(text, within=None):
-    """The modules that `use` lines of a text name; with `within`, those of which a name stands in it."""
-    modules = []
-    for module, names, alias in USE.findall(text):
-        words = names_of(names or None, alias, module)
-        if within is None or any(re.search(WORD % re.escape(word), within) for word in words):
-            modules.append(module)
-    return modules
+    """A file's text without comments."""
+    text = path.read_text()
+    if path.suffix == ".rt":
+        return RUST_COMMENT.sub(lambda found: found.group(1) or "", text)
+    return ANTT_COMMENT.sub("", text)
 
 
 def block_from(text, start):
@@ -79,15 +94,112 @@ def block_from(text, start):
     raise Layout("a brace isn't closed")
 
 
+def use_from(text, begin):
+    """The whole `use` that begins at a match: to its semicolon where it has one, else to the line's end behind its braces."""
+    end = len(text) if (line := text.find("\n", begin.end())) < 0 else line
+    while text.count("{", begin.start(), end) > text.count("}", begin.start(), end) and end < len(text):
+        end = len(text) if (line := text.find("\n", end + 1)) < 0 else line
+    return text[begin.start():end]
+
+
+def use_lines(text):
+    """Each `use` of a text; whether it is one of definitions is said first."""
+    for begin in USE_BEGINS.finditer(text):
+        line = use_from(text, begin)
+        yield bool(begin.group(1)) or "." in line or not line.rstrip().endswith(";"), line
+
+
+def unreadable(line):
+    return Layout(f"can't read `{' '.join(line.split())}`")
+
+
+def names_of(names, alias, module):
+    """The names that a `use` line brings into its file."""
+    if names is None:
+        return [alias or module.rsplit(".", 1)[-1]]
+    found = [NAME.fullmatch(name) for name in names.split(",") if name.strip()]
+    if not all(found):
+        raise unreadable(f"use Rattle.{module}.{{{names}}}")
+    return [name.group(2) or name.group(1) for name in found]
+
+
+def is_named(word, text):
+    """Whether a text has a name; one with holes for its operands counts as named."""
+    return "◌" in word or re.search(WORD % re.escape(word), text) is not None
+
+
+def uses_of(text, within=None):
+    """The modules that `use` lines of a text name; with `within`, those of which a name stands in it."""
+    if re.search(r"\bRattle\.", without_uses(text)):
+        raise Layout("a definition is named by its whole path, `Rattle...`, outside of a `use` line")
+    modules = []
+    for of_definitions, line in use_lines(text):
+        if of_definitions:
+            found = USE_OF_DEFINITIONS.fullmatch(line)
+            if found is None:
+                raise unreadable(line)
+            module, names, alias = found.groups()
+            words = names_of(names, alias, module)
+            if within is None or any(is_named(word, within) for word in words):
+                modules.append(module)
+    return modules
+
+
 def without_uses(text):
-    return USE.sub("", text)
+    for _, line in list(use_lines(text)):
+        text = text.replace(line, "", 1)
+    return text
+
+
+# ---- Rust's `use`
+
+def items_of(tree, above=""):
+    """The paths, each with its alias or None, of a tree of items such as `a::{b, c::D as E}`."""
+    for part in parts_of(tree):
+        opened = re.fullmatch(r"\s*([\w:]+::)?\{(.*)\}\s*", part, re.S)
+        if opened:
+            yield from items_of(opened.group(2), above + (opened.group(1) or ""))
+        else:
+            item = ITEM.fullmatch(part)
+            if item is None:
+                raise unreadable(f"use {tree}")
+            yield above + item.group(1), item.group(2)
+
+
+def parts_of(text):
+    """The parts of a text between commas that stand in no bracket."""
+    depth, part, found = 0, "", []
+    for at, char in enumerate(text):
+        depth += (char in "{([<") - (char in "})]" or char == ">" and text[at - 1] != "-")
+        if char == "," and depth == 0:
+            found.append(part)
+            part = ""
+        else:
+            part += char
+    return [part for part in found + [part] if part.strip()]
+
+
+def items_used(text):
+    """What a file's `use` lines call each of Rust's items: its path by its name there."""
+    items = {}
+    for of_definitions, line in use_lines(text):
+        if not of_definitions:
+            found = USE_OF_ITEMS.fullmatch(line)
+            if found is None:
+                raise unreadable(line)
+            for path, alias in items_of(found.group(1)):
+                path = path.removesuffix("::self")
+                items[alias or path.split("::")[-1]] = path
+    return items
 
 
 # ---- sources
 
+@functools.cache
 def sources(crate):
     """The files of src/ with their text; tests say nothing to contracts."""
-    return {path: code_of(path) for path in sorted((CRATES / crate / "src").rglob("*.rt")) if "tests" not in path.parts}
+    files = sorted((CRATES / crate / "src").rglob("*.rt"))
+    return {path: code_of(path) for path in files if "tests" not in path.parts and path.name != "tests.rt"}
 
 
 def contract_at(text, start):
@@ -107,50 +219,205 @@ def contracts(text):
     return "\n".join(contract_at(text, start.start()) for start in re.finditer(r"^ *pub fn ", text, re.M))
 
 
-def headline():
-    """The text of the file that has `pub fn run`, and the function's signature and clauses."""
-    found = [text for text in sources("cudf_check").values() if RUN.search(text)]
-    if len(found) != 1:
-        raise Layout(f"`pub fn run` stands in {len(found)} files of crates/cudf_check/src")
-    return found[0], contract_at(found[0], RUN.search(found[0]).start())
+def function(crate, name):
+    """The file, its text, and the signature and clauses of a public function that stands on its own; None where there is none."""
+    begins = re.compile(r"^pub fn %s\b" % name, re.M)
+    found = [(path, text, begin) for path, text in sources(crate).items() for begin in begins.finditer(text)]
+    if len(found) > 1:
+        raise Layout(f"`pub fn {name}` stands {len(found)} times in crates/{crate}/src")
+    return next(((path, text, contract_at(text, begin.start())) for path, text, begin in found), None)
 
 
-def said_by(text, name):
-    """What a trait or a type says to contracts in this text, None where it isn't declared here."""
-    declared = re.search(r"^pub (?:trait|struct|enum) %s\b[^;{]*\{" % name, text, re.M)
-    if declared is None:
+def needed(crate, name):
+    found = function(crate, name)
+    if found is None:
+        raise Layout(f"`pub fn {name}` isn't found in crates/{crate}/src")
+    return found
+
+
+# ---- what the program calls
+
+def check_entries():
+    """The second entry, while there is one, promises what `run` does, word for word, in the same file."""
+    path, _, contract = needed("cudf_check", ENTRIES[0])
+    second = function("cudf_check", ENTRIES[1])
+    if second is None:
+        return
+    words = second[2].replace(f"fn {ENTRIES[1]}", f"fn {ENTRIES[0]}", 1).split()
+    if second[0] != path or words != contract.split():
+        raise Broken(f"the contract of `{ENTRIES[1]}` isn't that of `{ENTRIES[0]}` word for word")
+
+
+def check_writers():
+    """No public function of cudf_check but the entries takes something to write to."""
+    for path, text in sources("cudf_check").items():
+        for begin in re.finditer(r"^ *pub fn (\w+)", text, re.M):
+            writes = re.search(r"\b(?:Sink|Write)\b", contract_at(text, begin.start()))
+            if writes and begin.group(1) not in ENTRIES:
+                raise Broken(f"`{begin.group(1)}` of {path.relative_to(ROOT)} writes beside `run`")
+
+
+def called_in(text):
+    """The entries that a file of the program calls; any other function of cudf_check is refused."""
+    names = {name: path for name, path in items_used(text).items() if path.split("::")[0] == "cudf_check"}
+    body = without_uses(text)
+    for path in re.findall(r"\bcudf_check(?:::\w+)+", body):
+        names[path] = path
+    called = []
+    for name, path in names.items():
+        entry = path.removeprefix("cudf_check::")
+        if path.islower() and entry not in ENTRIES:
+            raise Broken(f"the program uses `{path}`, which doesn't carry the headline")
+        if entry in ENTRIES and re.search(r"(?<![\w.:])%s\s*(?:::\s*<|\()" % re.escape(name), body):
+            called.append(entry)
+    return called
+
+
+def check_program():
+    called = [name for text in sources("cudf_program").values() for name in called_in(text)]
+    if not called:
+        raise Broken("the program calls neither `run` nor `run_before_exit` of cudf_check")
+
+
+# ---- types
+
+def declaration_of(text, name):
+    """The kind of what is declared by this name in a text, and its text; None where it isn't."""
+    begin = re.search(VISIBLE + KINDS + r" +%s\b" % re.escape(name), text, re.M)
+    if begin is None:
         return None
-    said = [block_from(text, declared.start())]
-    for part in re.finditer(r"^impl(?:<[^{]*?>)? (Model for )?%s\b[^{]*\{" % name, text, re.M):
-        block = block_from(text, part.start())
-        said.append(block if part.group(1) else contracts(block))
-    return "\n".join(said)
+    end = re.search(r"[{;(]" if begin.group(1) != "type" else ";", text[begin.end():])
+    if end is None:
+        raise Layout(f"the declaration of {name} has no end")
+    if end.group(0) == "{":
+        return begin.group(1), block_from(text, begin.start())
+    return begin.group(1), text[begin.start():text.index(";", begin.end()) + 1]
 
 
-def signature_uses(signature):
-    """The modules on which the traits and types of the crate that a signature names rest."""
-    found = []
-    for text in sources("cudf_check").values():
-        for name in dict.fromkeys(re.findall(r"\b[A-Z]\w+", signature)):
-            said = said_by(text, name)
-            if said is not None:
-                found += uses_of(text, without_uses(said))
+def views_of(crate, name):
+    """The blocks `impl Model` of a type, with their files' texts."""
+    model = re.compile(r"^ *impl(?:<[^{]*?>)? (?:[\w:]+::)?Model for (?:[\w:]+::)?%s\b[^{]*\{" % re.escape(name), re.M)
+    return [(text, block_from(text, found.start())) for text in sources(crate).values() for found in model.finditer(text)]
+
+
+def methods_of(text, name):
+    """The signatures and clauses of a type's own public methods in a text."""
+    own = re.finditer(r"^impl(?:<[^{]*?>)? %s\b[^{]*\{" % re.escape(name), text, re.M)
+    return "\n".join(contracts(block_from(text, part.start())) for part in own)
+
+
+def ghosts_of(text):
+    return "\n".join(block_from(text, ghost.start()) for ghost in GHOST.finditer(text))
+
+
+def without_ghosts(text):
+    for ghost in list(GHOST.finditer(text)):
+        text = text.replace(block_from(text, ghost.start()), "", 1)
+    return re.sub(r"#\[[^\]]*\]", "", text)
+
+
+def types_in_fields(kind, name, declared):
+    """The names of types in the fields of a declaration, without its parameters and its variants."""
+    text = without_ghosts(declared)
+    head, body = re.match(r"(.*?\b%s\b)(.*)" % re.escape(name), text, re.S).group(2), ""
+    head, body = re.match(r"(\s*(?:<[^{(=]*>)?)(.*)", head, re.S).groups()
+    if kind == "enum":
+        variants = parts_of(body[body.index("{") + 1:body.rindex("}")])
+        body = " ".join(re.sub(r"^\s*\w+", "", variant) for variant in variants)
+    parameters = set(re.findall(r"\b([A-Z]\w*)\b", head))
+    if re.search(r"::\s*[A-Z]", body):
+        raise Layout(f"a field of {name} names its type by a path, and not by a `use` line")
+    return [word for word in dict.fromkeys(re.findall(r"(?<![\w'])([A-Z]\w*)\b", body)) if word not in parameters]
+
+
+def crate_of(crate, path):
+    """The crate of ours in which an item's path lies, None where it is another's."""
+    first = path.split("::")[0]
+    if (CRATES / first).is_dir():
+        return first
+    own = first in ("crate", "self", "super") or any(file.stem == first for file in sources(crate))
+    if own:
+        return crate
+    if first in ("std", "core") or first in outside_crates():
+        return None
+    raise Layout(f"can't find `{path}`, which crates/{crate} uses")
+
+
+def place_of(crate, name, text=None):
+    """The crate and the file that declare a type which a text of a crate names; None where it isn't ours."""
+    if text is not None and declaration_of(text, name):
+        return crate, next(path for path, other in sources(crate).items() if other == text), name
+    used = items_used(text).get(name) if text is not None else None
+    if used is None and text is not None:
+        if name in PRELUDE:
+            return None
+        raise Layout(f"can't find the type `{name}`, which a type of crates/{crate} names")
+    return found_in(crate, name) if used is None else followed(crate, used)
+
+
+def followed(crate, path):
+    """Where the item of a path is declared, as `place_of` says it."""
+    target = crate_of(crate, path)
+    return None if target is None else found_in(target, path.split("::")[-1])
+
+
+def found_in(crate, name):
+    """Where a crate declares a type, or its lib.rt takes it from."""
+    files = [path for path, text in sources(crate).items() if declaration_of(text, name)]
+    if len(files) == 1:
+        return crate, files[0], name
+    library = CRATES / crate / "src" / "lib.rt"
+    again = items_used(code_of(library)).get(name) if library.is_file() and not files else None
+    if again is not None and again.split("::")[0] != name and crate_of(crate, again) != crate:
+        return followed(crate, again)
+    raise Layout(f"the type `{name}` is declared in {len(files)} files of crates/{crate}/src")
+
+
+def shown_by(place, seen):
+    """The modules on which what a type shows rests: its ghost fields, its view, and those of the types of its fields."""
+    if place is None or place in seen:
+        return []
+    seen.add(place)
+    crate, path, name = place
+    text = code_of(path)
+    kind, declared = declaration_of(text, name)
+    found = uses_of(text, ghosts_of(declared))
+    for file, view in views_of(crate, name):
+        found += uses_of(file, ghosts_of(without_uses(view)))
+    if kind != "trait":
+        for field in types_in_fields(kind, name, declared):
+            found += shown_by(place_of(crate, field, text), seen)
+    return found
+
+
+def signature_uses(crate, text, signature):
+    """The modules on which the traits and types that a signature names rest."""
+    head = re.split(r"\b(?:requires|ensures)\b", signature)[0]
+    parameters = set(re.findall(r"[<,]\s*([A-Z]\w*)\s*:", head))
+    found, seen = [], set()
+    for name in dict.fromkeys(re.findall(r"\b[A-Z]\w*", head)):
+        place = None if name in parameters else place_of(crate, name, text)
+        if place is not None:
+            file = code_of(place[1])
+            declared = declaration_of(file, place[2])[1]
+            found += uses_of(file, without_uses(declared + "\n" + methods_of(file, place[2])))
+            found += shown_by(place, seen)
     return found
 
 
 def declared_uses(module):
-    """The modules on which the view and the ghost fields of a declared type rest, by its module in `specs.declared`."""
+    """The modules on which a type rests that definitions name, by its module in `specs.declared`."""
     parts = module.split(".")
     crate, path = parts[0], parts[3:]
-    if not path or path[-1].startswith("The") or not (CRATES / crate).is_dir():
+    if not (CRATES / crate).is_dir():
         return []
-    source = (CRATES / crate / "src").joinpath(*path[:-1]).with_suffix(".rt")
-    if len(path) == 1 or not source.is_file():
-        return []
-    text = code_of(source)
-    said = said_by(text, path[-1])
-    ghosts = [] if said is None else [block_from(said, ghost.start()) for ghost in GHOST.finditer(said)]
-    return uses_of(text, "\n".join(ghosts))
+    if path and path[-1] == "TheVariants":
+        path = path[:-1]
+    folder = CRATES / crate / "src"
+    source = folder.joinpath(*path[:-1]).with_suffix(".rt") if len(path) > 1 else folder / "lib.rt"
+    if not path or not source.is_file() or declaration_of(code_of(source), path[-1]) is None:
+        raise Layout(f"can't find the type Rattle.{module} in crates/{crate}/src")
+    return shown_by((crate, source, path[-1]), set())
 
 
 # ---- the closure
@@ -179,26 +446,83 @@ def below(modules):
     return found
 
 
-def order_of_crates():
+def rows_of_crates():
     lines = [line for line in (ROOT / "crates.txt").read_text().splitlines() if line.strip() and not line.startswith("#")]
-    return [line.split(":")[0].strip() for line in lines]
+    return [line.split(":") for line in lines]
+
+
+def order_of_crates():
+    return [row[0].strip() for row in rows_of_crates()]
+
+
+def outside_crates():
+    return {name for row in rows_of_crates() for name in row[-1].split()} - set(order_of_crates())
+
+
+def definitions_in(text, names):
+    """The definitions of these names in a text, and of what they name there in turn."""
+    heads = list(re.finditer(r"^(?:(?:abbrev|pub|record|data|unfoldable)\s+)*(?!use\b)(\S+)", text, re.M))
+    ends = [head.start() for head in heads[1:]] + [len(text)]
+    blocks = {}
+    for head, end in zip(heads, ends):
+        blocks[head.group(1)] = blocks.get(head.group(1), "") + text[head.start():end]
+    known, wanted = {}, [name for name in blocks if name in names]
+    while wanted:
+        name = wanted.pop()
+        if name not in known:
+            known[name] = blocks[name]
+            wanted += [other for other in blocks if is_named(other, known[name])]
+    if not known:
+        raise Layout("the definitions of the laws aren't found")
+    return "\n".join(known.values())
+
+
+def laws():
+    """The files of the laws that the headline leans on, each with the words of the contracts that cite it."""
+    cited = {}
+    for name in LAWS:
+        _, text, contract = needed("cudf_referee", name)
+        for path in below(uses_of(text, contract)):
+            cited.setdefault(path, set()).update(re.findall(r"[^\W\d][\w'-]*", contract))
+    return cited
+
+
+def uses_of_file(path, cited):
+    """The modules that a file of definitions uses; of a file of laws those that the cited laws name."""
+    try:
+        text = code_of(path)
+        return uses_of(text, definitions_in(text, cited[path]) if path in cited else None)
+    except Layout as message:
+        raise Layout(f"{path.relative_to(ROOT)}: {message}") from None
+
+
+def roots():
+    """The modules that the contract of `run` names, and the types of its signature and of those of the laws."""
+    _, text, signature = needed("cudf_check", "run")
+    found = uses_of(text, signature) + signature_uses("cudf_check", text, signature)
+    for name in LAWS:
+        _, text, signature = needed("cudf_referee", name)
+        found += signature_uses("cudf_referee", text, signature)
+    return found
 
 
 def statement():
     """The files on which the headline rests: the highest crate first, and each file before those that it uses."""
-    text, signature = headline()
-    files = []
+    files, cited = [], laws()
 
     def visit(path, above):
-        if path in above:
-            raise Layout(f"a circle of `use` lines through {path}")
-        if path not in files:
-            for further in reversed(below(uses_of(code_of(path)))):
+        # what a type shows may lead back to a file that names it
+        if path in cited and above:
+            raise Layout(f"{path.relative_to(ROOT)} has laws, of which a part is read, and another file uses it")
+        if path not in files and path not in above:
+            for further in reversed(below(uses_of_file(path, cited))):
                 visit(further, above + [path])
             files.append(path)
 
-    for path in reversed(below(uses_of(text, signature) + signature_uses(signature))):
+    for path in cited:
         visit(path, [])
+    for path in reversed(below(roots())):
+        visit(path, ["run"])
     crates = order_of_crates()
     return sorted(reversed(files), key=lambda path: -crates.index(path.relative_to(CRATES).parts[0]))
 
@@ -260,6 +584,9 @@ def differences(computed, rows):
 def main(arguments):
     if arguments not in ([], ["--write"]):
         raise Layout("usage: statement.py [--write]")
+    check_entries()
+    check_writers()
+    check_program()
     files = statement()
     computed = table(files)
     faults = [f"the headline rests on {path.relative_to(ROOT)}, which is for proofs alone"
@@ -282,6 +609,6 @@ def main(arguments):
 if __name__ == "__main__":
     try:
         sys.exit(main(sys.argv[1:]))
-    except Layout as message:
+    except (Broken, Layout) as message:
         print(f"statement: {message}", file=sys.stderr)
-        sys.exit(2)
+        sys.exit(1 if isinstance(message, Broken) else 2)

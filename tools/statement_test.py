@@ -1,0 +1,175 @@
+#!/usr/bin/env python3
+"""Runs statement.py on copies of the repository's sources, each with a fault planted that it must not let through."""
+import shutil
+import subprocess
+import sys
+import tempfile
+import unittest
+from pathlib import Path
+
+ROOT = Path(__file__).resolve().parent.parent
+
+
+class Copy(unittest.TestCase):
+    """A copy of what statement.py reads, made anew for each test."""
+
+    def setUp(self):
+        folder = tempfile.TemporaryDirectory()
+        self.addCleanup(folder.cleanup)
+        self.root = Path(folder.name)
+        for source in sorted((ROOT / "crates").glob("*/*")):
+            if source.name in ("src", "specs"):
+                shutil.copytree(source, self.root / source.relative_to(ROOT))
+        for file in ("crates.txt", "docs/PROOFS.md", "tools/statement.py"):
+            (self.root / file).parent.mkdir(exist_ok=True)
+            shutil.copy(ROOT / file, self.root / file)
+
+    def plant(self, file, old, new, behind=""):
+        """Exchanges a text that stands once behind the place where `behind` begins."""
+        path = self.root / "crates" / file
+        text = path.read_text()
+        start = text.index(behind)
+        self.assertEqual(text.count(old, start), 1, f"{old!r} in {file}")
+        path.write_text(text[:start] + text[start:].replace(old, new))
+        self.assertNotEqual(path.read_text(), text)
+
+    def run_script(self):
+        command = [sys.executable, str(self.root / "tools" / "statement.py")]
+        return subprocess.run(command, capture_output=True, text=True, timeout=60, check=False)
+
+    def assert_refused(self, status, *messages):
+        run = self.run_script()
+        for message in messages:
+            self.assertIn(message, run.stderr)
+        self.assertEqual(run.returncode, status, run.stderr)
+
+
+class Unchanged(Copy):
+    def test_passes(self):
+        run = self.run_script()
+        self.assertEqual((run.returncode, run.stderr), (0, ""))
+        self.assertIn("crates/cudf_referee/specs/Laws.antt", run.stdout)
+
+
+class Entries(Copy):
+    def setUp(self):
+        super().setUp()
+        if "pub fn run_before_exit" not in (self.root / "crates/cudf_check/src/lib.rt").read_text():
+            self.skipTest("there is one entry alone")
+
+    def test_weaker_clause(self):
+        self.plant("cudf_check/src/lib.rt", "→ returned solution.exit ≡ lent solution.entry }",
+                   "→ lent solution.entry ≡ lent solution.entry }", behind="pub fn run_before_exit")
+        self.assert_refused(1, "the contract of `run_before_exit` isn't that of `run` word for word")
+
+    def test_further_bound(self):
+        self.plant("cudf_check/src/lib.rt", "pub fn run_before_exit<R: Source, S: Source, W: Sink>(",
+                   "pub fn run_before_exit<R: Source, S: Source, W: Sink + Copy>(")
+        self.assert_refused(1, "the contract of `run_before_exit` isn't that of `run` word for word")
+
+
+class Program(Copy):
+    def entry(self):
+        text = (self.root / "crates/cudf_program/src/main.rt").read_text()
+        return "run_before_exit" if "run_before_exit" in text else "run"
+
+    def test_calls_neither(self):
+        path = self.root / "crates/cudf_program/src/main.rt"
+        text = path.read_text()
+        changed = text.replace(f", {self.entry()}}};", "};").replace(f"    {self.entry()}", "    skip")
+        self.assertNotEqual(changed, text)
+        path.write_text(changed)
+        self.assert_refused(1, "the program calls neither `run` nor `run_before_exit`")
+
+    def test_calls_another(self):
+        self.plant("cudf_program/src/main.rt", f", {self.entry()}}};", f", {self.entry()}, answer_job}};")
+        self.assert_refused(1, "the program uses `cudf_check::answer_job`")
+
+    def test_another_writes(self):
+        self.plant("cudf_check/src/report.rt", "pub(crate) fn answer_job<", "pub fn answer_job<")
+        self.assert_refused(1, "`answer_job` of crates/cudf_check/src/report.rt writes beside `run`")
+
+
+class Laws(Copy):
+    def test_law_over_working_state(self):
+        self.plant("cudf_referee/specs/Laws.antt", "use Rattle.cudf_referee.specs.Violations.{listing}",
+                   "use Rattle.cudf_referee.specs.Working.Places.{listing}")
+        self.assert_refused(1, "the headline rests on crates/cudf_referee/specs/Working/Places.antt")
+
+    def test_law_not_found(self):
+        self.plant("cudf_referee/src/laws.rt", "pub fn ascending()", "pub fn ascends()")
+        self.assert_refused(2, "`pub fn ascending` isn't found")
+
+
+class Types(Copy):
+    MODEL = ("impl Model for LexState {\n    ghost use Rattle.cudf_value.specs.Working.Rests.{rest};\n\n"
+             "    ghost view = { rest };\n}\n\nimpl LexState {")
+
+    def test_crate_private_type(self):
+        self.plant("cudf_value/src/lex_state.rt", "impl LexState {", self.MODEL)
+        self.assertIn("pub(crate) enum LexState", (self.root / "crates/cudf_value/src/lex_state.rt").read_text())
+        self.assert_refused(1, "the headline rests on crates/cudf_value/specs/Working/Rests.antt")
+
+    def test_type_of_a_field(self):
+        self.plant("cudf_document/src/package.rt", "use cudf_value::{Formula, Vpkg};",
+                   "use crate::seen_names::{\n    SeenNames as Seen,\n};\nuse cudf_value::{Formula, Vpkg};")
+        self.plant("cudf_document/src/package.rt", "    pub keep: Keep,",
+                   "    pub keep: Keep,\n    pub(crate) seen: Option<Box<Seen<'t>>>,")
+        self.plant("cudf_document/src/seen_names.rt", "    ghost Value = { List (List ℕ) };",
+                   "    ghost use Rattle.cudf_document.specs.Working.SeenNames.{seen};\n\n    ghost Value = { List (List ℕ) };")
+        self.plant("cudf_document/src/seen_names.rt", "    ghost view = { λ n. map", "    ghost view = { λ n. seen map")
+        self.assert_refused(1, "the headline rests on crates/cudf_document/specs/Working/SeenNames.antt")
+
+    def test_type_of_a_field_not_found(self):
+        self.plant("cudf_document/src/package.rt", "    pub keep: Keep,", "    pub keep: Keep,\n    pub(crate) seen: Seen<'t>,")
+        self.assert_refused(2, "can't find the type `Seen`")
+
+    def test_declared_type_without_file(self):
+        self.plant("cudf_check/specs/Runs.antt", "specs.declared.outcome.Outcome.{Outcome}", "specs.declared.nowhere.Outcome.{Outcome}")
+        self.assert_refused(2, "can't find the type Rattle.cudf_check.specs.declared.nowhere.Outcome")
+
+
+class Uses(Copy):
+    LINE = "use Rattle.cudf_check.specs.Prefix.{AppendsPrefix}"
+    WORKING = "use Rattle.cudf_check.specs.Working.Pages.{page}"
+
+    def assert_follows(self, line):
+        self.plant("cudf_check/specs/Runs.antt", self.LINE, f"{self.LINE}\n{line}")
+        self.assert_refused(1, "the headline rests on crates/cudf_check/specs/Working/Pages.antt")
+
+    def assert_unreadable(self, line):
+        self.plant("cudf_check/specs/Runs.antt", self.LINE, f"{self.LINE}\n{line}")
+        self.assert_refused(2, "crates/cudf_check/specs/Runs.antt: can't read `")
+
+    def test_comment_behind(self):
+        self.assert_follows(self.WORKING + " -- a page")
+
+    def test_public_with_comment_behind(self):
+        self.assert_follows("pub " + self.WORKING + " -- a page")
+
+    def test_braces_over_lines(self):
+        self.assert_follows("use Rattle.cudf_check.specs.Working.Pages.{\n  page, -- one\n  pages as all\n}")
+
+    def test_another_name(self):
+        self.assert_follows("use Rattle.cudf_check.specs.Working.Pages as pages -- all of them")
+
+    def test_comment_behind_in_rust(self):
+        self.plant("cudf_check/src/lib.rt", "Runs.{change, change_of_lent, lent, returned, Runs, SkipsSolution};",
+                   "Working.Pages.{change, change_of_lent, lent, returned, Runs, SkipsSolution}; // a run")
+        self.assert_refused(1, "the headline rests on crates/cudf_check/specs/Working/Pages.antt")
+
+    def test_everything(self):
+        self.assert_unreadable("use Rattle.cudf_check.specs.Working.Pages.*")
+
+    def test_everything_in_braces(self):
+        self.assert_unreadable("use Rattle.cudf_check.specs.Working.Pages.{*}")
+
+    def test_words_behind(self):
+        self.assert_unreadable(self.WORKING + " {- a page -}")
+
+    def test_two_in_a_line(self):
+        self.assert_unreadable("use Rattle.cudf_check.specs.Report.{report}; " + self.WORKING)
+
+
+if __name__ == "__main__":
+    unittest.main()
