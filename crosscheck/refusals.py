@@ -7,9 +7,9 @@ PROGRAM runs on the documents of examples/. Growth 1, growth 2 and so on is refu
 its own, in the second one with all later ones. Where a growth is refused the program has to end with status 6 and nothing
 on standard output; where memory that was to be given back is refused alone, the report is right as well.
 
-TESTS is the executable of the tests of cudf_tests (`rt test` leaves it in out/). Its tests in `memory` call one function
-each, and say whether a growth was refused in the call or in what was made before it; the same is done with them, and
-printed for each of them is how many growths were refused there. Those in `memory::none` run with every growth refused.
+TESTS is the executable of the tests of cudf_run_tests (`rt test` leaves it in out/). Its tests in `memory` call one
+function each, and say whether a growth was refused in the call or in what was made before it; the same is done with them,
+and printed for each of them is how many growths were refused there. Those in `memory::none` run with every growth refused.
 
 Each run ends within a minute. Needs gcc and glibc; Python's standard library alone.
 """

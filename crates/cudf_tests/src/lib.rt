@@ -1,24 +1,8 @@
-//! Tests over the public items of all crates, as an outside user of each calls them. Expected
+//! Tests of what runs print, from documents to reports, as an outside user of `cudf_check` sees it. Expected
 //! values come from the format's own rules, never from what the program printed.
 #![tactic(auto)]
 
 #[cfg(test)]
-mod documents;
-#[cfg(test)]
-mod large;
-#[cfg(test)]
-mod memory;
-#[cfg(test)]
-mod referees;
-#[cfg(test)]
 mod rows;
 #[cfg(test)]
-mod runs;
-#[cfg(test)]
-mod statuses;
-#[cfg(test)]
 mod table;
-#[cfg(test)]
-mod text;
-#[cfg(test)]
-mod values;
