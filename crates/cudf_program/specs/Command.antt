@@ -78,6 +78,10 @@ RefusesAfter given Twice = ⊥
 RefusesAfter given (NoKey word) = (given ≡ Some word.now) × ((key : PlainKey) → IsWritable key → key_text key ≢ word.now)
 RefusesAfter given (NoNumber word) = ⊥
 
+-- there is no word, or a key is printed as it
+abbrev pub HasAfter : Option (List ℕ) → Type 0
+HasAfter given = (key : Option Key) × IsAfter given key
+
 -- the positive number that the word says
 abbrev pub IsLimit : Option (List ℕ) → Option ℕ → Type 0
 IsLimit None None = Unit {0}
@@ -91,6 +95,10 @@ RefusesLimit given Missing = ⊥
 RefusesLimit given Twice = ⊥
 RefusesLimit given (NoKey word) = ⊥
 RefusesLimit given (NoNumber word) = (given ≡ Some word.now) × (positive (trim word.now) ≡ None)
+
+-- there is no word, or it says a positive number
+abbrev pub HasLimit : Option (List ℕ) → Type 0
+HasLimit given = (limit : Option ℕ) × IsLimit given limit
 
 -- ---- commands
 
@@ -119,11 +127,12 @@ pub record IsCheck (words : Words) (order : Order) : Type 0 where
   pub page_is : IsPage words.after words.limit order.job
   pub files_are : IsOrder order.job words.problem words.solution order
 
+-- the words of a check, of which the key is judged first, then the limit, and the files last
 abbrev pub RefusesCheck : Words → Refusal → Type 0
-RefusesCheck words Missing = RefusesFiles words.problem words.solution Missing
-RefusesCheck words Twice = RefusesFiles words.problem words.solution Twice
+RefusesCheck words Missing = HasAfter words.after × (HasLimit words.limit × RefusesFiles words.problem words.solution Missing)
+RefusesCheck words Twice = HasAfter words.after × (HasLimit words.limit × RefusesFiles words.problem words.solution Twice)
 RefusesCheck words (NoKey word) = RefusesAfter words.after (NoKey word)
-RefusesCheck words (NoNumber word) = RefusesLimit words.limit (NoNumber word)
+RefusesCheck words (NoNumber word) = HasAfter words.after × RefusesLimit words.limit (NoNumber word)
 
 -- what the words of the command of this name ask for
 pub record Asks (name : List ℕ) (words : Words) (result : Result Order Refusal) : Type 0 where
