@@ -1,7 +1,9 @@
 -- What the words of the command line ask for.
 use Rattle.std.specs.Prelude.{◌≡◌, ◌≢◌, ◌&&◌, ◌||◌, ℕ, Bool, true, false, List, codes, Option, Some, None, Result, MatchResult}
 use Rattle.std.specs.Option.{option_map_or}
+use Rattle.std.specs.Result.{IsErrAnd}
 use Rattle.clap.specs.Matches.{first_value}
+use Rattle.clap.specs.Words.{Row, first_of}
 use Rattle.clap.specs.declared.parser.matches.Found.{Found}
 use Rattle.cudf_text.specs.Chars.{trim}
 use Rattle.cudf_value.specs.Numbers.{positive}
@@ -139,3 +141,17 @@ pub record Asks (name : List ℕ) (words : Words) (result : Result Order Refusal
   pub lint : name ≡ codes "lint" → MatchResult result (IsOrder Lint words.problem None) (RefusesFiles words.problem None)
   pub check : name ≡ codes "check" → MatchResult result (IsCheck words) (RefusesCheck words)
   pub score : name ≡ codes "score" → MatchResult result (IsOrder Score words.problem words.solution) (RefusesFiles words.problem words.solution)
+
+-- the same words, in the rows that a parse has of a command
+abbrev pub words_in : List Row → Words
+words_in rows = record {
+  problem = first_of (codes "problem") rows;
+  solution = first_of (codes "solution") rows;
+  after = first_of (codes "after") rows;
+  limit = first_of (codes "limit") rows;
+}
+
+-- what the command that a parse met asks for, by its name and its rows; without one a word is missing
+abbrev pub AsksOf : Option (List ℕ × List Row) → Result Order Refusal → Type 0
+AsksOf None result = IsErrAnd result (λ refusal. refusal ≡ Missing)
+AsksOf (Some met) result = Asks met.0 (words_in met.1) result
