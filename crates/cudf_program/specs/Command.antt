@@ -1,7 +1,9 @@
 -- What the words of the command line ask for.
 use Rattle.std.specs.Prelude.{◌≡◌, ◌≢◌, ◌&&◌, ◌||◌, ℕ, Bool, true, false, List, codes, Option, Some, None, Result, MatchResult}
 use Rattle.std.specs.Option.{option_map_or}
+use Rattle.std.specs.Result.{IsErrAnd}
 use Rattle.clap.specs.Matches.{first_value}
+use Rattle.clap.specs.Words.{Row, first_of}
 use Rattle.clap.specs.declared.parser.matches.Found.{Found}
 use Rattle.cudf_text.specs.Chars.{trim}
 use Rattle.cudf_value.specs.Numbers.{positive}
@@ -78,6 +80,10 @@ RefusesAfter given Twice = ⊥
 RefusesAfter given (NoKey word) = (given ≡ Some word.now) × ((key : PlainKey) → IsWritable key → key_text key ≢ word.now)
 RefusesAfter given (NoNumber word) = ⊥
 
+-- there is no word, or a key is printed as it
+abbrev pub HasAfter : Option (List ℕ) → Type 0
+HasAfter given = (key : Option Key) × IsAfter given key
+
 -- the positive number that the word says
 abbrev pub IsLimit : Option (List ℕ) → Option ℕ → Type 0
 IsLimit None None = Unit {0}
@@ -91,6 +97,10 @@ RefusesLimit given Missing = ⊥
 RefusesLimit given Twice = ⊥
 RefusesLimit given (NoKey word) = ⊥
 RefusesLimit given (NoNumber word) = (given ≡ Some word.now) × (positive (trim word.now) ≡ None)
+
+-- there is no word, or it says a positive number
+abbrev pub HasLimit : Option (List ℕ) → Type 0
+HasLimit given = (limit : Option ℕ) × IsLimit given limit
 
 -- ---- commands
 
@@ -119,14 +129,29 @@ pub record IsCheck (words : Words) (order : Order) : Type 0 where
   pub page_is : IsPage words.after words.limit order.job
   pub files_are : IsOrder order.job words.problem words.solution order
 
+-- the words of a check, of which the key is judged first, then the limit, and the files last
 abbrev pub RefusesCheck : Words → Refusal → Type 0
-RefusesCheck words Missing = RefusesFiles words.problem words.solution Missing
-RefusesCheck words Twice = RefusesFiles words.problem words.solution Twice
+RefusesCheck words Missing = HasAfter words.after × (HasLimit words.limit × RefusesFiles words.problem words.solution Missing)
+RefusesCheck words Twice = HasAfter words.after × (HasLimit words.limit × RefusesFiles words.problem words.solution Twice)
 RefusesCheck words (NoKey word) = RefusesAfter words.after (NoKey word)
-RefusesCheck words (NoNumber word) = RefusesLimit words.limit (NoNumber word)
+RefusesCheck words (NoNumber word) = HasAfter words.after × RefusesLimit words.limit (NoNumber word)
 
 -- what the words of the command of this name ask for
 pub record Asks (name : List ℕ) (words : Words) (result : Result Order Refusal) : Type 0 where
   pub lint : name ≡ codes "lint" → MatchResult result (IsOrder Lint words.problem None) (RefusesFiles words.problem None)
   pub check : name ≡ codes "check" → MatchResult result (IsCheck words) (RefusesCheck words)
   pub score : name ≡ codes "score" → MatchResult result (IsOrder Score words.problem words.solution) (RefusesFiles words.problem words.solution)
+
+-- the same words, in the rows that a parse has of a command
+abbrev pub words_in : List Row → Words
+words_in rows = record {
+  problem = first_of (codes "problem") rows;
+  solution = first_of (codes "solution") rows;
+  after = first_of (codes "after") rows;
+  limit = first_of (codes "limit") rows;
+}
+
+-- what the command that a parse met asks for, by its name and its rows; without one a word is missing
+abbrev pub AsksOf : Option (List ℕ × List Row) → Result Order Refusal → Type 0
+AsksOf None result = IsErrAnd result (λ refusal. refusal ≡ Missing)
+AsksOf (Some met) result = Asks met.0 (words_in met.1) result

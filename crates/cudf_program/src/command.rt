@@ -1,8 +1,9 @@
 //! What the words of the command line ask for.
 ghost use Rattle.std.specs.Prelude.{◌≡◌, None, IfOk, MatchResult, codes, option_map, false};
 ghost use Rattle.clap.specs.Matches.{first_value, found_of};
+ghost use Rattle.clap.specs.Words.{subcommand_rows_of};
 ghost use Rattle.cudf_check.specs.declared.job.Job.TheVariants.{Lint, Score};
-ghost use Rattle.cudf_program.specs.Command.{IsNamedBy, IsOrder, RefusesFiles, IsAfter, RefusesAfter, IsLimit, RefusesLimit, words_of, IsCheck, RefusesCheck, Asks, takes_standard_twice};
+ghost use Rattle.cudf_program.specs.Command.{IsNamedBy, IsOrder, RefusesFiles, IsAfter, RefusesAfter, IsLimit, RefusesLimit, words_of, IsCheck, RefusesCheck, Asks, AsksOf, takes_standard_twice};
 
 use crate::grammar::{AFTER, CHECK, LIMIT, LINT, PROBLEM, SCORE, SOLUTION, program};
 use crate::usage::Usage;
@@ -90,7 +91,8 @@ pub(crate) fn command<'w>(alloc: Global, words: &'w [String]) -> Result<Order<'w
 
 /// The run that the words of the command ask for.
 fn asked_order<'w>(matches: &ArgMatches<'w>) -> Result<Order<'w>, Refusal<'w>>
-    ensures { IfOk result (λ order. takes_standard_twice order ≡ false) }
+    ensures asks { AsksOf (subcommand_rows_of matches.now) result }
+    ensures once { IfOk result (λ order. takes_standard_twice order ≡ false) }
 {
     match matches.subcommand() {
         Some((name, found)) => order_of(name, found),
