@@ -46,7 +46,10 @@ from collections import Counter
 from concurrent.futures import ThreadPoolExecutor, wait
 from contextlib import contextmanager
 from dataclasses import dataclass
+from functools import partial
+from itertools import count
 from pathlib import Path
+from queue import PriorityQueue
 
 sys.dont_write_bytecode = True
 ROOT = Path(__file__).resolve().parent.parent
@@ -276,9 +279,10 @@ class Trial:
         return grouped(self.edits)
 
     def settle(self, edits):
-        """Tries edits together, and what that leaves open apart."""
+        """Tries edits together, and returns what that leaves open, to be tried apart."""
         if len(edits) == 1:
-            return self.alone(edits[0])
+            self.alone(edits[0])
+            return []
         with room(self.crate) as folder:
             texts = plant(edits, folder)
             only = [word for it in edits for word in ("--only", it.function)]
@@ -291,9 +295,7 @@ class Trial:
             self.kind[it], self.text[it] = rt.REFUSED, why
         left = [it for it in edits if it not in told]
         half = len(left) if told else (len(left) + 1) // 2
-        for part in (left[:half], left[half:]):
-            if part:
-                self.settle(part)
+        return [part for part in (left[:half], left[half:]) if part]
 
     def alone(self, edit):
         """Tries an edit as rt does."""
@@ -316,19 +318,24 @@ def libraries(trials, behind_ci, jobs):
 
 
 def try_all(trials, lanes):
-    """Tries all edits, so many checks side by side, those of the largest crates first."""
-    trials = sorted(trials, key=lambda it: -it.crate.count(rb"\n"))
+    """Tries all edits, so many checks side by side; of those that wait the one that takes longest first."""
     jobs = max(1, lanes // len(trials))
+    sizes = {it: it.crate.count(rb"\n") for it in trials}
+    waiting, numbers = PriorityQueue(), count()
     pool = ThreadPoolExecutor(lanes)
+
+    def submit(weight, act):
+        waiting.put((-weight, next(numbers), act))
+        return pool.submit(lambda: waiting.get_nowait()[2]())
+
     try:
-        begun = {pool.submit(it.begin, jobs): it for it in trials}
-        settling = []
-        while begun:
-            for it in wait(begun, return_when="FIRST_COMPLETED").done:
-                trial = begun.pop(it)
-                settling += [pool.submit(trial.settle, group) for group in it.result()]
-        for it in settling:
-            it.result()
+        # (without its crate as it stands no group is known, so these come before all groups)
+        running = {submit(1000 * sizes[it], partial(it.begin, jobs)): it for it in trials}
+        while running:
+            for it in wait(running, return_when="FIRST_COMPLETED").done:
+                trial = running.pop(it)
+                for group in it.result():
+                    running[submit(len(group) * sizes[trial], partial(trial.settle, group))] = trial
     finally:
         # (after an error the checks that run are still waited for, so that their folders go)
         pool.shutdown(cancel_futures=True)
