@@ -25,6 +25,7 @@ pub enum Next {
 /// A text's stanzas, each of which is read as it is asked for.
 #[derive(Drop)]
 pub struct Stanzas<'a> {
+    source: &'a str,
     place: Place<'a>,
 }
 
@@ -35,7 +36,7 @@ impl<'a> Model for Stanzas<'a> {
 
     ghost Value = { Left };
 
-    ghost view = { λ s. plain_left (text_left s.place) };
+    ghost view = { λ s. plain_left s.source.now (text_left s.place) };
 
     ghost invariant = { λ s. IsCounted s.place };
 }
@@ -49,10 +50,12 @@ impl<'a> Stanzas<'a> {
 
     /// All stanzas of a text.
     pub fn new(source: &'a str) -> Self
+        ensures source { result.source ≡ source.now }
         ensures text { result.text ≡ plain_text source.now }
         ensures joins { result.joins ≡ joined_values source.now }
     {
         Stanzas {
+            source,
             place: Place {
                 rest: source,
                 lines: 0,
@@ -82,15 +85,19 @@ impl<'a> Stanzas<'a> {
     pub fn fork(&self) -> Self
         ensures { result ≡ self.now }
     {
-        Stanzas { place: self.place }
+        Stanzas {
+            source: self.source,
+            place: self.place,
+        }
     }
 
-    /// Reads all that is left, as a text of the lines that are left.
+    /// Reads the stanzas that are left, as a text of the same source.
     pub fn read_rest(self, alloc: Global) -> Result<Text<'a>, AllocError>
+        ensures source { IfOk result (λ t. t.source.now ≡ self.entry.source) }
         ensures text { IfOk result (λ t. text_view t ≡ self.entry.text) }
         ensures borrowed { IfOk result (λ t. owned_values t ≡ self.entry.joins) }
     {
-        read_left(alloc, self.place.rest, self)
+        read_left(alloc, self.source, self)
     }
 }
 

@@ -6,4 +6,5 @@ use Rattle.cudf_text.proofs.cursor.Stanzas.next.Goals as goal
 
 pub returns-clause-read : goal.returns-clause-read
 returns-clause-read c =
-    sym c.self.view_is ∙ ap plain_left c.in_ok-next.ensures.read ∙ plain-next c.in_ok-next.next c.read_stanza.new.properties.items (text_left c.in_ok-next.place)
+    let source = c.self.inside.source.now in
+    sym c.self.view_is ∙ ap (plain_left source) c.in_ok-next.ensures.read ∙ plain-next source c.in_ok-next.next c.read_stanza.new.properties.items (text_left c.in_ok-next.place)
