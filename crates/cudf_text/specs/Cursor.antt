@@ -1,5 +1,5 @@
 -- What a cursor has left of a text, and what it reads of it.
-use Rattle.std.specs.Prelude.{ℕ, Bool, List, [], ◌∷◌, ◌++◌, map}
+use Rattle.std.specs.Prelude.{ℕ, Bool, true, false, List, [], ◌∷◌, ◌++◌, map}
 use Rattle.cudf_text.specs.declared.cursor.Next.{Next}
 use Rattle.cudf_text.specs.declared.cursor.Next.TheVariants as next
 use Rattle.cudf_text.specs.declared.text.Property.{Property}
@@ -21,3 +21,8 @@ with_next (next.Stanza line last) ps left = record {
   joins = owned_in ps ++ left.joins;
 }
 with_next (next.End fault lines) ps left = record { source = left.source; text = record { stanzas = []; fault = fault; lines = lines }; joins = [] }
+
+-- there are no more stanzas
+abbrev pub is_end : Next → Bool
+is_end (next.Stanza line last) = false
+is_end (next.End fault lines) = true

@@ -1,4 +1,5 @@
-ghost use Rattle.std.specs.Prelude.{◌≡◌, map, IfOk};
+ghost use Rattle.std.specs.Prelude.{◌≡◌, [], map, IfOk, IsTrue};
+ghost use Rattle.cudf_text.specs.Cursor.{is_end};
 ghost use Rattle.cudf_text.specs.Lines.{class};
 ghost use Rattle.cudf_text.specs.Working.Left.{text_left, with_tracked, IsCounted};
 ghost use Rattle.cudf_text.specs.Working.Steps.{open_state, step, stepped, extend_last, value_onto};
@@ -42,10 +43,10 @@ impl<'a> Model for Stanzas<'a> {
 }
 
 impl<'a> Stanzas<'a> {
-    ghost use Rattle.std.specs.Prelude.{◌≡◌, IfOk, IfErr};
+    ghost use Rattle.std.specs.Prelude.{◌≡◌, [], IfOk, IfErr, IsTrue};
     ghost use Rattle.cudf_text.specs.Stanzas.{plain_text};
     ghost use Rattle.cudf_text.specs.Borrows.{joined_values};
-    ghost use Rattle.cudf_text.specs.Cursor.{with_next};
+    ghost use Rattle.cudf_text.specs.Cursor.{with_next, is_end};
     ghost use Rattle.cudf_text.specs.Views.{text_view, owned_values};
 
     /// All stanzas of a text.
@@ -64,7 +65,8 @@ impl<'a> Stanzas<'a> {
         }
     }
 
-    /// Reads the next stanza into the list, in place of what was there.
+    /// Reads the next stanza into the list, in place of what was there. Once it has said `End` it
+    /// says so again.
     pub fn next(
         &mut self,
         alloc: Global,
@@ -73,12 +75,25 @@ impl<'a> Stanzas<'a> {
         // What was left is what was read, then what is left now.
         ensures read { IfOk result (λ next.
             self.old ≡ with_next next properties.new.items self.new) }
-        // Without memory nothing is passed over.
+        // At the end the cursor stays where it is, with the fault and the number of lines,
+        ensures end { IfOk result (λ next. IsTrue (is_end next) → self.new ≡ self.old) }
+        // and the list is empty.
+        ensures nothing { IfOk result (λ next. IsTrue (is_end next) → properties.new.items ≡ []) }
+        // Without memory nothing is passed over,
         ensures kept { IfErr result (λ _. self.new ≡ self.old) }
+        // and the list is empty.
+        ensures emptied { IfErr result (λ _. properties.new.items ≡ []) }
     {
-        let (next, place) = read_stanza(alloc, self.place, properties)?;
-        self.place = place;
-        Ok(next)
+        match read_stanza(alloc, self.place, properties) {
+            Ok((next, place)) => {
+                self.place = place;
+                Ok(next)
+            }
+            Err(error) => {
+                properties.clear();
+                Err(error)
+            }
+        }
     }
 
     /// A cursor of its own over what is left. Takes no memory.
@@ -121,6 +136,8 @@ fn read_stanza<'a>(
     requires { IsCounted place }
     ensures read { IfOk result (λ r.
         text_left place.entry ≡ with_tracked r.0 properties.new.items (text_left r.1)) }
+    ensures end { IfOk result (λ r. IsTrue (is_end r.0) → text_left r.1 ≡ text_left place.entry) }
+    ensures nothing { IfOk result (λ r. IsTrue (is_end r.0) → properties.new.items ≡ []) }
     ensures counted { IfOk result (λ r. IsCounted r.1) }
 {
     let mut place = place;
