@@ -41,7 +41,7 @@ impl<'t> Fields<'t> for BarePackage<'t> {
     ) -> Result<Option<Kind>, AllocError> {
         let named = package_property_named(line.name);
         if is_need(named) {
-            return judge(alloc, declarations, named, line.name, line.value);
+            return Ok(judge(declarations, named, line.name, line.value));
         }
         self.fields
             .keep(alloc, declarations, named, line.name, line.value)

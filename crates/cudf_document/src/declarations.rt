@@ -56,18 +56,12 @@ impl<'t> Declarations<'t> {
 
     /// What is wrong with a property of this name: it isn't declared, or its value isn't of the
     /// declared type.
-    pub(crate) fn wrong_kind(
-        &self,
-        alloc: Global,
-        name: &str,
-        text: &str,
-    ) -> Result<Option<Kind>, AllocError>
-        ensures { IfOk result (λ kind.
-            kind ≡ wrong_kind (test_of name.now (map declared_test self.now)) text.now) }
+    pub(crate) fn wrong_kind(&self, name: &str, text: &str) -> Option<Kind>
+        ensures { result ≡ wrong_kind (test_of name.now (map declared_test self.now)) text.now }
     {
         match self.find(name) {
-            Some(declared) => Ok(mistyped_unless(declared.fits(alloc, text)?)),
-            None => Ok(Some(Kind::E8)),
+            Some(declared) => mistyped_unless(declared.fits(text)),
+            None => Some(Kind::E8),
         }
     }
 

@@ -6,7 +6,7 @@ ghost use Rattle.cudf_document.specs.Working.Enums.{AreIdents, AreWords};
 
 use crate::seen_names::SeenNames;
 use cudf_text::trim;
-use cudf_value::{Declaration, Formula, ValueType, fits, read_formula};
+use cudf_value::{Declaration, Formula, ValueType, is_of_type, read_formula};
 use std::alloc::{AllocError, Global};
 use std::marker::Model;
 
@@ -55,12 +55,12 @@ impl<'t> Declared<'t> {
     }
 
     /// Whether the text, but for blanks round it, is of the declared type.
-    pub(crate) fn fits(&self, alloc: Global, text: &str) -> Result<bool, AllocError>
-        ensures { IfOk result (λ b. b ≡ is_of_type self.now.kind (trim text.now)) }
+    pub(crate) fn fits(&self, text: &str) -> bool
+        ensures { result ≡ is_of_type self.now.kind (trim text.now) }
     {
         match &self.declaration.kind {
-            ValueType::Choice(_) => Ok(self.idents.contains(trim(text))),
-            kind => fits(alloc, kind, text),
+            ValueType::Choice(_) => self.idents.contains(trim(text)),
+            kind => is_of_type(kind, trim(text)),
         }
     }
 

@@ -157,7 +157,7 @@ impl<'s> Fields<'s> for Judged {
         line: Line<'n, 's>,
     ) -> Result<Option<Kind>, AllocError> {
         let named = package_property_named(line.name);
-        judge(alloc, declarations, named, line.name, line.value)
+        Ok(judge(declarations, named, line.name, line.value))
     }
 
     fn skip<'n>(&self, declarations: &Declarations<'_>, line: Line<'n, 's>) {}
@@ -187,25 +187,23 @@ where
 
 /// What is wrong with a property that stands once, if it has this place in a package, or else this name.
 pub(crate) fn judge(
-    alloc: Global,
     declarations: &Declarations<'_>,
     named: Option<PackageProperty>,
     name: &str,
     text: &str,
-) -> Result<Option<Kind>, AllocError>
-    ensures { IfOk result (λ kind.
-        kind ≡ wrong_kind (package_property_test declarations.now named name.now) text.now) }
+) -> Option<Kind>
+    ensures { result ≡ wrong_kind (package_property_test declarations.now named name.now) text.now }
 {
     match named {
-        Some(PackageProperty::Package) => Ok(mistyped_unless(is_pkgname(text))),
-        Some(PackageProperty::Version) => Ok(mistyped_unless(read_posint(text).is_some())),
-        Some(PackageProperty::Depends) => Ok(mistyped_unless(is_formula(text))),
-        Some(PackageProperty::Conflicts) => Ok(mistyped_unless(is_vpkglist(text))),
-        Some(PackageProperty::Provides) => Ok(mistyped_unless(is_veqpkglist(text))),
-        Some(PackageProperty::Installed) => Ok(mistyped_unless(read_bool(text).is_some())),
-        Some(PackageProperty::Keep) => Ok(mistyped_unless(read_keep(text).is_some())),
-        Some(PackageProperty::WasInstalled) => Ok(None),
-        Some(PackageProperty::Recommends) => declarations.wrong_kind(alloc, "recommends", text),
-        None => declarations.wrong_kind(alloc, name, text),
+        Some(PackageProperty::Package) => mistyped_unless(is_pkgname(text)),
+        Some(PackageProperty::Version) => mistyped_unless(read_posint(text).is_some()),
+        Some(PackageProperty::Depends) => mistyped_unless(is_formula(text)),
+        Some(PackageProperty::Conflicts) => mistyped_unless(is_vpkglist(text)),
+        Some(PackageProperty::Provides) => mistyped_unless(is_veqpkglist(text)),
+        Some(PackageProperty::Installed) => mistyped_unless(read_bool(text).is_some()),
+        Some(PackageProperty::Keep) => mistyped_unless(read_keep(text).is_some()),
+        Some(PackageProperty::WasInstalled) => None,
+        Some(PackageProperty::Recommends) => declarations.wrong_kind("recommends", text),
+        None => declarations.wrong_kind(name, text),
     }
 }

@@ -103,7 +103,7 @@ impl<'t> PackageFields<'t> {
             }
             Some(PackageProperty::WasInstalled) => Ok(None),
             Some(PackageProperty::Recommends) => self.set_recommends(alloc, declarations, text),
-            None => declarations.wrong_kind(alloc, name, text),
+            None => Ok(declarations.wrong_kind(name, text)),
         }
     }
 
@@ -120,7 +120,7 @@ impl<'t> PackageFields<'t> {
             ≡ with_package_property declarations.now (Some Recommends) text.now (package_fields_view self.old)) }
     {
         if !declarations.has_recommends() {
-            return declarations.wrong_kind(alloc, "recommends", text);
+            return Ok(declarations.wrong_kind("recommends", text));
         }
         self.recommends = read_formula(alloc, text)?;
         Ok(mistyped_unless(self.recommends.is_some()))

@@ -95,21 +95,23 @@ joins_all ls (part ∷ parts) is = sym is.0
 
 -- ---- a whole text
 
-whole_lines : (ls : List NumberedLine) (fault : Option Fault) (n : ℕ)
-    → ◌≡◌ {A = Left} (plain_left (record { stanzas = stanzas_of ls; fault = fault; lines = n }))
-    (record { text = record { stanzas = plain.stanzas_of ls; fault = fault; lines = n }; joins = joins ls })
-whole_lines ls fault n = λ i. let l : Left = record {
+whole_lines : (source : List ℕ) (ls : List NumberedLine) (fault : Option Fault) (n : ℕ)
+    → ◌≡◌ {A = Left} (plain_left source (record { stanzas = stanzas_of ls; fault = fault; lines = n }))
+    (record { source = source; text = record { stanzas = plain.stanzas_of ls; fault = fault; lines = n }; joins = joins ls })
+whole_lines source ls fault n = λ i. let l : Left = record {
+  source = source;
   text = record { stanzas = plain-stanzas (slice_split is_blank_line ls) i; fault = fault; lines = n };
   joins = (owned-stanzas (slice_split is_blank_line ls) ∙ joins_all ls _ (joins_in ls)) i;
 } in l
 
 pub whole : (text : List ℕ)
-    → ◌≡◌ {A = Left} (plain_left (record { stanzas = stanzas_of (read_after blank (judged_lines text)); fault = fault_after blank (judged_lines text); lines = length (lines text) }))
-    (record { text = plain_text text; joins = joined_values text })
+    → ◌≡◌ {A = Left} (plain_left text (record { stanzas = stanzas_of (read_after blank (judged_lines text)); fault = fault_after blank (judged_lines text); lines = length (lines text) }))
+    (record { source = text; text = plain_text text; joins = joined_values text })
 unfolding plain_text joined_values
 whole text =
-    whole_lines (read_after blank (judged_lines text)) (fault_after blank (judged_lines text)) (length (lines text))
+    whole_lines text (read_after blank (judged_lines text)) (fault_after blank (judged_lines text)) (length (lines text))
     ∙ (λ i. let l : Left = record {
+      source = text;
       text = record { stanzas = plain.stanzas_of (sym (read_lines-is text) i); fault = sym (first_fault-is text) i; lines = length (lines text) };
       joins = joins (sym (read_lines-is text) i);
     } in l)
@@ -124,8 +126,10 @@ owned-tracked : (ps : List Property) → owned_of (map tracked_property ps) ≡ 
 owned-tracked [] = refl
 owned-tracked (p ∷ ps) = ap (λ bs. owned_in (p ∷ []) ++ bs) (owned-tracked ps)
 
-pub plain-next : (n : Next) (ps : List Property) (left : TrackedText) → plain_left (with_tracked n ps left) ≡ with_next n ps (plain_left left)
-plain-next (next.Stanza line last) ps left = λ i. let l : Left = record {
+pub plain-next : (source : List ℕ) (n : Next) (ps : List Property) (left : TrackedText)
+    → plain_left source (with_tracked n ps left) ≡ with_next n ps (plain_left source left)
+plain-next source (next.Stanza line last) ps left = λ i. let l : Left = record {
+  source = source;
   text = record {
     stanzas = record { line = line; last = last; properties = plain-tracked ps i } ∷ map plain_stanza left.stanzas;
     fault = left.fault;
@@ -133,4 +137,4 @@ plain-next (next.Stanza line last) ps left = λ i. let l : Left = record {
   };
   joins = owned-tracked ps i ++ flat_map (λ s. owned_of s.properties) left.stanzas;
 } in l
-plain-next (next.End fault lines) ps left = refl
+plain-next source (next.End fault lines) ps left = refl

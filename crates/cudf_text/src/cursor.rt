@@ -1,4 +1,5 @@
-ghost use Rattle.std.specs.Prelude.{◌≡◌, map, IfOk};
+ghost use Rattle.std.specs.Prelude.{◌≡◌, [], map, IfOk, IsTrue};
+ghost use Rattle.cudf_text.specs.Cursor.{is_end};
 ghost use Rattle.cudf_text.specs.Lines.{class};
 ghost use Rattle.cudf_text.specs.Working.Left.{text_left, with_tracked, IsCounted};
 ghost use Rattle.cudf_text.specs.Working.Steps.{open_state, step, stepped, extend_last, value_onto};
@@ -25,6 +26,7 @@ pub enum Next {
 /// A text's stanzas, each of which is read as it is asked for.
 #[derive(Drop)]
 pub struct Stanzas<'a> {
+    source: &'a str,
     place: Place<'a>,
 }
 
@@ -35,24 +37,26 @@ impl<'a> Model for Stanzas<'a> {
 
     ghost Value = { Left };
 
-    ghost view = { λ s. plain_left (text_left s.place) };
+    ghost view = { λ s. plain_left s.source.now (text_left s.place) };
 
     ghost invariant = { λ s. IsCounted s.place };
 }
 
 impl<'a> Stanzas<'a> {
-    ghost use Rattle.std.specs.Prelude.{◌≡◌, IfOk, IfErr};
+    ghost use Rattle.std.specs.Prelude.{◌≡◌, [], IfOk, IfErr, IsTrue};
     ghost use Rattle.cudf_text.specs.Stanzas.{plain_text};
     ghost use Rattle.cudf_text.specs.Borrows.{joined_values};
-    ghost use Rattle.cudf_text.specs.Cursor.{with_next};
+    ghost use Rattle.cudf_text.specs.Cursor.{with_next, is_end};
     ghost use Rattle.cudf_text.specs.Views.{text_view, owned_values};
 
     /// All stanzas of a text.
     pub fn new(source: &'a str) -> Self
+        ensures source { result.source ≡ source.now }
         ensures text { result.text ≡ plain_text source.now }
         ensures joins { result.joins ≡ joined_values source.now }
     {
         Stanzas {
+            source,
             place: Place {
                 rest: source,
                 lines: 0,
@@ -61,7 +65,8 @@ impl<'a> Stanzas<'a> {
         }
     }
 
-    /// Reads the next stanza into the list, in place of what was there.
+    /// Reads the next stanza into the list, in place of what was there. Once it has said `End` it
+    /// says so again.
     pub fn next(
         &mut self,
         alloc: Global,
@@ -70,27 +75,44 @@ impl<'a> Stanzas<'a> {
         // What was left is what was read, then what is left now.
         ensures read { IfOk result (λ next.
             self.old ≡ with_next next properties.new.items self.new) }
-        // Without memory nothing is passed over.
+        // At the end the cursor stays where it is, with the fault and the number of lines,
+        ensures end { IfOk result (λ next. IsTrue (is_end next) → self.new ≡ self.old) }
+        // and the list is empty.
+        ensures nothing { IfOk result (λ next. IsTrue (is_end next) → properties.new.items ≡ []) }
+        // Without memory nothing is passed over,
         ensures kept { IfErr result (λ _. self.new ≡ self.old) }
+        // and the list is empty.
+        ensures emptied { IfErr result (λ _. properties.new.items ≡ []) }
     {
-        let (next, place) = read_stanza(alloc, self.place, properties)?;
-        self.place = place;
-        Ok(next)
+        match read_stanza(alloc, self.place, properties) {
+            Ok((next, place)) => {
+                self.place = place;
+                Ok(next)
+            }
+            Err(error) => {
+                properties.clear();
+                Err(error)
+            }
+        }
     }
 
     /// A cursor of its own over what is left. Takes no memory.
     pub fn fork(&self) -> Self
         ensures { result ≡ self.now }
     {
-        Stanzas { place: self.place }
+        Stanzas {
+            source: self.source,
+            place: self.place,
+        }
     }
 
-    /// Reads all that is left, as a text of the lines that are left.
+    /// Reads the stanzas that are left, as a text of the same source.
     pub fn read_rest(self, alloc: Global) -> Result<Text<'a>, AllocError>
+        ensures source { IfOk result (λ t. t.source.now ≡ self.entry.source) }
         ensures text { IfOk result (λ t. text_view t ≡ self.entry.text) }
         ensures borrowed { IfOk result (λ t. owned_values t ≡ self.entry.joins) }
     {
-        read_left(alloc, self.place.rest, self)
+        read_left(alloc, self.source, self)
     }
 }
 
@@ -114,6 +136,8 @@ fn read_stanza<'a>(
     requires { IsCounted place }
     ensures read { IfOk result (λ r.
         text_left place.entry ≡ with_tracked r.0 properties.new.items (text_left r.1)) }
+    ensures end { IfOk result (λ r. IsTrue (is_end r.0) → text_left r.1 ≡ text_left place.entry) }
+    ensures nothing { IfOk result (λ r. IsTrue (is_end r.0) → properties.new.items ≡ []) }
     ensures counted { IfOk result (λ r. IsCounted r.1) }
 {
     let mut place = place;

@@ -39,6 +39,7 @@ pub fn read<'a>(alloc: Global, bytes: &'a [u8]) -> Result<Text<'a>, TextError>
 /// aren't UTF-8. Takes no memory.
 pub fn stanzas(bytes: &[u8]) -> Result<Stanzas<'_>, Fault>
     ensures utf8 { IfOk result (λ s. IsUtf8 bytes.now × (s.text ≡ plain_text bytes.now)) }
+    ensures source { IfOk result (λ s. s.source ≡ bytes.now) }
     ensures joins { IfOk result (λ s. s.joins ≡ joined_values bytes.now) }
     ensures fault { IfErr result (λ f. (¬ (IsUtf8 bytes.now)) × (f ≡ utf8_fault bytes.now)) }
 {

@@ -7,6 +7,7 @@ pub mod NumberLemmas
 pub mod PartsLemmas
 pub mod PiecesLemmas
 pub mod LexStatesLemmas
+mod MadeLemmas
 pub mod PrintingLemmas
 pub mod ReadBack
 mod TokenLemmas

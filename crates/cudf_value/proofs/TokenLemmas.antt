@@ -14,7 +14,7 @@ use Rattle.cudf_value.specs.Tokens.{Inner, plain, escaped, Item, char_item, quot
 
 -- ---- the pieces of a text that begins in a state
 
-abbrev cut_from : LexState → List ℕ → List (List ℕ)
+abbrev pub cut_from : LexState → List ℕ → List (List ℕ)
 cut_from state text = map characters (slice_split separates (with_states state text))
 
 characters-onto : (x : LexState × ℕ) (parts : List (List (LexState × ℕ))) → map characters (onto_first x parts) ≡ onto_first x.1 (map characters parts)
@@ -140,9 +140,9 @@ passes_token (bracketed items) is other =
 
 -- ---- all tokens
 
-record IsCut (tokens : List Token) : Type 0 where
-  ends : state_after Outside (text_of tokens) ≡ Outside
-  parts : cut_from Outside (text_of tokens) ≡ map text_of (slice_split is_comma tokens)
+pub record IsCut (tokens : List Token) : Type 0 where
+  pub ends : state_after Outside (text_of tokens) ≡ Outside
+  pub parts : cut_from Outside (text_of tokens) ≡ map text_of (slice_split is_comma tokens)
 
 token-onto : (token : Token) (parts : List (List Token)) → 0 < length parts → onto (token_text token) (map text_of parts) ≡ map text_of (onto_first token parts)
 token-onto token [] some = absurd (omega arith)
@@ -153,7 +153,7 @@ comma_is (char b) is = ap (λ x. char x) (eqb-true b 44 is)
 comma_is (quoted inner) is = absurd cc
 comma_is (bracketed items) is = absurd cc
 
-is_cut : (tokens : List Token) → list_all is_token tokens ≡ true → IsCut tokens
+pub is_cut : (tokens : List Token) → list_all is_token tokens ≡ true → IsCut tokens
 is_cut [] all = record { ends = refl; parts = refl }
 is_cut (token ∷ tokens) all = by (is_comma token) refl (is_cut tokens each.1)
   where

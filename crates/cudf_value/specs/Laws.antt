@@ -1,10 +1,10 @@
 -- Laws over the definitions alone.
-use Rattle.std.specs.Prelude.{◌≡◌, ℕ, ◌^◌, ◌<◌, true, List, map, Option, Some, IfSome}
-use Rattle.std.specs.List.{list_all, slice_split, join_with_byte}
+use Rattle.std.specs.Prelude.{◌≡◌, ℕ, ◌^◌, ◌<◌, true, List, map, Option, Some, IfSome, ◌↔◌}
+use Rattle.std.specs.List.{list_all, flat_map, slice_split, join_with_byte}
 use Rattle.std.specs.Str.{byte}
 use Rattle.cudf_value.specs.declared.relop.Relop.{Relop}
-use Rattle.cudf_value.specs.LexStates.{pieces}
-use Rattle.cudf_value.specs.Tokens.{Token, is_token, is_comma, text_of}
+use Rattle.cudf_value.specs.LexStates.{pieces, is_quotable}
+use Rattle.cudf_value.specs.Tokens.{Inner, Token, is_inner, is_token, is_comma, inner_text, text_of}
 use Rattle.cudf_value.specs.Vpkgs.{PlainVpkg, vpkg}
 use Rattle.cudf_value.specs.Printing.{vpkg_text}
 
@@ -23,3 +23,12 @@ PiecesJoinToText text = IfSome (pieces text) (λ ps. join_with_byte (byte ",") p
 -- what is made of tokens is cut at their commas, and nowhere inside quotes or brackets
 abbrev pub IsCutAtCommas : Type 0
 IsCutAtCommas = (tokens : List Token) → list_all is_token tokens ≡ true → pieces (text_of tokens) ≡ Some (map text_of (slice_split is_comma tokens))
+
+-- a text that has pieces is made of tokens, and its pieces of those between their commas
+abbrev pub IsMadeOfTokens : List ℕ → Type 0
+IsMadeOfTokens text = IfSome (pieces text) (λ ps.
+    (tokens : List Token) × (list_all is_token tokens ≡ true) × (text_of tokens ≡ text) × (map text_of (slice_split is_comma tokens) ≡ ps))
+
+-- a text can stand between quotes exactly where it is made of what stands between quotes
+abbrev pub IsQuotableAsMade : List ℕ → Type 0
+IsQuotableAsMade text = (is_quotable text ≡ true) ↔ ((inner : List Inner) × (list_all is_inner inner ≡ true) × (flat_map inner_text inner ≡ text))

@@ -31,8 +31,7 @@ pub struct Declaration<'t> {
 ///
 /// # Errors
 ///
-/// `AllocError` where memory is refused for the declarations, for an enum's idents, or for reading a default that is a
-/// list or a formula.
+/// `AllocError` where memory is refused for the declarations or for an enum's idents.
 pub fn read_declarations(
     alloc: Global,
     text: &str,
@@ -83,38 +82,33 @@ fn declaration_of(alloc: Global, piece: &str) -> Result<Option<Declaration<'_>>,
         return Ok(None);
     }
     match type_of(alloc, trim_start(after(rest, 1)))? {
-        Some((kind, rest)) => with_kind(alloc, name, kind, trim_start(rest)),
+        Some((kind, rest)) => Ok(with_kind(name, kind, trim_start(rest))),
         None => Ok(None),
     }
 }
 
 /// The declaration of a name and a type, with `rest` after them: nothing, or `=` and a default.
-fn with_kind<'t>(
-    alloc: Global,
-    name: &'t str,
-    kind: ValueType<'t>,
-    rest: &'t str,
-) -> Result<Option<Declaration<'t>>, AllocError>
-    ensures { IfOk result (λ r. option_map declaration_view r ≡ with_kind name.now (type_view kind.entry) rest.now) }
+fn with_kind<'t>(name: &'t str, kind: ValueType<'t>, rest: &'t str) -> Option<Declaration<'t>>
+    ensures { option_map declaration_view result ≡ with_kind name.now (type_view kind.entry) rest.now }
 {
     if rest.is_empty() {
-        return Ok(Some(Declaration {
+        return Some(Declaration {
             name,
             kind,
             default: None,
-        }));
+        });
     }
     if first_byte(rest) != b'=' {
-        return Ok(None);
+        return None;
     }
     let default = without_brackets(trim(after(rest, 1)));
-    if is_default(alloc, &kind, default)? {
-        Ok(Some(Declaration {
+    if is_default(&kind, default) {
+        Some(Declaration {
             name,
             kind,
             default: Some(default),
-        }))
+        })
     } else {
-        Ok(None)
+        None
     }
 }

@@ -1,5 +1,5 @@
 //! Defaults of declarations.
-ghost use Rattle.std.specs.Prelude.{◌≡◌, IfOk};
+ghost use Rattle.std.specs.Prelude.{◌≡◌};
 ghost use Rattle.cudf_value.specs.Types.{type_view};
 ghost use Rattle.cudf_value.specs.LexStates.{is_quotable};
 ghost use Rattle.cudf_value.specs.Declarations.{without_brackets, takes_quoted, is_default};
@@ -8,7 +8,6 @@ use crate::lex_state::LexState;
 use crate::text::{between, first_byte};
 use crate::value_type::{ValueType, is_of_type, is_one_of};
 use cudf_text::trim;
-use std::alloc::{AllocError, Global};
 
 /// The text without brackets round it.
 pub(crate) fn without_brackets(text: &str) -> &str
@@ -21,23 +20,19 @@ pub(crate) fn without_brackets(text: &str) -> &str
 }
 
 /// Whether the text is a default of the type.
-pub(crate) fn is_default(
-    alloc: Global,
-    kind: &ValueType<'_>,
-    text: &str,
-) -> Result<bool, AllocError>
-    ensures { IfOk result (λ b. b ≡ is_default (type_view kind.now) text.now) }
+pub(crate) fn is_default(kind: &ValueType<'_>, text: &str) -> bool
+    ensures { result ≡ is_default (type_view kind.now) text.now }
 {
     if first_byte(text) == b'"' {
-        return Ok(match between(text, b'"', b'"') {
+        return match between(text, b'"', b'"') {
             Some(inner) => is_quotable(inner) && takes_quoted(kind, inner),
             None => false,
-        });
+        };
     }
     if text.as_bytes().contains(&b'"') {
-        return Ok(false);
+        return false;
     }
-    is_of_type(alloc, kind, text)
+    is_of_type(kind, text)
 }
 
 /// Whether the type takes this text in quotes.

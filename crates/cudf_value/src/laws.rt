@@ -1,7 +1,7 @@
 //! Laws over the definitions alone, each the contract of a function without effect.
 ghost use Rattle.std.specs.Prelude.{IsTrue};
 ghost use Rattle.cudf_value.specs.Words.{is_pkgname};
-ghost use Rattle.cudf_value.specs.Laws.{IsCutAtCommas, IsPosintBound, IsReadBack, PiecesJoinToText};
+ghost use Rattle.cudf_value.specs.Laws.{IsCutAtCommas, IsMadeOfTokens, IsPosintBound, IsQuotableAsMade, IsReadBack, PiecesJoinToText};
 
 use crate::relop::Relop;
 
@@ -13,8 +13,11 @@ pub fn read_back(_name: &str, _bound: Option<(Relop, u64)>)
 {}
 
 /// A declaration's pieces, with commas between them, are its text; and a text of characters, quoted texts and texts in
-/// brackets is cut at the commas among its characters, never inside quotes or brackets.
+/// brackets is cut at the commas among its characters, never inside quotes or brackets. No other text has pieces, and
+/// none stands between quotes but one of characters and escapes.
 pub fn cut(text: &[u8])
     ensures joined { PiecesJoinToText text.now }
     ensures commas { IsCutAtCommas }
+    ensures made { IsMadeOfTokens text.now }
+    ensures quotable { IsQuotableAsMade text.now }
 {}

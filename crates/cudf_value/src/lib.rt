@@ -24,7 +24,7 @@ pub use declaration::{Declaration, read_declarations};
 pub use formula::{Atom, Clause, Formula, is_formula, read_formula};
 pub use number::{read_int, read_nat, read_posint};
 pub use relop::{Relop, meets};
-pub use value_type::{ValueType, fits};
+pub use value_type::{ValueType, fits, is_of_type};
 pub use vpkg::{Vpkg, read_veqpkg, read_vpkg};
 pub use vpkglist::{is_veqpkglist, is_vpkglist, read_veqpkglist, read_vpkglist};
 pub use word::{is_pkgname, read_bool};

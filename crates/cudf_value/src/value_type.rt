@@ -1,5 +1,5 @@
 //! CUDF's types.
-ghost use Rattle.std.specs.Prelude.{◌≡◌, IfOk, bytes_eq};
+ghost use Rattle.std.specs.Prelude.{◌≡◌, Ok, bytes_eq};
 ghost use Rattle.std.specs.List.{list_any};
 ghost use Rattle.cudf_text.specs.Chars.{trim};
 ghost use Rattle.cudf_value.specs.Types.{type_view, is_of_type};
@@ -43,30 +43,16 @@ pub enum ValueType<'t> {
     ExactList,
 }
 
-/// Whether the whole text, but for blanks round it, is of the type.
-///
-/// # Errors
-///
-/// `AllocError` where memory is refused for reading a list or a formula.
+/// Whether the whole text, but for blanks round it, is of the type. Takes no memory, and always
+/// succeeds.
 pub fn fits(alloc: Global, kind: &ValueType<'_>, text: &str) -> Result<bool, AllocError>
-    ensures { IfOk result (λ b. b ≡ is_of_type (type_view kind.now) (trim text.now)) }
+    ensures { result ≡ Ok (is_of_type (type_view kind.now) (trim text.now)) }
 {
-    is_of_type(alloc, kind, trim(text))
-}
-
-/// Whether the whole text is of the type.
-pub(crate) fn is_of_type(
-    alloc: Global,
-    kind: &ValueType<'_>,
-    text: &str,
-) -> Result<bool, AllocError>
-    ensures { IfOk result (λ b. b ≡ is_of_type (type_view kind.now) text.now) }
-{
-    Ok(has_type(kind, text))
+    Ok(is_of_type(kind, trim(text)))
 }
 
 /// Whether the whole text is of the type. Takes no memory.
-pub(crate) fn has_type(kind: &ValueType<'_>, text: &str) -> bool
+pub fn is_of_type(kind: &ValueType<'_>, text: &str) -> bool
     ensures { result ≡ is_of_type (type_view kind.now) text.now }
 {
     match kind {

@@ -62,8 +62,9 @@ plain_stanza s = record { line = s.line; last = s.last; properties = map plain_p
 abbrev pub owned_of : List TrackedProperty → List Bool
 owned_of ps = map (λ p. p.value.owned) ps
 
-abbrev pub plain_left : TrackedText → Left
-plain_left t = record {
+abbrev pub plain_left : List ℕ → TrackedText → Left
+plain_left source t = record {
+  source = source;
   text = record { stanzas = map plain_stanza t.stanzas; fault = t.fault; lines = t.lines };
   joins = flat_map (λ s. owned_of s.properties) t.stanzas;
 }

@@ -1,7 +1,7 @@
 use Rattle.std.proofs.Common.{sym, ap, refl, ◌∙◌}
 use Rattle.cudf_document.specs.Working.Lines.{line_view}
 use Rattle.cudf_document.specs.Working.PackageFields.{package_fields_view, package_fields_of, with_package_property, without_needs}
-use Rattle.cudf_document.proofs.ListLemmas.{OnOk-always, OnOk-along}
+use Rattle.cudf_document.proofs.ListLemmas.{OnOk-along}
 use Rattle.cudf_document.proofs.PackageLemmas.{bare-need, bare-other}
 use Rattle.cudf_document.proofs.bare_package.BarePackageFields.set.Goals as goal
 
@@ -9,7 +9,7 @@ pub returns-then-is_need-clause-read : goal.returns-then-is_need-clause-read
 returns-then-is_need-clause-read c =
     let p = line_view c.args.line in
     let ds = c.args.declarations.now in
-    λ ps new is. OnOk-always c.judge.result (is ∙ bare-need ds ps p c.package_property_named-named.result c.package_property_named-named.ensures (sym c.is_need.ensures ∙ c.if-is_need.true) new)
+    λ ps new is. is ∙ bare-need ds ps p c.package_property_named-named.result c.package_property_named-named.ensures (sym c.is_need.ensures ∙ c.if-is_need.true) new
 
 pub returns-clause-read : goal.returns-clause-read
 returns-clause-read c =

@@ -5,9 +5,9 @@ use Rattle.cudf_document.specs.Working.PackageFields.{wrong_kind}
 use Rattle.cudf_document.proofs.DeclarationLemmas.{test_of-declared}
 use Rattle.cudf_document.proofs.declarations.Declarations.wrong_kind.Goals as goal
 
-pub returns-in_ok-fits-in-Some : goal.returns-in_ok-fits-in-Some
-returns-in_ok-fits-in-Some c =
-    c.mistyped_unless.ensures ∙ ap (λ b. if b then None else Some E9) c.in_ok-fits-in-Some.ensures
+pub returns-in-Some : goal.returns-in-Some
+returns-in-Some c =
+    c.mistyped_unless.ensures ∙ ap (λ b. if b then None else Some E9) c.fits.ensures
     ∙ ap (λ t. wrong_kind t c.args.text.now)
     (sym (test_of-declared c.args.name.now c.args.self.now ∙ ap (option_map (λ d. (declared_test d).1)) (sym c.in-Some.ensures)))
 

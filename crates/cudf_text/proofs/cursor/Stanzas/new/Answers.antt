@@ -1,4 +1,4 @@
-use Rattle.std.proofs.Common.{zero-add, length, ap, ◌∙◌}
+use Rattle.std.proofs.Common.{zero-add, length, refl, ap, ◌∙◌}
 use Rattle.cudf_text.specs.Cursor.{Left}
 use Rattle.cudf_text.specs.Lines.{blank, lines, judged_lines}
 use Rattle.cudf_text.specs.Working.Reading.{read_after, fault_after}
@@ -10,6 +10,6 @@ pub returns : goal.returns
 returns c =
     let source = c.args.source.now in
     let judged = judged_lines source in
-    let is = ap (λ n. plain_left (record { stanzas = stanzas_of (read_after blank judged); fault = fault_after blank judged; lines = n })) (zero-add (length (lines source)))
+    let is = ap (λ n. plain_left source (record { stanzas = stanzas_of (read_after blank judged); fault = fault_after blank judged; lines = n })) (zero-add (length (lines source)))
     ∙ whole source in
-    record { text = ap (λ (l : Left). l.text) is; joins = ap (λ (l : Left). l.joins) is }
+    record { source = refl; text = ap (λ (l : Left). l.text) is; joins = ap (λ (l : Left). l.joins) is }

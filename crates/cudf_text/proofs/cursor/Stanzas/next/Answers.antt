@@ -4,6 +4,11 @@ use Rattle.cudf_text.specs.Working.Tracked.{plain_left}
 use Rattle.cudf_text.proofs.TrackedLemmas.{plain-next}
 use Rattle.cudf_text.proofs.cursor.Stanzas.next.Goals as goal
 
-pub returns-clause-read : goal.returns-clause-read
-returns-clause-read c =
-    sym c.self.view_is ∙ ap plain_left c.in_ok-next.ensures.read ∙ plain-next c.in_ok-next.next c.read_stanza.new.properties.items (text_left c.in_ok-next.place)
+pub returns-in-Ok-clause-read : goal.returns-in-Ok-clause-read
+returns-in-Ok-clause-read c =
+    let source = c.self.inside.source.now in
+    sym c.self.view_is ∙ ap (plain_left source) c.in-Ok.ensures.read ∙ plain-next source c.in-Ok.next c.read_stanza.new.properties.items (text_left c.in-Ok.place)
+
+pub returns-in-Ok-clause-end : goal.returns-in-Ok-clause-end
+returns-in-Ok-clause-end c = λ ends.
+    ap (plain_left c.self.inside.source.now) (c.in-Ok.ensures.end ends) ∙ c.self.view_is

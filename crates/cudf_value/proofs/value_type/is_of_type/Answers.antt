@@ -1,7 +1,7 @@
 use Rattle.std.proofs.Common.{ℕ, Bool, List, bytes_eq, Bor, ap, sym, ◌∙◌}
 use Rattle.std.specs.List.{list_any}
 use Rattle.cudf_value.proofs.TypeLemmas.{list_any-map}
-use Rattle.cudf_value.proofs.value_type.has_type.Goals as goal
+use Rattle.cudf_value.proofs.value_type.is_of_type.Goals as goal
 
 pub returns-in-Choice : goal.returns-in-Choice
 returns-in-Choice c =
