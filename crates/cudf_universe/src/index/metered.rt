@@ -43,6 +43,7 @@ impl<'i, 'p, 't> Metered<'i, 'p, 't> {
         ensures answer { result ≡ satisfies self.old.status (vpkg_view vpkg.now) }
         ensures status { self.new.status ≡ self.old.status }
         ensures price { self.new.steps ≤ self.old.steps + search_cost self.old.status vpkg.now.name.now }
+        ensures grows { self.old.steps + 1 ≤ self.new.steps }
     {
         self.index.satisfies_counting(vpkg, &mut self.steps)
     }
@@ -52,6 +53,7 @@ impl<'i, 'p, 't> Metered<'i, 'p, 't> {
         ensures answer { result ≡ satisfies_clause self.old.status (clause_view clause.now) }
         ensures status { self.new.status ≡ self.old.status }
         ensures price { self.new.steps ≤ self.old.steps + clause_cost self.old.status (clause_view clause.now) }
+        ensures grows { self.old.steps ≤ self.new.steps }
     {
         self.index
             .satisfies_clause_counting(clause, &mut self.steps)
@@ -63,6 +65,7 @@ impl<'i, 'p, 't> Metered<'i, 'p, 't> {
         ensures answer { result ≡ satisfies (without place self.old.status) (vpkg_view vpkg.now) }
         ensures status { self.new.status ≡ self.old.status }
         ensures price { self.new.steps ≤ self.old.steps + (search_cost self.old.status vpkg.now.name.now + own_cost self.old.status place) }
+        ensures grows { self.old.steps + 1 ≤ self.new.steps }
     {
         self.index
             .satisfies_without_counting(vpkg, place, &mut self.steps)
@@ -73,6 +76,7 @@ impl<'i, 'p, 't> Metered<'i, 'p, 't> {
         ensures least { IsLeast (numbers_of name.now self.old.status) result }
         ensures status { self.new.status ≡ self.old.status }
         ensures price { self.new.steps ≤ self.old.steps + 2 }
+        ensures grows { self.old.steps + 1 ≤ self.new.steps }
     {
         self.index.least_counting(name, &mut self.steps)
     }
@@ -82,6 +86,7 @@ impl<'i, 'p, 't> Metered<'i, 'p, 't> {
         ensures greatest { IsGreatest (numbers_of name.now self.old.status) result }
         ensures status { self.new.status ≡ self.old.status }
         ensures price { self.new.steps ≤ self.old.steps + 2 }
+        ensures grows { self.old.steps + 1 ≤ self.new.steps }
     {
         self.index.greatest_counting(name, &mut self.steps)
     }

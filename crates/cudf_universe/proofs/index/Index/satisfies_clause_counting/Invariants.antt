@@ -9,3 +9,4 @@ abbrev pub invariant-loop-atom : goal.invariant-loop-atom
 invariant-loop-atom l =
     (list_any (λ a. satisfies_atom l.self (atom_view a)) (take l.atom-index l.atom-items) ≡ false)
     × (l.steps ≤ l.fn.steps + sum_by (λ a. atom_cost l.self (atom_view a)) (take l.atom-index l.atom-items))
+    × (l.fn.steps ≤ l.steps)
