@@ -4,7 +4,7 @@ ghost use Rattle.std.specs.List.{count_by, list_any};
 ghost use Rattle.std.specs.FinSet as set;
 ghost use Rattle.cudf_value.specs.Formulas.{atom_view, clause_view};
 ghost use Rattle.cudf_value.specs.Vpkgs.{vpkg_view, meets};
-ghost use Rattle.cudf_universe.specs.Prices.{digits, search_cost, atom_cost, clause_cost, own_cost};
+ghost use Rattle.cudf_universe.specs.Prices.{digits, search_cost, atom_cost, atom_lookups, clause_cost, clause_lookups, own_cost};
 ghost use Rattle.cudf_universe.specs.Satisfaction.{members, satisfies, satisfies_atom, satisfies_clause, without, first_meeting, other_than, numbers_of, gives_all_versions, IsLeast, IsGreatest};
 ghost use Rattle.cudf_universe.specs.Working.Gathering.{row_of, given_of};
 ghost use Rattle.cudf_universe.specs.Working.Kept.{Keeps};
@@ -168,7 +168,7 @@ impl<'p, 't> Index<'p, 't> {
     pub(crate) fn satisfies_clause_counting(&self, clause: &Clause<'_>, steps: &mut Steps) -> bool
         ensures answer { result ≡ satisfies_clause self.now (clause_view clause.now) }
         ensures price { steps.new ≤ steps.old + clause_cost self.now (clause_view clause.now) }
-        ensures grows { steps.old ≤ steps.new }
+        ensures grows { steps.old + clause_lookups self.now (clause_view clause.now) ≤ steps.new }
     {
         for atom in &clause.atoms {
             if self.satisfies_atom_counting(atom, steps) {
@@ -181,7 +181,7 @@ impl<'p, 't> Index<'p, 't> {
     fn satisfies_atom_counting(&self, atom: &Atom<'_>, steps: &mut Steps) -> bool
         ensures answer { result ≡ satisfies_atom self.now (atom_view atom.now) }
         ensures price { steps.new ≤ steps.old + atom_cost self.now (atom_view atom.now) }
-        ensures grows { steps.old ≤ steps.new }
+        ensures grows { steps.old + atom_lookups (atom_view atom.now) ≤ steps.new }
     {
         match atom {
             Atom::Yes => true,

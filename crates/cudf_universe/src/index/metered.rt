@@ -2,7 +2,7 @@
 ghost use Rattle.std.specs.Prelude.{◌≡◌, ◌≤◌, ◌+◌};
 ghost use Rattle.cudf_value.specs.Formulas.{clause_view};
 ghost use Rattle.cudf_value.specs.Vpkgs.{vpkg_view};
-ghost use Rattle.cudf_universe.specs.Prices.{search_cost, clause_cost, own_cost};
+ghost use Rattle.cudf_universe.specs.Prices.{search_cost, clause_cost, clause_lookups, own_cost};
 ghost use Rattle.cudf_universe.specs.Satisfaction.{satisfies, satisfies_clause, without, numbers_of, IsLeast, IsGreatest};
 
 use crate::index::Index;
@@ -48,12 +48,13 @@ impl<'i, 'p, 't> Metered<'i, 'p, 't> {
         self.index.satisfies_counting(vpkg, &mut self.steps)
     }
 
-    /// `Index::satisfies_clause`, for the price of one search for each of the clause's vpkgs.
+    /// `Index::satisfies_clause`, for the price of one search for each of the clause's vpkgs. Those up to the first
+    /// atom that is satisfied are looked up.
     pub fn satisfies_clause_counted(&mut self, clause: &Clause<'_>) -> bool
         ensures answer { result ≡ satisfies_clause self.old.status (clause_view clause.now) }
         ensures status { self.new.status ≡ self.old.status }
         ensures price { self.new.steps ≤ self.old.steps + clause_cost self.old.status (clause_view clause.now) }
-        ensures grows { self.old.steps ≤ self.new.steps }
+        ensures grows { self.old.steps + clause_lookups self.old.status (clause_view clause.now) ≤ self.new.steps }
     {
         self.index
             .satisfies_clause_counting(clause, &mut self.steps)
