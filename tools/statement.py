@@ -13,6 +13,9 @@ The headline is the contract of `run`, a public function of the crate `cudf_chec
 The program has to call `run`, or `run_before_exit`, while there is one, whose contract has to be that of `run`
 word for word; and no other public function of `cudf_check` may write.
 
+A proof that is written by hand may set what contracts alone see as it likes. So the two functions of `Steps` that
+set a count are the only ones with such a proof: with a further one a count could be set back.
+
 What a file uses of `specs.declared` is made from src/ by the toolchain, and is no file of its own. The standard
 library and the crates from outside are believed as they are.
 
@@ -21,8 +24,8 @@ library and the crates from outside are believed as they are.
     statement.py --write   writes the table of docs/PROOFS.md anew
 
 Status 0: the table says what was computed. 1: it doesn't, or the headline rests on working state of proofs (a file
-in specs/Working, or in proofs/), or the program calls what doesn't carry it. 2: there is something that this script
-can't read or find: a `use` line, a type, a file.
+in specs/Working, or in proofs/), or the program calls what doesn't carry it, or there is a further proof by hand.
+2: there is something that this script can't read or find: a `use` line, a type, a file.
 """
 import functools
 import re
@@ -34,6 +37,10 @@ CRATES = ROOT / "crates"
 PROOFS = ROOT / "docs" / "PROOFS.md"
 BEGIN = "<!-- statement: written by tools/statement.py -->"
 END = "<!-- end of statement -->"
+
+# the functions that set a count of steps, and whose proofs are written by hand
+MARK = "crates/cudf_universe/proofs/steps/mark/Mark"
+PROOFS_BY_HAND = {f"{MARK}/grow/Proof.antt", f"{MARK}/new/Proof.antt"}
 
 # the entries of cudf_check that may carry the headline, and the laws that it leans on
 ENTRIES = ("run", "run_before_exit")
@@ -277,6 +284,15 @@ def check_program():
     called = [name for text in sources("cudf_program").values() for name in called_in(text)]
     if not called:
         raise Broken("the program calls neither `run` nor `run_before_exit` of cudf_check")
+
+
+def check_proofs_by_hand():
+    """Counts that contracts see are set by the functions of `PROOFS_BY_HAND`, and by nothing else."""
+    found = {str(path.relative_to(ROOT)) for path in CRATES.glob("*/proofs/**/Proof.antt")}
+    if more := sorted(found - PROOFS_BY_HAND):
+        raise Broken(f"{', '.join(more)}: a further proof by hand, which could set a count of steps")
+    if fewer := sorted(PROOFS_BY_HAND - found):
+        raise Layout(f"{', '.join(fewer)}: the proof by hand isn't found")
 
 
 # ---- types
@@ -587,6 +603,7 @@ def main(arguments):
     check_entries()
     check_writers()
     check_program()
+    check_proofs_by_hand()
     files = statement()
     computed = table(files)
     faults = [f"the headline rests on {path.relative_to(ROOT)}, which is for proofs alone"

@@ -20,9 +20,15 @@ class Copy(unittest.TestCase):
         for source in sorted((ROOT / "crates").glob("*/*")):
             if source.name in ("src", "specs"):
                 shutil.copytree(source, self.root / source.relative_to(ROOT))
+        for proof in sorted((ROOT / "crates").glob("*/proofs/**/Proof.antt")):
+            self.copy(proof)
         for file in ("crates.txt", "docs/PROOFS.md", "tools/statement.py"):
-            (self.root / file).parent.mkdir(exist_ok=True)
-            shutil.copy(ROOT / file, self.root / file)
+            self.copy(ROOT / file)
+
+    def copy(self, source):
+        path = self.root / source.relative_to(ROOT)
+        path.parent.mkdir(parents=True, exist_ok=True)
+        shutil.copy(source, path)
 
     def plant(self, file, old, new, behind=""):
         """Exchanges a text that stands once behind the place where `behind` begins."""
@@ -88,6 +94,26 @@ class Program(Copy):
     def test_another_writes(self):
         self.plant("cudf_check/src/report.rt", "pub(crate) fn answer_job<", "pub fn answer_job<")
         self.assert_refused(1, "`answer_job` of crates/cudf_check/src/report.rt writes beside `run`")
+
+
+class ProofsByHand(Copy):
+    MARK = "crates/cudf_universe/proofs/steps/mark/Mark"
+
+    def assert_refused_with(self, further):
+        path = self.root / further
+        path.parent.mkdir(parents=True, exist_ok=True)
+        shutil.copy(self.root / self.MARK / "new/Proof.antt", path)
+        self.assert_refused(1, f"{further}: a further proof by hand")
+
+    def test_beside_them(self):
+        self.assert_refused_with(f"{self.MARK}/set/Proof.antt")
+
+    def test_in_another_crate(self):
+        self.assert_refused_with("crates/cudf_referee/proofs/laws/empty/Proof.antt")
+
+    def test_not_found(self):
+        (self.root / self.MARK / "grow/Proof.antt").unlink()
+        self.assert_refused(2, f"{self.MARK}/grow/Proof.antt: the proof by hand isn't found")
 
 
 class Laws(Copy):

@@ -1,5 +1,6 @@
 //! What follows from the definitions alone.
-ghost use Rattle.std.specs.Prelude.{◌≡◌, ◌↔◌, true};
+ghost use Rattle.std.specs.Prelude.{◌≡◌, ◌↔◌, true, Some};
+ghost use Rattle.std.specs.Ordering.{is_lt, partial_lt};
 ghost use Rattle.cudf_referee.specs.KeyViews.{key_view};
 ghost use Rattle.cudf_referee.specs.Keys.{key_cmp};
 ghost use Rattle.cudf_referee.specs.Laws.{SolutionIsEmpty, ListingAscends, TextsTellKeys, PagesJoin, PagesSuffice, PagesAreBound, ThinIsEnough};
@@ -11,10 +12,12 @@ pub fn empty()
     ensures { SolutionIsEmpty }
 {}
 
-/// Keys are compared by part (packages by place, the request, the solution), rule, place and aspect, and
-/// are equal exactly where all of these are.
+/// Keys are compared by part (packages by place, the request, the solution), rule, place and aspect, by `cmp` as by
+/// `partial_cmp` and `<`, and are equal exactly where all of these are.
 pub fn order(left: Key, right: Key)
     ensures compared { ⟦<Key as Ord>⟧.cmp left right ≡ key_cmp (key_view left) (key_view right) }
+    ensures partial { ⟦<Key as PartialOrd>⟧.partial_cmp left right ≡ Some (key_cmp (key_view left) (key_view right)) }
+    ensures less { partial_lt ⟦<Key as PartialOrd>⟧.partial_cmp left right ≡ is_lt (key_cmp (key_view left) (key_view right)) }
     ensures equal { (⟦<Key as PartialEq>⟧.eq left right ≡ true) ↔ (key_view left ≡ key_view right) }
 {}
 

@@ -5,7 +5,7 @@ use Rattle.cudf_value.specs.Formulas.{truth_atom, falsehood_atom, named}
 use Rattle.cudf_document.specs.declared.package.Keep.TheVariants.{Nothing}
 use Rattle.cudf_document.specs.Universe.{PlainPackage}
 use Rattle.cudf_universe.specs.Satisfaction.{Placed, members}
-use Rattle.cudf_universe.specs.Prices.{digits_within, digits, entries, search_cost, clause_cost, own_cost}
+use Rattle.cudf_universe.specs.Prices.{digits_within, digits, entries, search_cost, clause_cost, clause_lookups, own_cost}
 
 digits_0 : digits 0 ≡ 0
 unfolding digits digits_within
@@ -71,6 +71,18 @@ search_of_g = refl
 clause : clause_cost both (truth_atom ∷ named (record { name = g; bound = Some (Gt, 2) }) ∷ falsehood_atom ∷ named (record { name = e; bound = None }) ∷ []) ≡ 8
 unfolding digits digits_within
 clause = refl
+
+-- no vpkg stands before `true!`: `true! | g > 2`
+lookups_before_truth : clause_lookups both (truth_atom ∷ named (record { name = g; bound = Some (Gt, 2) }) ∷ []) ≡ 0
+lookups_before_truth = refl
+
+-- the two vpkgs up to the first that is satisfied: `g > 2 | false! | e | g`
+lookups_to_first : clause_lookups both (named (record { name = g; bound = Some (Gt, 2) }) ∷ falsehood_atom ∷ named (record { name = e; bound = None }) ∷ named (record { name = g; bound = None }) ∷ []) ≡ 2
+lookups_to_first = refl
+
+-- each vpkg where none is satisfied: `g > 2 | false! | g > 2`
+lookups_of_all : clause_lookups both (named (record { name = g; bound = Some (Gt, 2) }) ∷ falsehood_atom ∷ named (record { name = g; bound = Some (Gt, 2) }) ∷ []) ≡ 2
+lookups_of_all = refl
 
 -- the package and its two entries
 own_of_second : own_cost both 2 ≡ 3

@@ -15,6 +15,7 @@ pub record Searched (xs : List ℕ) (bound low high from to : ℕ) : Type 0 wher
   pub below : (k : ℕ) → k < low → get_or xs k 0 < bound
   pub above : (k : ℕ) → high ≤ k → k < length xs → bound ≤ get_or xs k 0
   pub price : to + digits (high - low) ≤ from + digits (length xs)
+  pub grows : from ≤ to
 
 module _ (xs : List ℕ) (bound : ℕ) where
   pub searched_start : (from : ℕ) → IsNonDecreasing xs → Searched xs bound 0 (length xs) from from
@@ -28,6 +29,7 @@ module _ (xs : List ℕ) (bound : ℕ) where
         below = λ k h. absurd (omega arith);
         above = λ k h l. absurd (omega arith);
         price = omega (arith, same);
+        grows = omega arith;
       }
 
   pub searched_right : (low high from to next n middle : ℕ) → Searched xs bound low high from to → low < high → middle ≡ low + (high - low) / 2 → next ≡ to + 1 → ((d : ℕ) → n ≡ get_or xs middle d) → n < bound → Searched xs bound (middle + 1) high from next
@@ -40,6 +42,7 @@ module _ (xs : List ℕ) (bound : ℕ) where
         below = λ k h. omega (arith, s.ordered k middle 0 (omega arith) (omega (arith, s.within)), is 0);
         above = s.above;
         price = omega (arith, s.price, fewer);
+        grows = omega (arith, s.grows);
       }
 
   pub searched_left : (low high from to next n middle : ℕ) → Searched xs bound low high from to → low < high → middle ≡ low + (high - low) / 2 → next ≡ to + 1 → ((d : ℕ) → n ≡ get_or xs middle d) → bound ≤ n → Searched xs bound low middle from next
@@ -52,6 +55,7 @@ module _ (xs : List ℕ) (bound : ℕ) where
         below = s.below;
         above = λ k h l. omega (arith, s.ordered middle k 0 h l, is 0);
         price = omega (arith, s.price, fewer);
+        grows = omega (arith, s.grows);
       }
 
   pub searched_end : (low high from to : ℕ) → Searched xs bound low high from to → high ≤ low → low ≡ count_by (λ n. nat_lt n bound) xs

@@ -1,8 +1,8 @@
 -- What the counted calls cost (own): each look-up by name, each reading of an entry, and each own entry that is judged.
-use Rattle.std.specs.Prelude.{ℕ, zero, suc, ◌+◌, ◌*◌, ◌/◌, List, length, Option, Some, None, find, ◌==◌}
+use Rattle.std.specs.Prelude.{ℕ, zero, suc, ◌+◌, ◌*◌, ◌/◌, List, [], ◌∷◌, length, Option, Some, None, find, ◌==◌, if◌then◌else◌}
 use Rattle.std.specs.List.{sum_by}
 use Rattle.cudf_value.specs.Formulas.{PlainAtom, truth_atom, falsehood_atom, named}
-use Rattle.cudf_universe.specs.Satisfaction.{Placed, numbers_of}
+use Rattle.cudf_universe.specs.Satisfaction.{Placed, numbers_of, satisfies_atom}
 
 unfoldable pub digits_within : ℕ → ℕ → ℕ
 digits_within zero n = 0
@@ -30,6 +30,17 @@ atom_cost status (named v) = search_cost status v.name
 -- the atoms of a clause together
 abbrev pub clause_cost : List Placed → List PlainAtom → ℕ
 clause_cost status clause = sum_by (atom_cost status) clause
+
+-- a vpkg is looked up once, a constant never
+abbrev pub atom_lookups : PlainAtom → ℕ
+atom_lookups truth_atom = 0
+atom_lookups falsehood_atom = 0
+atom_lookups (named v) = 1
+
+-- the look-ups without which a clause can't be judged from left to right: its vpkgs up to the first atom that is satisfied
+abbrev pub clause_lookups : List Placed → List PlainAtom → ℕ
+clause_lookups status [] = 0
+clause_lookups status (atom ∷ atoms) = atom_lookups atom + (if satisfies_atom status atom then 0 else clause_lookups status atoms)
 
 -- a package and each entry of its `provides`
 abbrev pub own_entries : Option Placed → ℕ

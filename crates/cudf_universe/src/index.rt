@@ -4,7 +4,7 @@ ghost use Rattle.std.specs.List.{count_by, list_any};
 ghost use Rattle.std.specs.FinSet as set;
 ghost use Rattle.cudf_value.specs.Formulas.{atom_view, clause_view};
 ghost use Rattle.cudf_value.specs.Vpkgs.{vpkg_view, meets};
-ghost use Rattle.cudf_universe.specs.Prices.{digits, search_cost, atom_cost, clause_cost, own_cost};
+ghost use Rattle.cudf_universe.specs.Prices.{digits, search_cost, atom_cost, atom_lookups, clause_cost, clause_lookups, own_cost};
 ghost use Rattle.cudf_universe.specs.Satisfaction.{members, satisfies, satisfies_atom, satisfies_clause, without, first_meeting, other_than, numbers_of, gives_all_versions, IsLeast, IsGreatest};
 ghost use Rattle.cudf_universe.specs.Working.Gathering.{row_of, given_of};
 ghost use Rattle.cudf_universe.specs.Working.Kept.{Keeps};
@@ -156,9 +156,9 @@ impl<'p, 't> Index<'p, 't> {
     pub(crate) fn satisfies_counting(&self, vpkg: &Vpkg<'_>, steps: &mut Steps) -> bool
         ensures answer { result ≡ satisfies self.now (vpkg_view vpkg.now) }
         ensures price { steps.new ≤ steps.old + search_cost self.now vpkg.now.name.now }
+        ensures grows { steps.old + 1 ≤ steps.new }
     {
-        steps.tick();
-        match self.kept(vpkg.name) {
+        match self.look_up(vpkg.name, steps) {
             Some(entries) => entries.met(vpkg.bound, steps).exceeds(Met::none()),
             None => false,
         }
@@ -168,6 +168,7 @@ impl<'p, 't> Index<'p, 't> {
     pub(crate) fn satisfies_clause_counting(&self, clause: &Clause<'_>, steps: &mut Steps) -> bool
         ensures answer { result ≡ satisfies_clause self.now (clause_view clause.now) }
         ensures price { steps.new ≤ steps.old + clause_cost self.now (clause_view clause.now) }
+        ensures grows { steps.old + clause_lookups self.now (clause_view clause.now) ≤ steps.new }
     {
         for atom in &clause.atoms {
             if self.satisfies_atom_counting(atom, steps) {
@@ -180,6 +181,7 @@ impl<'p, 't> Index<'p, 't> {
     fn satisfies_atom_counting(&self, atom: &Atom<'_>, steps: &mut Steps) -> bool
         ensures answer { result ≡ satisfies_atom self.now (atom_view atom.now) }
         ensures price { steps.new ≤ steps.old + atom_cost self.now (atom_view atom.now) }
+        ensures grows { steps.old + atom_lookups (atom_view atom.now) ≤ steps.new }
     {
         match atom {
             Atom::Yes => true,
@@ -197,9 +199,9 @@ impl<'p, 't> Index<'p, 't> {
     ) -> bool
         ensures answer { result ≡ satisfies (without place self.now) (vpkg_view vpkg.now) }
         ensures price { steps.new ≤ steps.old + (search_cost self.now vpkg.now.name.now + own_cost self.now place) }
+        ensures grows { steps.old + 1 ≤ steps.new }
     {
-        steps.tick();
-        match self.kept(vpkg.name) {
+        match self.look_up(vpkg.name, steps) {
             Some(entries) => {
                 if entries.sole == Some(place) {
                     return false;
@@ -221,6 +223,7 @@ impl<'p, 't> Index<'p, 't> {
         requires { Keeps vpkg.now.name.now self.now (Some entries.now) }
         ensures answer { result ≡ satisfies (without place self.now) (vpkg_view vpkg.now) }
         ensures price { steps.new ≤ steps.old + (2 * digits (length entries.now.numbers) + own_cost self.now place) }
+        ensures grows { steps.old ≤ steps.new }
     {
         let all = entries.met(vpkg.bound, steps);
         if all.exceeds(Met::none()) {
@@ -233,9 +236,9 @@ impl<'p, 't> Index<'p, 't> {
     pub(crate) fn least_counting(&self, name: &str, steps: &mut Steps) -> Option<u64>
         ensures least { IsLeast (numbers_of name.now self.now) result }
         ensures price { steps.new ≤ steps.old + 2 }
+        ensures grows { steps.old + 1 ≤ steps.new }
     {
-        steps.tick();
-        match self.kept(name) {
+        match self.look_up(name, steps) {
             Some(entries) => entries.numbers.least(steps),
             None => None,
         }
@@ -245,12 +248,21 @@ impl<'p, 't> Index<'p, 't> {
     pub(crate) fn greatest_counting(&self, name: &str, steps: &mut Steps) -> Option<u64>
         ensures greatest { IsGreatest (numbers_of name.now self.now) result }
         ensures price { steps.new ≤ steps.old + 2 }
+        ensures grows { steps.old + 1 ≤ steps.new }
     {
-        steps.tick();
-        match self.kept(name) {
+        match self.look_up(name, steps) {
             Some(entries) => entries.numbers.greatest(steps),
             None => None,
         }
+    }
+
+    /// What is kept of a name, for one step: the only look-up of the calls that count.
+    fn look_up(&self, name: &str, steps: &mut Steps) -> Option<&Entries>
+        ensures kept { Keeps name.now self.now (option_map (λ e. e.now) result) }
+        ensures price { steps.new ≡ steps.old + 1 }
+    {
+        steps.tick();
+        self.kept(name)
     }
 
     /// What is kept of a name.
@@ -297,11 +309,12 @@ impl<'p, 't> Index<'p, 't> {
         ensures unversioned { count_by (λ given. bytes_eq given vpkg.now.name.now) (gives_all_versions self.now)
             ≡ count_by (λ given. bytes_eq given vpkg.now.name.now) (gives_all_versions (without place self.now)) + result.unversioned }
         ensures price { steps.new ≤ steps.old + own_cost self.now place }
+        ensures grows { steps.old ≤ steps.new }
     {
         let _ = &self.problem;
         match self.member(place) {
             Some(member) => {
-                steps.tick();
+                steps.grow_by(1);
                 steps.grow_by(member.package.provides.len());
                 Met {
                     numbers: member.numbers_met(vpkg),

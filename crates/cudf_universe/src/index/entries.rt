@@ -51,6 +51,7 @@ impl Entries {
         ensures numbers { result.numbers ≡ count_by (meets bound) self.now.numbers }
         ensures unversioned { result.unversioned ≡ (if is_below_one bound then 0 else self.now.unversioned) }
         ensures price { steps.new ≤ steps.old + 2 * digits (length self.now.numbers) }
+        ensures grows { steps.old ≤ steps.new }
     {
         let numbers = self.numbers.count(bound, steps);
         let unversioned = if is_below_one(bound) {

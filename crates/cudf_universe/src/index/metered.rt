@@ -2,7 +2,7 @@
 ghost use Rattle.std.specs.Prelude.{◌≡◌, ◌≤◌, ◌+◌};
 ghost use Rattle.cudf_value.specs.Formulas.{clause_view};
 ghost use Rattle.cudf_value.specs.Vpkgs.{vpkg_view};
-ghost use Rattle.cudf_universe.specs.Prices.{search_cost, clause_cost, own_cost};
+ghost use Rattle.cudf_universe.specs.Prices.{search_cost, clause_cost, clause_lookups, own_cost};
 ghost use Rattle.cudf_universe.specs.Satisfaction.{satisfies, satisfies_clause, without, numbers_of, IsLeast, IsGreatest};
 
 use crate::index::Index;
@@ -43,15 +43,18 @@ impl<'i, 'p, 't> Metered<'i, 'p, 't> {
         ensures answer { result ≡ satisfies self.old.status (vpkg_view vpkg.now) }
         ensures status { self.new.status ≡ self.old.status }
         ensures price { self.new.steps ≤ self.old.steps + search_cost self.old.status vpkg.now.name.now }
+        ensures grows { self.old.steps + 1 ≤ self.new.steps }
     {
         self.index.satisfies_counting(vpkg, &mut self.steps)
     }
 
-    /// `Index::satisfies_clause`, for the price of one search for each of the clause's vpkgs.
+    /// `Index::satisfies_clause`, for the price of one search for each of the clause's vpkgs. Those up to the first
+    /// atom that is satisfied are looked up.
     pub fn satisfies_clause_counted(&mut self, clause: &Clause<'_>) -> bool
         ensures answer { result ≡ satisfies_clause self.old.status (clause_view clause.now) }
         ensures status { self.new.status ≡ self.old.status }
         ensures price { self.new.steps ≤ self.old.steps + clause_cost self.old.status (clause_view clause.now) }
+        ensures grows { self.old.steps + clause_lookups self.old.status (clause_view clause.now) ≤ self.new.steps }
     {
         self.index
             .satisfies_clause_counting(clause, &mut self.steps)
@@ -63,6 +66,7 @@ impl<'i, 'p, 't> Metered<'i, 'p, 't> {
         ensures answer { result ≡ satisfies (without place self.old.status) (vpkg_view vpkg.now) }
         ensures status { self.new.status ≡ self.old.status }
         ensures price { self.new.steps ≤ self.old.steps + (search_cost self.old.status vpkg.now.name.now + own_cost self.old.status place) }
+        ensures grows { self.old.steps + 1 ≤ self.new.steps }
     {
         self.index
             .satisfies_without_counting(vpkg, place, &mut self.steps)
@@ -73,6 +77,7 @@ impl<'i, 'p, 't> Metered<'i, 'p, 't> {
         ensures least { IsLeast (numbers_of name.now self.old.status) result }
         ensures status { self.new.status ≡ self.old.status }
         ensures price { self.new.steps ≤ self.old.steps + 2 }
+        ensures grows { self.old.steps + 1 ≤ self.new.steps }
     {
         self.index.least_counting(name, &mut self.steps)
     }
@@ -82,6 +87,7 @@ impl<'i, 'p, 't> Metered<'i, 'p, 't> {
         ensures greatest { IsGreatest (numbers_of name.now self.old.status) result }
         ensures status { self.new.status ≡ self.old.status }
         ensures price { self.new.steps ≤ self.old.steps + 2 }
+        ensures grows { self.old.steps + 1 ≤ self.new.steps }
     {
         self.index.greatest_counting(name, &mut self.steps)
     }

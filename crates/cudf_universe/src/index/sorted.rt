@@ -46,6 +46,7 @@ impl Sorted {
     pub(crate) fn count(&self, bound: Option<(Relop, u64)>, steps: &mut Steps) -> usize
         ensures counted { result ≡ count_by (meets bound) self.now }
         ensures price { steps.new ≤ steps.old + 2 * digits (length self.now) }
+        ensures grows { steps.old ≤ steps.new }
     {
         match bound {
             None => self.len(),
@@ -62,6 +63,7 @@ impl Sorted {
     pub(crate) fn least(&self, steps: &mut Steps) -> Option<u64>
         ensures least { IsLeast self.now result }
         ensures price { steps.new ≤ steps.old + 1 }
+        ensures grows { steps.old ≤ steps.new }
     {
         let _ = &self.numbers;
         if self.len() == 0 {
@@ -74,6 +76,7 @@ impl Sorted {
     pub(crate) fn greatest(&self, steps: &mut Steps) -> Option<u64>
         ensures greatest { IsGreatest self.now result }
         ensures price { steps.new ≤ steps.old + 1 }
+        ensures grows { steps.old ≤ steps.new }
     {
         let _ = &self.numbers;
         let len = self.len();
@@ -92,6 +95,7 @@ impl Sorted {
     fn equal(&self, number: u64, steps: &mut Steps) -> usize
         ensures counted { result ≡ count_by (λ n. n == number) self.now }
         ensures price { steps.new ≤ steps.old + 2 * digits (length self.now) }
+        ensures grows { steps.old ≤ steps.new }
     {
         let up_to = self.up_to(number, steps);
         up_to - self.under(number, steps)
@@ -100,6 +104,7 @@ impl Sorted {
     fn under(&self, number: u64, steps: &mut Steps) -> usize
         ensures counted { result ≡ count_by (λ n. nat_lt n number) self.now }
         ensures price { steps.new ≤ steps.old + digits (length self.now) }
+        ensures grows { steps.old ≤ steps.new }
     {
         self.below(u128::from(number), steps)
     }
@@ -107,6 +112,7 @@ impl Sorted {
     fn up_to(&self, number: u64, steps: &mut Steps) -> usize
         ensures counted { result ≡ count_by (λ n. nat_le n number) self.now }
         ensures price { steps.new ≤ steps.old + digits (length self.now) }
+        ensures grows { steps.old ≤ steps.new }
     {
         self.below(u128::from(number) + 1, steps)
     }
@@ -114,6 +120,7 @@ impl Sorted {
     fn below(&self, bound: u128, steps: &mut Steps) -> usize
         ensures counted { result ≡ count_by (λ n. nat_lt n bound) self.now }
         ensures price { steps.new ≤ steps.old + digits (length self.now) }
+        ensures grows { steps.old ≤ steps.new }
     {
         let _ = &self.numbers;
         let mut low = 0;

@@ -6,10 +6,10 @@ use Rattle.cudf_universe.proofs.index.Index.greatest_counting.Goals as goal
 
 pub returns-in-Some-clause-greatest : goal.returns-in-Some-clause-greatest
 returns-in-Some-clause-greatest c =
-    let keeps : Keeps c.args.name.now c.args.self.now (Some c.in-Some.entries.now) = rw c.in-Some.is at c.kept.ensures in
+    let keeps : Keeps c.args.name.now c.args.self.now (Some c.in-Some.entries.now) = rw c.in-Some.is at c.look_up.ensures.kept in
     greatest_same c.in-Some.entries.now.numbers (numbers_of c.args.name.now c.args.self.now) keeps.numbers c.greatest.result c.greatest.ensures.greatest
 
 pub returns-in-None-clause-greatest : goal.returns-in-None-clause-greatest
 returns-in-None-clause-greatest c =
-    let keeps : Keeps c.args.name.now c.args.self.now None = rw c.in-None.is at c.kept.ensures in
+    let keeps : Keeps c.args.name.now c.args.self.now None = rw c.in-None.is at c.look_up.ensures.kept in
     greatest_same [] (numbers_of c.args.name.now c.args.self.now) keeps.numbers None greatest_none

@@ -41,8 +41,8 @@ priced q place status old ticked new n found one more all =
 pub returns-in-Some-clause-price : goal.returns-in-Some-clause-price
 returns-in-Some-clause-price c =
     let provides = c.in-Some.member.«package».now.provides in
-    priced (member_view c.in-Some.member) c.args.place c.args.self.now c.args.steps.now c.tick.new.self c.grow_by.new.self c.len.result
-    (ap (option_map member_view) (sym c.in-Some.is) ∙ c.member.ensures) c.tick.ensures c.grow_by.ensures (c.len.ensures ∙ provides.ok.0 ∙ sym (length-map provides.items vpkg_view))
+    priced (member_view c.in-Some.member) c.args.place c.args.self.now c.args.steps.now c.grow_by.new.self c.grow_by-in-Some.new.self c.len.result
+    (ap (option_map member_view) (sym c.in-Some.is) ∙ c.member.ensures) c.grow_by.ensures c.grow_by-in-Some.ensures (c.len.ensures ∙ provides.ok.0 ∙ sym (length-map provides.items vpkg_view))
 
 pub returns-in-None-clause-price : goal.returns-in-None-clause-price
 returns-in-None-clause-price c = omega arith

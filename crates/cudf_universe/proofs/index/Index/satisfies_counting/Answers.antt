@@ -10,7 +10,7 @@ use Rattle.cudf_universe.proofs.index.Index.satisfies_counting.Goals as goal
 pub returns-in-Some-clause-answer : goal.returns-in-Some-clause-answer
 returns-in-Some-clause-answer c =
     let v = vpkg_view c.args.vpkg.now in
-    let keeps : Keeps v.name c.args.self.now (Some c.in-Some.entries.now) = rw c.in-Some.is at c.kept.ensures in
+    let keeps : Keeps v.name c.args.self.now (Some c.in-Some.entries.now) = rw c.in-Some.is at c.look_up.ensures.kept in
     (rw c.none.ensures at c.exceeds.ensures)
     ∙ kept_exceeds v.name c.args.self.now (Some c.in-Some.entries.now) keeps 0 0 c.met.result.numbers c.met.result.unversioned v.bound c.met.ensures.numbers c.met.ensures.unversioned
     ∙ sym (satisfies-counted c.args.self.now v)
@@ -18,12 +18,12 @@ returns-in-Some-clause-answer c =
 pub returns-in-None-clause-answer : goal.returns-in-None-clause-answer
 returns-in-None-clause-answer c =
     let v = vpkg_view c.args.vpkg.now in
-    let keeps : Keeps v.name c.args.self.now None = rw c.in-None.is at c.kept.ensures in
+    let keeps : Keeps v.name c.args.self.now None = rw c.in-None.is at c.look_up.ensures.kept in
     sym (none_kept v c.args.self.now keeps)
 
 pub returns-in-Some-clause-price : goal.returns-in-Some-clause-price
 returns-in-Some-clause-price c =
     let v = vpkg_view c.args.vpkg.now in
-    let keeps : Keeps v.name c.args.self.now (Some c.in-Some.entries.now) = rw c.in-Some.is at c.kept.ensures in
+    let keeps : Keeps v.name c.args.self.now (Some c.in-Some.entries.now) = rw c.in-Some.is at c.look_up.ensures.kept in
     let same : digits (length c.in-Some.entries.now.numbers) ≡ digits (length (numbers_of v.name c.args.self.now)) = ap digits (length_same c.in-Some.entries.now.numbers (numbers_of v.name c.args.self.now) keeps.numbers) in
-    omega (arith, same, c.met.ensures.price, c.tick.ensures)
+    omega (arith, same, c.met.ensures.price, c.look_up.ensures.price)

@@ -29,22 +29,25 @@ module _ (bound : Option (Relop × ℕ)) (xs : List ℕ) (all : ℕ) (whole : al
       counted ∙ ap (λ b. count_by (meets b) xs) (sym e)
 
 pub returns-in-None : goal.returns-in-None
-returns-in-None c = record { counted = all_meet c.args.bound c.args.self.now c.len.result c.len.ensures c.in-None.is; price = omega arith }
+returns-in-None c = record { counted = all_meet c.args.bound c.args.self.now c.len.result c.len.ensures c.in-None.is; price = omega arith; grows = omega arith }
 
 pub returns-in-Some-Neq-default : goal.returns-in-Some-Neq-default
 returns-in-Some-Neq-default c = record {
   counted = unequal_meet c.args.bound c.args.self.now _ c.len-in-Some-Neq-default.ensures c.in-Some-Neq-default.number _ (search rules) c.equal-in-Some-Neq-default.ensures.counted;
   price = omega arith;
+  grows = omega arith;
 }
 
 pub returns-in-Some-Geq-default : goal.returns-in-Some-Geq-default
 returns-in-Some-Geq-default c = record {
   counted = from_meet c.args.bound c.args.self.now _ c.len-in-Some-Geq-default.ensures c.in-Some-Geq-default.number _ (search rules) c.under.ensures.counted;
   price = omega arith;
+  grows = omega arith;
 }
 
 pub returns-in-Some-Gt-default : goal.returns-in-Some-Gt-default
 returns-in-Some-Gt-default c = record {
   counted = above_meet c.args.bound c.args.self.now _ c.len-in-Some-Gt-default.ensures c.in-Some-Gt-default.number _ (search rules) c.up_to.ensures.counted;
   price = omega arith;
+  grows = omega arith;
 }

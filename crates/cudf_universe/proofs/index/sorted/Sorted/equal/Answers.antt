@@ -11,4 +11,4 @@ pub returns : goal.returns
 returns c =
     let n = c.args.number in
     let both = count-sum (λ m. nat_lt m n) (λ m. m == n) (λ m. nat_le m n) (below_equal n) c.args.self.now in
-    record { counted = omega (arith, both); price = omega arith }
+    record { counted = omega (arith, both); price = omega arith; grows = omega arith }
