@@ -1,4 +1,4 @@
--- A search of the stops ahead goes to the first instance that is left, at the price of the way there.
+-- A search of the stops ahead goes to the first instance that is left, for what the way there costs.
 use Rattle.std.proofs.Common.{◌≡◌, ℕ, ◌+◌, Bool, true, false, not, ◌&&◌, List, [], ◌∷◌, filter, cond, length, arith, refl, ap, sym, ◌∙◌, subst, Option, Some, None, option_map}
 use Rattle.std.proofs.lemmas.Cmp.{nat_list_cmp_total, tied_itself}
 use Rattle.std.proofs.lemmas.List.Sums.{sum_by-cons}
@@ -14,12 +14,12 @@ use Rattle.cudf_referee.specs.Instances.{PlainInstance}
 use Rattle.cudf_referee.specs.Keys.{PlainKey, key_ranks}
 use Rattle.cudf_referee.specs.Pages.{behind, at_instance}
 use Rattle.cudf_referee.specs.Proposals.{Proposal}
-use Rattle.cudf_referee.specs.Sites.{Stop, at_site, package_end, walk, stop_cost, PlainPosition, at_start, at_key, at_end, precedes, is_after, is_ahead, cost_between}
+use Rattle.cudf_referee.specs.Sites.{Stop, at_site, package_end, walk, stop_cost, least_cost, PlainPosition, at_start, at_key, at_end, precedes, is_after, is_ahead, stops_between, cost_between, least_between}
 use Rattle.cudf_referee.specs.Views.{instance_view}
 use Rattle.cudf_referee.specs.Walks.{Walking, left, Moves}
 use Rattle.cudf_referee.specs.Working.Judged.{instance_at, is_violated, given_at, all_given}
 use Rattle.cudf_referee.specs.Working.Places.{IsFitting, ahead}
-use Rattle.cudf_referee.specs.Working.Searches.{or_later, first_given, unless_found, cost_to_first, Finds}
+use Rattle.cudf_referee.specs.Working.Searches.{or_later, first_given, unless_found, sum_to_first, cost_to_first, least_to_first, Finds}
 use Rattle.cudf_referee.specs.Working.Walkers.{stops_behind}
 use Rattle.cudf_referee.proofs.AheadLemmas.{all_kept, not_below, kept_above, after-ranks, after-left}
 use Rattle.cudf_referee.proofs.AscentLemmas.{Below, chained, Climbs, from_lower, climbs-filter, walk-climbs}
@@ -72,43 +72,43 @@ none_before key (x ∷ xs) high h =
 abbrev up_to_first : Proposal → List Stop → Option PlainInstance → List Stop
 up_to_first s xs found = filter (λ x. not (is_ahead (at_instance found) x)) xs
 
-module _ (s : Proposal) (x : Stop) (xs : List Stop) (high : List ℕ) where
-  abbrev cost : List Stop → ℕ
-  cost stops = sum_by (stop_cost s.proposed) stops
+module _ (number : Stop → ℕ) (s : Proposal) (x : Stop) (xs : List Stop) (high : List ℕ) where
+  abbrev total : List Stop → ℕ
+  total stops = sum_by number stops
 
   passed_stop : Climbs stop_ranks (stop_ranks x) xs high → (found : Option PlainInstance) → first_given s xs ≡ found → is_ahead (at_instance found) x ≡ false
   passed_stop h None e = refl
   passed_stop h (Some i) e = not_after i.key x (first_above s (stop_ranks x) xs high i h e)
 
   -- a stop that gives nothing
-  cost_on : Climbs stop_ranks (stop_ranks x) xs high → given_at s x ≡ None → cost_to_first s xs ≡ cost (up_to_first s xs (first_given s xs))
-      → cost_to_first s (x ∷ xs) ≡ cost (up_to_first s (x ∷ xs) (first_given s (x ∷ xs)))
-  cost_on h e more =
-      ap (λ o. stop_cost s.proposed x + unless_found o (cost_to_first s xs)) e
-      ∙ ap (λ n. stop_cost s.proposed x + n) more
-      ∙ sym (sum_by-cons (stop_cost s.proposed) x (up_to_first s xs (first_given s xs)))
-      ∙ sym (ap (λ b. cost (cond (not b) (x ∷ up_to_first s xs (first_given s xs)) (up_to_first s xs (first_given s xs)))) (passed_stop h (first_given s xs) refl))
-      ∙ ap (λ found. cost (up_to_first s (x ∷ xs) found)) (sym (first_case s x xs None e))
+  sum_on : Climbs stop_ranks (stop_ranks x) xs high → given_at s x ≡ None → sum_to_first number s xs ≡ total (up_to_first s xs (first_given s xs))
+      → sum_to_first number s (x ∷ xs) ≡ total (up_to_first s (x ∷ xs) (first_given s (x ∷ xs)))
+  sum_on h e more =
+      ap (λ o. number x + unless_found o (sum_to_first number s xs)) e
+      ∙ ap (λ n. number x + n) more
+      ∙ sym (sum_by-cons number x (up_to_first s xs (first_given s xs)))
+      ∙ sym (ap (λ b. total (cond (not b) (x ∷ up_to_first s xs (first_given s xs)) (up_to_first s xs (first_given s xs)))) (passed_stop h (first_given s xs) refl))
+      ∙ ap (λ found. total (up_to_first s (x ∷ xs) found)) (sym (first_case s x xs None e))
 
   -- one that gives an instance
-  cost_there : Climbs stop_ranks (stop_ranks x) xs high → (i : PlainInstance) → given_at s x ≡ Some i
-      → cost_to_first s (x ∷ xs) ≡ cost (up_to_first s (x ∷ xs) (first_given s (x ∷ xs)))
-  cost_there h i e =
+  sum_there : Climbs stop_ranks (stop_ranks x) xs high → (i : PlainInstance) → given_at s x ≡ Some i
+      → sum_to_first number s (x ∷ xs) ≡ total (up_to_first s (x ∷ xs) (first_given s (x ∷ xs)))
+  sum_there h i e =
       let same = given_ranks s x i e in
-      ap (λ o. stop_cost s.proposed x + unless_found o (cost_to_first s xs)) e
-      ∙ sym (sum_by-cons (stop_cost s.proposed) x [])
-      ∙ (λ j. cost (cond (not (sym (not_after_own i.key x same) j)) (x ∷ sym (none_before i.key xs high (subst (λ (r : List ℕ). Climbs stop_ranks r xs high) same h)) j) (sym (none_before i.key xs high (subst (λ (r : List ℕ). Climbs stop_ranks r xs high) same h)) j)))
-      ∙ ap (λ found. cost (up_to_first s (x ∷ xs) found)) (sym (first_case s x xs (Some i) e))
+      ap (λ o. number x + unless_found o (sum_to_first number s xs)) e
+      ∙ sym (sum_by-cons number x [])
+      ∙ (λ j. total (cond (not (sym (not_after_own i.key x same) j)) (x ∷ sym (none_before i.key xs high (subst (λ (r : List ℕ). Climbs stop_ranks r xs high) same h)) j) (sym (none_before i.key xs high (subst (λ (r : List ℕ). Climbs stop_ranks r xs high) same h)) j)))
+      ∙ ap (λ found. total (up_to_first s (x ∷ xs) found)) (sym (first_case s x xs (Some i) e))
 
-cost_first : (s : Proposal) (low : List ℕ) (xs : List Stop) (high : List ℕ) → Climbs stop_ranks low xs high
-    → cost_to_first s xs ≡ sum_by (stop_cost s.proposed) (up_to_first s xs (first_given s xs))
-cost_first s low [] high h = refl
-cost_first s low (x ∷ xs) high h = by (given_at s x) refl (cost_first s (stop_ranks x) xs high h.1)
+sum_first : (number : Stop → ℕ) (s : Proposal) (low : List ℕ) (xs : List Stop) (high : List ℕ) → Climbs stop_ranks low xs high
+    → sum_to_first number s xs ≡ sum_by number (up_to_first s xs (first_given s xs))
+sum_first number s low [] high h = refl
+sum_first number s low (x ∷ xs) high h = by (given_at s x) refl (sum_first number s (stop_ranks x) xs high h.1)
   where
-    by : (o : Option PlainInstance) → given_at s x ≡ o → cost_to_first s xs ≡ sum_by (stop_cost s.proposed) (up_to_first s xs (first_given s xs))
-        → cost_to_first s (x ∷ xs) ≡ sum_by (stop_cost s.proposed) (up_to_first s (x ∷ xs) (first_given s (x ∷ xs)))
-    by None e more = cost_on s x xs high h.1 e more
-    by (Some i) e more = cost_there s x xs high h.1 i e
+    by : (o : Option PlainInstance) → given_at s x ≡ o → sum_to_first number s xs ≡ sum_by number (up_to_first s xs (first_given s xs))
+        → sum_to_first number s (x ∷ xs) ≡ sum_by number (up_to_first s (x ∷ xs) (first_given s (x ∷ xs)))
+    by None e more = sum_on number s x xs high h.1 e more
+    by (Some i) e more = sum_there number s x xs high h.1 i e
 
 filter_case : {A : Type 0} (p q : Bool) (test : A → Bool) (x : A) (both first : List A) → test x ≡ q → both ≡ filter test first → cond (p && q) (x ∷ both) both ≡ filter test (cond p (x ∷ first) first)
 filter_case true q test x both first here h = λ i. cond (sym here i) (x ∷ h i) (h i)
@@ -119,11 +119,18 @@ filter-both : {A : Type 0} (p q : A → Bool) (xs : List A) → filter (λ x. p 
 filter-both p q [] = refl
 filter-both p q (x ∷ xs) = filter_case (p x) (q x) q x (filter (λ y. p y && q y) xs) (filter p xs) refl (filter-both p q xs)
 
--- the way to the first instance that is left costs what the way to its position does
+-- the stops to the first instance that is left are those to its position
+sum-ahead : (number : Stop → ℕ) (s : Proposal) (old : PlainPosition) → ascend_above 0 s.unknown ≡ true
+    → sum_to_first number s (ahead s old) ≡ sum_by number (stops_between s old (at_instance (first_given s (ahead s old))))
+sum-ahead number s old h =
+    sum_first number s [] (ahead s old) (4 ∷ []) (climbs-filter stop_ranks (is_ahead old) [] (walk s) (4 ∷ []) (walk-climbs s h))
+    ∙ ap (sum_by number) (sym (filter-both (is_ahead old) (λ x. not (is_ahead (at_instance (first_given s (ahead s old))) x)) (walk s)))
+
 pub cost-first : (s : Proposal) (old : PlainPosition) → ascend_above 0 s.unknown ≡ true → cost_to_first s (ahead s old) ≡ cost_between s old (at_instance (first_given s (ahead s old)))
-cost-first s old h =
-    cost_first s [] (ahead s old) (4 ∷ []) (climbs-filter stop_ranks (is_ahead old) [] (walk s) (4 ∷ []) (walk-climbs s h))
-    ∙ ap (sum_by (stop_cost s.proposed)) (sym (filter-both (is_ahead old) (λ x. not (is_ahead (at_instance (first_given s (ahead s old))) x)) (walk s)))
+cost-first s old h = sum-ahead (stop_cost s.proposed) s old h
+
+least-first : (s : Proposal) (old : PlainPosition) → ascend_above 0 s.unknown ≡ true → least_to_first s (ahead s old) ≡ least_between s old (at_instance (first_given s (ahead s old)))
+least-first s old h = sum-ahead least_cost s old h
 
 -- ---- what is left there
 
@@ -214,6 +221,7 @@ moves s old found n m h finds = record {
   position = refl;
   judged = refl;
   price = omega (arith, finds.price, cost-first s old h, ap (λ o. cost_between s old (at_instance o)) finds.given);
+  grows = omega (arith, finds.grows, least-first s old h, ap (λ o. least_between s old (at_instance o)) finds.given);
 }
 
 -- ---- searches from a position
@@ -222,7 +230,7 @@ moves s old found n m h finds = record {
 pub finds-end : (s : Proposal) (position : PlainPosition) (n : ℕ) → position ≡ at_end → Finds s (ahead s position) None n n
 finds-end s position n same =
     let none : ahead s position ≡ [] = ap (ahead s) same ∙ none_ahead (walk s) in
-    record { given = ap (first_given s) (sym none); price = omega arith }
+    record { given = ap (first_given s) (sym none); price = omega arith; grows = omega (arith, ap (least_to_first s) none) }
 
 all_ahead : (s : Proposal) (key : Option PlainKey) → IsFitting (behind key) → stops_behind s key ≡ ahead s (behind key)
 all_ahead s None fits = sym (all_kept (is_ahead at_start) (λ x. refl) (walk s))

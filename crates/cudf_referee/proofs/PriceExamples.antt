@@ -1,5 +1,5 @@
--- What pages of small listings cost at most, reckoned by hand beside each.
-use Rattle.std.specs.Prelude.{◌≡◌, ℕ, ◌==◌, ◌||◌, Bool, true, false, List, [], ◌∷◌, Option, Some, None, codes, refl}
+-- What pages of small listings cost at most, and the way to their ends at least, reckoned by hand beside each.
+use Rattle.std.specs.Prelude.{◌≡◌, ℕ, ◌==◌, ◌||◌, Bool, true, false, List, [], ◌∷◌, length, Option, Some, None, codes, refl}
 use Rattle.cudf_value.specs.declared.relop.Relop.TheVariants.{Eq, Gt}
 use Rattle.cudf_value.specs.Vpkgs.{PlainVpkg}
 use Rattle.cudf_value.specs.Formulas.{PlainAtom, truth_atom, falsehood_atom, named}
@@ -17,7 +17,7 @@ use Rattle.cudf_referee.specs.declared.key.Aspect.TheVariants.{Unsatisfied}
 use Rattle.cudf_referee.specs.Keys.{PlainKey}
 use Rattle.cudf_referee.specs.Proposals.{Proposal}
 use Rattle.cudf_referee.specs.Violations.{listing}
-use Rattle.cudf_referee.specs.Sites.{walk}
+use Rattle.cudf_referee.specs.Sites.{walk, at_start, at_key, at_end, stops_between, least_between}
 use Rattle.cudf_referee.specs.Pages.{page_bound}
 
 abbrev every : List ℕ → PlainVpkg
@@ -200,3 +200,70 @@ strange_first = refl
 strange_between : page_bound strange (Some (record { part = part.Solution; rule = rule.Unknown; place = 2; aspect = None })) 1 ≡ 3
 unfolding digits_within digits listing walk
 strange_between = refl
+
+-- ---- at least: 1 for each stop, and 1 for each look-up
+
+-- two conjuncts, the end of the package
+twice_stops : length (stops_between twice at_start at_end) ≡ 3
+unfolding walk
+twice_stops = refl
+
+-- 1 + 1 + 1, since a conjunct may be of constants
+twice_least : least_between twice at_start at_end ≡ 3
+unfolding walk
+twice_least = refl
+
+-- behind the first one: 1 + 1
+twice_left : least_between twice (at_key (record { part = part.Package 1; rule = rule.Depends; place = 1; aspect = None })) at_end ≡ 2
+unfolding walk
+twice_left = refl
+
+-- to it: 1
+twice_to : least_between twice at_start (at_key (record { part = part.Package 1; rule = rule.Depends; place = 1; aspect = None })) ≡ 1
+unfolding walk
+twice_to = refl
+
+-- two entries and the end, of two packages
+rivals_stops : length (stops_between rivals at_start at_end) ≡ 6
+unfolding walk
+rivals_stops = refl
+
+-- 2 + 2 + 1, 2 + 2 + 1
+rivals_least : least_between rivals at_start at_end ≡ 10
+unfolding walk
+rivals_least = refl
+
+-- a version, a name, two features, the ends of their packages: 1 + 1, 1 + 1, 2 + 2 + 1
+kept_least : least_between kept at_start at_end ≡ 9
+unfolding walk
+kept_least = refl
+
+-- three conjuncts, the ends of three packages: 3 + 3
+mixed_least : least_between mixed at_start at_end ≡ 6
+unfolding walk
+mixed_least = refl
+
+-- the end of the package, 2 + 2, 2
+wished_least : least_between wished at_start at_end ≡ 7
+unfolding walk
+wished_least = refl
+
+-- three ends, three aspects
+upgraded_stops : length (stops_between upgraded at_start at_end) ≡ 6
+unfolding walk
+upgraded_stops = refl
+
+-- 3, 1 look-up for the first aspect and 2 for each of the others: 2 + 3 + 3
+upgraded_least : least_between upgraded at_start at_end ≡ 11
+unfolding walk
+upgraded_least = refl
+
+-- the end of the package, 2 to remove, two stanzas
+strange_least : least_between strange at_start at_end ≡ 5
+unfolding walk
+strange_least = refl
+
+-- where nothing was gone by: nothing
+strange_nowhere : least_between strange at_end at_end ≡ 0
+unfolding walk
+strange_nowhere = refl

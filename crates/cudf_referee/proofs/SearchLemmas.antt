@@ -11,13 +11,13 @@ use Rattle.std.proofs.lemmas.List.FromFn.{length-enumerate_from, get_or-enumerat
 use Rattle.cudf_document.specs.Statuses.{PlainUnknown}
 use Rattle.cudf_referee.specs.Instances.{PlainInstance}
 use Rattle.cudf_referee.specs.Proposals.{Proposal}
-use Rattle.cudf_referee.specs.Sites.{Site, unknown_stanza, Stop, at_site, stop_cost}
+use Rattle.cudf_referee.specs.Sites.{Site, unknown_stanza, Stop, at_site, stop_cost, least_cost}
 use Rattle.cudf_referee.specs.Violations.{unknown_instance}
 use Rattle.cudf_referee.specs.Working.Behind.{unknown_stops}
 use Rattle.cudf_referee.specs.Working.Judged.{given_at}
 use Rattle.cudf_referee.specs.Working.Passes.{Passes, EntriesPass, stops_from, entry_stops, count_passed}
 use Rattle.cudf_referee.proofs.RecommendLemmas.{slice_get_at}
-use Rattle.cudf_referee.specs.Working.Searches.{Finds, first_given, cost_to_first, or_later, unless_found, entries_left}
+use Rattle.cudf_referee.specs.Working.Searches.{Finds, first_given, sum_to_first, cost_to_first, least_to_first, or_later, unless_found, entries_left}
 
 -- ---- one stop, and several
 
@@ -31,10 +31,11 @@ unless_found-zero (Some i) = refl
 
 -- what a stop gives, for its price
 pub Finds-one : (s : Proposal) (stop : Stop) (found : Option PlainInstance) (old new : ℕ)
-    → found ≡ given_at s stop → new ≤ old + stop_cost s.proposed stop → Finds s (stop ∷ []) found old new
-Finds-one s stop found old new given price = record {
+    → found ≡ given_at s stop → new ≤ old + stop_cost s.proposed stop → old + least_cost stop ≤ new → Finds s (stop ∷ []) found old new
+Finds-one s stop found old new given price grows = record {
   given = given ∙ sym (or_later-none (given_at s stop));
   price = omega (arith, unless_found-zero (given_at s stop));
+  grows = omega (arith, unless_found-zero (given_at s stop));
 }
 
 or_later-append : (a b c : Option PlainInstance) → or_later a (or_later b c) ≡ or_later (or_later a b) c
@@ -49,17 +50,24 @@ pub first_given-append : (s : Proposal) (xs ys : List Stop) → first_given s (x
 first_given-append s [] ys = refl
 first_given-append s (x ∷ xs) ys = ap (or_later (given_at s x)) (first_given-append s xs ys) ∙ or_later-append (given_at s x) (first_given s xs) (first_given s ys)
 
-pub cost-append : (s : Proposal) (xs ys : List Stop) → cost_to_first s (xs ++ ys) ≡ cost_to_first s xs + unless_found (first_given s xs) (cost_to_first s ys)
-cost-append s [] ys = omega arith
-cost-append s (x ∷ xs) ys =
-    ap (λ n. stop_cost s.proposed x + unless_found (given_at s x) n) (cost-append s xs ys)
-    ∙ ap (λ n. stop_cost s.proposed x + n) (unless_found-append (given_at s x) (first_given s xs) (cost_to_first s xs) (cost_to_first s ys))
-    ∙ sym (add_assoc (stop_cost s.proposed x) (unless_found (given_at s x) (cost_to_first s xs)) (unless_found (or_later (given_at s x) (first_given s xs)) (cost_to_first s ys)))
+sum-append : (number : Stop → ℕ) (s : Proposal) (xs ys : List Stop)
+    → sum_to_first number s (xs ++ ys) ≡ sum_to_first number s xs + unless_found (first_given s xs) (sum_to_first number s ys)
+sum-append number s [] ys = omega arith
+sum-append number s (x ∷ xs) ys =
+    ap (λ n. number x + unless_found (given_at s x) n) (sum-append number s xs ys)
+    ∙ ap (λ n. number x + n) (unless_found-append (given_at s x) (first_given s xs) (sum_to_first number s xs) (sum_to_first number s ys))
+    ∙ sym (add_assoc (number x) (unless_found (given_at s x) (sum_to_first number s xs)) (unless_found (or_later (given_at s x) (first_given s xs)) (sum_to_first number s ys)))
+
+cost-append : (s : Proposal) (xs ys : List Stop) → cost_to_first s (xs ++ ys) ≡ cost_to_first s xs + unless_found (first_given s xs) (cost_to_first s ys)
+cost-append s xs ys = sum-append (stop_cost s.proposed) s xs ys
+
+least-append : (s : Proposal) (xs ys : List Stop) → least_to_first s (xs ++ ys) ≡ least_to_first s xs + unless_found (first_given s xs) (least_to_first s ys)
+least-append s xs ys = sum-append least_cost s xs ys
 
 -- ---- a search goes on
 
 pub Passes-start : (s : Proposal) (all : List Stop) (old : ℕ) → Passes s all all old old
-Passes-start s all old = record { given = refl; price = omega arith }
+Passes-start s all old = record { given = refl; price = omega arith; grows = omega arith }
 
 -- behind stops that gave nothing
 pub Passes-more : (s : Proposal) (all xs left : List Stop) (old now new : ℕ)
@@ -67,6 +75,7 @@ pub Passes-more : (s : Proposal) (all xs left : List Stop) (old now new : ℕ)
 Passes-more s all xs left old now new passes finds = record {
   given = passes.given ∙ first_given-append s xs left ∙ ap (λ o. or_later o (first_given s left)) (sym finds.given);
   price = omega (arith, passes.price, finds.price, cost-append s xs left, ap (λ o. unless_found o (cost_to_first s left)) finds.given);
+  grows = omega (arith, passes.grows, finds.grows, least-append s xs left, ap (λ o. unless_found o (least_to_first s left)) finds.given);
 }
 
 -- to what is found
@@ -75,6 +84,7 @@ pub Passes-found : (s : Proposal) (all xs left : List Stop) (i : PlainInstance) 
 Passes-found s all xs left i old now new passes finds = record {
   given = sym (passes.given ∙ first_given-append s xs left ∙ ap (λ o. or_later o (first_given s left)) (sym finds.given));
   price = omega (arith, passes.price, finds.price, cost-append s xs left);
+  grows = omega (arith, passes.grows, finds.grows, least-append s xs left, ap (λ o. unless_found o (least_to_first s left)) finds.given);
 }
 
 -- to the last stops
@@ -83,11 +93,12 @@ pub Passes-last : (s : Proposal) (all left : List Stop) (found : Option PlainIns
 Passes-last s all left found old now new passes finds = record {
   given = finds.given ∙ sym passes.given;
   price = omega (arith, passes.price, finds.price);
+  grows = omega (arith, passes.grows, finds.grows);
 }
 
 -- to the end
 pub Passes-end : (s : Proposal) (all : List Stop) (old now : ℕ) → Passes s all [] old now → Finds s all None old now
-Passes-end s all old now passes = record { given = sym passes.given; price = omega (arith, passes.price) }
+Passes-end s all old now passes = record { given = sym passes.given; price = omega (arith, passes.price); grows = omega (arith, passes.grows) }
 
 -- ---- a loop over the entries that are left
 
@@ -133,6 +144,7 @@ pub entries-start : {A B : Type 0} (s : Proposal) (view : B → A) (make : ℕ �
 entries-start s view make passed xs n old is = record {
   given = ap (first_given s) same;
   price = omega (arith, ap (cost_to_first s) same);
+  grows = omega (arith, ap (least_to_first s) same);
 }
   where
     number : count_passed passed (length (map view xs)) ≡ n
@@ -145,6 +157,7 @@ pub passes-at : (s : Proposal) (all left left' : List Stop) (old now : ℕ) → 
 passes-at s all left left' old now same passes = record {
   given = passes.given ∙ ap (first_given s) same;
   price = omega (arith, passes.price, ap (cost_to_first s) same);
+  grows = omega (arith, passes.grows, ap (least_to_first s) same);
 }
 
 -- behind an entry that gave nothing
@@ -215,11 +228,11 @@ loop-start s view make passed ys xs first old same is =
 
 pub at_none : {A : Type 0} (s : Proposal) (stops : List Stop) (view : A → PlainInstance) (answer : Option A) (old new : ℕ)
     → answer ≡ None → Finds s stops (option_map view answer) old new → Finds s stops None old new
-at_none s stops view answer old new is finds = record { given = sym (ap (option_map view) is) ∙ finds.given; price = finds.price }
+at_none s stops view answer old new is finds = record { given = sym (ap (option_map view) is) ∙ finds.given; price = finds.price; grows = finds.grows }
 
 pub at_some : {A : Type 0} (s : Proposal) (stops : List Stop) (view : A → PlainInstance) (answer : Option A) (i : A) (old new : ℕ)
     → answer ≡ Some i → Finds s stops (option_map view answer) old new → Finds s stops (Some (view i)) old new
-at_some s stops view answer i old new is finds = record { given = sym (ap (option_map view) is) ∙ finds.given; price = finds.price }
+at_some s stops view answer i old new is finds = record { given = sym (ap (option_map view) is) ∙ finds.given; price = finds.price; grows = finds.grows }
 
 -- ---- one search after another
 
@@ -228,27 +241,30 @@ pub Finds-then : (s : Proposal) (xs ys : List Stop) (found : Option PlainInstanc
 Finds-then s xs ys found old now new none finds = record {
   given = finds.given ∙ ap (λ o. or_later o (first_given s ys)) none.given ∙ sym (first_given-append s xs ys);
   price = omega (arith, none.price, finds.price, cost-append s xs ys, ap (λ o. unless_found o (cost_to_first s ys)) none.given);
+  grows = omega (arith, none.grows, finds.grows, least-append s xs ys, ap (λ o. unless_found o (least_to_first s ys)) none.given);
 }
 
 pub Finds-first : (s : Proposal) (xs ys : List Stop) (i : PlainInstance) (old new : ℕ) → Finds s xs (Some i) old new → Finds s (xs ++ ys) (Some i) old new
 Finds-first s xs ys i old new finds = record {
   given = ap (λ o. or_later o (first_given s ys)) finds.given ∙ sym (first_given-append s xs ys);
   price = omega (arith, finds.price, cost-append s xs ys);
+  grows = omega (arith, finds.grows, least-append s xs ys, ap (λ o. unless_found o (least_to_first s ys)) finds.given);
 }
 
 pub Finds-nothing : (s : Proposal) (n : ℕ) → Finds s [] None n n
-Finds-nothing s n = record { given = refl; price = omega arith }
+Finds-nothing s n = record { given = refl; price = omega arith; grows = omega arith }
 
 -- of stops that are the same
 pub Finds-at : (s : Proposal) (stops stops' : List Stop) (found : Option PlainInstance) (old new : ℕ) → stops ≡ stops' → Finds s stops found old new → Finds s stops' found old new
 Finds-at s stops stops' found old new same finds = record {
   given = finds.given ∙ ap (first_given s) same;
   price = omega (arith, finds.price, ap (cost_to_first s) same);
+  grows = omega (arith, finds.grows, ap (least_to_first s) same);
 }
 
 -- beside steps that others took
 pub Finds-beside : (s : Proposal) (stops : List Stop) (found : Option PlainInstance) (n old new : ℕ) → Finds s stops found old new → Finds s stops found (n + old) (n + new)
-Finds-beside s stops found n old new finds = record { given = finds.given; price = omega (arith, finds.price) }
+Finds-beside s stops found n old new finds = record { given = finds.given; price = omega (arith, finds.price); grows = omega (arith, finds.grows) }
 
 -- ---- the turns of a loop over stops made from the elements of a list
 
@@ -337,7 +353,7 @@ numbered-none view xs i end = slice_get_past (enumerate_from 1 (map view xs)) i 
 
 -- between steps that others took
 pub Finds-between : (s : Proposal) (stops : List Stop) (found : Option PlainInstance) (n a b c d : ℕ) → Finds s stops found (a + b) (c + d) → Finds s stops found (a + n + b) (c + n + d)
-Finds-between s stops found n a b c d finds = record { given = finds.given; price = omega (arith, finds.price) }
+Finds-between s stops found n a b c d finds = record { given = finds.given; price = omega (arith, finds.price); grows = omega (arith, finds.grows) }
 
 pub all-at : {A : Type 0} (P : A → Type 0) (xs : List A) (i : ℕ) (x : A) → slice_get xs i ≡ Some x → All P xs → P x
 all-at P xs i x is all = subst P (get_or_from_slice_get xs i x x is) (all i x (slice_get_within xs i x is))
@@ -348,7 +364,7 @@ pub unknown-found : (s : Proposal) (us : List PlainUnknown) (n : ℕ) (u : Plain
 unknown-found s us n u i old new is instance price =
     Finds-at s _ (unknown_stops n us) (Some i) old new (sym next)
     (Finds-first s (at_site (unknown_stanza u) ∷ []) (unknown_stops (n + 1) us) i old new
-    (Finds-one s (at_site (unknown_stanza u)) (Some i) old new (ap Some instance) (omega arith)))
+    (Finds-one s (at_site (unknown_stanza u)) (Some i) old new (ap Some instance) (omega arith) (omega arith)))
   where
     next : unknown_stops n us ≡ at_site (unknown_stanza u) ∷ unknown_stops (n + 1) us
     next = at_drop_more (λ l. map at_site (map unknown_stanza l)) us n u (slice_get_within us n u is)

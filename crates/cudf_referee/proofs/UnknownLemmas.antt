@@ -33,6 +33,17 @@ unfolding digits digits_within
 digits-halved m zero positive h = absurd (omega arith)
 digits-halved m (suc k) positive h = omega (arith, digits_within-fuel m k m (omega arith) (omega arith), digits_within-mono k m (suc k / 2) (omega arith))
 
+-- and at most a digit less
+digits-doubled : (m n : ℕ) → n ≤ m + m + 1 → digits n ≤ digits m + 1
+unfolding digits digits_within
+digits-doubled m zero h = omega arith
+digits-doubled m (suc k) h = omega (arith, digits_within-fuel k m (suc k / 2) (omega arith) (omega arith), digits_within-mono m (suc k / 2) m (omega arith))
+
+pub digits-positive : (n : ℕ) → 0 < n → 0 < digits n
+unfolding digits digits_within
+digits-positive zero h = absurd (omega arith)
+digits-positive (suc k) h = omega arith
+
 -- ---- numbers that ascend
 
 abbrev Ascending : List ℕ → Type 0
@@ -66,6 +77,7 @@ pub record Halved (numbers : List ℕ) (number low high from to : ℕ) : Type 0 
   pub below : (k : ℕ) → k < low → get_or numbers k 0 ≤ number
   pub above : (k : ℕ) → high ≤ k → k < length numbers → number < get_or numbers k 0
   pub price : to + digits (high - low) ≤ from + digits (length numbers)
+  pub grows : from + digits (length numbers + 1) ≤ to + digits (high - low + 1)
 
 pub halved_start : (unknown : List PlainUnknown) (number len from : ℕ) → ascend_above 0 unknown ≡ true → len ≡ length (stanza_numbers unknown)
     → Halved (stanza_numbers unknown) number 0 len from from
@@ -79,6 +91,7 @@ halved_start unknown number len from h whole =
       below = λ k l. absurd (omega arith);
       above = λ k l m. absurd (omega arith);
       price = omega (arith, same);
+      grows = omega (arith, ap (λ n. digits (n + 1)) all);
     }
 
 module _ (numbers : List ℕ) (number low high from to middle n next : ℕ) (s : Halved numbers number low high from to) where
@@ -93,6 +106,7 @@ module _ (numbers : List ℕ) (number low high from to middle n next : ℕ) (s :
         below = λ k h. omega (arith, s.ordered k middle (omega arith) (omega (arith, s.within)), is 0);
         above = s.above;
         price = omega (arith, s.price, fewer);
+        grows = omega (arith, s.grows, digits-doubled (high - (middle + 1) + 1) (high - low + 1) (omega arith));
       }
 
   pub halved_left : low < high → middle ≡ low + (high - low) / 2 → next ≡ to + 1 → ((d : ℕ) → n ≡ get_or numbers middle d) → number < n
@@ -106,6 +120,7 @@ module _ (numbers : List ℕ) (number low high from to middle n next : ℕ) (s :
         below = s.below;
         above = λ k h l. omega (arith, s.ordered middle k h l, is 0);
         price = omega (arith, s.price, fewer);
+        grows = omega (arith, s.grows, digits-doubled (middle - low + 1) (high - low + 1) (omega arith));
       }
 
 left_from : (number low : ℕ) (unknown : List PlainUnknown) → low ≤ length (stanza_numbers unknown) → ((k : ℕ) → k < low → get_or (stanza_numbers unknown) k 0 ≤ number)
@@ -125,3 +140,10 @@ pub halved_end : (unknown : List PlainUnknown) (number low high from to : ℕ) �
     → unknown_left number unknown ≡ drop low unknown
 halved_end unknown number low high from to s closed =
     left_from number low unknown (omega (arith, s.order, s.within)) s.below (λ k h l. s.above k (omega (arith, s.order)) l)
+
+pub halved_least : (unknown : List PlainUnknown) (number len low high from to : ℕ) → Halved (stanza_numbers unknown) number low high from to → high ≤ low
+    → len ≡ length (stanza_numbers unknown) → from + digits (len + 1) ≤ to + 1
+unfolding digits digits_within
+halved_least unknown number len low high from to s closed whole =
+    let none : high - low + 1 ≡ 1 = omega arith in
+    omega (arith, s.grows, ap digits none, ap (λ n. digits (n + 1)) whole)

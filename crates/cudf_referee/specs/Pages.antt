@@ -1,6 +1,8 @@
 -- Pages of the listing, each continued after a key, and what a page costs at most (own).
-use Rattle.std.specs.Prelude.{◌≡◌, ℕ, ◌+◌, List, [], ◌∷◌, ◌++◌, length, map, take, slice_get, Option, Some, None, option_and_then}
+use Rattle.std.specs.Prelude.{◌≡◌, ℕ, ◌+◌, ◌-◌, List, [], ◌∷◌, ◌++◌, length, map, take, slice_get, Option, Some, None, option_and_then}
 use Rattle.cudf_universe.specs.Prices.{digits}
+use Rattle.cudf_referee.specs.declared.key.Part.{Part}
+use Rattle.cudf_referee.specs.declared.key.Part.TheVariants.{Package, Request, Solution}
 use Rattle.cudf_referee.specs.Instances.{PlainInstance}
 use Rattle.cudf_referee.specs.Keys.{PlainKey, IsWritable, key_text}
 use Rattle.cudf_referee.specs.Proposals.{Proposal}
@@ -50,6 +52,12 @@ ReadsKeys read = (key : PlainKey) → IsWritable key → read (key_text key) ≡
 abbrev pub at_instance : Option PlainInstance → PlainPosition
 at_instance None = at_end
 at_instance (Some i) = at_key i.key
+
+-- the steps that halving needs at least to find the first unknown stanza behind a key: none where that isn't of the solution
+abbrev pub least_search : Part → ℕ → ℕ
+least_search (Package n) len = 0
+least_search Request len = 0
+least_search Solution len = digits (len + 1) - 1
 
 -- the search for the first unknown stanza, and the way to instance n + 1 of what is left, or to the end
 abbrev pub page_bound : Proposal → Option PlainKey → ℕ → ℕ

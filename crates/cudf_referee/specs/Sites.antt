@@ -70,6 +70,26 @@ site_price status (remove_entry place v) = search_cost status v.name
 site_price status (upgrade_entry place v aspect) = aspect_price status v aspect
 site_price status (unknown_stanza u) = 0
 
+-- ---- and what it costs at least, whatever the status
+
+-- the least and the greatest number take a look-up each
+abbrev pub aspect_look_ups : Aspect → ℕ
+aspect_look_ups Unsatisfied = 1
+aspect_look_ups Many = 2
+aspect_look_ups Lower = 2
+
+-- the look-ups by name that judging a site takes at least: none of a conjunct, since a constant may decide it
+abbrev pub look_ups : Site → ℕ
+look_ups (conjunct p place clause) = 0
+look_ups (conflicts_entry p place v) = 1
+look_ups (kept_version p) = 0
+look_ups (kept_package p) = 0
+look_ups (kept_feature p place v) = 1
+look_ups (install_entry place v) = 1
+look_ups (remove_entry place v) = 1
+look_ups (upgrade_entry place v aspect) = aspect_look_ups aspect
+look_ups (unknown_stanza u) = 0
+
 -- ---- the sites of a proposal, in key order
 
 -- of a package that is to be installed
@@ -115,10 +135,15 @@ package_stops s p = map at_site (package_sites s p) ++ package_end p.0 ∷ []
 unfoldable pub walk : Proposal → List Stop
 walk s = flat_map (package_stops s) (enumerate_from 1 s.packages) ++ map at_site (request_sites s.request ++ map unknown_stanza s.unknown)
 
--- going by a stop is one step, beside those of judging a site
+-- going by a stop is one step, beside those of judging a site: so many at most
 abbrev pub stop_cost : List Placed → Stop → ℕ
 stop_cost status (at_site site) = site_price status site + 1
 stop_cost status (package_end place) = 1
+
+-- and at least
+abbrev pub least_cost : Stop → ℕ
+least_cost (at_site site) = look_ups site + 1
+least_cost (package_end place) = 1
 
 -- ---- positions in the walk
 
@@ -152,6 +177,9 @@ is_ahead at_end stop = false
 abbrev pub stops_between : Proposal → PlainPosition → PlainPosition → List Stop
 stops_between s old new = filter (λ stop. is_ahead old stop && not (is_ahead new stop)) (walk s)
 
--- what it costs to go from a position to another
+-- what it costs to go from a position to another: at most, and at least
 abbrev pub cost_between : Proposal → PlainPosition → PlainPosition → ℕ
 cost_between s old new = sum_by (stop_cost s.proposed) (stops_between s old new)
+
+abbrev pub least_between : Proposal → PlainPosition → PlainPosition → ℕ
+least_between s old new = sum_by least_cost (stops_between s old new)

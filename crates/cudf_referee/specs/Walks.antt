@@ -4,7 +4,7 @@ use Rattle.std.specs.Iterator.{YieldsFirst}
 use Rattle.cudf_referee.specs.Instances.{PlainInstance}
 use Rattle.cudf_referee.specs.Pages.{left_at, at_instance}
 use Rattle.cudf_referee.specs.Proposals.{Proposal}
-use Rattle.cudf_referee.specs.Sites.{PlainPosition, cost_between}
+use Rattle.cudf_referee.specs.Sites.{PlainPosition, cost_between, least_between}
 
 -- what is judged, the position, and the steps so far
 pub record Walking : Type 0 where
@@ -16,9 +16,11 @@ pub record Walking : Type 0 where
 abbrev pub left : Walking → List PlainInstance
 left w = left_at w.position w.judged
 
--- a call gives the first instance that is left, goes to it or to the end, and costs at most the way to there
+-- a call gives the first instance that is left, goes to it or to the end, and costs at most the way to there, and at least a
+-- step for each stop and look-up on it
 pub record Moves (old : Walking) (found : Option PlainInstance) (new : Walking) : Type 0 where
   pub gives : YieldsFirst left old found new
   pub position : new.position ≡ at_instance found
   pub judged : new.judged ≡ old.judged
   pub price : new.steps ≤ old.steps + cost_between old.judged old.position new.position
+  pub grows : old.steps + least_between old.judged old.position new.position ≤ new.steps

@@ -4,7 +4,7 @@ ghost use Rattle.cudf_document.specs.Statuses.{unknown_view, ascend_above};
 ghost use Rattle.cudf_universe.specs.Prices.{digits};
 ghost use Rattle.cudf_referee.specs.KeyViews.{key_view};
 ghost use Rattle.cudf_referee.specs.Keys.{is_fitting};
-ghost use Rattle.cudf_referee.specs.Pages.{at_instance};
+ghost use Rattle.cudf_referee.specs.Pages.{at_instance, least_search};
 ghost use Rattle.cudf_referee.specs.PositionViews.{position_view};
 ghost use Rattle.cudf_referee.specs.Sites.{at_key};
 ghost use Rattle.cudf_referee.specs.Views.{instance_view};
@@ -62,6 +62,7 @@ pub(crate) fn first_unknown_behind(key: Key, unknown: &[Unknown<'_>], steps: &mu
     ensures fits { IsTrue (is_fitting (key_view key)) }
     ensures place { BeginsAt (at_key (key_view key)) (map unknown_view unknown.now) result }
     ensures price { steps.new ≤ steps.old + digits (length unknown.now) }
+    ensures grows { steps.old + least_search (key_view key).part (length unknown.now) ≤ steps.new }
 {
     match key.part() {
         Part::Package(_) | Part::Request => 0,
@@ -75,6 +76,7 @@ fn first_above(number: u64, unknown: &[Unknown<'_>], steps: &mut Steps) -> usize
     ensures left { unknown_left number (map unknown_view unknown.now) ≡ drop result (map unknown_view unknown.now) }
     ensures within { result ≤ length unknown.now }
     ensures price { steps.new ≤ steps.old + digits (length unknown.now) }
+    ensures grows { steps.old + digits (length unknown.now + 1) ≤ steps.new + 1 }
 {
     let mut low = 0;
     let mut high = unknown.len();

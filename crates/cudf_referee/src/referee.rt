@@ -98,6 +98,7 @@ impl<'p, 't> Referee<'p, 't> {
     ghost use Rattle.cudf_referee.specs.Criteria.{criteria};
     ghost use Rattle.cudf_referee.specs.Entries.{is_empty};
     ghost use Rattle.cudf_referee.specs.KeyViews.{key_view};
+    ghost use Rattle.cudf_referee.specs.Pages.{least_search};
     ghost use Rattle.cudf_referee.specs.Proposals.{proposal};
     ghost use Rattle.cudf_referee.specs.Sites.{at_start, at_key};
     ghost use Rattle.cudf_referee.specs.Solutions.{is_solution};
@@ -161,6 +162,7 @@ impl<'p, 't> Referee<'p, 't> {
         ensures judged { result.judged ≡ self.entry.now }
         ensures position { result.position ≡ at_key (key_view key) }
         ensures price { result.steps ≤ digits (length self.entry.now.unknown) }
+        ensures grows { least_search (key_view key).part (length self.entry.now.unknown) ≤ result.steps }
         ensures left { left result ≡ rest (key_view key) self.entry.now }
     {
         self.instances().behind(key)

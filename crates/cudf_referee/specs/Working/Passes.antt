@@ -3,12 +3,13 @@ use Rattle.std.specs.Prelude.{◌≡◌, ◌≤◌, ℕ, ◌+◌, List, map, dro
 use Rattle.std.specs.List.{enumerate_from}
 use Rattle.cudf_referee.specs.Proposals.{Proposal}
 use Rattle.cudf_referee.specs.Sites.{Site, Stop, at_site}
-use Rattle.cudf_referee.specs.Working.Searches.{first_given, cost_to_first, entries_left}
+use Rattle.cudf_referee.specs.Working.Searches.{first_given, cost_to_first, least_to_first, entries_left}
 
 -- a search of all these stops has come to the ones that are left: those before gave nothing, and are paid for
 pub record Passes (s : Proposal) (all left : List Stop) (old now : ℕ) : Type 0 where
   pub given : first_given s all ≡ first_given s left
   pub price : now + cost_to_first s left ≤ old + cost_to_first s all
+  pub grows : old + least_to_first s all ≤ now + least_to_first s left
 
 -- the stops at the entries that are left
 abbrev pub entry_stops : {A : Type 0} → (ℕ × A → Site) → Option ℕ → List A → List Stop

@@ -16,7 +16,7 @@ use Rattle.cudf_referee.specs.declared.key.Aspect.TheVariants.{Unsatisfied, Many
 use Rattle.cudf_referee.specs.Instances.{PlainInstance}
 use Rattle.cudf_referee.specs.Keys.{PlainKey, rule_rank}
 use Rattle.cudf_referee.specs.Proposals.{Proposal, holds_place}
-use Rattle.cudf_referee.specs.Sites.{Site, conjunct, conflicts_entry, kept_version, kept_package, kept_feature, install_entry, remove_entry, upgrade_entry, unknown_stanza, upgrade_sites, request_sites, Stop, at_site, package_end, package_stops, stop_cost}
+use Rattle.cudf_referee.specs.Sites.{Site, conjunct, conflicts_entry, kept_version, kept_package, kept_feature, install_entry, remove_entry, upgrade_entry, unknown_stanza, upgrade_sites, request_sites, Stop, at_site, package_end, package_stops, stop_cost, least_cost}
 use Rattle.cudf_referee.specs.Working.Judged.{given_at}
 
 -- ---- searches
@@ -35,15 +35,23 @@ abbrev pub unless_found : Option PlainInstance → ℕ → ℕ
 unless_found None cost = cost
 unless_found (Some i) cost = 0
 
--- what it costs to go by the stops, up to and including the first that gives an instance
+-- of the stops up to and including the first that gives an instance, these numbers together
+abbrev pub sum_to_first : (Stop → ℕ) → Proposal → List Stop → ℕ
+sum_to_first number s [] = 0
+sum_to_first number s (x ∷ xs) = number x + unless_found (given_at s x) (sum_to_first number s xs)
+
+-- what it costs to go by them: at most, and at least
 abbrev pub cost_to_first : Proposal → List Stop → ℕ
-cost_to_first s [] = 0
-cost_to_first s (x ∷ xs) = stop_cost s.proposed x + unless_found (given_at s x) (cost_to_first s xs)
+cost_to_first s stops = sum_to_first (stop_cost s.proposed) s stops
+
+abbrev pub least_to_first : Proposal → List Stop → ℕ
+least_to_first s stops = sum_to_first least_cost s stops
 
 -- a search of these stops found this, and its steps went from one number to another
 pub record Finds (s : Proposal) (stops : List Stop) (found : Option PlainInstance) (old new : ℕ) : Type 0 where
   pub given : found ≡ first_given s stops
   pub price : new ≤ old + cost_to_first s stops
+  pub grows : old + least_to_first s stops ≤ new
 
 -- ---- what is left behind a key
 

@@ -4,7 +4,7 @@ ghost use Rattle.std.specs.FinSet as set;
 ghost use Rattle.cudf_document.specs.Statuses.{unknown_view};
 ghost use Rattle.cudf_universe.specs.Prices.{digits};
 ghost use Rattle.cudf_referee.specs.KeyViews.{key_view};
-ghost use Rattle.cudf_referee.specs.Pages.{behind};
+ghost use Rattle.cudf_referee.specs.Pages.{behind, least_search};
 ghost use Rattle.cudf_referee.specs.PositionViews.{position_view};
 ghost use Rattle.cudf_referee.specs.Proposals.{put_forward};
 ghost use Rattle.cudf_referee.specs.Sites.{at_start, at_key};
@@ -95,6 +95,7 @@ impl<'r, 'p, 't> Instances<'r, 'p, 't> {
         ensures judged { result.judged ≡ self.entry.judged }
         ensures position { result.position ≡ at_key (key_view key) }
         ensures price { result.steps ≤ self.entry.steps + digits (length self.entry.judged.unknown) }
+        ensures grows { self.entry.steps + least_search (key_view key).part (length self.entry.judged.unknown) ≤ result.steps }
     {
         // all that a walk holds, none of it a list of instances: a further field would have to be named here
         let Instances {

@@ -6,7 +6,7 @@ ghost use Rattle.cudf_document.specs.Universe.{list_view, request_view};
 ghost use Rattle.cudf_universe.specs.Satisfaction.{numbers_of};
 ghost use Rattle.cudf_referee.specs.KeyViews.{key_view};
 ghost use Rattle.cudf_referee.specs.Proposals.{Proposal};
-ghost use Rattle.cudf_referee.specs.Sites.{aspect_price, upgrade_entry, at_site};
+ghost use Rattle.cudf_referee.specs.Sites.{aspect_price, aspect_look_ups, upgrade_entry, at_site};
 ghost use Rattle.cudf_referee.specs.Views.{instance_view};
 ghost use Rattle.cudf_referee.specs.Violations.{are_many, are_lower};
 ghost use Rattle.cudf_referee.specs.Working.Behind.{later_aspects, aspect_stops, upgrade_stops, upgrade_after, upgrade_behind};
@@ -24,6 +24,7 @@ fn has_many(now: &mut Metered<'_, '_, '_>, name: &str) -> bool
     ensures answer { result ≡ are_many (numbers_of name.now now.old.status) }
     ensures status { now.new.status ≡ now.old.status }
     ensures price { now.new.steps ≤ now.old.steps + 4 }
+    ensures grows { now.old.steps + 2 ≤ now.new.steps }
 {
     match (now.least_counted(name), now.greatest_counted(name)) {
         (Some(least), Some(greatest)) => least != greatest,
@@ -41,6 +42,7 @@ fn has_lower(
     ensures now { now.new.status ≡ now.old.status }
     ensures before { before.new.status ≡ before.old.status }
     ensures price { now.new.steps + before.new.steps ≤ now.old.steps + before.old.steps + 4 }
+    ensures grows { now.old.steps + before.old.steps + 2 ≤ now.new.steps + before.new.steps }
 {
     match (now.least_counted(name), before.greatest_counted(name)) {
         (Some(least), Some(greatest)) => least < greatest,
@@ -60,6 +62,7 @@ fn is_violated(
     ensures now { now.new.status ≡ now.old.status }
     ensures before { before.new.status ≡ before.old.status }
     ensures price { now.new.steps + before.new.steps ≤ now.old.steps + before.old.steps + aspect_price now.old.status (vpkg_view vpkg.now) aspect }
+    ensures grows { now.old.steps + before.old.steps + aspect_look_ups aspect ≤ now.new.steps + before.new.steps }
 {
     match aspect {
         Aspect::Unsatisfied => !now.satisfies_counted(vpkg),

@@ -2,7 +2,7 @@ use Rattle.std.proofs.Common.{◌+◌, ◌-◌, ◌/◌, map, length, refl, sym,
 use Rattle.std.proofs.lemmas.List.{length-map}
 use Rattle.cudf_document.specs.Statuses.{unknown_view}
 use Rattle.cudf_referee.specs.Working.Places.{stanza_numbers}
-use Rattle.cudf_referee.proofs.UnknownLemmas.{halved_start, halved_right, halved_left, halved_end}
+use Rattle.cudf_referee.proofs.UnknownLemmas.{halved_start, halved_right, halved_left, halved_end, halved_least}
 use Rattle.cudf_referee.proofs.position.first_above.Goals as goal
 
 pub loop-low-init : goal.loop-low-init
@@ -24,3 +24,9 @@ loop-low-preserved c =
 pub returns-clause-left : goal.returns-clause-left
 returns-clause-left c =
     halved_end (map unknown_view c.args.unknown.now) c.args.number c.loop-low.low c.loop-low.high c.args.steps.now c.loop-low.steps c.loop-low.invariant c.loop-low-test.false
+
+pub returns-clause-grows : goal.returns-clause-grows
+returns-clause-grows c =
+    let unknown = map unknown_view c.args.unknown.now in
+    halved_least unknown c.args.number (length c.args.unknown.now) c.loop-low.low c.loop-low.high c.args.steps.now c.loop-low.steps c.loop-low.invariant c.loop-low-test.false
+    (sym (length-map unknown (λ u. u.stanza) ∙ length-map c.args.unknown.now unknown_view))

@@ -13,3 +13,6 @@ returns-clause-price c = grind (arith, common_steps)
 
 pub returns-clause-left : goal.returns-clause-left
 returns-clause-left c = grind (arith, common_steps)
+
+pub returns-clause-grows : goal.returns-clause-grows
+returns-clause-grows c = grind (arith, common_steps)

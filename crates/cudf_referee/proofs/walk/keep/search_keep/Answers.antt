@@ -1,10 +1,11 @@
 use Rattle.std.proofs.Common.{◌≡◌, ℕ, true, [], ◌∷◌, Option, Some, None, ◌&&◌, cond, not, refl, ap, sym, ◌∙◌}
 use Rattle.std.specs.Prelude.{option_map}
-use Rattle.cudf_document.specs.declared.package.Keep.TheVariants.{Version, Package}
+use Rattle.cudf_value.specs.Vpkgs.{PlainVpkg}
+use Rattle.cudf_document.specs.declared.package.Keep.TheVariants.{Version, Package, Feature}
 use Rattle.cudf_referee.specs.declared.key.Rule.TheVariants as rule
 use Rattle.cudf_referee.specs.KeyViews.{key_view}
 use Rattle.cudf_referee.specs.Instances.{keep_version, keep_package}
-use Rattle.cudf_referee.specs.Sites.{kept_version, kept_package}
+use Rattle.cudf_referee.specs.Sites.{kept_version, kept_package, kept_feature}
 use Rattle.cudf_referee.specs.Violations.{at_package, has_package}
 use Rattle.cudf_referee.specs.Working.Named.{keeps_name}
 use Rattle.cudf_referee.specs.Working.Candidates.{placed_view}
@@ -30,3 +31,11 @@ returns-in-Package-clause-found c = λ s same fits.
     let stops = ap (λ (n : Option ℕ). entry_stops (λ x. kept_package p) n (p ∷ [])) c.passed-passed.ensures
     ∙ kept-installed s (option_map key_view c.args.key) p Package (fits.was ∙ held) c.in-Package.is in
     Finds-at s _ _ _ _ _ stops (Finds-beside s _ _ c.args.now.now.steps _ _ (c.judge-in-Package.ensures s (kept_package p) judged refl))
+
+pub returns-in-Feature-clause-found : goal.returns-in-Feature-clause-found
+returns-in-Feature-clause-found c = λ s same fits.
+    let p = placed_view c.args.candidate in
+    let held : c.args.candidate.package.now.installed ≡ true = c.if-not-candidate.false in
+    let stops = ap (λ (n : Option ℕ). entry_stops (λ (v : ℕ × PlainVpkg). kept_feature p v.0 v.1) n p.1.provides) c.passed-passed.ensures
+    ∙ kept-installed s (option_map key_view c.args.key) p Feature (fits.was ∙ held) c.in-Feature.is in
+    Finds-at s _ _ _ _ _ stops (c.search_features.ensures.found s same)

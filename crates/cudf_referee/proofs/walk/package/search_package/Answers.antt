@@ -19,4 +19,4 @@ pub returns-clause-found : goal.returns-clause-found
 returns-clause-found c = λ s same fits.
     let needs = at_none s _ instance_view c.search_needs.result _ _ c.in_default.is (c.search_needs.ensures.found s same fits) in
     let kept = at_none s _ instance_view c.search_keep.result _ _ c.in_default-search_keep.is (c.search_keep.ensures.found s (same ∙ sym c.search_needs.ensures.status) fits) in
-    Finds-then s _ _ _ _ _ _ (Finds-then s _ _ _ _ _ _ needs kept) (Finds-one s (package_end c.args.candidate.place) None _ _ refl (omega (arith, c.tick.ensures)))
+    Finds-then s _ _ _ _ _ _ (Finds-then s _ _ _ _ _ _ needs kept) (Finds-one s (package_end c.args.candidate.place) None _ _ refl (omega (arith, c.tick.ensures)) (omega (arith, c.tick.ensures)))

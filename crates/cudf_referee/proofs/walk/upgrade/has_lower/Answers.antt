@@ -1,4 +1,4 @@
-use Rattle.std.proofs.Common.{refl, ap, sym, ◌∙◌}
+use Rattle.std.proofs.Common.{refl, ap, sym, ◌∙◌, arith}
 use Rattle.cudf_universe.specs.Satisfaction.{numbers_of}
 use Rattle.cudf_referee.specs.Violations.{are_lower}
 use Rattle.cudf_referee.proofs.NumberLemmas.{lower_by_ends, lower-none}
@@ -15,3 +15,6 @@ pub returns-in_default-clause-answer : goal.returns-in_default-clause-answer
 returns-in_default-clause-answer c =
     let numbers = numbers_of c.args.name.now c.args.now.now.status in
     sym (ap (λ before. are_lower before numbers) (c.in_default.ensures'.greatest.none.0 refl) ∙ lower-none numbers)
+
+pub returns-in-Some-Some-clause-grows : goal.returns-in-Some-Some-clause-grows
+returns-in-Some-Some-clause-grows c = omega (arith, c.least_counted.ensures.grows, c.greatest_counted.ensures.price)

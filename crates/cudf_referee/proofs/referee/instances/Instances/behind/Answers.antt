@@ -10,3 +10,6 @@ returns-clause-position c = grind (arith, common_steps)
 
 pub returns-clause-price : goal.returns-clause-price
 returns-clause-price c = grind (arith, common_steps)
+
+pub returns-clause-grows : goal.returns-clause-grows
+returns-clause-grows c = grind (arith, common_steps)
