@@ -10,8 +10,8 @@ The headline is the contract of `run`, a public function of the crate `cudf_chec
   view, where it has an `impl Model`; and the same of the types of its fields;
 - and so on, down the `use` lines of each file that is reached. Of the file of laws only what the two laws name.
 
-The program has to call `run`, or `run_before_exit`, while there is one, whose contract has to be that of `run`
-word for word; and no other public function of `cudf_check` may write.
+The program has to call `run`, and nothing else of `cudf_check` may stand for it: no other public function there may
+write.
 
 A proof that is written by hand may set what contracts alone see as it likes. So the two functions of `Steps` that
 set a count are the only ones with such a proof: with a further one a count could be set back.
@@ -42,8 +42,8 @@ END = "<!-- end of statement -->"
 MARK = "crates/cudf_universe/proofs/steps/mark/Mark"
 PROOFS_BY_HAND = {f"{MARK}/grow/Proof.antt", f"{MARK}/new/Proof.antt"}
 
-# the entries of cudf_check that may carry the headline, and the laws that it leans on
-ENTRIES = ("run", "run_before_exit")
+# the one entry of cudf_check, which carries the headline, and the laws that it leans on
+ENTRY = "run"
 LAWS = ("ascending", "empty")
 
 # where a line begins a `use`, and the two forms that are read: of definitions, and of Rust's items
@@ -244,46 +244,34 @@ def needed(crate, name):
 
 # ---- what the program calls
 
-def check_entries():
-    """The second entry, while there is one, promises what `run` does, word for word, in the same file."""
-    path, _, contract = needed("cudf_check", ENTRIES[0])
-    second = function("cudf_check", ENTRIES[1])
-    if second is None:
-        return
-    words = second[2].replace(f"fn {ENTRIES[1]}", f"fn {ENTRIES[0]}", 1).split()
-    if second[0] != path or words != contract.split():
-        raise Broken(f"the contract of `{ENTRIES[1]}` isn't that of `{ENTRIES[0]}` word for word")
-
-
-def check_writers():
-    """No public function of cudf_check but the entries takes something to write to."""
+def check_entry():
+    """`run` is there, and no second entry: no other public function of cudf_check takes something to write to."""
+    needed("cudf_check", ENTRY)
     for path, text in sources("cudf_check").items():
-        for begin in re.finditer(r"^ *pub fn (\w+)", text, re.M):
-            writes = re.search(r"\b(?:Sink|Write)\b", contract_at(text, begin.start()))
-            if writes and begin.group(1) not in ENTRIES:
-                raise Broken(f"`{begin.group(1)}` of {path.relative_to(ROOT)} writes beside `run`")
+        for begin in re.finditer(r"^( *)pub fn (\w+)", text, re.M):
+            indent, name = begin.groups()
+            if (indent or name != ENTRY) and re.search(r"\b(?:Sink|Write)\b", contract_at(text, begin.start())):
+                raise Broken(f"`{name}` of {path.relative_to(ROOT)} writes beside `{ENTRY}`")
 
 
-def called_in(text):
-    """The entries that a file of the program calls; any other function of cudf_check is refused."""
+def calls_entry(text):
+    """Whether a file of the program calls `run`; any other function of cudf_check is refused."""
     names = {name: path for name, path in items_used(text).items() if path.split("::")[0] == "cudf_check"}
     body = without_uses(text)
     for path in re.findall(r"\bcudf_check(?:::\w+)+", body):
         names[path] = path
-    called = []
+    called = False
     for name, path in names.items():
-        entry = path.removeprefix("cudf_check::")
-        if path.islower() and entry not in ENTRIES:
+        is_entry = path == f"cudf_check::{ENTRY}"
+        if path.islower() and not is_entry:
             raise Broken(f"the program uses `{path}`, which doesn't carry the headline")
-        if entry in ENTRIES and re.search(r"(?<![\w.:])%s\s*(?:::\s*<|\()" % re.escape(name), body):
-            called.append(entry)
+        called = called or is_entry and re.search(r"(?<![\w.:])%s\s*(?:::\s*<|\()" % re.escape(name), body) is not None
     return called
 
 
 def check_program():
-    called = [name for text in sources("cudf_program").values() for name in called_in(text)]
-    if not called:
-        raise Broken("the program calls neither `run` nor `run_before_exit` of cudf_check")
+    if not any([calls_entry(text) for text in sources("cudf_program").values()]):
+        raise Broken(f"the program doesn't call `{ENTRY}` of cudf_check")
 
 
 def check_proofs_by_hand():
@@ -600,8 +588,7 @@ def differences(computed, rows):
 def main(arguments):
     if arguments not in ([], ["--write"]):
         raise Layout("usage: statement.py [--write]")
-    check_entries()
-    check_writers()
+    check_entry()
     check_program()
     check_proofs_by_hand()
     files = statement()

@@ -57,43 +57,55 @@ class Unchanged(Copy):
         self.assertIn("crates/cudf_referee/specs/Laws.antt", run.stdout)
 
 
-class Entries(Copy):
-    def setUp(self):
-        super().setUp()
-        if "pub fn run_before_exit" not in (self.root / "crates/cudf_check/src/lib.rt").read_text():
-            self.skipTest("there is one entry alone")
+class Entry(Copy):
+    PLACE = "/// The run on one input.\n"
 
-    def test_weaker_clause(self):
-        self.plant("cudf_check/src/lib.rt", "→ returned solution.exit ≡ lent solution.entry }",
-                   "→ lent solution.entry ≡ lent solution.entry }", behind="pub fn run_before_exit")
-        self.assert_refused(1, "the contract of `run_before_exit` isn't that of `run` word for word")
+    def test_second(self):
+        self.plant("cudf_check/src/lib.rt", self.PLACE, "pub fn run_again<W: Sink>(out: &mut W) {}\n\n" + self.PLACE)
+        self.assert_refused(1, "`run_again` of crates/cudf_check/src/lib.rt writes beside `run`")
 
-    def test_further_bound(self):
-        self.plant("cudf_check/src/lib.rt", "pub fn run_before_exit<R: Source, S: Source, W: Sink>(",
-                   "pub fn run_before_exit<R: Source, S: Source, W: Sink + Copy>(")
-        self.assert_refused(1, "the contract of `run_before_exit` isn't that of `run` word for word")
+    def test_second_in_the_same_words(self):
+        text = (self.root / "crates/cudf_check/src/lib.rt").read_text()
+        entry = text[text.index("pub fn run<"):text.index(self.PLACE)]
+        self.plant("cudf_check/src/lib.rt", self.PLACE, entry.replace("fn run<", "fn run_again<") + self.PLACE)
+        self.assert_refused(1, "`run_again` of crates/cudf_check/src/lib.rt writes beside `run`")
 
-
-class Program(Copy):
-    def entry(self):
-        text = (self.root / "crates/cudf_program/src/main.rt").read_text()
-        return "run_before_exit" if "run_before_exit" in text else "run"
-
-    def test_calls_neither(self):
-        path = self.root / "crates/cudf_program/src/main.rt"
-        text = path.read_text()
-        changed = text.replace(f", {self.entry()}}};", "};").replace(f"    {self.entry()}", "    skip")
-        self.assertNotEqual(changed, text)
-        path.write_text(changed)
-        self.assert_refused(1, "the program calls neither `run` nor `run_before_exit`")
-
-    def test_calls_another(self):
-        self.plant("cudf_program/src/main.rt", f", {self.entry()}}};", f", {self.entry()}, answer_job}};")
-        self.assert_refused(1, "the program uses `cudf_check::answer_job`")
+    def test_method_of_the_same_name(self):
+        self.plant("cudf_check/src/lib.rt", self.PLACE,
+                   "impl Job {\n    pub fn run<W>(&self, out: &mut W)\n    where\n        W: Sink,\n    {\n    }\n}\n\n" + self.PLACE)
+        self.assert_refused(1, "`run` of crates/cudf_check/src/lib.rt writes beside `run`")
 
     def test_another_writes(self):
         self.plant("cudf_check/src/report.rt", "pub(crate) fn answer_job<", "pub fn answer_job<")
         self.assert_refused(1, "`answer_job` of crates/cudf_check/src/report.rt writes beside `run`")
+
+    def test_not_found(self):
+        self.plant("cudf_check/src/lib.rt", "pub fn run<", "pub fn runs<")
+        self.assert_refused(2, "`pub fn run` isn't found")
+
+
+class Program(Copy):
+    def test_calls_none(self):
+        path = self.root / "crates/cudf_program/src/main.rt"
+        text = path.read_text()
+        changed = text.replace(", run};", "};").replace("    run(", "    skip(").replace("    run::<", "    skip::<")
+        self.assertNotEqual(changed, text)
+        path.write_text(changed)
+        self.assert_refused(1, "the program doesn't call `run` of cudf_check")
+
+    def test_names_it_only(self):
+        path = self.root / "crates/cudf_program/src/main.rt"
+        text = path.read_text()
+        path.write_text(text.replace("    run(", "    skip(").replace("    run::<", "    skip::<"))
+        self.assert_refused(1, "the program doesn't call `run` of cudf_check")
+
+    def test_calls_another(self):
+        self.plant("cudf_program/src/main.rt", ", run};", ", run, answer_job};")
+        self.assert_refused(1, "the program uses `cudf_check::answer_job`")
+
+    def test_calls_another_by_its_path(self):
+        self.plant("cudf_program/src/main.rt", "    run(alloc", "    cudf_check::run_again(alloc")
+        self.assert_refused(1, "the program uses `cudf_check::run_again`")
 
 
 class ProofsByHand(Copy):

@@ -60,6 +60,10 @@ IsUnfinished reader = (reader.before.failures < reader.after.failures)
 abbrev pub IsTooLong : Change SourceState → Type 0
 IsTooLong reader = reader.before.given + most_bytes < reader.after.given
 
+-- the reader hasn't told its end, as where memory ran out before it
+abbrev pub IsUnended : Change SourceState → Type 0
+IsUnended reader = reader.after.ends ≡ reader.before.ends
+
 -- the reader of the solution that the job reads
 abbrev pub reader_for : Job → Option (Change SourceState) → Option (Change SourceState)
 reader_for Lint solution = None
@@ -77,10 +81,10 @@ abbrev pub OfReader : (Change SourceState → Type 0) → Option (Change SourceS
 OfReader P None = ⊥
 OfReader P (Some reader) = P reader
 
--- the solution isn't read: the job needs none, or the first input failed or was too long
+-- the solution isn't read: the job needs none, or reading the first input ended in an error, whichever it is
 abbrev pub SkipsSolution : Job → Change SourceState → Type 0
 SkipsSolution Lint input = Unit {0}
-SkipsSolution job input = IsUnfinished input ⊎ IsTooLong input
+SkipsSolution job input = IsUnfinished input ⊎ (IsTooLong input ⊎ IsUnended input)
 
 -- ---- the inputs and what is written of their report
 

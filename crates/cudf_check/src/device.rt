@@ -1,7 +1,9 @@
 //! What a run reads from and writes to. Contracts see of each device one state: its bytes, where it tells them, and
 //! always the counts of its calls.
-ghost use Rattle.std.specs.Prelude.{◌≡◌, ◌+◌, ◌<◌, ◌≤◌, length, IfOk};
+ghost use Rattle.std.specs.Prelude.{◌≡◌, ℕ, List, Option, Result, ◌+◌, ◌<◌, ◌≤◌, length, IfOk};
+ghost use Rattle.std.specs.Io.{ReadsAtMost};
 ghost use Rattle.std.specs.Io.KnownBytes.{ReadConsumes, WriteAppends};
+ghost use Rattle.std.specs.declared.io.Error.{Error};
 ghost use Rattle.cudf_check.specs.Device.{SourceState, SinkState, failed_reads, ended_reads, bytes_given, failed_writes, device_answer};
 
 use cudf_universe::Steps;
@@ -106,18 +108,50 @@ fn answer_of(answer: io::Result<usize>) -> Result<usize, Trouble>
     }
 }
 
-impl<R: Read> Source for Device<R> {
-    ghost state = { λ d. record {
-      remaining = R.remaining d.inner;
-      calls = d.calls;
-      failures = d.failures;
-      ends = d.ends;
-      given = d.given;
-    } };
+/// A reader of std, as a device calls it. Contracts see which answers a call may have given, so that
+/// a device can't answer in the reader's place.
+pub trait Reader {
+    /// The bytes that it will still give, where it tells them.
+    ghost remaining: { Self → Option (List ℕ) };
 
-    fn read(&mut self, buffer: &mut [u8]) -> Result<usize, Trouble> {
+    /// A call that finds the reader so may answer this, leave this in the buffer, and leave the reader so.
+    ghost gives: { Self → Result ℕ Error → List ℕ → Self → Type 0 };
+
+    /// One call of the reader's `read`.
+    fn read_once(&mut self, buffer: &mut [u8]) -> io::Result<usize>
+        ensures bound { ReadsAtMost result buffer.new }
+        ensures bytes { ReadConsumes (remaining self.old) (remaining self.new) result buffer.new }
+        ensures gives { gives self.old result buffer.new self.new };
+}
+
+impl<R: Read> Reader for R {
+    ghost remaining = { R.remaining };
+
+    ghost gives = { λ before answer bytes after. ReadConsumes (R.remaining before) (R.remaining after) answer bytes };
+
+    fn read_once(&mut self, buffer: &mut [u8]) -> io::Result<usize> {
+        self.read(buffer)
+    }
+}
+
+impl<R: Reader> Source for Device<R> {
+    ghost use Rattle.cudf_check.specs.DeviceInside.{device_inner, source_state, IsTold};
+
+    ghost state = { source_state R.remaining };
+
+    fn read(&mut self, buffer: &mut [u8]) -> Result<usize, Trouble>
+        // What the reader answered is told, and nothing else.
+        ensures told { IsTold R.gives (device_inner self.old) result buffer.new (device_inner self.new) }
+
+        ensures bound { IfOk result (λ n. n ≤ length buffer.new) }
+        ensures bytes { ReadConsumes (source_state R.remaining self.old).remaining (source_state R.remaining self.new).remaining result buffer.new }
+        ensures called { (source_state R.remaining self.new).calls ≡ (source_state R.remaining self.old).calls + 1 }
+        ensures failed { (source_state R.remaining self.new).failures ≡ (source_state R.remaining self.old).failures + failed_reads result }
+        ensures ended { (source_state R.remaining self.new).ends ≡ (source_state R.remaining self.old).ends + ended_reads result }
+        ensures gave { (source_state R.remaining self.new).given ≡ (source_state R.remaining self.old).given + bytes_given result }
+    {
         self.calls.tick();
-        let answer = answer_of(self.inner.read(buffer));
+        let answer = answer_of(self.inner.read_once(buffer));
         match answer {
             Ok(0) => self.ends.tick(),
             Ok(n) => self.given.grow_by(n),

@@ -7,7 +7,6 @@ ghost use Rattle.cudf_check.specs.Runs.{change, change_of_lent, lent, returned, 
 
 mod buffer;
 mod device;
-mod ending;
 mod input;
 mod job;
 mod lines;
@@ -17,7 +16,6 @@ mod report;
 
 pub use cudf_referee::Key;
 pub use device::{Device, Sink, Source, Trouble};
-use ending::Ending;
 use input::read_all;
 pub use job::Job;
 pub use outcome::{Outcome, RunError};
@@ -52,40 +50,13 @@ pub fn run<R: Source, S: Source, W: Sink>(
     ensures unread { SkipsSolution job.now (change R.state input.old input.new) → returned solution.exit ≡ lent solution.entry }
 {
     match solution {
-        Some(solution) => run_two(Ending::GivesBack, alloc, job, input, solution, out),
-        None => run_one(Ending::GivesBack, alloc, job, input, out),
-    }
-}
-
-/// As `run`, for a program that ends behind it: what the run held is left to the end of the process,
-/// and isn't taken apart block by block.
-///
-/// # Errors
-///
-/// As those of `run`.
-pub fn run_before_exit<R: Source, S: Source, W: Sink>(
-    alloc: Global,
-    job: &Job,
-    input: &mut R,
-    solution: Option<&mut S>,
-    out: &mut W,
-) -> Result<Outcome, RunError>
-    ensures runs { Runs job.now (change R.state input.old input.new)
-        (change_of_lent S.state (lent solution.entry) (returned solution.exit))
-        (change W.state out.old out.new) result }
-
-    // Where the solution isn't read, it is returned as it was lent.
-    ensures unread { SkipsSolution job.now (change R.state input.old input.new) → returned solution.exit ≡ lent solution.entry }
-{
-    match solution {
-        Some(solution) => run_two(Ending::Leaves, alloc, job, input, solution, out),
-        None => run_one(Ending::Leaves, alloc, job, input, out),
+        Some(solution) => run_two(alloc, job, input, solution, out),
+        None => run_one(alloc, job, input, out),
     }
 }
 
 /// The run on one input.
 fn run_one<R: Source, W: Sink>(
-    ending: Ending,
     alloc: Global,
     job: &Job,
     input: &mut R,
@@ -94,12 +65,11 @@ fn run_one<R: Source, W: Sink>(
     ensures { Runs job.now (change R.state input.old input.new) None (change W.state out.old out.new) result }
 {
     let bytes = read_all(alloc, input)?;
-    answer_job(ending, alloc, job, &bytes, None, out)
+    answer_job(alloc, job, &bytes, None, out)
 }
 
 /// The run on two inputs. The second isn't read where the job judges no solution.
 fn run_two<R: Source, S: Source, W: Sink>(
-    ending: Ending,
     alloc: Global,
     job: &Job,
     input: &mut R,
@@ -112,10 +82,10 @@ fn run_two<R: Source, S: Source, W: Sink>(
 {
     let first = read_all(alloc, input)?;
     match job {
-        Job::Lint => answer_job(ending, alloc, job, &first, None, out),
+        Job::Lint => answer_job(alloc, job, &first, None, out),
         Job::Check { .. } | Job::Score => {
             let second = read_all(alloc, solution)?;
-            answer_job(ending, alloc, job, &first, Some(&second), out)
+            answer_job(alloc, job, &first, Some(&second), out)
         }
     }
 }

@@ -11,7 +11,6 @@ ghost use Rattle.cudf_check.specs.Working.Found.{found_text};
 ghost use Rattle.cudf_check.specs.Working.Refusals.{IsReportOf};
 
 use crate::device::Sink;
-use crate::ending::Ending;
 use crate::job::Job;
 use crate::lines::{Found, answer, answer_fault, answer_judged};
 use crate::outcome::{Outcome, RunError};
@@ -40,7 +39,6 @@ fn answer_refusal<W: Sink>(
 
 /// Judges what a solution proposes.
 fn answer_proposal<W: Sink>(
-    ending: Ending,
     alloc: Global,
     out: &mut W,
     found: Found,
@@ -54,9 +52,7 @@ fn answer_proposal<W: Sink>(
     match Referee::new(alloc, problem, solution) {
         Ok(referee) => {
             ascending();
-            let answer = answer_judged(alloc, out, problem.packages(), &referee, found);
-            ending.end(referee);
-            answer
+            answer_judged(alloc, out, problem.packages(), &referee, found)
         }
         Err(_) => Err(RunError::Memory),
     }
@@ -64,7 +60,6 @@ fn answer_proposal<W: Sink>(
 
 /// Reads a solution that doesn't say FAIL, and judges it.
 fn answer_solution_stanzas<W: Sink>(
-    ending: Ending,
     alloc: Global,
     out: &mut W,
     found: Found,
@@ -74,18 +69,13 @@ fn answer_solution_stanzas<W: Sink>(
     ensures { Answers (W.state out.old) (W.state out.new) (solution_text_report (found_text found) problem.now stanzas.entry.text) result }
 {
     match solution_of(alloc, stanzas, problem) {
-        Ok(solution) => {
-            let answer = answer_proposal(ending, alloc, out, found, problem, &solution);
-            ending.end(solution);
-            answer
-        }
+        Ok(solution) => answer_proposal(alloc, out, found, problem, &solution),
         Err(error) => answer_refusal(alloc, out, "solution", error),
     }
 }
 
 /// Answers a solution beside a problem without fault.
 fn answer_solution<W: Sink>(
-    ending: Ending,
     alloc: Global,
     out: &mut W,
     found: Found,
@@ -99,7 +89,7 @@ fn answer_solution<W: Sink>(
             if is_fail(source) {
                 return answer(alloc, out, &["solution FAIL", "\n"], Outcome::Fail);
             }
-            answer_solution_stanzas(ending, alloc, out, found, problem, Stanzas::new(source))
+            answer_solution_stanzas(alloc, out, found, problem, Stanzas::new(source))
         }
         Err(fault) => answer_fault(alloc, out, "solution", fault),
     }
@@ -117,7 +107,6 @@ fn chosen_by(alloc: Global, solution: &[u8]) -> Result<Chosen<'_>, AllocError>
 
 /// Reads a problem, and then its solution, which installs these.
 fn answer_chosen<W: Sink>(
-    ending: Ending,
     alloc: Global,
     out: &mut W,
     found: Found,
@@ -132,9 +121,7 @@ fn answer_chosen<W: Sink>(
     match problem_for(alloc, stanzas, &mut room, chosen) {
         Ok(problem) => {
             thin();
-            let answer = answer_solution(ending, alloc, out, found, &problem, solution);
-            ending.end(problem);
-            answer
+            answer_solution(alloc, out, found, &problem, solution)
         }
         Err(error) => answer_refusal(alloc, out, "problem", error),
     }
@@ -143,7 +130,6 @@ fn answer_chosen<W: Sink>(
 /// Reads a problem, and then its solution. Of the problem what is needed by packages that the solution
 /// doesn't install isn't kept.
 fn answer_thin<W: Sink>(
-    ending: Ending,
     alloc: Global,
     out: &mut W,
     found: Found,
@@ -153,14 +139,13 @@ fn answer_thin<W: Sink>(
     ensures { Answers (W.state out.old) (W.state out.new) (problem_text_report (found_text found) solution.now stanzas.entry.text) result }
 {
     match chosen_by(alloc, solution) {
-        Ok(chosen) => answer_chosen(ending, alloc, out, found, stanzas, solution, &chosen),
+        Ok(chosen) => answer_chosen(alloc, out, found, stanzas, solution, &chosen),
         Err(_) => Err(RunError::Memory),
     }
 }
 
 /// Reads a problem, and then its solution. Of the problem all is kept.
 fn answer_whole<W: Sink>(
-    ending: Ending,
     alloc: Global,
     out: &mut W,
     found: Found,
@@ -171,11 +156,7 @@ fn answer_whole<W: Sink>(
 {
     let mut room = Room::new(alloc);
     match problem_of(alloc, stanzas, &mut room) {
-        Ok(problem) => {
-            let answer = answer_solution(ending, alloc, out, found, &problem, solution);
-            ending.end(problem);
-            answer
-        }
+        Ok(problem) => answer_solution(alloc, out, found, &problem, solution),
         Err(error) => answer_refusal(alloc, out, "problem", error),
     }
 }
@@ -188,7 +169,6 @@ fn is_short_beside(solution: &[u8], problem: &[u8]) -> bool {
 
 /// Reads a problem, and then its solution.
 fn answer_problem_stanzas<W: Sink>(
-    ending: Ending,
     alloc: Global,
     out: &mut W,
     found: Found,
@@ -199,15 +179,14 @@ fn answer_problem_stanzas<W: Sink>(
     ensures { Answers (W.state out.old) (W.state out.new) (problem_text_report (found_text found) solution.now stanzas.entry.text) result }
 {
     if is_short {
-        answer_thin(ending, alloc, out, found, stanzas, solution)
+        answer_thin(alloc, out, found, stanzas, solution)
     } else {
-        answer_whole(ending, alloc, out, found, stanzas, solution)
+        answer_whole(alloc, out, found, stanzas, solution)
     }
 }
 
 /// Judges a solution of a problem.
 fn check<W: Sink>(
-    ending: Ending,
     alloc: Global,
     out: &mut W,
     found: Found,
@@ -219,7 +198,7 @@ fn check<W: Sink>(
     match stanzas(problem) {
         Ok(stanzas) => {
             let is_short = is_short_beside(solution, problem);
-            answer_problem_stanzas(ending, alloc, out, found, stanzas, solution, is_short)
+            answer_problem_stanzas(alloc, out, found, stanzas, solution, is_short)
         }
         Err(fault) => answer_fault(alloc, out, "problem", fault),
     }
@@ -266,7 +245,6 @@ fn lint<W: Sink>(alloc: Global, out: &mut W, problem: &[u8]) -> Result<Outcome, 
 /// Judges a solution of a problem. The second input is the solution; where there is none, the first
 /// is cut.
 fn check_inputs<W: Sink>(
-    ending: Ending,
     alloc: Global,
     out: &mut W,
     found: Found,
@@ -276,10 +254,10 @@ fn check_inputs<W: Sink>(
     ensures { Answers (W.state out.old) (W.state out.new) (inputs_report (found_text found) input.now (option_copied solution.entry)) result }
 {
     match solution {
-        Some(solution) => check(ending, alloc, out, found, input, solution),
+        Some(solution) => check(alloc, out, found, input, solution),
         None => {
             let (problem, solution) = cut_joined(input);
-            check(ending, alloc, out, found, problem, solution)
+            check(alloc, out, found, problem, solution)
         }
     }
 }
@@ -287,7 +265,6 @@ fn check_inputs<W: Sink>(
 /// Answers a job on its inputs.
 #[tactic(auto, unfolding(crate::specs::Report::report))]
 pub(crate) fn answer_job<W: Sink>(
-    ending: Ending,
     alloc: Global,
     job: &Job,
     input: &[u8],
@@ -303,8 +280,8 @@ pub(crate) fn answer_job<W: Sink>(
                 after: *after,
                 limit: *limit,
             };
-            check_inputs(ending, alloc, out, found, input, solution)
+            check_inputs(alloc, out, found, input, solution)
         }
-        Job::Score => check_inputs(ending, alloc, out, Found::Score, input, solution),
+        Job::Score => check_inputs(alloc, out, Found::Score, input, solution),
     }
 }

@@ -13,7 +13,7 @@ mod tests;
 mod usage;
 
 use command::{FileName, command as order_of};
-use cudf_check::{Device, Job, Outcome, RunError, Sink, run_before_exit};
+use cudf_check::{Device, Job, Outcome, RunError, Sink, run};
 use failure::Failure;
 use file::{Input, open};
 use std::alloc::Global;
@@ -144,7 +144,7 @@ fn run_one<I: Read + Drop, W: Sink>(
     out: &mut W,
 ) -> Result<Outcome, RunError> {
     let mut input = Device::new(problem);
-    run_before_exit::<_, Device<File>, _>(alloc, job, &mut input, None, out)
+    run::<_, Device<File>, _>(alloc, job, &mut input, None, out)
 }
 
 /// Runs on two files.
@@ -157,7 +157,7 @@ fn run_two<I: Read + Drop, W: Sink>(
 ) -> Result<Outcome, RunError> {
     let mut input = Device::new(problem);
     let mut proposed = Device::new(solution);
-    run_before_exit(alloc, job, &mut input, Some(&mut proposed), out)
+    run(alloc, job, &mut input, Some(&mut proposed), out)
 }
 
 /// Prints what went wrong, and answers the exit status. Help that can't be printed is a write fault.

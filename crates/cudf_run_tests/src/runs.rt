@@ -5,7 +5,7 @@ mod either;
 mod readers;
 
 use crate::table::assert_rows;
-use cudf_check::{Job, Outcome, RunError, run, run_before_exit};
+use cudf_check::{Job, Outcome, RunError, run};
 use devices::{FOREVER, Giver, Refusal, Taker};
 use std::alloc::Global;
 
@@ -278,16 +278,6 @@ fn reads_no_solution_behind_too_long_a_problem(rt: HostRuntime) {
     );
     assert!(rt; answer == Err(RunError::TooLong));
     assert_eq!(rt; (solution.turn, out.taken.len()), (0, 0));
-}
-
-/// The call for a program that ends behind it answers and writes the same.
-#[test]
-fn before_exit(rt: HostRuntime) {
-    let mut input = Giver::new(JOINED);
-    let mut out = ample(rt.alloc());
-    let answer = run_before_exit::<_, Giver<'_>, _>(rt.alloc(), &CHECK, &mut input, None, &mut out);
-    assert!(rt; answer == Ok(Outcome::No));
-    assert!(rt; out.taken.as_slice() == REPORT);
 }
 
 #[test]

@@ -15,7 +15,7 @@ returns-in-Ok g c =
     answers_as _ _ _ _ _
     (report-thin c.thin.ensures c.args.chosen.now c.in-Ok.problem (plain_problem text) c.in-Ok.ensures.problem solution c.requires c.args.found
     ∙ ap (λ faults. faulty_or (codes "problem") (least faults) (solution_report (found_text c.args.found) (plain_problem text) solution)) (sym c.in-Ok.ensures.sound))
-    c.answer_solution-answer.ensures
+    c.answer_solution.ensures
 
 pub returns : goal.returns
 returns g c =

@@ -16,7 +16,7 @@ returns-in-Ok g c =
     answers_as _ _ _ _ _
     (ap (judged_report (found_text c.args.found)) (λ k. proposal problem (is_initial problem) (λ place. solution.status place k) (solution.unknown k))
     ∙ ap (λ faults. faulty_or (codes "solution") (least faults) (judged_report (found_text c.args.found) (proposal_of problem text))) (sym solution.sound))
-    c.answer_proposal-answer.ensures
+    c.answer_proposal.ensures
 
 pub returns-in-Err : goal.returns-in-Err
 returns-in-Err g c =

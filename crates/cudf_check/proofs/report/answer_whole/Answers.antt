@@ -14,7 +14,7 @@ returns-in-Ok g c =
     answers_as _ _ _ _ _
     (ap (λ problem. solution_report (found_text c.args.found) problem solution) c.in-Ok.ensures.problem
     ∙ ap (λ faults. faulty_or (codes "problem") (least faults) (solution_report (found_text c.args.found) (plain_problem text) solution)) (sym c.in-Ok.ensures.sound))
-    c.answer_solution-answer.ensures
+    c.answer_solution.ensures
 
 pub returns : goal.returns
 returns g c =
