@@ -5,21 +5,21 @@ usage: outermost.py PROGRAM
 
 - Each status from 0 to 6.
 - Which refusal comes first where two things are wrong.
-- Standard input that is a folder, and a terminal that fails after its first bytes.
+- Standard input that is a folder, and one that fails after its first bytes.
 - Empty words.
 - The text of each error, to the byte. Of a usage fault found by the words' parser, and of the system's own part of a
   text, only what README.md, docs/FORMAT.md and the man page fix.
 
-What is wanted comes from README.md, docs/FORMAT.md and docs/DECISIONS.md, and the texts from the documentation of each
-error. Each row that isn't as wanted is printed, and then how many there were; the status is 1 where one is wrong. For
-Linux; Python's standard library alone.
+What is wanted comes from README.md, docs/FORMAT.md and docs/DECISIONS.md, and the texts from the man page. Each row that
+isn't as wanted is printed, and then how many there were. The status is 1 where one is wrong, and 2 where there is no
+program. For Linux; Python's standard library alone.
 """
 import os
 import resource
+import socket
 import subprocess
 import sys
 import tempfile
-import tty
 
 LIMIT_SECONDS = 120
 MEGABYTE = 1 << 20
@@ -160,12 +160,12 @@ def held(data):
 
 
 def failing(front):
-    """A terminal's other side: it gives the front and then fails: the terminal itself is closed (EIO)."""
-    ours, terminal = os.openpty()
-    tty.setraw(terminal)
-    os.write(terminal, front.encode())
-    os.close(terminal)
-    return os.fdopen(ours, "rb", buffering=0)
+    """A socket that gives the front and then fails (ECONNRESET), since its other side was closed with bytes unread."""
+    ours, other = socket.socketpair()
+    with other:
+        other.sendall(front.encode())
+        ours.sendall(b"unread")
+    return ours
 
 
 def empty_words(trial):
@@ -217,5 +217,12 @@ def main(path):
     return 1 if trial.wrong else 0
 
 
+def start(path):
+    if os.path.isfile(path) and os.access(path, os.X_OK):
+        return main(path)
+    print(f"{path} is no program: rt ci leaves it there where it has passed, and rt run in crates/cudf_program", file=sys.stderr)
+    return 2
+
+
 if __name__ == "__main__":
-    sys.exit(main(sys.argv[1]) if len(sys.argv) == 2 else __doc__)
+    sys.exit(start(sys.argv[1]) if len(sys.argv) == 2 else __doc__)
