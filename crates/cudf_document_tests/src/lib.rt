@@ -5,6 +5,8 @@
 #[cfg(test)]
 mod documents;
 #[cfg(test)]
+mod large;
+#[cfg(test)]
 mod table;
 #[cfg(test)]
 mod text;

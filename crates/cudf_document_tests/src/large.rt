@@ -1,0 +1,234 @@
+//! Values, lists and documents at the sizes at which a reader may take another way, and far beyond them: each is read,
+//! and memory is missed in none.
+use crate::table::assert_rows;
+use cudf_document::{
+    Chosen, Problem, ReadError, Room, Solution, first_fault, problem_for, problem_of, read_problem,
+    read_solution, solution_of,
+};
+use cudf_text::{Stanzas, Text, is_fail, read, stanzas};
+use cudf_value::{read_formula, read_veqpkglist, read_vpkglist};
+use std::alloc::{AllocError, Global};
+
+/// `head`, and then the part so many times.
+fn with_parts(alloc: Global, head: &str, part: &str, times: u64) -> Result<String, AllocError> {
+    let mut text = String::from_str(alloc, head)?;
+    for _ in 0..times {
+        text.push_str(part)?;
+    }
+    Ok(text)
+}
+
+/// The bytes of a value's first line, how many lines of one byte continue it, and the bytes of the value.
+type Joined = (u64, u64, usize);
+
+fn is_joined(alloc: Global, row: &Joined) -> bool {
+    match with_parts(alloc, "a: ", "x", row.0) {
+        Ok(first) => match with_parts(alloc, first.as_str(), "\n y", row.1) {
+            Ok(source) => has_value(alloc, source.as_str(), row.2),
+            Err(_) => false,
+        },
+        Err(_) => false,
+    }
+}
+
+/// Whether the source has one property, and its value so many bytes.
+fn has_value(alloc: Global, source: &str, bytes: usize) -> bool {
+    match read(alloc, source.as_bytes()) {
+        Ok(text) => match text.stanzas.as_slice() {
+            [stanza] => match stanza.properties.as_slice() {
+                [property] => property.value.as_str().len() == bytes,
+                _ => false,
+            },
+            _ => false,
+        },
+        Err(_) => false,
+    }
+}
+
+const JOINED: [Joined; 17] = [
+    (79, 0, 79),
+    (80, 0, 80),
+    (81, 0, 81),
+    (5000, 0, 5000),
+    (100_000, 0, 100_000),
+    (0, 1, 1),
+    (0, 2, 3),
+    (1, 1, 3),
+    (79, 1, 81),
+    (80, 1, 82),
+    (81, 1, 83),
+    (200, 1, 202),
+    (5000, 1, 5002),
+    (100_000, 1, 100_002),
+    (1, 5000, 10_001),
+    (81, 2, 85),
+    (5000, 5000, 15_000),
+];
+
+/// Whether so many entries are a list, and a formula, of so many, and so many atoms a clause of so many.
+fn has_entries(alloc: Global, count: &u64) -> bool {
+    let more = count.saturating_sub(1);
+    let list = with_parts(alloc, "a = 1", ", a = 1", more);
+    let clause = with_parts(alloc, "a = 1", " | a = 1", more);
+    match (list, clause) {
+        (Ok(list), Ok(clause)) => {
+            is_list(alloc, list.as_str(), *count) && is_clause(alloc, clause.as_str(), *count)
+        }
+        _ => false,
+    }
+}
+
+fn is_list(alloc: Global, text: &str, count: u64) -> bool {
+    let lists = match (read_vpkglist(alloc, text), read_veqpkglist(alloc, text)) {
+        (Ok(Some(list)), Ok(Some(exact))) => {
+            list.len() as u64 == count && exact.len() as u64 == count
+        }
+        _ => false,
+    };
+    let formula = match read_formula(alloc, text) {
+        Ok(Some(formula)) => formula.clauses.len() as u64 == count,
+        _ => false,
+    };
+    lists && formula
+}
+
+fn is_clause(alloc: Global, text: &str, count: u64) -> bool {
+    match read_formula(alloc, text) {
+        Ok(Some(formula)) => match formula.clauses.as_slice() {
+            [clause] => clause.atoms.len() as u64 == count,
+            _ => false,
+        },
+        _ => false,
+    }
+}
+
+const COUNTS: [u64; 8] = [1, 2, 63, 64, 65, 100, 1000, 5000];
+
+#[test]
+fn values(rt: HostRuntime) {
+    assert_rows(&rt, rt.alloc(), &JOINED, is_joined);
+    assert_rows(&rt, rt.alloc(), &COUNTS, has_entries);
+}
+
+/// How many packages a problem has, and what stands in each behind its name and version.
+type Packages = (u64, &'static str);
+
+/// Packages of so many names, each with these lines, and then `tail`.
+fn packages(alloc: Global, count: u64, lines: &str, tail: &str) -> Result<String, AllocError> {
+    let mut text = String::new(alloc);
+    for number in 0..count {
+        let stanza = format!(in alloc; "package: p{number}\nversion: 1\n{lines}\n")?;
+        text.push_str(stanza.as_str())?;
+    }
+    text.push_str(tail)?;
+    Ok(text)
+}
+
+/// Whether the problem is read, and a solution that installs all of it, as texts and stanza by stanza.
+fn is_read(alloc: Global, row: &Packages) -> bool {
+    let problem = packages(alloc, row.0, row.1, "request:\n");
+    let solution = packages(alloc, row.0, "installed: true\n", "");
+    match (problem, solution) {
+        (Ok(problem), Ok(solution)) => {
+            let (problem, solution) = (problem.as_str(), solution.as_str());
+            texts_are_read(alloc, problem, solution, row.0)
+                && stanzas_are_read(alloc, problem, solution, row.0)
+        }
+        _ => false,
+    }
+}
+
+fn texts_are_read(alloc: Global, problem: &str, solution: &str, count: u64) -> bool {
+    match (
+        read(alloc, problem.as_bytes()),
+        read(alloc, solution.as_bytes()),
+    ) {
+        (Ok(problem), Ok(solution)) => match read_problem(alloc, &problem) {
+            Ok(problem) => is_installed_by(alloc, &problem, &solution, count),
+            Err(_) => false,
+        },
+        _ => false,
+    }
+}
+
+fn is_installed_by(alloc: Global, problem: &Problem<'_>, text: &Text<'_>, count: u64) -> bool {
+    if is_fail(text.source) {
+        return false;
+    }
+    is_installed(problem, read_solution(alloc, text, problem), count)
+}
+
+/// Whether the problem has so many packages, and the last of them is installed.
+fn is_installed(
+    problem: &Problem<'_>,
+    solution: Result<Solution<'_>, ReadError>,
+    count: u64,
+) -> bool {
+    match solution {
+        Ok(solution) => {
+            problem.packages().len() as u64 == count && solution.status.holds(count) == (count > 0)
+        }
+        Err(_) => false,
+    }
+}
+
+fn stanzas_are_read(alloc: Global, problem: &str, solution: &str, count: u64) -> bool {
+    match (stanzas(problem.as_bytes()), stanzas(solution.as_bytes())) {
+        (Ok(problem), Ok(solution)) => {
+            is_sound(alloc, problem.fork())
+                && all_is_read(alloc, problem.fork(), solution.fork(), count)
+                && chosen_is_read(alloc, problem, solution, count)
+        }
+        _ => false,
+    }
+}
+
+fn is_sound(alloc: Global, problem: Stanzas<'_>) -> bool {
+    match first_fault(alloc, problem) {
+        Ok(fault) => fault.is_none(),
+        Err(_) => false,
+    }
+}
+
+fn all_is_read(alloc: Global, problem: Stanzas<'_>, solution: Stanzas<'_>, count: u64) -> bool {
+    let mut room = Room::new(alloc);
+    match problem_of(alloc, problem, &mut room) {
+        Ok(problem) => is_installed(&problem, solution_of(alloc, solution, &problem), count),
+        Err(_) => false,
+    }
+}
+
+fn chosen_is_read(alloc: Global, problem: Stanzas<'_>, solution: Stanzas<'_>, count: u64) -> bool {
+    let mut room = Room::new(alloc);
+    match Chosen::of(alloc, solution) {
+        Ok(chosen) => match problem_for(alloc, problem, &mut room, &chosen) {
+            Ok(problem) => problem.packages().len() as u64 == count,
+            Err(_) => false,
+        },
+        Err(_) => false,
+    }
+}
+
+/// The last of them have more than 5,000 lines.
+const PACKAGES: [Packages; 12] = [
+    (0, ""),
+    (1, ""),
+    (2, ""),
+    (3, ""),
+    (4, ""),
+    (100, ""),
+    (1, "depends: a,\n b | c\nconflicts: d,\n e\n"),
+    (3, "conflicts: a,\n b\nprovides: c,\n d = 2\n"),
+    (
+        100,
+        "depends: a-name-of-so-many-bytes-that-the-first-of-the-two-lines-of-this-value-has-more-than-eighty,\n b\n",
+    ),
+    (1700, ""),
+    (1700, "depends: a, b | c\nprovides: d = 2\n"),
+    (1700, "depends: a,\n b | c\n"),
+];
+
+#[test]
+fn documents(rt: HostRuntime) {
+    assert_rows(&rt, rt.alloc(), &PACKAGES, is_read);
+}

@@ -1,0 +1,391 @@
+#!/usr/bin/env python3
+"""Measures the memory, the reads and the time that the program takes for made inputs, each in a size and in twice that.
+
+usage: room.py PROGRAM [TESTS]
+
+Each run has a stack of 128 KB, and must give its whole answer. In it are counted the growths (each time that memory was
+asked for), the most bytes that were held at once, and the calls of read. Wanted is:
+
+- at most as many growths as the input has bytes, and 500 more; for twice the input, at most 2.2 times as many, and 500
+  more;
+- at most 64 bytes of memory for each byte of the input, and 1 MB more;
+- of a file, at most a read for each 65,536 bytes, and 8 more; of a pipe that gives a byte at a time, one for each byte;
+- for twice the input, at most 2.6 times the processor time (the least of some runs, in turns; of more runs where the
+  first ones say otherwise).
+
+An input of exactly 268435456 bytes is answered, with at most three bytes of memory for each of its own, and one byte
+more is told as too long, with status 5.
+
+TESTS is the executable of the tests of cudf_run_tests (`rt test` leaves it in out/). Each of those in `memory` makes one
+call of the library, some of them `run`, and must hold no more blocks at its end than those do that take no memory. (The
+program itself gives nothing back, on purpose, and ends.)
+
+Each case is printed with what was measured of the larger size, and what isn't as wanted behind `WRONG`. The status is 1
+where something is wrong. For Linux; needs gcc and glibc; Python's standard library alone.
+"""
+import collections
+import fcntl
+import os
+import resource
+import struct
+import subprocess
+import sys
+import tempfile
+import threading
+
+HERE = os.path.dirname(os.path.abspath(__file__))
+LIMIT_SECONDS = 120
+SMALL_STACK = 128 << 10
+GREATEST_INPUT = 268_435_456
+CHUNK = 65_536
+MEGABYTE = 1 << 20
+BYTES_PER_BYTE, MORE_BYTES = 64, MEGABYTE
+MORE_GROWTHS, MORE_READS = 500, 8
+GROWTHS_DOUBLED, TIME_DOUBLED = 2.2, 2.6
+TURNS, ROUNDS = 3, 5
+LONG = b"cudf_check: an input is longer than 268435456 bytes; give a shorter one\n"
+OK, YES, NO = "problem ok\n", "solution yes\n", "solution no\n"
+
+Counts = collections.namedtuple("Counts", "growths blocks bytes peak reads given")
+Case = collections.namedtuple("Case", "name size make")
+Task = collections.namedtuple("Task", "job files output status")
+
+
+# ---- made inputs: of a size, the job, the files, what is printed and the status
+
+
+def lint(text):
+    return Task("lint", [text], OK, 0)
+
+
+def check(problem, solution, output=YES):
+    return Task("check", [problem, solution], output, 1 if output.endswith(NO) else 0)
+
+
+def joined(problem, solution):
+    return Task("check", [problem + "\n" + solution], YES, 0)
+
+
+def packages(numbers, lines=lambda number: "", name="p{}", version="1"):
+    """A stanza for each number, with these lines behind the name and the version."""
+    return "".join(
+        f"package: {name.format(number)}\nversion: {version.format(number)}\n{lines(number)}\n" for number in numbers
+    )
+
+
+def installed(numbers, **names):
+    return packages(numbers, lambda number: "installed: true\n", **names)
+
+
+def one_package(lines, output=YES):
+    return check(f"package: a\nversion: 1\n{lines}\n\nrequest:\n", "package: a\nversion: 1\ninstalled: true\n", output)
+
+
+def entries(count, entry="a", separator=", "):
+    return separator.join(entry.format(number) for number in range(1, count + 1))
+
+
+def versions(numbers):
+    """Versions of one name, in this order; the solution installs them in the same one."""
+    names = {"name": "a", "version": "{}"}
+    problem = packages(numbers, lambda number: f"depends: a >= {number}\n", **names) + "request:\n"
+    return check(problem, installed(numbers, **names))
+
+
+def provisions(count, order=1):
+    """One package with provisions of one name, and as many others that conflict with it, by a number that it hasn't."""
+    text = ", ".join(f"f = {number}" for number in range(1, count + 1)[::order])
+    return one_package(f"provides: {text}\nconflicts: " + entries(count, f"f = {count + 1}"))
+
+
+def met_by_the_last(count):
+    """Each package provides one number of a feature, and conflicts with that of the last one."""
+    numbers = range(1, count + 1)
+    problem = packages(numbers, lambda number: f"provides: f = {number}\nconflicts: f = {count}\n") + "request:\n"
+    lines = "".join(
+        f"p{number}.conflicts.1 p{number} 1 line {5 * number - 4}: conflicts with f = {count}, met by p{count} 1\n"
+        for number in range(1, count)
+    )
+    return check(problem, installed(numbers), lines + NO)
+
+
+def names_of_features(count):
+    return one_package(f"provides: {entries(count, 'f{}')}\ndepends: {entries(count, 'f{}')}")
+
+
+def distribution(count, behind=""):
+    """Packages that need others, as in a distribution, all of which are installed."""
+    numbers = range(1, count + 1)
+
+    def lines(number):
+        provided = f"provides: f{number % 97}{behind}\n"
+        return f"depends: p{number // 2 + 1}, missing | p{number}\nconflicts: missing\n" + provided
+
+    return packages(numbers, lines) + "request:\n", installed(numbers)
+
+
+def unknown(count):
+    numbers = range(1, count + 1)
+    lines = "".join(
+        f"s.unknown.{number} p{number} 1 line {4 * number - 3}: not in the universe\n" for number in numbers
+    )
+    return check("request:\n", installed(numbers), lines + NO)
+
+
+def missing(count):
+    numbers = range(1, count + 1)
+    lines = "".join(f"p1.depends.{number} a 1 line 1: needs x\n" for number in numbers)
+    return one_package(f"depends: {entries(count, 'x')}", lines + NO)
+
+
+def declared(count):
+    return lint(
+        f"preamble:\nproperty: {entries(count, 'e{}: nat')}\n\npackage: a\nversion: 1\n"
+        + "".join(f"e{number}: 7\n" for number in range(1, count + 1)) + "\nrequest:\n"
+    )
+
+
+def enum(count):
+    numbers = range(1, count + 1)
+    head = f"preamble:\nproperty: e: enum[{entries(count, 'c{}')}]\n\n"
+    return lint(head + packages(numbers, lambda number: f"e: c{number}\n") + "request:\n")
+
+
+CASES = (
+    Case("versions of one name, ascending", 20_000, lambda n: versions(range(1, n + 1))),
+    Case("versions of one name, descending", 20_000, lambda n: versions(range(n, 0, -1))),
+    Case("provisions of one name, ascending", 50_000, provisions),
+    Case("provisions of one name, descending", 50_000, lambda n: provisions(n, -1)),
+    Case("provisions of many names", 50_000, names_of_features),
+    Case("met by the last of many packages", 20_000, met_by_the_last),
+    Case("a clause of many atoms", 100_000, lambda n: one_package(f"depends: {entries(n, 'x', ' | ')} | a")),
+    Case("many clauses of an atom", 100_000, lambda n: one_package(f"depends: {entries(n)}")),
+    Case("many short clauses", 100_000, lambda n: one_package(f"depends: {entries(n, 'a', ',')}")),
+    Case("clauses that aren't met", 50_000, missing),
+    Case("a value of many lines", 100_000, lambda n: one_package("depends: a" + ",\n a" * n)),
+    Case("a long first line, continued", 100_000, lambda n: one_package(f"depends: {entries(n)},\n a")),
+    Case("a distribution", 20_000, lambda n: check(*distribution(n))),
+    Case("a distribution in one input", 20_000, lambda n: joined(*distribution(n))),
+    Case("a distribution with joined values", 20_000, lambda n: check(*distribution(n, ",\n g"))),
+    Case("a distribution, linted", 20_000, lambda n: lint(distribution(n)[0])),
+    Case("a distribution, one of it installed", 20_000, lambda n: check(distribution(n)[0], installed([1]))),
+    Case("unknown stanzas", 50_000, unknown),
+    Case("declared properties", 50_000, declared),
+    Case("an enum of many idents", 50_000, enum),
+    Case("a million short lines", 500_000, lambda n: lint("#\n" * n + "request:\n")),
+    Case("a million blank lines", 500_000, lambda n: lint("request:\n" + "\n" * n)),
+    Case("a million properties", 500_000, lambda n: lint("request:\n" + "".join(f"e{k}:\n" for k in range(n)))),
+    Case("a million short stanzas", 250_000, lambda n: check("request:\n", "request:\n\n" * n)),
+    Case("one long line", 5_000_000, lambda n: lint("request:\n#" + "x" * n)),
+)
+SLOW = Case("a byte at a time", 50_000, lambda n: lint("request:\n" + "#\n" * n))
+
+
+# ---- runs
+
+
+def limit_stack():
+    resource.setrlimit(resource.RLIMIT_STACK, (SMALL_STACK, SMALL_STACK))
+
+
+def packets():
+    """The ends of a pipe of which each read gives the bytes of one write."""
+    reader, writer = os.pipe2(os.O_DIRECT | os.O_CLOEXEC)
+    fcntl.fcntl(writer, fcntl.F_SETPIPE_SZ, MEGABYTE)
+    return reader, writer
+
+
+def give_bytes(writer, data):
+    try:
+        for byte in data:
+            os.write(writer, bytes([byte]))
+    except BrokenPipeError:
+        pass
+    os.close(writer)
+
+
+class Runner:
+    """Runs the program, and says what it took."""
+
+    def __init__(self, folder):
+        self.folder, self.library = folder, os.path.join(folder, "room.so")
+        source = os.path.join(HERE, "room.c")
+        subprocess.run(["gcc", "-O2", "-fno-builtin", "-shared", "-fPIC", "-o", self.library, source], check=True)
+
+    def counted(self, words, data=None):
+        """The status, both outputs and the counts of a run. The data is given at standard input, a byte at a time."""
+        room = os.memfd_create("room")
+        os.ftruncate(room, struct.calcsize("6l"))
+        surroundings = dict(os.environ, LD_PRELOAD=self.library, ROOM=str(room))
+        how = {"env": surroundings, "pass_fds": (room,), "preexec_fn": limit_stack}
+        try:
+            status, output, errors = self.run(words, data, how)
+            return status, output, errors, Counts(*struct.unpack("6l", os.pread(room, 48, 0)))
+        finally:
+            os.close(room)
+
+    def run(self, words, data, how):
+        """The status and both outputs; the outputs go into files, which take what comes without a reader."""
+        reader, writer = (os.open(os.devnull, os.O_RDONLY), None) if data is None else packets()
+        giver = threading.Thread(target=give_bytes, args=(writer, data or b""))
+        with tempfile.TemporaryFile() as output, tempfile.TemporaryFile() as errors:
+            child = subprocess.Popen(words, stdin=reader, stdout=output, stderr=errors, **how)
+            os.close(reader)
+            if writer is not None:
+                giver.start()
+            try:
+                status = child.wait(LIMIT_SECONDS)
+            except subprocess.TimeoutExpired:
+                child.kill()
+                child.wait()
+                status = "no end"
+            if writer is not None:
+                giver.join()
+            return status, read_back(output), read_back(errors)
+
+    def time(self, words, data=None):
+        """The processor time of a run in seconds."""
+        before = resource.getrusage(resource.RUSAGE_CHILDREN)
+        self.run(words, data, {})
+        after = resource.getrusage(resource.RUSAGE_CHILDREN)
+        return after.ru_utime + after.ru_stime - before.ru_utime - before.ru_stime
+
+
+def read_back(file):
+    file.seek(0)
+    return file.read()
+
+
+class Trials:
+    """Tries the cases, prints what was measured, and counts what isn't as wanted."""
+
+    def __init__(self, path, folder):
+        self.path, self.folder, self.runner = os.path.abspath(path), folder, Runner(folder)
+        self.rows, self.wrong = 0, 0
+
+    def note(self, name, told, faults):
+        self.rows += 1
+        self.wrong += bool(faults)
+        print(f"{name}: {told}" + "".join(f"\n    WRONG: {fault}" for fault in faults), flush=True)
+
+    def words(self, task, size):
+        """The command of a task, whose files are written."""
+        names = []
+        for place, text in enumerate(task.files):
+            names.append(os.path.join(self.folder, f"{size}-{place}"))
+            with open(names[-1], "w", encoding="ascii") as file:
+                file.write(text)
+        return [self.path, task.job] + names
+
+    def try_case(self, case, is_slow=False):
+        runs, faults = [], []
+        for size in (case.size, 2 * case.size):
+            task = case.make(size)
+            data = task.files[0].encode() if is_slow else None
+            words = [self.path, task.job, "-"] if is_slow else self.words(task, size)
+            status, output, errors, counts = self.runner.counted(words, data)
+            faults += answer_faults(task, status, output, errors)
+            faults += room_faults(counts, [len(text) for text in task.files], is_slow)
+            runs.append((words, data, counts))
+        faults += growth_faults(runs[0][2], runs[1][2])
+        ratio, seconds = (0, 0) if faults else self.doubled(runs)
+        if ratio > TIME_DOUBLED:
+            faults.append(f"{ratio:.2f} times the time for twice the input")
+        counts, size = runs[1][2], runs[1][2].given
+        self.note(case.name, told_of(counts, size, ratio, seconds), faults)
+
+    def doubled(self, runs):
+        """The time for twice the input by that for the input, and the time: the least of each, in turns."""
+        least = [float("inf")] * 2
+        for _ in range(ROUNDS):
+            for _ in range(TURNS):
+                for place, (words, data, _) in enumerate(runs):
+                    least[place] = min(least[place], self.runner.time(words, data))
+            if least[1] <= TIME_DOUBLED * least[0]:
+                break
+        return least[1] / max(least[0], 1e-4), least[1]
+
+    def try_greatest(self):
+        """An input of as many bytes as it may have, and of one more. The files have holes and take no room."""
+        small, great = os.path.join(self.folder, "small"), os.path.join(self.folder, "great")
+        for path in (small, great):
+            with open(path, "wb") as file:
+                file.write(b"request:\n#")
+        for size in (GREATEST_INPUT, GREATEST_INPUT + 1):
+            os.truncate(great, size)
+            for job in ("lint G", "check G", "check G S", "check S G"):
+                words = [self.path] + [{"G": great, "S": small}.get(word, word) for word in job.split()]
+                status, output, errors, counts = self.runner.counted(words)
+                answer = (OK if job == "lint G" else YES).encode()
+                wanted = (0, answer, b"") if size == GREATEST_INPUT else (5, b"", LONG)
+                faults = [] if (status, output, errors) == wanted else [f"status {status}: {output[-99:]} {errors[-99:]}"]
+                if counts.peak > 3 * size + MORE_BYTES:
+                    faults.append(f"{counts.peak} bytes of memory")
+                self.note(f"{size} bytes, {job}", f"{counts.peak / MEGABYTE:.0f} MB", faults)
+
+    def try_leaks(self, tests):
+        """What the calls of the library hold at their end, beside those that take no memory."""
+        listed = subprocess.run([tests, "--list"], capture_output=True, text=True, check=True).stdout.split()
+        names = sorted({name.rstrip(":") for name in listed if name.startswith("memory::")})
+        held = {name: self.runner.counted([tests, name]) for name in names}
+        bare = max((held[name][3].blocks for name in names if name.startswith("memory::none::")), default=0)
+        for name, (status, _, errors, counts) in held.items():
+            faults = [] if status == 0 else [f"status {status}: {errors[-200:]}"]
+            if counts.blocks > bare:
+                faults.append(f"{counts.blocks - bare} blocks aren't given back, {counts.bytes} bytes are held")
+            self.note(name, f"{counts.growths} growths, {counts.blocks} blocks at the end", faults)
+        if not names:
+            self.note("tests", "none in memory", ["no test was found"])
+
+
+def answer_faults(task, status, output, errors):
+    if (status, output) == (task.status, task.output.encode()) and not errors:
+        return []
+    return [f"status {status}, {len(output)} bytes: {output[-100:]} {errors[-100:]}"]
+
+
+def room_faults(counts, sizes, is_slow):
+    """What is too much for files of these sizes."""
+    size, faults = sum(sizes), []
+    most_reads = size + MORE_READS if is_slow else sum(one // CHUNK + 1 for one in sizes) + MORE_READS
+    if counts.growths > size + MORE_GROWTHS:
+        faults.append(f"{counts.growths} growths for {size} bytes")
+    if counts.peak > BYTES_PER_BYTE * size + MORE_BYTES:
+        faults.append(f"{counts.peak} bytes of memory for {size} bytes")
+    if counts.reads > most_reads:
+        faults.append(f"{counts.reads} reads for {size} bytes")
+    if counts.given < size:
+        faults.append(f"{counts.given} bytes read of {size}")
+    return faults
+
+
+def growth_faults(whole, twice):
+    if twice.growths <= GROWTHS_DOUBLED * whole.growths + MORE_GROWTHS:
+        return []
+    return [f"{twice.growths} growths for twice the input, {whole.growths} for the input"]
+
+
+def told_of(counts, size, ratio, seconds):
+    return (
+        f"{size} bytes, {counts.growths} growths, {counts.peak / max(size, 1):.1f} times their memory, "
+        f"{counts.reads} reads, {1000 * seconds:.0f} ms, doubled {ratio:.2f}"
+    )
+
+
+def main(path, tests=None):
+    with tempfile.TemporaryDirectory() as folder:
+        trials = Trials(path, folder)
+        for case in CASES:
+            trials.try_case(case)
+        trials.try_case(SLOW, is_slow=True)
+        trials.try_greatest()
+        if tests:
+            trials.try_leaks(os.path.abspath(tests))
+    print(f"{trials.rows} rows, {trials.wrong} wrong")
+    return 1 if trials.wrong else 0
+
+
+if __name__ == "__main__":
+    if len(sys.argv) not in (2, 3):
+        sys.exit(__doc__)
+    sys.exit(main(*sys.argv[1:]))
