@@ -1,14 +1,20 @@
--- The definitions of the counts and of the rest behind a key, at inputs that were reckoned by hand.
+-- The definitions of the counts, of lists of aims and of the rest behind a key, at inputs that were reckoned by hand.
 use Rattle.std.proofs.Common.{◌≡◌, ℕ, Bool, false, ◌==◌, ◌||◌, List, [], ◌∷◌, Option, Some, None, map, codes, refl}
+use Rattle.std.specs.declared.cmp.Ordering.TheVariants.{Less, Equal, Greater}
 use Rattle.cudf_value.specs.Vpkgs.{PlainVpkg}
 use Rattle.cudf_value.specs.Formulas.{PlainAtom, truth_atom, named}
 use Rattle.cudf_document.specs.declared.package.Keep.TheVariants.{Nothing}
 use Rattle.cudf_document.specs.Universe.{PlainPackage, PlainRequest, PlainProblem}
 use Rattle.cudf_document.specs.Statuses.{PlainUnknown}
+use Rattle.cudf_referee.specs.declared.aims.Aim.{Aim}
+use Rattle.cudf_referee.specs.declared.aims.Count.{Count}
+use Rattle.cudf_referee.specs.declared.aims.Count.TheVariants.{Removed, New, Changed, NotUpToDate, UnsatRecommends, Touched}
+use Rattle.cudf_referee.specs.declared.aims.Sign.TheVariants.{Least, Most}
 use Rattle.cudf_referee.specs.declared.criteria.Criteria.{Criteria}
 use Rattle.cudf_referee.specs.declared.key.Part.TheVariants.{Package, Request}
 use Rattle.cudf_referee.specs.declared.key.Rule.{Rule}
 use Rattle.cudf_referee.specs.declared.key.Rule.TheVariants.{Depends, Install, Remove}
+use Rattle.cudf_referee.specs.Aims.{criterion, compare}
 use Rattle.cudf_referee.specs.Criteria.{criteria, paranoid, trendy}
 use Rattle.cudf_referee.specs.Keys.{PlainKey}
 use Rattle.cudf_referee.specs.Proposals.{Proposal, proposal}
@@ -56,16 +62,20 @@ one n place = place == n
 abbrev both : ℕ → ℕ → ℕ → Bool
 both m n place = (place == m) || (place == n)
 
-abbrev counts : ℕ → ℕ → ℕ → ℕ → ℕ → Criteria
-counts removed new changed notuptodate unsat_recommends = record { removed = removed; new = new; changed = changed; notuptodate = notuptodate; unsat_recommends = unsat_recommends }
+abbrev counts : ℕ → ℕ → ℕ → ℕ → ℕ → ℕ → Criteria
+counts removed new changed notuptodate unsat_recommends touched = record { removed = removed; new = new; changed = changed; notuptodate = notuptodate; unsat_recommends = unsat_recommends; touched = touched }
 
 -- ---- names and versions
 
--- car 1 gives way to car 2 and bus 1
-abbrev exchanged : Proposal
-exchanged = proposal (problem_of (plain (codes "car") 1 ∷ plain (codes "car") 2 ∷ plain (codes "bus") 1 ∷ [])) (one 1) (both 2 3) []
+-- car 1 of two versions was installed
+abbrev fleet : PlainProblem
+fleet = problem_of (plain (codes "car") 1 ∷ plain (codes "car") 2 ∷ plain (codes "bus") 1 ∷ [])
 
-exchanged_counts : criteria exchanged ≡ counts 0 1 2 0 0
+-- it gives way to car 2 and bus 1
+abbrev exchanged : Proposal
+exchanged = proposal fleet (one 1) (both 2 3) []
+
+exchanged_counts : criteria exchanged ≡ counts 0 1 2 0 0 3
 unfolding criteria
 exchanged_counts = refl
 
@@ -77,11 +87,20 @@ exchanged_trendy : trendy (criteria exchanged) ≡ 0 ∷ 0 ∷ 0 ∷ 1 ∷ []
 unfolding criteria
 exchanged_trendy = refl
 
+-- it stays, though there is a greater version, or goes
+stays : criteria (proposal fleet (one 1) (one 1) []) ≡ counts 0 0 0 1 0 0
+unfolding criteria
+stays = refl
+
+goes : criteria (proposal fleet (one 1) none_of []) ≡ counts 1 0 1 0 0 1
+unfolding criteria
+goes = refl
+
 -- door 3 of three versions was installed
 abbrev doors : PlainProblem
 doors = problem_of (plain (codes "door") 1 ∷ plain (codes "door") 2 ∷ plain (codes "door") 3 ∷ [])
 
-two_older : criteria (proposal doors (one 3) (both 1 2) []) ≡ counts 0 0 1 1 0
+two_older : criteria (proposal doors (one 3) (both 1 2) []) ≡ counts 0 0 1 1 0 3
 unfolding criteria
 two_older = refl
 
@@ -89,17 +108,17 @@ two_older_trendy : trendy (criteria (proposal doors (one 3) (both 1 2) [])) ≡ 
 unfolding criteria
 two_older_trendy = refl
 
-all_gone : criteria (proposal doors (one 3) none_of []) ≡ counts 1 0 1 0 0
+all_gone : criteria (proposal doors (one 3) none_of []) ≡ counts 1 0 1 0 0 1
 unfolding criteria
 all_gone = refl
 
 -- of two installed versions and a third, the same two are kept
-two_kept : criteria (proposal doors (both 1 3) (both 1 3) []) ≡ counts 0 0 0 0 0
+two_kept : criteria (proposal doors (both 1 3) (both 1 3) []) ≡ counts 0 0 0 0 0 0
 unfolding criteria
 two_kept = refl
 
 -- one of two installed versions is kept: a change, and the greatest is missing
-one_kept : criteria (proposal doors (both 1 3) (one 1) []) ≡ counts 0 0 1 1 0
+one_kept : criteria (proposal doors (both 1 3) (one 1) []) ≡ counts 0 0 1 1 0 1
 unfolding criteria
 one_kept = refl
 
@@ -107,7 +126,7 @@ one_kept = refl
 abbrev ghost : PlainUnknown
 ghost = record { stanza = 1; line = 1; name = codes "door"; version = 9 }
 
-unknown_uncounted : criteria (proposal doors (one 3) (one 3) (ghost ∷ [])) ≡ counts 0 0 0 0 0
+unknown_uncounted : criteria (proposal doors (one 3) (one 3) (ghost ∷ [])) ≡ counts 0 0 0 0 0 0
 unfolding criteria
 unknown_uncounted = refl
 
@@ -115,12 +134,12 @@ unknown_uncounted = refl
 
 -- a recommends `b | c` and d, of which nothing is installed; d would have the default, which is `true!`
 own_conjuncts : criteria (proposal (problem_with (package_with (codes "a") 1 [] (Some ((atom (codes "b") ∷ atom (codes "c") ∷ []) ∷ (atom (codes "d") ∷ []) ∷ [])) ∷ plain (codes "d") 1 ∷ [])
-    (Some ((truth_atom ∷ []) ∷ [])) (request_of [] [])) (one 1) (one 1) []) ≡ counts 0 0 0 0 2
+    (Some ((truth_atom ∷ []) ∷ [])) (request_of [] [])) (one 1) (one 1) []) ≡ counts 0 0 0 0 2 0
 unfolding criteria
 own_conjuncts = refl
 
 -- equal conjuncts at two places count twice
-equal_conjuncts : criteria (proposal (problem_of (package_with (codes "a") 1 [] (Some ((atom (codes "b") ∷ []) ∷ (atom (codes "b") ∷ []) ∷ [])) ∷ [])) (one 1) (one 1) []) ≡ counts 0 0 0 0 2
+equal_conjuncts : criteria (proposal (problem_of (package_with (codes "a") 1 [] (Some ((atom (codes "b") ∷ []) ∷ (atom (codes "b") ∷ []) ∷ [])) ∷ [])) (one 1) (one 1) []) ≡ counts 0 0 0 0 2 0
 unfolding criteria
 equal_conjuncts = refl
 
@@ -128,18 +147,105 @@ equal_conjuncts = refl
 abbrev pair : List PlainPackage
 pair = plain (codes "a") 1 ∷ plain (codes "b") 1 ∷ []
 
-by_default : criteria (proposal (problem_with pair (Some ((atom (codes "x") ∷ []) ∷ [])) (request_of [] [])) (both 1 2) (both 1 2) []) ≡ counts 0 0 0 0 2
+by_default : criteria (proposal (problem_with pair (Some ((atom (codes "x") ∷ []) ∷ [])) (request_of [] [])) (both 1 2) (both 1 2) []) ≡ counts 0 0 0 0 2 0
 unfolding criteria
 by_default = refl
 
-without_default : criteria (proposal (problem_of pair) (both 1 2) (both 1 2) []) ≡ counts 0 0 0 0 0
+without_default : criteria (proposal (problem_of pair) (both 1 2) (both 1 2) []) ≡ counts 0 0 0 0 0 0
 unfolding criteria
 without_default = refl
 
 -- packages that aren't to be installed recommend nothing
-not_installed : criteria (proposal (problem_with pair (Some ((atom (codes "x") ∷ []) ∷ [])) (request_of [] [])) (both 1 2) (one 2) []) ≡ counts 1 0 1 0 1
+not_installed : criteria (proposal (problem_with pair (Some ((atom (codes "x") ∷ []) ∷ [])) (request_of [] [])) (both 1 2) (one 2) []) ≡ counts 1 0 1 0 1 1
 unfolding criteria
 not_installed = refl
+
+-- ---- lists of aims
+
+abbrev least : Count → Aim
+least count = record { sign = Least; count = count }
+
+abbrev most : Count → Aim
+most count = record { sign = Most; count = count }
+
+each_under_minus : criterion (codes "-removed,-new,-changed,-notuptodate,-unsat_recommends,-touched")
+    ≡ Some (least Removed ∷ least New ∷ least Changed ∷ least NotUpToDate ∷ least UnsatRecommends ∷ least Touched ∷ [])
+unfolding criterion
+each_under_minus = refl
+
+each_under_plus : criterion (codes "+removed,+new,+changed,+notuptodate,+unsat_recommends,+touched")
+    ≡ Some (most Removed ∷ most New ∷ most Changed ∷ most NotUpToDate ∷ most UnsatRecommends ∷ most Touched ∷ [])
+unfolding criterion
+each_under_plus = refl
+
+count_twice : criterion (codes "+new,-new") ≡ Some (most New ∷ least New ∷ [])
+unfolding criterion
+count_twice = refl
+
+empty_text : criterion [] ≡ None
+unfolding criterion
+empty_text = refl
+
+without_sign : criterion (codes "removed") ≡ None
+unfolding criterion
+without_sign = refl
+
+nothing_behind_comma : criterion (codes "-removed,") ≡ None
+unfolding criterion
+nothing_behind_comma = refl
+
+nothing_between_commas : criterion (codes "-removed,,+new") ≡ None
+unfolding criterion
+nothing_between_commas = refl
+
+with_blank : criterion (codes "- removed") ≡ None
+unfolding criterion
+with_blank = refl
+
+with_blank_behind_comma : criterion (codes "-removed, +new") ≡ None
+unfolding criterion
+with_blank_behind_comma = refl
+
+with_capital : criterion (codes "-Removed") ≡ None
+unfolding criterion
+with_capital = refl
+
+no_count : criterion (codes "-size") ≡ None
+unfolding criterion
+no_count = refl
+
+-- ---- comparing
+
+-- by few changes, then by few packages that are touched: it stays, it goes, it gives way
+abbrev few_changes : List Aim
+few_changes = least Changed ∷ least Touched ∷ []
+
+stays_before_goes : compare few_changes (counts 0 0 0 1 0 0) (counts 1 0 1 0 0 1) ≡ Less
+stays_before_goes = refl
+
+goes_before_exchanged : compare few_changes (counts 1 0 1 0 0 1) (counts 0 1 2 0 0 3) ≡ Less
+goes_before_exchanged = refl
+
+exchanged_behind_goes : compare few_changes (counts 0 1 2 0 0 3) (counts 1 0 1 0 0 1) ≡ Greater
+exchanged_behind_goes = refl
+
+-- where as many change, those that are touched
+fewer_touched : compare few_changes (counts 0 0 2 0 0 2) (counts 0 0 2 0 0 3) ≡ Less
+fewer_touched = refl
+
+-- the first aim decides, whatever the second one says
+more_changed : compare few_changes (counts 0 0 3 0 0 1) (counts 0 0 2 0 0 9) ≡ Greater
+more_changed = refl
+
+-- by many new names
+most_new : compare (most New ∷ []) (counts 0 1 2 0 0 3) (counts 0 0 0 1 0 0) ≡ Less
+most_new = refl
+
+as_many_new : compare (most New ∷ []) (counts 0 0 0 1 0 0) (counts 1 0 1 0 0 1) ≡ Equal
+as_many_new = refl
+
+without_aims : compare [] (counts 0 1 2 0 0 3) (counts 0 0 0 1 0 0) ≡ Equal
+without_aims = refl
 
 -- ---- what is left behind a key
 

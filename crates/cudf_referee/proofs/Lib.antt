@@ -1,4 +1,5 @@
 pub mod AheadLemmas
+pub mod AimLemmas
 pub mod AscentLemmas
 pub mod BehindLemmas
 pub mod EntryLemmas
@@ -23,5 +24,6 @@ pub mod SolutionLemmas
 pub mod StandingLemmas
 pub mod StatusLemmas
 pub mod ThinLemmas
+pub mod TouchedLemmas
 pub mod UnknownLemmas
 pub mod VpkgItems

@@ -1,5 +1,5 @@
 -- A problem in which only those that are proposed need something is judged as the whole one.
-use Rattle.std.proofs.Common.{◌≡◌, ℕ, suc, ◌+◌, ◌-◌, Bool, true, false, not, ◌&&◌, List, [], ◌∷◌, ◌++◌, length, map, filter, cond, Some, None, refl, ap, sym, ◌∙◌, arith, ne_eqb}
+use Rattle.std.proofs.Common.{◌≡◌, ℕ, suc, ◌+◌, ◌-◌, ◌==◌, Bool, true, false, not, ◌&&◌, ◌||◌, List, [], ◌∷◌, ◌++◌, length, map, filter, cond, Some, None, refl, ap, sym, ◌∙◌, arith, ne_eqb}
 use Rattle.std.specs.Prelude.{bytes_eq, slice_get, unwrap_or}
 use Rattle.std.specs.List.{flat_map, count_by, enumerate_from}
 use Rattle.std.specs.Option.{option_or}
@@ -11,12 +11,13 @@ use Rattle.cudf_document.specs.Ids.{Id}
 use Rattle.cudf_document.specs.Thin.{thinned, thin_package, thin_problem}
 use Rattle.cudf_document.specs.Universe.{PlainPackage, PlainProblem, PlainRequest, package_at, package_id}
 use Rattle.cudf_universe.specs.Satisfaction.{Pair, Placed, members, numbers_of, package_pairs, satisfies, satisfies_clause}
+use Rattle.cudf_universe.proofs.CountLemmas.{count-cons}
 use Rattle.cudf_universe.proofs.SearchLemmas.{list_any-map}
 use Rattle.cudf_referee.specs.declared.key.Aspect.TheVariants.{Unsatisfied, Many, Lower}
-use Rattle.cudf_referee.specs.Criteria.{universe, each_once, names_of, versions_of, is_among, is_same_set, greatest, at_most_max, criteria}
+use Rattle.cudf_referee.specs.Criteria.{universe, is_touched, each_once, names_of, versions_of, is_among, is_same_set, greatest, at_most_max, criteria}
 use Rattle.cudf_referee.specs.Entries.{those, is_empty}
 use Rattle.cudf_referee.specs.Laws.{ThinIsEnough}
-use Rattle.cudf_referee.specs.Proposals.{Proposal, proposal}
+use Rattle.cudf_referee.specs.Proposals.{Proposal, proposal, holds_place}
 use Rattle.cudf_referee.specs.Violations.{has_package, violated_keep, package_rules, package_instances, are_many, are_lower, upgrade_if, violated_install, violated_remove, violated_upgrade, unknown_instance, listing}
 use Rattle.cudf_referee.proofs.ListingLemmas.{rules_of_members}
 use Rattle.cudf_referee.proofs.SolutionLemmas.{solution_is_empty}
@@ -41,6 +42,11 @@ filter-map : {A B : Type 0} (p : B → Bool) (f : A → B) (xs : List A) → fil
 filter-map p f [] = refl
 filter-map p f (x ∷ xs) = filter_step f (p (f x)) x (filter p (map f xs)) (filter (λ y. p (f y)) xs) (filter-map p f xs)
 
+-- those that pass are counted of what is made as of what it is made of
+count-map : {A B : Type 0} (p : B → Bool) (f : A → B) (xs : List A) → count_by p (map f xs) ≡ count_by (λ x. p (f x)) xs
+count-map p f [] = refl
+count-map p f (x ∷ xs) = count-cons p (f x) (map f xs) ∙ ap (λ n. cond (p (f x)) 1 0 + n) (count-map p f xs) ∙ sym (count-cons (λ y. p (f y)) x xs)
+
 -- ---- packages without what they need
 
 -- a status of thin packages gives the same numbers, names and versions
@@ -59,6 +65,10 @@ versions_same k name qs =
 
 names_same : (k : Id → Bool) (qs : List Placed) → names_of (map (second (thin_package k)) qs) ≡ names_of qs
 names_same k qs = ap each_once (map-map (λ p. p.1.name) (second (thin_package k)) qs)
+
+-- a status holds the same places
+held_same : (k : Id → Bool) (qs : List Placed) (place : ℕ) → holds_place (map (second (thin_package k)) qs) place ≡ holds_place qs place
+held_same k qs place = list_any-map (λ p. p.0 == place) (second (thin_package k)) qs
 
 -- those of them that pass a test of their places
 members_thin : (k : Id → Bool) (was : ℕ → Bool) (xs : List PlainPackage)
@@ -144,13 +154,24 @@ listing_same s t request proposed unknown packages upgrade =
 
 -- ---- the counts
 
+-- the two statuses hold different packages at the same places
+touched_same : (k : Id → Bool) (s t : Proposal) → s.initial ≡ map (second (thin_package k)) t.initial → s.proposed ≡ t.proposed
+    → universe s ≡ map (second (thin_package k)) (universe t) → count_by (is_touched s) (universe s) ≡ count_by (is_touched t) (universe t)
+touched_same k s t initial proposed placed =
+    ap (count_by (is_touched s)) placed ∙ count-map (is_touched s) (second (thin_package k)) (universe t)
+    ∙ (λ i. count_by (λ (p : Placed). (held p.0 i && not (holds_place (proposed i) p.0)) || (holds_place (proposed i) p.0 && not (held p.0 i))) (universe t))
+  where
+    held : (place : ℕ) → holds_place s.initial place ≡ holds_place t.initial place
+    held place = ap (λ qs. holds_place qs place) initial ∙ held_same k t.initial place
+
 -- proposals of the same proposed status are counted alike, where the names and versions of before and of the universe are the same
 criteria_same : (s t : Proposal) → s.proposed ≡ t.proposed → s.recommends ≡ t.recommends
     → ((name : List ℕ) → has_package s.initial name ≡ has_package t.initial name) → ((name : List ℕ) → versions_of name s.initial ≡ versions_of name t.initial)
     → ((name : List ℕ) → versions_of name (universe s) ≡ versions_of name (universe t)) → names_of (universe s) ≡ names_of (universe t)
+    → count_by (is_touched s) (universe s) ≡ count_by (is_touched t) (universe t)
     → criteria s ≡ criteria t
 unfolding criteria
-criteria_same s t proposed recommends has versions all names = λ i. record {
+criteria_same s t proposed recommends has versions all names touched = λ i. record {
   removed = at_most_max (count_by (λ name. has name i && not (has_package (proposed i) name)) (names i));
   new = at_most_max (count_by (λ name. has_package (proposed i) name && not (has name i)) (names i));
   changed = at_most_max (count_by (λ name. not (is_same_set (versions name i) (versions_of name (proposed i)))) (names i));
@@ -158,6 +179,7 @@ criteria_same s t proposed recommends has versions all names = λ i. record {
       && not (is_among (versions_of name (proposed i)) (greatest (all name i)))) (names i));
   unsat_recommends = at_most_max (length {A = List ℕ × ℕ × ℕ} (flat_map (λ p. map (λ c. (p.1.name, p.1.version, c.0))
       (those (λ clause. not (satisfies_clause (proposed i) clause)) (unwrap_or (option_or p.1.recommends (recommends i)) []))) (proposed i)));
+  touched = at_most_max (touched i);
 }
 
 -- ---- all
@@ -198,5 +220,6 @@ thin_is_enough problem k was is unknown covers =
           (λ name. ap (λ qs. has_package qs name) initial ∙ has_same k name whole.initial)
           (λ name. ap (versions_of name) initial ∙ versions_same k name whole.initial)
           (λ name. ap (versions_of name) placed ∙ versions_same k name (universe whole))
-          (ap names_of placed ∙ names_same k (universe whole));
+          (ap names_of placed ∙ names_same k (universe whole))
+          (touched_same k thin whole initial proposed placed);
     }

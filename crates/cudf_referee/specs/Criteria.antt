@@ -1,11 +1,11 @@
 -- What a proposed status changes and lacks, counted: the criteria paranoid and trendy of the MISC competition.
 -- Own: changes are counted by name, recommended conjuncts by place.
-use Rattle.std.specs.Prelude.{ℕ, ◌==◌, Bool, not, ◌&&◌, List, [], ◌∷◌, map, filter, length, max, min, bytes_eq}
+use Rattle.std.specs.Prelude.{ℕ, ◌==◌, Bool, not, ◌&&◌, ◌||◌, List, [], ◌∷◌, map, filter, length, max, min, bytes_eq}
 use Rattle.std.specs.List.{list_any, list_all, flat_map, count_by, enumerate_from}
 use Rattle.cudf_universe.specs.Satisfaction.{Placed, satisfies_clause}
 use Rattle.cudf_referee.specs.declared.criteria.Criteria.{Criteria}
 use Rattle.cudf_referee.specs.Entries.{those}
-use Rattle.cudf_referee.specs.Proposals.{Proposal, recommended}
+use Rattle.cudf_referee.specs.Proposals.{Proposal, holds_place, recommended}
 use Rattle.cudf_referee.specs.Violations.{has_package}
 
 -- ---- names and versions
@@ -65,6 +65,12 @@ abbrev pub unsatisfied_recommends : Proposal → List (List ℕ × ℕ × ℕ)
 unsatisfied_recommends s =
     flat_map (λ p. map (λ c. (p.1.name, p.1.version, c.0)) (those (λ clause. not (satisfies_clause s.proposed clause)) (recommended s p))) s.proposed
 
+-- packages that are in one of the two statuses and not in the other; the name is own
+abbrev pub is_touched : Proposal → Placed → Bool
+is_touched s p =
+    (holds_place s.initial p.0 && not (holds_place s.proposed p.0))
+    || (holds_place s.proposed p.0 && not (holds_place s.initial p.0))
+
 -- ---- the counts
 
 -- the number, or 18446744073709551615 where it is greater
@@ -82,6 +88,7 @@ criteria s = record {
   changed = count_names (is_changed s) s;
   notuptodate = count_names (is_not_up_to_date s) s;
   unsat_recommends = at_most_max (length (unsatisfied_recommends s));
+  touched = at_most_max (count_by (is_touched s) (universe s));
 }
 
 -- ---- the competition's vectors, of which each is to be as small as can be, the first count first

@@ -1,3 +1,4 @@
+pub mod Aims
 pub mod Criteria
 pub mod Entries
 pub mod Instances

@@ -8,12 +8,14 @@ ghost use Rattle.cudf_referee.specs.Proposals.{proposal};
 mod recommends;
 mod standing;
 mod standings;
+mod touched;
 
 use crate::criteria::Criteria;
 use cudf_universe::{Index, Problem, Status};
 use recommends::count_unsatisfied;
 use standing::{count_changed, count_new, count_not_up_to_date, count_removed};
 use standings::standings_of;
+use touched::count_touched;
 use std::alloc::{AllocError, Global};
 
 /// The counts of a proposed status beside the one before.
@@ -34,5 +36,6 @@ pub(crate) fn count(
         changed: count_changed(&standings),
         notuptodate: count_not_up_to_date(&standings),
         unsat_recommends: count_unsatisfied(problem, proposed, index),
+        touched: count_touched(problem, before, proposed),
     })
 }

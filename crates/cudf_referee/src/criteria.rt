@@ -1,5 +1,7 @@
 //! What a proposed status changes and lacks, in numbers.
 
+use crate::aims::Count;
+
 /// The counts of the MISC competition's criteria. They are counted whether or not the proposed status is a solution;
 /// unknown stanzas don't count.
 #[derive(Clone, Copy, Debug, PartialEq, Eq)]
@@ -15,11 +17,29 @@ pub struct Criteria {
     /// Conjuncts that packages which are to be installed recommend and that aren't satisfied. Equal conjuncts at two
     /// places count twice (own).
     pub unsat_recommends: u64,
+    /// Packages, each a pair of name and version, that were installed and aren't to be, or are to be and weren't (own:
+    /// the name `touched`).
+    pub touched: u64,
 }
 
 impl Criteria {
     ghost use Rattle.std.specs.Prelude.{◌≡◌};
+    ghost use Rattle.cudf_referee.specs.Aims.{count_of};
     ghost use Rattle.cudf_referee.specs.Criteria.{paranoid, trendy};
+
+    /// The count of this name. Own.
+    pub fn count(&self, count: Count) -> u64
+        ensures { result ≡ count_of self.now count }
+    {
+        match count {
+            Count::Removed => self.removed,
+            Count::New => self.new,
+            Count::Changed => self.changed,
+            Count::NotUpToDate => self.notuptodate,
+            Count::UnsatRecommends => self.unsat_recommends,
+            Count::Touched => self.touched,
+        }
+    }
 
     /// The vector that the track paranoid minimises, the first number first: `removed`, `changed`.
     pub fn paranoid(self) -> [u64; 2]

@@ -2,6 +2,7 @@
 //! status is a solution, and what it changes, counted.
 #![tactic(auto)]
 
+mod aims;
 mod counting;
 mod criteria;
 mod instance;
@@ -11,6 +12,7 @@ mod position;
 mod referee;
 mod walk;
 
+pub use aims::{Aim, Count, Sign, compare, read_criterion};
 pub use criteria::Criteria;
 pub use instance::{Instance, What};
 pub use key::{Aspect, Key, Part, Rule};

@@ -1,7 +1,9 @@
-//! Tests of statuses and of the referee over their public items, as an outside user calls them. Expected
-//! values come from the format's own rules, never from what the program printed.
+//! Tests of statuses, of the referee and of lists of aims over their public items, as an outside user calls them.
+//! Expected values come from the format's own rules, never from what the program printed.
 #![tactic(auto)]
 
+#[cfg(test)]
+mod aims;
 #[cfg(test)]
 mod referees;
 #[cfg(test)]

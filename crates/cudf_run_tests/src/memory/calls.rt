@@ -1,6 +1,6 @@
 //! The calls on documents and values.
 use super::{Answer, Refused, expect, made};
-use cudf_referee::{Key, Referee};
+use cudf_referee::{Key, Referee, read_criterion};
 use cudf_text::{Text, TextError, is_fail, read, stanzas};
 use cudf_universe::{
     Chosen, GreatestNumbers, Index, Problem, ReadError, Room, first_fault, initial, problem_for,
@@ -66,6 +66,16 @@ fn reads_declarations(alloc: Global) -> Answer {
 fn fits_list(alloc: Global) -> Answer {
     match fits(alloc, &ValueType::List, ENTRIES) {
         Ok(fits) => Ok(fits),
+        Err(_) => Err(Refused::Here),
+    }
+}
+
+fn reads_criterion(alloc: Global) -> Answer {
+    match read_criterion(
+        alloc,
+        "-removed,-notuptodate,-unsat_recommends,-new,+touched,-changed,+new,-new,+new",
+    ) {
+        Ok(aims) => Ok(aims.is_some_and(|aims| aims.len() == 9)),
         Err(_) => Err(Refused::Here),
     }
 }
@@ -254,6 +264,11 @@ fn declarations(rt: HostRuntime) {
 #[test]
 fn type_of_a_list(rt: HostRuntime) {
     expect(&rt, fits_list(rt.alloc()));
+}
+
+#[test]
+fn criterion(rt: HostRuntime) {
+    expect(&rt, reads_criterion(rt.alloc()));
 }
 
 #[test]

@@ -1,6 +1,6 @@
 //! The calls that take no memory: `crosscheck/refusals.py` runs these tests with every growth refused.
 use cudf_check::{Device, Outcome, RunError};
-use cudf_referee::{Aspect, Key, Part, Rule};
+use cudf_referee::{Aim, Aspect, Count, Criteria, Key, Part, Rule, Sign, compare};
 use cudf_text::{Fault, Kind, TextError, cut_joined, is_fail, read};
 use cudf_value::{
     Relop, is_ident, is_pkgname, meets, read_bool, read_int, read_nat, read_posint, read_veqpkg,
@@ -45,6 +45,31 @@ fn keys(rt: HostRuntime) {
     assert!(rt; key.is_some_and(|key| key.place() == 1 && key.aspect() == Some(Aspect::Many)));
     assert!(rt; Key::parse("p2.keep.9") < Key::parse("p10.depends.1"));
     assert_eq!(rt; Key::parse("p1.depends.01"), None);
+}
+
+#[test]
+fn counts(rt: HostRuntime) {
+    let few = Criteria {
+        removed: 0,
+        new: 1,
+        changed: 2,
+        notuptodate: 0,
+        unsat_recommends: 0,
+        touched: 3,
+    };
+    let many = Criteria { touched: 4, ..few };
+    let aims = [
+        Aim {
+            sign: Sign::Least,
+            count: Count::Changed,
+        },
+        Aim {
+            sign: Sign::Most,
+            count: Count::Touched,
+        },
+    ];
+    assert_eq!(rt; (few.count(Count::Touched), many.count(Count::New)), (3, 1));
+    assert!(rt; compare(&aims, &few, &many).is_gt());
 }
 
 #[test]

@@ -23,4 +23,4 @@ returns c =
     (c.deref-3.ensures.value ∙ rows) (λ f. refl) c.count_changed.ensures c.count_changed.type_inv in
     let outdated_names = names_counted was is xs c.deref-4.result.now c.count_not_up_to_date.result (λ s. s.is_installed && nat_lt s.greatest_installed s.greatest) (is_not_up_to_date s) (λ top top_installed. refl)
     (c.deref-4.ensures.value ∙ rows) (outdated is xs) c.count_not_up_to_date.ensures c.count_not_up_to_date.type_inv in
-    λ i. record { removed = removed i; new = fresh i; changed = changed i; notuptodate = outdated_names i; unsat_recommends = c.count_unsatisfied.ensures was i }
+    λ i. record { removed = removed i; new = fresh i; changed = changed i; notuptodate = outdated_names i; unsat_recommends = c.count_unsatisfied.ensures was i; touched = c.count_touched.ensures i }
