@@ -1,3 +1,5 @@
 pub mod Command
 pub mod Failure
+pub mod Grammar
+pub mod Orders
 pub mod Usage
