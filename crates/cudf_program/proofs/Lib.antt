@@ -1,1 +1,3 @@
+pub mod GrammarLemmas
 pub mod MatchLemmas
+pub mod OrderLemmas

@@ -1,13 +1,15 @@
 -- The exit statuses where the program wrote no whole report.
-use Rattle.std.specs.Prelude.{ℕ}
+use Rattle.std.specs.Prelude.{◌≡◌, ◌≢◌, ◌⊎◌, ℕ, Result, Ok, Err}
 use Rattle.std.specs.declared.io.Error.{Error}
 use Rattle.std.specs.declared.io.ErrorKind.{ErrorKind}
 use Rattle.std.specs.declared.io.ErrorKind.TheVariants.{OutOfMemory}
 use Rattle.cudf_program.specs.Usage.{usage_status}
-use Rattle.cudf_check.specs.Outcome.{error_status}
+use Rattle.cudf_check.specs.Outcome.{error_status, outcome_status}
 use Rattle.cudf_program.specs.declared.command.FileName.{FileName}
 use Rattle.cudf_program.specs.declared.failure.Failure.{Failure}
 use Rattle.cudf_program.specs.declared.failure.Failure.TheVariants.{Words, Usage, Open, Run}
+use Rattle.cudf_check.specs.declared.outcome.Outcome.{Outcome}
+use Rattle.cudf_check.specs.declared.outcome.RunError.{RunError}
 use Rattle.cudf_check.specs.declared.outcome.RunError.TheVariants.{Memory}
 
 -- words that can't be had are a usage fault, and a file that can't be opened is one of files
@@ -26,3 +28,13 @@ words_failure _ error = Words error
 abbrev pub open_failure : ErrorKind → FileName → Error → Failure
 open_failure OutOfMemory name error = Run Memory
 open_failure _ name error = Open name error
+
+-- the status of a failure: help that can't be printed is a write fault
+pub record IsStatusOf (failure : Failure) (status : ℕ) : Type 0 where
+  pub told : failure_status failure ≡ 0 → (status ≡ 0) ⊎ (status ≡ 5)
+  pub failed : failure_status failure ≢ 0 → status ≡ failure_status failure
+
+-- the status of a run's answer
+abbrev pub answer_status : Result Outcome RunError → ℕ
+answer_status (Ok outcome) = outcome_status outcome
+answer_status (Err error) = error_status error

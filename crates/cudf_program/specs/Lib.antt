@@ -1,3 +1,6 @@
 pub mod Command
 pub mod Failure
+pub mod Grammar
+pub mod Orders
+pub mod Program
 pub mod Usage

@@ -1,9 +1,10 @@
 //! What the words of the command line ask for.
-ghost use Rattle.std.specs.Prelude.{◌≡◌, None, IfOk, MatchResult, codes, option_map, false};
+ghost use Rattle.std.specs.Prelude.{◌≡◌, None, IfOk, MatchResult, codes, map, option_map, string_bytes, false};
 ghost use Rattle.clap.specs.Matches.{first_value, found_of};
 ghost use Rattle.clap.specs.Words.{subcommand_rows_of};
 ghost use Rattle.cudf_check.specs.declared.job.Job.TheVariants.{Lint, Score};
 ghost use Rattle.cudf_program.specs.Command.{IsNamedBy, IsOrder, RefusesFiles, IsAfter, RefusesAfter, IsLimit, RefusesLimit, words_of, IsCheck, RefusesCheck, Asks, AsksOf, takes_standard_twice};
+ghost use Rattle.cudf_program.specs.Orders.{IsAskedFor, IsUnasked};
 
 use crate::grammar::{AFTER, CHECK, LIMIT, LINT, PROBLEM, SCORE, SOLUTION, program};
 use crate::usage::Usage;
@@ -76,7 +77,8 @@ impl fmt::Display for Refusal<'_> {
 
 /// The run that the words ask for. The first word is the program's name.
 pub(crate) fn command<'w>(alloc: Global, words: &'w [String]) -> Result<Order<'w>, Usage>
-    ensures { IfOk result (λ order. takes_standard_twice order ≡ false) }
+    ensures asks { MatchResult result (IsAskedFor (map (λ word. string_bytes word) words.entry.now)) (IsUnasked (map (λ word. string_bytes word) words.entry.now)) }
+    ensures once { IfOk result (λ order. takes_standard_twice order ≡ false) }
 {
     let mut program = program(alloc)?;
     let matches = program.try_get_matches_from_mut(words)?;

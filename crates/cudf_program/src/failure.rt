@@ -18,7 +18,7 @@ pub(crate) enum Failure<'w> {
 }
 
 impl Failure<'_> {
-    ghost use Rattle.std.specs.Prelude.{◌≡◌};
+    ghost use Rattle.std.specs.Prelude.{◌≡◌, ◌≢◌};
     ghost use Rattle.cudf_program.specs.Failure.{failure_status};
 
     /// The exit status: 0 for help and the version, 4 for a usage fault, 5 for files and devices, 6 where memory
@@ -35,11 +35,9 @@ impl Failure<'_> {
     }
 
     /// Prints help and the version on standard output, and anything else on standard error.
-    pub(crate) fn print<O: Write, E: Write>(
-        &self,
-        output: &mut O,
-        errors: &mut E,
-    ) -> io::Result<()> {
+    pub(crate) fn print<O: Write, E: Write>(&self, output: &mut O, errors: &mut E) -> io::Result<()>
+        ensures { failure_status self.now ≢ 0 → output.new ≡ output.old }
+    {
         match self {
             Failure::Words(error) => writeln!(
                 errors,

@@ -1,4 +1,8 @@
 //! The commands, their options and the texts of help.
+ghost use Rattle.std.specs.Prelude.{◌≡◌, IfOk, false};
+ghost use Rattle.clap.specs.Words.{rule_of};
+ghost use Rattle.cudf_program.specs.Grammar.{problem_word, solution_word, after_option, limit_option, lint_grammar, check_grammar, score_grammar, grammar, IsOf};
+
 use clap::{Arg, Command};
 use std::alloc::{AllocError, Global};
 
@@ -35,7 +39,9 @@ It prints these lines, and then whether the answer is a solution. They are count
   trendy            is what the trendy track minimises: removed, then notuptodate, unsat_recommends and new.";
 
 /// The program with its commands.
-pub(crate) fn program<'w>(alloc: Global) -> Result<Command<'w>, AllocError> {
+pub(crate) fn program<'w>(alloc: Global) -> Result<Command<'w>, AllocError>
+    ensures { IfOk result (IsOf grammar) }
+{
     Command::new(alloc, "cudf_check")
         .about("Checks solutions of CUDF 2.0 problems")
         .version(VERSION)
@@ -45,31 +51,28 @@ pub(crate) fn program<'w>(alloc: Global) -> Result<Command<'w>, AllocError> {
         .subcommand(score_command(alloc)?)
 }
 
-fn lint_command<'w>(alloc: Global) -> Result<Command<'w>, AllocError> {
+fn lint_command<'w>(alloc: Global) -> Result<Command<'w>, AllocError>
+    ensures { IfOk result (IsOf lint_grammar) }
+{
     Command::new(alloc, LINT)
         .about("Says whether a file is a problem without fault")
         .arg(problem(alloc))
 }
 
-fn check_command<'w>(alloc: Global) -> Result<Command<'w>, AllocError> {
+fn check_command<'w>(alloc: Global) -> Result<Command<'w>, AllocError>
+    ensures { IfOk result (IsOf check_grammar) }
+{
     Command::new(alloc, CHECK)
         .about("Checks a solution, and prints each rule that it breaks")
         .arg(problem(alloc))?
         .arg(solution(alloc))?
-        .arg(
-            Arg::new(alloc, AFTER)
-                .long(AFTER)
-                .value_name("KEY")
-                .help("Prints only the lines whose keys come after this one"),
-        )?
-        .arg(
-            Arg::new(alloc, LIMIT).long(LIMIT).value_name("N").help(
-                "Prints at most N of these lines, and after which key the next one comes",
-            ),
-        )
+        .arg(after(alloc))?
+        .arg(limit(alloc))
 }
 
-fn score_command<'w>(alloc: Global) -> Result<Command<'w>, AllocError> {
+fn score_command<'w>(alloc: Global) -> Result<Command<'w>, AllocError>
+    ensures { IfOk result (IsOf score_grammar) }
+{
     Command::new(alloc, SCORE)
         .about(ABOUT_SCORE)
         .long_about(ABOUT_SCORE_LINES)
@@ -77,15 +80,40 @@ fn score_command<'w>(alloc: Global) -> Result<Command<'w>, AllocError> {
         .arg(solution(alloc))
 }
 
-fn problem<'w>(alloc: Global) -> Arg<'w> {
+fn problem<'w>(alloc: Global) -> Arg<'w>
+    ensures rule { rule_of result ≡ problem_word }
+    ensures local { result.global ≡ false }
+{
     Arg::new(alloc, PROBLEM)
         .value_name("P")
         .help("The file of the problem; - is standard input")
         .required(true)
 }
 
-fn solution<'w>(alloc: Global) -> Arg<'w> {
+fn solution<'w>(alloc: Global) -> Arg<'w>
+    ensures rule { rule_of result ≡ solution_word }
+    ensures local { result.global ≡ false }
+{
     Arg::new(alloc, SOLUTION).value_name("S").help(
         "The file of the solution; without it P holds the solution behind the problem",
+    )
+}
+
+fn after<'w>(alloc: Global) -> Arg<'w>
+    ensures rule { rule_of result ≡ after_option }
+    ensures local { result.global ≡ false }
+{
+    Arg::new(alloc, AFTER)
+        .long(AFTER)
+        .value_name("KEY")
+        .help("Prints only the lines whose keys come after this one")
+}
+
+fn limit<'w>(alloc: Global) -> Arg<'w>
+    ensures rule { rule_of result ≡ limit_option }
+    ensures local { result.global ≡ false }
+{
+    Arg::new(alloc, LIMIT).long(LIMIT).value_name("N").help(
+        "Prints at most N of these lines, and after which key the next one comes",
     )
 }

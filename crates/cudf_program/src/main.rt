@@ -1,8 +1,9 @@
 //! The program `cudf_check`: from its words to what it prints and its exit status.
 #![tactic(auto)]
 
-ghost use Rattle.std.specs.Prelude.{◌≡◌, ◌≢◌};
-ghost use Rattle.cudf_program.specs.Failure.{failure_status};
+ghost use Rattle.std.specs.Prelude.{◌≡◌, ◌≢◌, None, Some, IfOk, IfErr, MatchResult, map, option_map, string_bytes};
+ghost use Rattle.cudf_program.specs.Failure.{IsStatusOf, answer_status, failure_status};
+ghost use Rattle.cudf_program.specs.Program.{IsPrepared, IsFailureOf, IsOfFile, IsOpened, MayBeOpened, Ran, Responds, bytes_left};
 
 mod command;
 mod failure;
@@ -50,19 +51,34 @@ fn respond<I: Read + Copy + Drop, O: Write + Drop, E: Write>(
     standard: I,
     mut output: O,
     errors: &mut E,
-) -> (u8, O) {
+) -> (u8, O)
+    ensures { Responds (map (λ word. string_bytes word) words.now) (I.remaining standard) (O.contents output) (O.contents result.1) result.0 }
+{
     match prepare(rt, words, standard) {
-        Ok(task) => match run_task(rt, task, output) {
-            (Ok(outcome), output) => (outcome.status(), output),
-            (Err(error), mut output) => {
-                let status = fail(Failure::Run(error), &mut output, errors);
-                (status, output)
-            }
-        },
+        Ok(task) => {
+            let (answer, mut output) = run_task(rt, task, output);
+            let status = close(answer, &mut output, errors);
+            (status, output)
+        }
         Err(failure) => {
             let status = fail(failure, &mut output, errors);
             (status, output)
         }
+    }
+}
+
+/// The exit status of a run's answer. Where the run was broken off, it says why.
+fn close<O: Write, E: Write>(
+    answer: Result<Outcome, RunError>,
+    output: &mut O,
+    errors: &mut E,
+) -> u8
+    ensures status { result ≡ answer_status answer }
+    ensures quiet { output.new ≡ output.old }
+{
+    match answer {
+        Ok(outcome) => outcome.status(),
+        Err(error) => fail(Failure::Run(error), output, errors),
     }
 }
 
@@ -80,16 +96,15 @@ fn prepare<'w, I: Read + Copy + Drop>(
     rt: &HostRuntime,
     words: &'w [String],
     standard: I,
-) -> Result<Task<I>, Failure<'w>> {
+) -> Result<Task<I>, Failure<'w>>
+    ensures { MatchResult result (IsPrepared (map (λ word. string_bytes word) words.entry.now) standard) (IsFailureOf (map (λ word. string_bytes word) words.entry.now)) }
+{
     let order = order_of(rt.alloc(), words)?;
     if order.takes_standard() {
         expect_open(standard)?;
     }
     let problem = open_named(rt, order.problem, standard)?;
-    let solution = match order.solution {
-        Some(name) => Some(open_named(rt, name, standard)?),
-        None => None,
-    };
+    let solution = open_solution(rt, order.solution, standard)?;
     Ok(Task {
         job: order.job,
         problem,
@@ -98,7 +113,9 @@ fn prepare<'w, I: Read + Copy + Drop>(
 }
 
 /// Fails where standard input is closed: a file that is opened then would be read in its place.
-fn expect_open<'w, I: Read + Drop>(mut standard: I) -> Result<(), Failure<'w>> {
+fn expect_open<'w, I: Read + Drop>(mut standard: I) -> Result<(), Failure<'w>>
+    ensures { IfErr result IsOfFile }
+{
     match standard.read(&mut []) {
         Ok(_) => Ok(()),
         Err(error) => Err(Failure::from_open(FileName::Standard, error)),
@@ -110,10 +127,26 @@ fn open_named<'w, I: Drop>(
     rt: &HostRuntime,
     name: FileName<'w>,
     standard: I,
-) -> Result<Input<I>, Failure<'w>> {
+) -> Result<Input<I>, Failure<'w>>
+    ensures { MatchResult result (IsOpened standard name.entry) IsOfFile }
+{
     match open(rt, name, standard) {
         Ok(input) => Ok(input),
         Err(error) => Err(Failure::from_open(name, error)),
+    }
+}
+
+/// Opens the file of the solution, where the words name one.
+fn open_solution<'w, I: Drop>(
+    rt: &HostRuntime,
+    name: Option<FileName<'w>>,
+    standard: I,
+) -> Result<Option<Input<I>>, Failure<'w>>
+    ensures { MatchResult result (MayBeOpened standard name.entry) IsOfFile }
+{
+    match name {
+        Some(name) => Ok(Some(open_named(rt, name, standard)?)),
+        None => Ok(None),
     }
 }
 
@@ -122,18 +155,33 @@ fn run_task<I: Read + Drop, O: Write + Drop>(
     rt: &HostRuntime,
     task: Task<I>,
     output: O,
-) -> (Result<Outcome, RunError>, O) {
+) -> (Result<Outcome, RunError>, O)
+    ensures { Ran task.job (bytes_left I.remaining task.problem) (option_map (bytes_left I.remaining) task.solution) (O.contents output) (O.contents result.1) result.0 }
+{
     let Task {
         job,
         problem,
         solution,
     } = task;
     let mut out = Device::new(output);
-    let answer = match solution {
-        Some(solution) => run_two(rt.alloc(), &job, problem, solution, &mut out),
-        None => run_one(rt.alloc(), &job, problem, &mut out),
-    };
+    let answer = run_inputs(rt.alloc(), &job, problem, solution, &mut out);
     (answer, out.into_inner())
+}
+
+/// Runs on one file or on two.
+fn run_inputs<I: Read + Drop, W: Sink>(
+    alloc: Global,
+    job: &Job,
+    problem: Input<I>,
+    solution: Option<Input<I>>,
+    out: &mut W,
+) -> Result<Outcome, RunError>
+    ensures { Ran job.now (bytes_left I.remaining problem) (option_map (bytes_left I.remaining) solution) (W.state out.old).contents (W.state out.new).contents result }
+{
+    match solution {
+        Some(solution) => run_two(alloc, job, problem, solution, out),
+        None => run_one(alloc, job, problem, out),
+    }
 }
 
 /// Runs on one file.
@@ -142,7 +190,9 @@ fn run_one<I: Read + Drop, W: Sink>(
     job: &Job,
     problem: Input<I>,
     out: &mut W,
-) -> Result<Outcome, RunError> {
+) -> Result<Outcome, RunError>
+    ensures { Ran job.now (bytes_left I.remaining problem) None (W.state out.old).contents (W.state out.new).contents result }
+{
     let mut input = Device::new(problem);
     run::<_, Device<File>, _>(alloc, job, &mut input, None, out)
 }
@@ -154,7 +204,9 @@ fn run_two<I: Read + Drop, W: Sink>(
     problem: Input<I>,
     solution: Input<I>,
     out: &mut W,
-) -> Result<Outcome, RunError> {
+) -> Result<Outcome, RunError>
+    ensures { Ran job.now (bytes_left I.remaining problem) (Some (bytes_left I.remaining solution)) (W.state out.old).contents (W.state out.new).contents result }
+{
     let mut input = Device::new(problem);
     let mut proposed = Device::new(solution);
     run(alloc, job, &mut input, Some(&mut proposed), out)
@@ -162,7 +214,8 @@ fn run_two<I: Read + Drop, W: Sink>(
 
 /// Prints what went wrong, and answers the exit status. Help that can't be printed is a write fault.
 fn fail<O: Write, E: Write>(failure: Failure<'_>, output: &mut O, errors: &mut E) -> u8
-    ensures { failure_status failure.entry ≢ 0 → result ≡ failure_status failure.entry }
+    ensures status { IsStatusOf failure.entry result }
+    ensures quiet { failure_status failure.entry ≢ 0 → output.new ≡ output.old }
 {
     match (failure.print(output, errors), failure.status()) {
         (Err(_), 0) => RunError::Write.status(),

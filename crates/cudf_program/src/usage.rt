@@ -15,7 +15,7 @@ pub(crate) enum Usage {
 }
 
 impl Usage {
-    ghost use Rattle.std.specs.Prelude.{◌≡◌};
+    ghost use Rattle.std.specs.Prelude.{◌≡◌, ◌≢◌};
     ghost use Rattle.cudf_program.specs.Usage.{usage_status};
 
     /// The exit status: 0 for `Told`, 4 for `Mistake`, 6 for `Memory`.
@@ -30,11 +30,9 @@ impl Usage {
     }
 
     /// Prints help and the version on standard output, and anything else on standard error.
-    pub(crate) fn print<O: Write, E: Write>(
-        &self,
-        output: &mut O,
-        errors: &mut E,
-    ) -> io::Result<()> {
+    pub(crate) fn print<O: Write, E: Write>(&self, output: &mut O, errors: &mut E) -> io::Result<()>
+        ensures { usage_status self.now ≢ 0 → output.new ≡ output.old }
+    {
         match self {
             Usage::Told(text) => write!(output, "{text}"),
             Usage::Mistake(text) => write!(errors, "{text}"),

@@ -1,0 +1,45 @@
+-- The grammar of the command line: the commands, the words that each takes, and its options.
+use Rattle.std.specs.Prelude.{◌≡◌, [], true, false, codes, Some}
+use Rattle.clap.specs.Words.{App, Rule, app_of, new_app, new_rule, with_rule, with_subcommand}
+use Rattle.clap.specs.Simple.{new_shape}
+use Rattle.clap.specs.declared.builder.command.Command.{Command}
+use Rattle.clap.specs.declared.builder.command.Command.TheViews.{out-Command}
+
+-- the file of the problem, which has to be named
+abbrev pub problem_word : Rule
+problem_word = record (new_rule (codes "problem")) { value_names = 1; required = true }
+
+-- the file of the solution
+abbrev pub solution_word : Rule
+solution_word = record (new_rule (codes "solution")) { value_names = 1 }
+
+-- `--after KEY`
+abbrev pub after_option : Rule
+after_option = record (new_rule (codes "after")) { long = Some (codes "after"); value_names = 1 }
+
+-- `--limit N`
+abbrev pub limit_option : Rule
+limit_option = record (new_rule (codes "limit")) { long = Some (codes "limit"); value_names = 1 }
+
+abbrev pub lint_grammar : App
+lint_grammar = with_rule (new_app (codes "lint")) problem_word
+
+abbrev pub check_grammar : App
+check_grammar = with_rule (with_rule (with_rule (with_rule (new_app (codes "check")) problem_word) solution_word) after_option) limit_option
+
+abbrev pub score_grammar : App
+score_grammar = with_rule (with_rule (new_app (codes "score")) problem_word) solution_word
+
+-- the program has a version, and one of its commands has to be named
+abbrev pub plain_grammar : App
+plain_grammar = record {
+  top = record (new_shape (codes "cudf_check")) { has_version = true; subcommand_required = true };
+  subs = [];
+}
+
+abbrev pub grammar : App
+grammar = with_subcommand (with_subcommand (with_subcommand plain_grammar lint_grammar.top) check_grammar.top) score_grammar.top
+
+-- the command is of this grammar, and no argument of it is one of other commands too
+abbrev pub IsOf : App → Command → Type 0
+IsOf app command = (app_of command ≡ app) × ((out-Command command).has_globals ≡ false)
