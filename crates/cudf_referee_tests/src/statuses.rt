@@ -1,5 +1,6 @@
 //! What a status gives and satisfies.
 
 mod index;
+mod large;
 mod made;
 mod scan;
