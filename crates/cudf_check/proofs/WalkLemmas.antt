@@ -1,14 +1,17 @@
 -- What the calls for a page cost, one after another.
-use Rattle.std.proofs.Common.{◌≡◌, ℕ, zero, suc, ◌+◌, ◌≤◌, List, [], ◌∷◌, ◌++◌, length, take, drop, Option, Some, None, ◌-◌, arith, refl, ap, sym, ◌∙◌, add-one}
+use Rattle.std.proofs.Common.{◌≡◌, ℕ, zero, suc, ◌+◌, ◌≤◌, List, [], ◌∷◌, ◌++◌, length, take, drop, Option, Some, None, ◌-◌, arith, refl, ap, sym, ◌∙◌, subst, add-one}
 use Rattle.std.proofs.lemmas.List.{length-drop, take_all}
 use Rattle.std.specs.Prelude.{slice_get}
+use Rattle.cudf_universe.specs.Prices.{digits}
 use Rattle.cudf_referee.specs.Instances.{PlainInstance}
-use Rattle.cudf_referee.specs.Pages.{at_instance, calls, cost_along}
+use Rattle.cudf_referee.specs.Keys.{PlainKey}
+use Rattle.cudf_referee.specs.Pages.{behind, at_instance, left_at, calls, cost_along, page_price}
 use Rattle.cudf_referee.specs.Proposals.{Proposal}
 use Rattle.cudf_referee.specs.Sites.{PlainPosition, at_key, at_end, cost_between}
 use Rattle.cudf_referee.specs.Walks.{Walking, left, Moves}
 use Rattle.cudf_referee.specs.declared.key.Key.{Key}
-use Rattle.cudf_check.specs.Working.Pages.{positions, last_position, HasSpent, IsSpent}
+use Rattle.cudf_check.specs.Working.Pages.{positions, last_position, HasSpent, IsSpent, page_size}
+use Rattle.cudf_check.proofs.PageLemmas.{step}
 
 -- one call more
 pub cost-more : (s : Proposal) (old : PlainPosition) (ps : List PlainPosition) (p : PlainPosition)
@@ -111,3 +114,49 @@ price-whole old now steps limit h spent left_is price =
     let way : cost_between now.judged now.position (at_instance (slice_get (left now) 0)) ≡ cost_between old.judged (last_position old.position ps) next =
     λ j. cost_between (spent.judged j) (spent.position j) (at_instance (slice_get (left_is j) 0)) in
     omega (arith, spent.steps, price, cost, way)
+
+-- ---- a page without a limit
+
+-- some instances were taken
+pub record HasTaken (old now : Walking) : Type 0 where
+  pub number : ℕ
+  pub left_is : left now ≡ drop number (left old)
+  pub within : number ≤ length (left old)
+  pub spent : HasSpent (take number (left old)) old now
+
+pub taken-start : (old : Walking) → HasTaken old old
+taken-start old = record {
+  number = 0;
+  left_is = refl;
+  within = omega arith;
+  spent = record { judged = refl; position = refl; steps = omega arith };
+}
+
+pub taken-more : (i : PlainInstance) (old now new : Walking) → HasTaken old now → Moves now (Some i) new → HasTaken old new
+taken-more i old now new h moves =
+    let one = step (left old) h.number i (left new) (sym h.left_is ∙ moves.gives) in
+    record {
+      number = h.number + 1;
+      left_is = one.left_is;
+      within = one.below;
+      spent = subst (λ xs. HasSpent xs old new) (sym one.taken) (spent-more (take h.number (left old)) i old now new h.spent moves);
+    }
+
+pub price-taken : (old now : Walking) → HasTaken old now → now.steps ≤ old.steps + cost_along old.judged old.position (calls (left old) (length (left old)))
+price-taken old now h = price-within old now h.number (length (left old)) h.within h.within h.spent
+
+pub price-all : (old now new : Walking) → HasTaken old now → Moves now None new → new.steps ≤ old.steps + cost_along old.judged old.position (calls (left old) (length (left old)))
+price-all old now new h moves = price-ended old now new h.number (length (left old)) h.within h.within (sym h.left_is ∙ moves.gives.0) h.spent moves
+
+-- ---- the whole page
+
+-- the search of the unknown stanzas, and the calls
+pub price-page : (s : Proposal) (after : Option PlainKey) (limit : Option ℕ) (old : Walking) (steps : ℕ) (is : List PlainInstance) → left old ≡ is
+    → old.judged ≡ s → old.position ≡ behind after → old.steps ≤ digits (length s.unknown)
+    → steps ≤ old.steps + cost_along old.judged old.position (calls (left old) (page_size limit (left old)))
+    → steps ≤ page_price s after (page_size limit is)
+price-page s after limit old steps is same judged position started price =
+    let way : cost_along old.judged old.position (calls (left old) (page_size limit (left old))) ≡ cost_along s (behind after) (calls (left_at (behind after) s) (page_size limit (left old))) =
+    λ k. cost_along (judged k) (position k) (calls (left_at (position k) (judged k)) (page_size limit (left old))) in
+    let size = ap (λ js. cost_along s (behind after) (calls (left_at (behind after) s) (page_size limit js))) same in
+    omega (arith, started, price, way, size)

@@ -26,6 +26,11 @@ IsPageEnd limit old new None = (last_key (take limit old) ≡ None) ⊎ (drop li
 abbrev pub more_behind : List PlainInstance → PlainKey → List ℕ
 more_behind is key = if is_empty is then [] else line (codes "more after " ++ key_text key)
 
+-- how many instances a page has at most: all that are left, where it has no limit
+abbrev pub page_size : Option ℕ → List PlainInstance → ℕ
+page_size None is = length is
+page_size (Some limit) is = limit
+
 -- ---- what was spent
 
 -- the positions at instances

@@ -57,7 +57,7 @@ fn print_found<W: Sink>(
     match found {
         // A solution's listing is empty, so no place is judged again for a page of it.
         Found::Page { .. } if referee.is_solution() => Ok(()),
-        Found::Page { after, limit } => print_page(buffer, out, packages, referee, after, limit),
+        Found::Page { after, limit } => print_page(buffer, out, packages, referee, after, limit).1,
         Found::Score => print_score(buffer, out, referee.criteria()),
     }
 }

@@ -5,12 +5,12 @@ ghost use Rattle.cudf_document.specs.Universe.{package_view};
 ghost use Rattle.cudf_universe.specs.Prices.{digits};
 ghost use Rattle.cudf_referee.specs.Keys.{PlainKey, key_text};
 ghost use Rattle.cudf_referee.specs.KeyViews.{key_view};
-ghost use Rattle.cudf_referee.specs.Pages.{behind, at_instance, calls, cost_along};
+ghost use Rattle.cudf_referee.specs.Pages.{behind, at_instance, calls, cost_along, page_price};
 ghost use Rattle.cudf_referee.specs.Sites.{cost_between};
 ghost use Rattle.cudf_referee.specs.Views.{instance_view};
 ghost use Rattle.cudf_referee.specs.Walks.{left};
 ghost use Rattle.cudf_check.specs.Report.{line, instance_line, package_at, listed, check_text};
-ghost use Rattle.cudf_check.specs.Working.Pages.{Ascends, IsPageEnd, IsSpent, more_behind};
+ghost use Rattle.cudf_check.specs.Working.Pages.{Ascends, IsPageEnd, IsSpent, more_behind, page_size};
 ghost use Rattle.cudf_check.specs.Working.Printing.{Prints};
 
 use crate::buffer::ReportBuffer;
@@ -62,13 +62,15 @@ fn print_rest<W: Sink>(
     out: &mut W,
     packages: &[Package<'_>],
     referee: &Referee<'_, '_>,
-    instances: Instances<'_, '_, '_>,
+    instances: &mut Instances<'_, '_, '_>,
 ) -> Result<(), RunError>
     requires { map package_view packages.now ≡ referee.now.packages }
-    ensures { Prints (W.state out.old) (W.state out.new) buffer.old buffer.new result
-        (flat_map (instance_line referee.entry.now) (left instances.entry)) }
+    ensures printed { Prints (W.state out.old) (W.state out.new) buffer.old buffer.new result
+        (flat_map (instance_line referee.entry.now) (left instances.old)) }
+    ensures price { instances.new.steps ≤ instances.old.steps
+        + cost_along instances.old.judged instances.old.position (calls (left instances.old) (length (left instances.old))) }
 {
-    for instance in instances {
+    while let Some(instance) = instances.next() {
         print_line(buffer, out, packages, referee, &instance)?;
     }
     Ok(())
@@ -155,24 +157,46 @@ fn print_limited<W: Sink>(
     }
 }
 
-/// Prints the page: the instances after the key `after`, where it is given, and at most `limit` of
-/// them; and where the next page begins.
-pub(crate) fn print_page<W: Sink>(
+/// Prints the instances that are left, at most `limit` of them where that is given, and where the next
+/// page begins.
+fn print_left<W: Sink>(
     buffer: &mut ReportBuffer,
     out: &mut W,
     packages: &[Package<'_>],
     referee: &Referee<'_, '_>,
-    after: Option<Key>,
+    instances: &mut Instances<'_, '_, '_>,
     limit: Option<u64>,
 ) -> Result<(), RunError>
-    requires packages { map package_view packages.now ≡ referee.now.packages }
-    requires ascending { Ascends referee.now }
-    ensures { Prints (W.state out.old) (W.state out.new) buffer.old buffer.new result
-        (check_text (option_map key_view after) limit referee.entry.now) }
+    requires { map package_view packages.now ≡ referee.now.packages }
+    ensures printed { (after : Option PlainKey) → Ascends referee.entry.now → left instances.old ≡ listed after referee.entry.now
+        → Prints (W.state out.old) (W.state out.new) buffer.old buffer.new result (check_text after limit referee.entry.now) }
+    ensures price { instances.new.steps ≤ instances.old.steps
+        + cost_along instances.old.judged instances.old.position (calls (left instances.old) (page_size limit (left instances.old))) }
 {
-    let mut instances = walk_after(referee, after);
     match limit {
-        Some(limit) => print_limited(buffer, out, packages, referee, &mut instances, limit),
+        Some(limit) => print_limited(buffer, out, packages, referee, instances, limit),
         None => print_rest(buffer, out, packages, referee, instances),
     }
+}
+
+/// Prints the page: the instances after the key `after`, where it is given, and at most `limit` of
+/// them; and where the next page begins. Gives back the walk that it made, too: that counted the steps.
+pub(crate) fn print_page<'r, 'p, 't, W: Sink>(
+    buffer: &mut ReportBuffer,
+    out: &mut W,
+    packages: &[Package<'_>],
+    referee: &'r Referee<'p, 't>,
+    after: Option<Key>,
+    limit: Option<u64>,
+) -> (Instances<'r, 'p, 't>, Result<(), RunError>)
+    requires packages { map package_view packages.now ≡ referee.now.packages }
+    requires ascending { Ascends referee.now }
+    ensures printed { Prints (W.state out.old) (W.state out.new) buffer.old buffer.new result.1
+        (check_text (option_map key_view after) limit referee.entry.now) }
+    ensures price { result.0.steps ≤ page_price referee.entry.now (option_map key_view after)
+        (page_size limit (listed (option_map key_view after) referee.entry.now)) }
+{
+    let mut instances = walk_after(referee, after);
+    let printed = print_left(buffer, out, packages, referee, &mut instances, limit);
+    (instances, printed)
 }

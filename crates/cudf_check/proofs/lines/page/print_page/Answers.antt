@@ -1,20 +1,21 @@
-use Rattle.std.proofs.Common.{◌++◌, None, option_map, ap, sym, ◌∙◌, append-nil}
-use Rattle.std.specs.List.{flat_map}
+use Rattle.std.proofs.Common.{option_map}
 use Rattle.cudf_referee.specs.KeyViews.{key_view}
-use Rattle.cudf_check.specs.Report.{instance_line, listed, check_text}
-use Rattle.cudf_check.proofs.PageLemmas.{more-none, left_listed}
-use Rattle.cudf_check.proofs.PrintLemmas.{Prints-as}
+use Rattle.cudf_referee.specs.Walks.{left}
+use Rattle.cudf_check.specs.Report.{listed}
+use Rattle.cudf_check.proofs.PageLemmas.{left_listed}
+use Rattle.cudf_check.proofs.WalkLemmas.{price-page}
 use Rattle.cudf_check.proofs.lines.page.print_page.Goals as goal
 
-pub returns-in-None : goal.returns-in-None
-returns-in-None g c =
-    let s = c.args.referee.now in
+pub returns-clause-printed : goal.returns-clause-printed
+returns-clause-printed g c =
+    let walk = c.walk_after-instances in
     let after = option_map key_view c.args.after in
-    let lines = flat_map (instance_line s) in
-    rw c.in-None.is (Prints-as _ _ _ _ _ _ (check_text after None s)
-    (ap lines (left_listed s after c.walk_after-instances.result c.walk_after-instances.ensures.judged c.walk_after-instances.ensures.position) ∙ sym (append-nil (lines (listed after s))) ∙ ap (λ text. lines (listed after s) ++ text) (sym (more-none s after c.requires.ascending)))
-    c.print_rest.ensures)
+    c.print_left-printed.ensures.printed after c.requires.ascending (left_listed c.args.referee.now after walk.result walk.ensures.judged walk.ensures.position)
 
-pub returns-in-Some : goal.returns-in-Some
-returns-in-Some g c = rw c.in-Some.is (c.print_limited.ensures.printed (option_map key_view c.args.after) c.requires.ascending
-    (left_listed c.args.referee.now (option_map key_view c.args.after) c.walk_after-instances.result c.walk_after-instances.ensures.judged c.walk_after-instances.ensures.position))
+pub returns-clause-price : goal.returns-clause-price
+returns-clause-price g c =
+    let walk = c.walk_after-instances in
+    let after = option_map key_view c.args.after in
+    price-page c.args.referee.now after c.args.limit walk.result _ (listed after c.args.referee.now)
+    (left_listed c.args.referee.now after walk.result walk.ensures.judged walk.ensures.position)
+    walk.ensures.judged walk.ensures.position walk.ensures.price c.print_left-printed.ensures.price
