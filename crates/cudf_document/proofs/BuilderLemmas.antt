@@ -1,5 +1,5 @@
 -- What is gathered of the stanzas of a problem, one after the other.
-use Rattle.std.proofs.Common.{◌≡◌, ℕ, Bool, true, false, not, ◌||◌, ◌&&◌, List, [], ◌∷◌, ◌++◌, Option, None, Some, is_some, is_none, nat_eq, max, find, filter_map, map, refl, sym, ap, subst, ◌∙◌, if◌then◌else◌, option_map, option_to_list, bytes_eq}
+use Rattle.std.proofs.Common.{◌≡◌, ℕ, Bool, true, false, not, ◌||◌, ◌&&◌, List, [], ◌∷◌, ◌++◌, Option, None, Some, is_some, is_none, nat_eq, max, find, filter_map, map, refl, sym, ap, ◌∙◌, if◌then◌else◌, option_map, option_to_list, bytes_eq}
 use Rattle.std.proofs.lemmas.Bool.{and_parts, eqb-true, not-true}
 use Rattle.std.proofs.lemmas.List.{append-nil, append_assoc, map_push}
 use Rattle.std.proofs.lemmas.List.Elements.{filter_map-append}
@@ -20,10 +20,10 @@ use Rattle.cudf_document.specs.Preamble.{declared_under, declared}
 use Rattle.cudf_document.specs.ProblemFaults.{place_faults, property_faults, version_property, inner_faults, stanza_faults, requestless_faults, problem_faults}
 use Rattle.cudf_document.specs.Universe.{PlainPackage, package_id, package_with, package_of, packages_in, request_of, request_in}
 use Rattle.cudf_document.specs.Working.PackageFields.{package_fields_of, package_from}
-use Rattle.cudf_document.specs.Working.ProblemBuilders.{PlainBuilder, with_stanza, faults_inside, IsBuilt, IsListed, Knows, first_ids}
-use Rattle.cudf_document.proofs.ListLemmas.{is_empty-push, or_false, list_any-insert_key, is_some-find, is_some-option_map}
+use Rattle.cudf_document.specs.Working.ProblemBuilders.{PlainBuilder, with_stanza, faults_inside, IsBuilt, IsListed, first_ids}
+use Rattle.cudf_document.proofs.ListLemmas.{or_false, list_any-insert_key, is_some-find, is_some-option_map}
 use Rattle.cudf_document.proofs.NameLemmas.{same_bytes}
-use Rattle.cudf_document.proofs.FaultLemmas.{faults-next, least-faults_or, least-append}
+use Rattle.cudf_document.proofs.FaultLemmas.{least-faults_or, least-append}
 
 -- ---- what is declared
 
@@ -102,9 +102,6 @@ first_or None y = refl
 first_or (Some x) y = refl
 
 -- ---- all of it
-
-pub IsBuilt-none : IsBuilt (record { declared = []; ids = []; packages = []; request = None }) []
-IsBuilt-none = record { declared_are = refl; ids_are = λ id. refl; packages_are = refl; request_is = refl }
 
 -- whether there was a request
 pub requested_is : (g : PlainBuilder) (before : List PlainStanza) → IsBuilt g before → is_some g.request ≡ list_any is_request before
@@ -241,28 +238,6 @@ first_ids-distinct before (x ∷ xs) all =
 
 pub all_ids : (g : PlainBuilder) → IsListed g → are_distinct (map package_id g.packages) ≡ true → g.ids ≡ map package_id g.packages
 all_ids g listed distinct = listed ∙ first_ids-distinct [] (map package_id g.packages) distinct
-
--- ---- the first fault
-
--- one more stanza
-pub Knows-next : (fault : Option Fault) (started : Bool) (g : PlainBuilder) (before : List PlainStanza) (s : PlainStanza) (mark : Option Postmark) (is_first : Bool)
-    (place inside new_fault : Option Fault) (new : PlainBuilder)
-    → Knows fault started g before → mark ≡ postmark s → is_first ≡ not started
-    → place ≡ least (place_faults is_first (is_some g.request) mark s.line) → inside ≡ least (faults_inside mark g s)
-    → new_fault ≡ lesser fault (option_or place inside) → new ≡ with_stanza mark is_first s g
-    → Knows new_fault true new (before ++ s ∷ [])
-Knows-next fault started g before s mark is_first place inside new_fault new so_far marked first place_is inside_eq fault_is new_is = record {
-  first_is = fault_is
-      ∙ faults-next stanza_faults before s fault (option_or place inside) so_far.first_is
-      (stanza_least g before s so_far.builder mark is_first place inside (sym marked) (first ∙ so_far.started_is) place_is inside_eq);
-  started_is = sym (is_empty-push before s);
-  builder = subst (λ h. IsBuilt h (before ++ s ∷ [])) (sym new_is)
-      (IsBuilt-next g before s so_far.builder mark is_first (sym marked) (first ∙ so_far.started_is));
-  listed = subst IsListed (sym new_is) (listed_next mark is_first s g so_far.listed);
-}
-
-pub Knows-none : (g : PlainBuilder) → g ≡ record { declared = []; ids = []; packages = []; request = None } → Knows None false g []
-Knows-none g new = record { first_is = refl; started_is = refl; builder = subst (λ h. IsBuilt h []) (sym new) IsBuilt-none; listed = subst IsListed (sym new) refl }
 
 -- ---- a problem
 

@@ -1,8 +1,8 @@
 -- Lists: one more element, each with those before it, and keys.
 use Rattle.std.proofs.Common.{Result, Ok, Err, OnOk, ◌≡◌, ℕ, ◌+◌, ◌<◌, nat_lt, length, get_or, take, subst, Bool, true, false, not, ◌||◌, List, [], ◌∷◌, ◌++◌, map, Option, None, Some, find, position, refl, sym, ap, ◌∙◌, if◌then◌else◌, option_map, is_some, is_none, IsSome, rules, option_copied, Bor, bytes_eq}
 use Rattle.std.proofs.lemmas.List.{append_assoc, append-nil, length-map, map_push, map_more}
-use Rattle.std.proofs.lemmas.List.Folds.{list_any-append}
-use Rattle.std.specs.List.{list_any, prefix_len}
+use Rattle.std.proofs.lemmas.List.Folds.{list_any-append, list_all_at}
+use Rattle.std.specs.List.{list_any, list_all, prefix_len}
 use Rattle.std.specs.Map.{lookup}
 use Rattle.indexmap.specs.IndexSet.{insert_key}
 use Rattle.cudf_document.specs.Documents.{is_empty, with_earlier}
@@ -86,6 +86,14 @@ map_next view xs ys i x within is same =
 -- ---- keys of a set
 
 -- the keys, seen through a view, after one is inserted
+-- what all pass an element passes
+pub all_here : {A : Type 0} (test : A → Bool) (xs : List A) (i : ℕ) (x : A) → i < length xs → x ≡ get_or xs i x → list_all test xs ≡ true → test x ≡ true
+all_here test xs i x within is all = by (test x) refl
+  where
+    by : (b : Bool) → test x ≡ b → b ≡ true
+    by true e = refl
+    by false e = sym (list_all_at test xs i x within (ap test (sym is) ∙ e)) ∙ all
+
 pub map-insert_key : {A B : Type 0} (view : A → B) (same : B → B → Bool) (keys : List A) (key : A)
     → map view (insert_key (λ x y. same (view x) (view y)) keys key) ≡ insert_key same (map view keys) (view key)
 map-insert_key {A} {B} view same keys key =

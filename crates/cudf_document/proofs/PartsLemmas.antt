@@ -1,26 +1,29 @@
--- What is kept of stanzas on the walk, where no value is joined.
-use Rattle.std.proofs.Common.{◌≡◌, Bool, true, false, List, [], ◌∷◌, ◌++◌, map, filter_map, Option, Some, None, option_map, option_to_list, is_some, find, if◌then◌else◌, refl, sym, ap, ◌∙◌}
+-- What is kept of stanzas on the walk.
+use Rattle.std.proofs.Common.{◌≡◌, Bool, true, false, not, List, [], ◌∷◌, ◌++◌, map, filter_map, Option, Some, None, option_map, option_to_list, is_some, find, if◌then◌else◌, refl, sym, ap, ◌∙◌}
 use Rattle.std.proofs.lemmas.Bool.{true≢false}
 use Rattle.std.proofs.lemmas.List.{map-append}
+use Rattle.cudf_text.specs.declared.text.Stanza.{Stanza}
 use Rattle.cudf_text.specs.Stanzas.{PlainStanza, PlainText}
+use Rattle.cudf_text.specs.Views.{stanza_view}
 use Rattle.cudf_value.specs.Declarations.{PlainDeclaration}
 use Rattle.cudf_document.specs.declared.parts.Parts.{Parts}
 use Rattle.cudf_document.specs.declared.walk.Walk.{Walk}
 use Rattle.cudf_document.specs.declared.postmark.Postmark.{Postmark}
 use Rattle.cudf_document.specs.declared.postmark.Postmark.TheVariants.{Preamble, Package, Request}
-use Rattle.cudf_document.specs.Documents.{is_empty, postmark, marks_package, marks_request, is_package, is_request}
+use Rattle.cudf_document.specs.Documents.{is_empty, postmark, marks_preamble, marks_package, marks_request, is_preamble, is_package, is_request}
 use Rattle.cudf_document.specs.Ids.{Id, id_of, are_distinct}
 use Rattle.cudf_document.specs.Preamble.{declared}
 use Rattle.cudf_document.specs.Thin.{thin_package, thin_problem}
 use Rattle.cudf_document.specs.Universe.{PlainPackage, PlainRequest, plain_problem, package_id, package_view, request_view, request_of, packages_in, request_in}
-use Rattle.cudf_document.specs.Working.Kept.{AreParts, IsParts, kept_by}
+use Rattle.cudf_document.specs.Working.Borrows.{are_borrowed}
+use Rattle.cudf_document.specs.Working.Kept.{AreParts, IsParts, IsReady, kept_by, has_joined, gathered_of}
 use Rattle.cudf_document.specs.Working.PackageFields.{package_fields_of, package_from, fields_if}
 use Rattle.cudf_document.specs.Working.ProblemBuilders.{PlainBuilder, with_stanza, problem_of, IsBuilt}
 use Rattle.cudf_document.specs.Working.Walks.{IsWhole}
 use Rattle.cudf_document.proofs.BuilderLemmas.{IsBuilt-next, all_ids}
 use Rattle.cudf_document.proofs.FaultLemmas.{least-none}
 use Rattle.cudf_document.proofs.FaultlessLemmas.{has_request, ids_distinct}
-use Rattle.cudf_document.proofs.ListLemmas.{is_some-option_map, is_some-find}
+use Rattle.cudf_document.proofs.ListLemmas.{is_some-option_map, is_some-find, IsSome-from}
 use Rattle.cudf_document.proofs.ThinLemmas.{package_from-thin, ids-thin, option_to_list-map}
 use Rattle.cudf_document.specs.ProblemFaults.{problem_faults}
 
@@ -39,11 +42,11 @@ pub package_kept : (is_kept : Id → Bool) (ds : List PlainDeclaration) (before 
     → postmark s ≡ Some Package → ds ≡ declared before → IsParts is_kept before old
     → map package_view new.packages.items
     ≡ map package_view old.packages.items ++ option_to_list (package_from s.line (fields_if (kept_by old.chosen) (package_fields_of ds s.properties)))
-    → new.request ≡ old.request → new.joined ≡ old.joined → new.chosen ≡ old.chosen → IsParts is_kept (before ++ s ∷ []) new
-package_kept is_kept ds before s old new marked ds_are so_far packages request joined chosen = record {
+    → new.request ≡ old.request → new.chosen ≡ old.chosen → IsParts is_kept (before ++ s ∷ []) new
+package_kept is_kept ds before s old new marked ds_are so_far packages request chosen = record {
   kept_are = ap kept_by chosen ∙ so_far.kept_are;
-  parts_are = λ unjoined.
-      let was = so_far.parts_are (sym joined ∙ unjoined) in
+  parts_are =
+      let was = so_far.parts_are in
       let next = gathered ds (option_map request_view old.request) before s (Some Package) marked ds_are was.1 in
       let added = package_from s.line (package_fields_of ds s.properties) in (
         packages
@@ -58,18 +61,18 @@ package_kept is_kept ds before s old new marked ds_are so_far packages request j
 
 pub request_kept : (is_kept : Id → Bool) (before : List PlainStanza) (s : PlainStanza) (old new : Parts) → postmark s ≡ Some Request → IsParts is_kept before old
     → option_map request_view new.request ≡ (if is_some (option_map request_view old.request) then option_map request_view old.request else Some (request_of s))
-    → new.packages ≡ old.packages → new.joined ≡ old.joined → new.chosen ≡ old.chosen → IsParts is_kept (before ++ s ∷ []) new
-request_kept is_kept before s old new marked so_far request packages joined chosen = record {
+    → new.packages ≡ old.packages → new.chosen ≡ old.chosen → IsParts is_kept (before ++ s ∷ []) new
+request_kept is_kept before s old new marked so_far request packages chosen = record {
   kept_are = ap kept_by chosen ∙ so_far.kept_are;
-  parts_are = λ unjoined.
-      let was = so_far.parts_are (sym joined ∙ unjoined) in
+  parts_are =
+      let was = so_far.parts_are in
       let next = gathered (declared before) (option_map request_view old.request) before s (Some Request) marked refl was.1 in
       ((λ i. map package_view (packages i).items) ∙ was.0 ∙ ap (map (thin_package is_kept)) next.packages_are, request ∙ next.request_is);
 }
 
 pub passed : (is_kept : Id → Bool) (before : List PlainStanza) (s : PlainStanza) (p : Parts)
     → is_package s ≡ false → is_request s ≡ false → IsParts is_kept before p → IsParts is_kept (before ++ s ∷ []) p
-passed is_kept before s p no_package no_request so_far = record { kept_are = so_far.kept_are; parts_are = λ unjoined. by (so_far.parts_are unjoined) (postmark s) refl }
+passed is_kept before s p no_package no_request so_far = record { kept_are = so_far.kept_are; parts_are = by so_far.parts_are (postmark s) refl }
   where
     -- what stands there without a package and a request
     as_before : AreParts is_kept before p → packages_in before ≡ packages_in (before ++ s ∷ []) → option_map request_view p.request ≡ request_in (before ++ s ∷ [])
@@ -86,43 +89,51 @@ passed is_kept before s p no_package no_request so_far = record { kept_are = so_
     by was (Some Package) marked = absurd (true≢false (sym (ap marks_package marked) ∙ no_package))
     by was (Some Request) marked = absurd (true≢false (sym (ap marks_request marked) ∙ no_request))
 
-pub joined_says_nothing : (is_kept : Id → Bool) (before : List PlainStanza) (p : Parts)
-    → kept_by p.chosen ≡ is_kept → p.joined ≡ true → IsParts is_kept before p
-joined_says_nothing is_kept before p kept joined = record { kept_are = kept; parts_are = λ unjoined. absurd (true≢false (sym joined ∙ unjoined)) }
+-- what is to be kept of a stanza with a postmark is there, but in a preamble
+pub kept_values : (s : Stanza) (mark : Option Postmark) → has_joined s ≡ false → postmark (stanza_view s) ≡ mark → marks_preamble mark ≡ false → are_borrowed s.properties.items ≡ true
+kept_values s mark lost marked other = by (are_borrowed s.properties.items) (is_preamble (stanza_view s)) lost (ap marks_preamble marked ∙ other)
+  where
+    by : (b p : Bool) → (if b then false else not p) ≡ false → p ≡ false → b ≡ true
+    by true p h q = refl
+    by false true h q = absurd cc
+    by false false h q = absurd cc
 
 -- ---- the whole text
-
--- what is gathered of a walk and what was kept on it
-abbrev pub gathered_of : Walk → Parts → PlainBuilder
-gathered_of w p = record { declared = w.declarations; ids = w.ids; packages = map package_view p.packages.items; request = option_map request_view p.request }
 
 pub faultless : (IsKept : List PlainStanza → Type 0) (w : Walk) (text : PlainText) → IsWhole IsKept w text → w.first ≡ None → problem_faults text ≡ []
 faultless IsKept w text whole none = least-none (problem_faults text) (sym whole.first_is ∙ none)
 
-module _ (is_kept : Id → Bool) (p : Parts) (w : Walk) (text : PlainText) (whole : IsWhole (λ ss. IsParts is_kept ss p) w text) (unjoined : p.joined ≡ false) where
-  pub requested : w.first ≡ None → is_some (gathered_of w p).request ≡ true
+module _ (is_kept : Id → Bool) (p : Parts) (w : Walk) (text : PlainText) (whole : IsWhole (λ ss. IsParts is_kept ss p) w text) where
+  requested : w.first ≡ None → is_some (gathered_of w p).request ≡ true
   requested none =
-      ap is_some (whole.kept.parts_are unjoined).1 ∙ is_some-option_map request_of (find is_request text.stanzas) ∙ is_some-find is_request text.stanzas
+      ap is_some whole.kept.parts_are.1 ∙ is_some-option_map request_of (find is_request text.stanzas) ∙ is_some-find is_request text.stanzas
       ∙ has_request text (faultless (λ ss. IsParts is_kept ss p) w text whole none)
 
   -- the names and versions are those of the text's packages
   same_ids : map package_id (gathered_of w p).packages ≡ map package_id (packages_in text.stanzas)
-  same_ids = ap (map package_id) (whole.kept.parts_are unjoined).0 ∙ ids-thin is_kept (packages_in text.stanzas)
+  same_ids = ap (map package_id) whole.kept.parts_are.0 ∙ ids-thin is_kept (packages_in text.stanzas)
 
-  pub distinct : w.first ≡ None → are_distinct (map package_id (gathered_of w p).packages) ≡ true
+  distinct : w.first ≡ None → are_distinct (map package_id (gathered_of w p).packages) ≡ true
   distinct none = ap are_distinct same_ids ∙ ids_distinct text (faultless (λ ss. IsParts is_kept ss p) w text whole none)
 
-  pub listed : w.first ≡ None → (gathered_of w p).ids ≡ map package_id (gathered_of w p).packages
+  listed : w.first ≡ None → (gathered_of w p).ids ≡ map package_id (gathered_of w p).packages
   listed none =
       all_ids (record { declared = w.declarations; ids = w.ids; packages = packages_in text.stanzas; request = request_in text.stanzas }) whole.listed_are
       (ids_distinct text (faultless (λ ss. IsParts is_kept ss p) w text whole none))
       ∙ sym same_ids
+
+  pub ready : w.first ≡ None → IsReady w p
+  ready none = record {
+    requested = IsSome-from p.request (sym (is_some-option_map request_view p.request) ∙ requested none);
+    ids_are = listed none;
+    distinct = ap are_distinct (listed none) ∙ distinct none;
+  }
 
   pub thin_problem_is : problem_of (gathered_of w p) ≡ thin_problem is_kept (plain_problem text)
   unfolding plain_problem
   thin_problem_is = λ i. problem_of (record {
     declared = whole.declared_are i;
     ids = w.ids;
-    packages = (whole.kept.parts_are unjoined).0 i;
-    request = (whole.kept.parts_are unjoined).1 i;
+    packages = whole.kept.parts_are.0 i;
+    request = whole.kept.parts_are.1 i;
   })

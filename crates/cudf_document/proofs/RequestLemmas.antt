@@ -92,29 +92,33 @@ request_fields_of-next ps p = by (list_any (same_name p) ps) refl
     })
 
 -- what is known of the properties so far
-pub record IsAskedTo (ps : List PlainProperty) (names : List (List ℕ)) (first : Option Fault) (fields : PlainRequestFields) : Type 0 where
+pub record IsAskedTo (ps : List PlainProperty) (names : List (List ℕ)) (first : Option Fault) : Type 0 where
   pub names_are : AreNames names ps
   pub first_is : first ≡ least (flat_map (property_faults [] (Some RequestMark)) (with_earlier [] ps))
-  pub fields_are : fields ≡ request_fields_of ps
 
 -- none yet
-pub IsAskedTo-none : (names : List (List ℕ)) (fields : PlainRequestFields) → names ≡ [] → fields ≡ request_fields_of [] → IsAskedTo [] names None fields
-IsAskedTo-none names fields none nothing = record { names_are = λ name. ap (list_any (bytes_eq name)) none; first_is = refl; fields_are = nothing }
+pub IsAskedTo-none : (names : List (List ℕ)) → names ≡ [] → IsAskedTo [] names None
+IsAskedTo-none names none = record { names_are = λ name. ap (list_any (bytes_eq name)) none; first_is = refl }
 
 -- one more property
-pub IsAskedTo-next : (ps : List PlainProperty) (names : List (List ℕ)) (first : Option Fault) (fields : PlainRequestFields) (p : PlainProperty)
-    (more : List PlainProperty) (new_names : List (List ℕ)) (fault new_first : Option Fault) (new_fields : PlainRequestFields)
-    → IsAskedTo ps names first fields → more ≡ ps ++ p ∷ [] → new_names ≡ insert_key bytes_eq names p.name
-    → fault ≡ fault_on p.line (request_kind_after names p) → new_first ≡ lesser first fault → new_fields ≡ request_fields_after names p fields
-    → IsAskedTo more new_names new_first new_fields
-IsAskedTo-next ps names first fields p more new_names fault new_first new_fields so_far more_is names_is fault_is lesser_is fields_is = record {
+pub IsAskedTo-next : (ps : List PlainProperty) (names : List (List ℕ)) (first : Option Fault) (p : PlainProperty)
+    (more : List PlainProperty) (new_names : List (List ℕ)) (fault new_first : Option Fault)
+    → IsAskedTo ps names first → more ≡ ps ++ p ∷ [] → new_names ≡ insert_key bytes_eq names p.name
+    → fault ≡ fault_on p.line (request_kind_after names p) → new_first ≡ lesser first fault
+    → IsAskedTo more new_names new_first
+IsAskedTo-next ps names first p more new_names fault new_first so_far more_is names_is fault_is lesser_is = record {
   names_are = AreNames-more names ps p more new_names so_far.names_are more_is names_is;
   first_is = lesser_is ∙ faults-next (property_faults [] (Some RequestMark)) ps p first fault so_far.first_is
       (fault_is
       ∙ ap (fault_on p.line) (λ i. if so_far.names_are p.name i then Some E7 else (if fails (sym (test_of-request p.name) i) p.value then Some E9 else None))
       ∙ sym (request_property p.line (list_any (same_name p) ps) (fails (test_of p.name request_tests) p.value)))
       ∙ ap (λ qs. least (flat_map (property_faults [] (Some RequestMark)) (with_earlier [] qs))) (sym more_is);
-  fields_are = fields_is
-      ∙ (λ i. if so_far.names_are p.name i then so_far.fields_are i else with_request_property (request_property_named p.name) p.value (so_far.fields_are i))
-      ∙ request_fields_of-next ps p ∙ ap request_fields_of (sym more_is);
 }
+
+-- what it asks for
+pub asked_next : (ps : List PlainProperty) (names : List (List ℕ)) (fields : PlainRequestFields) (p : PlainProperty) (more : List PlainProperty) (new_fields : PlainRequestFields)
+    → AreNames names ps → more ≡ ps ++ p ∷ [] → fields ≡ request_fields_of ps → new_fields ≡ request_fields_after names p fields → new_fields ≡ request_fields_of more
+asked_next ps names fields p more new_fields names_are more_is so_far fields_is =
+    fields_is
+    ∙ (λ i. if names_are p.name i then so_far i else with_request_property (request_property_named p.name) p.value (so_far i))
+    ∙ request_fields_of-next ps p ∙ ap request_fields_of (sym more_is)

@@ -38,7 +38,7 @@ same_thin : (test : Id → Bool) → ((id : Id) → test id ≡ true) → (packa
 same_thin test all [] = refl
 same_thin test all (p ∷ packages) = (λ i. thinned (all (package_id p) i) p ∷ same_thin test all packages i)
 
-thin_problem-all : (test : Id → Bool) → ((id : Id) → test id ≡ true) → (problem : PlainProblem) → thin_problem test problem ≡ problem
+pub thin_problem-all : (test : Id → Bool) → ((id : Id) → test id ≡ true) → (problem : PlainProblem) → thin_problem test problem ≡ problem
 thin_problem-all test all problem = λ i. record problem { packages = same_thin test all problem.packages i }
 
 pub whole_of : (thin whole : PlainProblem) → IsThinFor (λ id. true) thin whole → thin ≡ whole

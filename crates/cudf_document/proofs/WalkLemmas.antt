@@ -26,7 +26,7 @@ use Rattle.cudf_document.specs.ProblemFaults.{place_faults, stanza_faults}
 use Rattle.cudf_document.specs.Universe.{package_id, packages_in, request_in}
 use Rattle.cudf_document.specs.Values.{name_value}
 use Rattle.cudf_document.specs.Working.ProblemBuilders.{PlainBuilder, with_stanza, faults_inside, IsBuilt, first_ids}
-use Rattle.cudf_document.specs.Working.Walks.{IsKnown, GoesOn, IsWhole, judged_faults, judged_ids}
+use Rattle.cudf_document.specs.Working.Walks.{IsKnown, IsSoFar, GoesOn, IsWhole, judged_faults, judged_ids}
 use Rattle.cudf_document.proofs.ListLemmas.{or_false, is_empty-push}
 use Rattle.cudf_document.proofs.FaultLemmas.{faults-next}
 use Rattle.cudf_document.proofs.BuilderLemmas.{problem_least, requested_is, stanza_least, IsBuilt-next, listed_next}
@@ -175,3 +175,16 @@ no_stanza Kept old new text fault lines ds knows keeps read first same_ds same_i
 pub GoesOn-first : (Kept : List PlainStanza → Type 0) (k : Walk) (later text : PlainText) (s : PlainStanza) → ◌≡◌ {A = PlainText} text (record later { stanzas = s ∷ later.stanzas })
     → IsKnown k (s ∷ []) → k.declarations ≡ declared (s ∷ []) → Kept (s ∷ []) → GoesOn Kept k later text
 GoesOn-first Kept k later text s read knows ds keeps = record { now = s ∷ []; some = refl; declared_are = ds; known = knows; kept = keeps; whole = sym read }
+
+-- ---- stanzas that are held
+
+pub IsSoFar-none : (Kept : List PlainStanza → Type 0) (k : Walk) → k.declarations ≡ [] → IsKnown k [] → Kept [] → IsSoFar Kept k []
+IsSoFar-none Kept k ds knows keeps = record { declared_are = ds; known = knows; kept = keeps }
+
+pub IsSoFar-end : (Kept : List PlainStanza → Type 0) (old new : Walk) (text : PlainText) → IsSoFar Kept old text.stanzas
+    → new.first ≡ lesser (lesser text.fault old.first) (least (fault_if (not old.requested) (max 1 text.lines) E13))
+    → new.declarations ≡ old.declarations → new.ids ≡ old.ids → IsWhole Kept new text
+IsSoFar-end Kept old new text so_far first same_ds same_ids =
+    all_known Kept old new text.stanzas (record { stanzas = []; fault = text.fault; lines = text.lines }) text text.fault text.lines
+    so_far.declared_are so_far.known so_far.kept
+    (λ i. let t : PlainText = record text { stanzas = append-nil text.stanzas i } in t) refl first same_ds same_ids

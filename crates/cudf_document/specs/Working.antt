@@ -1,8 +1,8 @@
+pub mod Borrows
 pub mod Chosen
 pub mod Enums
 pub mod Flags
 pub mod Kept
-pub mod Lines
 pub mod PackageFields
 pub mod ProblemBuilders
 pub mod RequestFields

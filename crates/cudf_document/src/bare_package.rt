@@ -1,18 +1,18 @@
 //! Packages without what they need.
-ghost use Rattle.std.specs.Prelude.{◌≡◌, Some, IfOk, IfSome};
+ghost use Rattle.std.specs.Prelude.{◌≡◌, Some, true, IfOk};
 ghost use Rattle.cudf_text.specs.Views.{stanza_view};
 ghost use Rattle.cudf_document.specs.Faults.{least};
 ghost use Rattle.cudf_document.specs.ProblemFaults.{properties_faults};
+ghost use Rattle.cudf_document.specs.Working.Borrows.{are_borrowed};
 ghost use Rattle.cudf_document.specs.Working.PackageFields.{package_fields_view, package_fields_of, without_needs, is_need};
 ghost use Rattle.cudf_document.specs.declared.postmark.Postmark.TheVariants.{Package as PackageMark};
 
 use crate::declarations::Declarations;
-use crate::fields::{Fields, judge, read_source_properties};
-use crate::line::Line;
+use crate::fields::{Fields, judge_property, read_properties};
 use crate::package_fields::PackageFields;
 use crate::package_property::{PackageProperty, package_property_named};
 use crate::seen_names::SeenNames;
-use cudf_text::{Fault, Kind, Stanza};
+use cudf_text::{Fault, Kind, Property, Stanza};
 use std::alloc::{AllocError, Global};
 
 /// What the properties of a package stanza say, but what the package needs: that is only judged.
@@ -33,21 +33,20 @@ impl<'t> Fields<'t> for BarePackage<'t> {
         }
     }
 
-    fn set<'n>(
+    fn set(
         &mut self,
         alloc: Global,
         declarations: &Declarations<'_>,
-        line: Line<'n, 't>,
+        property: &Property<'t>,
     ) -> Result<Option<Kind>, AllocError> {
-        let named = package_property_named(line.name);
+        let named = package_property_named(property.name);
         if is_need(named) {
-            return Ok(judge(declarations, named, line.name, line.value));
+            return Ok(judge_property(declarations, named, property));
         }
-        self.fields
-            .keep(alloc, declarations, named, line.name, line.value)
+        self.fields.read(alloc, declarations, named, property)
     }
 
-    fn skip<'n>(&self, declarations: &Declarations<'_>, line: Line<'n, 't>) {}
+    fn skip(&self, declarations: &Declarations<'_>, property: &Property<'t>) {}
 }
 
 /// Whether the property says what a package needs: other packages, or that they are absent.
@@ -61,31 +60,27 @@ fn is_need(named: Option<PackageProperty>) -> bool
     )
 }
 
-/// The first fault of a package's properties, and what they say, but what the package needs; `None`
-/// where a value is joined of two texts.
+/// The first fault of a package's properties, and what they say, but what the package needs, where
+/// each value is a part of the source.
 pub(crate) fn read_bare_package<'a>(
     alloc: Global,
     names: &mut SeenNames<'a>,
     declarations: &Declarations<'_>,
     stanza: &Stanza<'a>,
-) -> Result<Option<(Option<Fault>, PackageFields<'a>)>, AllocError>
+) -> Result<(Option<Fault>, PackageFields<'a>), AllocError>
     ensures fault { IfOk result (λ r.
-        IfSome r (λ s.
-        s.0
-        ≡ least (properties_faults declarations.now (Some PackageMark) (stanza_view stanza.now).properties))) }
-    ensures values { IfOk result (λ r.
-        IfSome r (λ s.
-        package_fields_view s.1
-        ≡ without_needs (package_fields_of declarations.now (stanza_view stanza.now).properties))) }
+        r.0
+        ≡ least (properties_faults declarations.now (Some PackageMark) (stanza_view stanza.now).properties)) }
+    ensures values { are_borrowed stanza.now.properties.items ≡ true →
+        IfOk result (λ r.
+        package_fields_view r.1
+        ≡ without_needs (package_fields_of declarations.now (stanza_view stanza.now).properties)) }
 {
-    let read: Option<(Option<Fault>, BarePackage<'a>)> = read_source_properties(
+    let (fault, bare): (Option<Fault>, BarePackage<'a>) = read_properties(
         alloc,
         names,
         declarations,
         &stanza.properties,
     )?;
-    match read {
-        Some((fault, bare)) => Ok(Some((fault, bare.fields))),
-        None => Ok(None),
-    }
+    Ok((fault, bare.fields))
 }

@@ -1,10 +1,10 @@
 //! What a package's properties are read into.
-ghost use Rattle.std.specs.Prelude.{◌≡◌, ◌++◌, ◌∷◌, [], List, Some, bytes_eq, map, IfOk, IfSome, OnOk};
+ghost use Rattle.std.specs.Prelude.{◌≡◌, ◌++◌, ◌∷◌, [], List, Some, true, bytes_eq, map, IfOk, OnOk};
 ghost use Rattle.indexmap.specs.IndexSet.{insert_key};
 ghost use Rattle.cudf_text.specs.Stanzas.{PlainProperty};
 ghost use Rattle.cudf_text.specs.Views.{property_view, stanza_view};
 ghost use Rattle.cudf_document.specs.Faults.{least};
-ghost use Rattle.cudf_document.specs.Working.Lines.{line_view};
+ghost use Rattle.cudf_document.specs.Working.Borrows.{is_borrowed, are_borrowed};
 ghost use Rattle.cudf_document.specs.Working.SeenNames.{AreNames};
 ghost use Rattle.cudf_document.specs.ProblemFaults.{properties_faults};
 ghost use Rattle.cudf_document.specs.Working.PackageFields.{fault_on, kind_after, package_property_test, wrong_kind};
@@ -12,7 +12,6 @@ ghost use Rattle.cudf_document.specs.declared.postmark.Postmark.TheVariants.{Pac
 
 use crate::declarations::{Declarations, mistyped_unless};
 use crate::fault::{fault_on, keep_lesser};
-use crate::line::{Line, line_of, source_line};
 use crate::package_fields::read_keep;
 use crate::package_property::{PackageProperty, package_property_named};
 use crate::seen_names::SeenNames;
@@ -25,116 +24,92 @@ pub(crate) trait Fields<'s>: Sized + Drop {
     ghost use Rattle.std.specs.Prelude.{◌≡◌, ◌++◌, ◌∷◌, [], List, ℕ, false, true, IfOk, OnOk};
     ghost use Rattle.std.specs.List.{list_any};
     ghost use Rattle.cudf_text.specs.Stanzas.{PlainProperty};
-    ghost use Rattle.cudf_document.specs.Working.Lines.{line_view};
+    ghost use Rattle.cudf_text.specs.Views.{property_view};
     ghost use Rattle.cudf_value.specs.Declarations.{PlainDeclaration};
     ghost use Rattle.cudf_document.specs.Documents.{same_name};
+    ghost use Rattle.cudf_document.specs.Working.Borrows.{is_borrowed};
     ghost use Rattle.cudf_document.specs.Working.PackageFields.{package_property_named, package_property_test, wrong_kind};
 
-    // This was read of the properties.
+    // This was read of the properties, whose values are parts of the source.
     ghost IsRead: { List PlainDeclaration → List PlainProperty → Self → Type 0 };
 
     fn start() -> Self
         ensures { (ds : List PlainDeclaration) → IsRead ds [] result };
 
-    /// Keeps what a property says that is the first of its name, and says what is wrong with it.
-    fn set<'n>(
+    /// Says what is wrong with a property that is the first of its name, and keeps what it says,
+    /// where its value is a part of the source.
+    fn set(
         &mut self,
         alloc: Global,
         declarations: &Declarations<'_>,
-        line: Line<'n, 's>,
+        property: &Property<'s>,
     ) -> Result<Option<Kind>, AllocError>
         ensures kind { IfOk result (λ kind.
             kind
-            ≡ wrong_kind (package_property_test declarations.now (package_property_named line.entry.name.now) line.entry.name.now) line.entry.value.now) }
+            ≡ wrong_kind (package_property_test declarations.now (package_property_named property.now.name.now) property.now.name.now) (property_view property.now).value) }
         ensures read { (ps : List PlainProperty) →
-            list_any (same_name (line_view line.entry)) ps ≡ false →
+            list_any (same_name (property_view property.now)) ps ≡ false →
+            is_borrowed property.now ≡ true →
             IsRead declarations.now ps self.old →
-            OnOk result (IsRead declarations.now (ps ++ line_view line.entry ∷ []) self.new) };
+            OnOk result (IsRead declarations.now (ps ++ property_view property.now ∷ []) self.new) };
 
     /// A repeated property says nothing. (Does nothing: its contract is a law.)
-    fn skip<'n>(&self, declarations: &Declarations<'_>, line: Line<'n, 's>)
+    fn skip(&self, declarations: &Declarations<'_>, property: &Property<'s>)
         ensures { (ps : List PlainProperty) →
-            list_any (same_name (line_view line.entry)) ps ≡ true →
+            list_any (same_name (property_view property.now)) ps ≡ true →
             IsRead declarations.now ps self.now →
-            IsRead declarations.now (ps ++ line_view line.entry ∷ []) self.now };
+            IsRead declarations.now (ps ++ property_view property.now ∷ []) self.now };
 }
 
-/// The first fault of a package's properties, and what was read of them.
-pub(crate) fn read_properties<'n, 's, 'a, S: Fields<'s>>(
+/// The first fault of a package's properties, and what was read of them, where each value is a part
+/// of the source.
+pub(crate) fn read_properties<'a, S: Fields<'a>>(
     alloc: Global,
-    names: &mut SeenNames<'n>,
+    names: &mut SeenNames<'a>,
     declarations: &Declarations<'_>,
-    properties: &'s [Property<'a>],
+    properties: &[Property<'a>],
 ) -> Result<(Option<Fault>, S), AllocError>
-where
-    'a: 'n,
     ensures fault { IfOk result (λ r.
         r.0
         ≡ least (properties_faults declarations.now (Some PackageMark) (map property_view properties.now))) }
-    ensures read { IfOk result (λ r. S.IsRead declarations.now (map property_view properties.now) r.1) }
+    ensures read { are_borrowed properties.now ≡ true →
+        IfOk result (λ r. S.IsRead declarations.now (map property_view properties.now) r.1) }
 {
     names.clear(alloc);
     let mut first = None;
     let mut sink = S::start();
     for property in properties {
-        let line = line_of(property);
-        let fault = read_property(alloc, names, declarations, &mut sink, line)?;
+        let fault = read_property(alloc, names, declarations, &mut sink, property)?;
         keep_lesser(&mut first, fault);
     }
     Ok((first, sink))
 }
 
-/// The same, where each value is a part of the source; `None` where one is joined of two texts.
-pub(crate) fn read_source_properties<'a, S: Fields<'a>>(
+/// Reads a property into the sink, if it is the first of its name, and answers its fault.
+#[inline(always)]
+fn read_property<'a, S: Fields<'a>>(
     alloc: Global,
     names: &mut SeenNames<'a>,
     declarations: &Declarations<'_>,
-    properties: &[Property<'a>],
-) -> Result<Option<(Option<Fault>, S)>, AllocError>
-    ensures fault { IfOk result (λ r.
-        IfSome r (λ s.
-        s.0
-        ≡ least (properties_faults declarations.now (Some PackageMark) (map property_view properties.now)))) }
-    ensures read { IfOk result (λ r.
-        IfSome r (λ s. S.IsRead declarations.now (map property_view properties.now) s.1)) }
-{
-    names.clear(alloc);
-    let mut first = None;
-    let mut sink = S::start();
-    for property in properties {
-        let Some(line) = source_line(property) else {
-            return Ok(None);
-        };
-        let fault = read_property(alloc, names, declarations, &mut sink, line)?;
-        keep_lesser(&mut first, fault);
-    }
-    Ok(Some((first, sink)))
-}
-
-/// Reads a property into the sink, if it is the first of its name, and answers its fault.
-#[inline(always)]
-fn read_property<'n, 's, S: Fields<'s>>(
-    alloc: Global,
-    names: &mut SeenNames<'n>,
-    declarations: &Declarations<'_>,
     sink: &mut S,
-    line: Line<'n, 's>,
+    property: &Property<'a>,
 ) -> Result<Option<Fault>, AllocError>
     ensures fault { IfOk result (λ fault.
         fault
-        ≡ fault_on line.entry.line (kind_after declarations.now names.old (line_view line.entry))) }
-    ensures names { OnOk result (names.new ≡ insert_key bytes_eq names.old line.entry.name.now) }
+        ≡ fault_on property.now.line (kind_after declarations.now names.old (property_view property.now))) }
+    ensures names { OnOk result (names.new ≡ insert_key bytes_eq names.old property.now.name.now) }
     ensures read { (ps : List PlainProperty) →
         AreNames names.old ps →
+        is_borrowed property.now ≡ true →
         S.IsRead declarations.now ps sink.old →
-        OnOk result (S.IsRead declarations.now (ps ++ line_view line.entry ∷ []) sink.new) }
+        OnOk result (S.IsRead declarations.now (ps ++ property_view property.now ∷ []) sink.new) }
 {
-    if !names.insert(line.name)? {
-        sink.skip(declarations, line);
-        return Ok(fault_on(line.line, Some(Kind::E7)));
+    if !names.insert(property.name)? {
+        sink.skip(declarations, property);
+        return Ok(fault_on(property.line, Some(Kind::E7)));
     }
-    let kind = sink.set(alloc, declarations, line)?;
-    Ok(fault_on(line.line, kind))
+    let kind = sink.set(alloc, declarations, property)?;
+    Ok(fault_on(property.line, kind))
 }
 
 /// Where a package is only judged: nothing is read of it.
@@ -150,28 +125,26 @@ impl<'s> Fields<'s> for Judged {
         Judged
     }
 
-    fn set<'n>(
+    fn set(
         &mut self,
         alloc: Global,
         declarations: &Declarations<'_>,
-        line: Line<'n, 's>,
+        property: &Property<'s>,
     ) -> Result<Option<Kind>, AllocError> {
-        let named = package_property_named(line.name);
-        Ok(judge(declarations, named, line.name, line.value))
+        let named = package_property_named(property.name);
+        Ok(judge_property(declarations, named, property))
     }
 
-    fn skip<'n>(&self, declarations: &Declarations<'_>, line: Line<'n, 's>) {}
+    fn skip(&self, declarations: &Declarations<'_>, property: &Property<'s>) {}
 }
 
 /// The first fault of a package's properties.
-pub(crate) fn judge_package<'n, 'a>(
+pub(crate) fn judge_package<'a>(
     alloc: Global,
-    names: &mut SeenNames<'n>,
+    names: &mut SeenNames<'a>,
     declarations: &Declarations<'_>,
     stanza: &Stanza<'a>,
 ) -> Result<Option<Fault>, AllocError>
-where
-    'a: 'n,
     ensures { IfOk result (λ fault.
         fault
         ≡ least (properties_faults declarations.now (Some PackageMark) (stanza_view stanza.now).properties)) }
@@ -185,8 +158,21 @@ where
     Ok(fault)
 }
 
+/// What is wrong with a property that stands once, if it has this place in a package, or else by its
+/// name.
+pub(crate) fn judge_property(
+    declarations: &Declarations<'_>,
+    named: Option<PackageProperty>,
+    property: &Property<'_>,
+) -> Option<Kind>
+    ensures { result
+        ≡ wrong_kind (package_property_test declarations.now named property.now.name.now) (property_view property.now).value }
+{
+    judge(declarations, named, property.name, property.value.as_str())
+}
+
 /// What is wrong with a property that stands once, if it has this place in a package, or else this name.
-pub(crate) fn judge(
+fn judge(
     declarations: &Declarations<'_>,
     named: Option<PackageProperty>,
     name: &str,

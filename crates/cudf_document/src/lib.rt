@@ -3,6 +3,7 @@
 #![tactic(auto)]
 
 mod bare_package;
+mod borrowed;
 mod chosen;
 mod declarations;
 mod declared;
@@ -11,7 +12,6 @@ mod fault;
 mod fields;
 mod ids;
 pub mod laws;
-mod line;
 mod lint;
 mod package;
 mod package_fields;
@@ -20,7 +20,6 @@ mod parts;
 mod postmark;
 mod preamble;
 mod problem;
-mod problem_builder;
 mod problem_reader;
 mod request;
 mod request_fields;

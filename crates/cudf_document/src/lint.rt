@@ -5,7 +5,7 @@ ghost use Rattle.cudf_document.specs.ProblemFaults.{problem_faults};
 
 use crate::declarations::Declarations;
 use crate::fields::judge_package;
-use crate::request_fields::judge_request;
+use crate::request_fields::read_request;
 use crate::seen_names::SeenNames;
 use crate::walk::{Kept, Walk, walk_all};
 use cudf_text::{Fault, Stanza, Stanzas};
@@ -20,8 +20,11 @@ pub fn first_fault(alloc: Global, stanzas: Stanzas<'_>) -> Result<Option<Fault>,
         last: 0,
         properties: Vec::new(alloc),
     };
-    let (walk, _nothing): (Walk<'_, '_>, Nothing) = walk_all(alloc, stanzas, &mut head, Nothing)?;
-    Ok(walk.first)
+    let walked: Option<(Walk<'_, '_>, Nothing)> = walk_all(alloc, stanzas, &mut head, Nothing)?;
+    match walked {
+        Some((walk, _nothing)) => Ok(walk.first),
+        None => Ok(None),
+    }
 }
 
 /// Where stanzas are only judged.
@@ -29,9 +32,17 @@ pub fn first_fault(alloc: Global, stanzas: Stanzas<'_>) -> Result<Option<Fault>,
 struct Nothing;
 
 impl<'a> Kept<'a> for Nothing {
-    ghost use Rattle.std.specs.Prelude.{⊤};
+    ghost use Rattle.std.specs.Prelude.{⊤, false};
 
     ghost IsKept = { λ is_kept before nothing. ⊤ };
+
+    ghost is_lost = { λ s. false };
+
+    ghost may_stop = { false };
+
+    fn loses(&self, stanza: &Stanza<'a>) -> bool {
+        false
+    }
 
     fn take_package(
         &mut self,
@@ -50,7 +61,8 @@ impl<'a> Kept<'a> for Nothing {
         names: &mut SeenNames<'a>,
         stanza: &Stanza<'a>,
     ) -> Result<Option<Fault>, AllocError> {
-        judge_request(alloc, stanza)
+        let (fault, _request) = read_request(alloc, names, stanza)?;
+        Ok(fault)
     }
 
     fn pass(&self, stanza: &Stanza<'a>) {}

@@ -1,15 +1,16 @@
 //! The values of a package's properties.
-ghost use Rattle.std.specs.Prelude.{◌≡◌, Some, [], option_copied, IfOk, IfSome};
+ghost use Rattle.std.specs.Prelude.{◌≡◌, Some, [], true, option_copied, IfOk};
 ghost use Rattle.cudf_text.specs.Views.{stanza_view, property_view};
 ghost use Rattle.cudf_document.specs.Faults.{least};
 ghost use Rattle.cudf_document.specs.Values.{name_value, keep_value};
 ghost use Rattle.cudf_document.specs.ProblemFaults.{properties_faults};
+ghost use Rattle.cudf_document.specs.Working.Borrows.{are_borrowed};
 ghost use Rattle.cudf_document.specs.Working.PackageFields.{package_fields_view, package_fields_of};
 ghost use Rattle.cudf_document.specs.declared.postmark.Postmark.TheVariants.{Package as PackageMark};
 
+use crate::borrowed::source_value;
 use crate::declarations::{Declarations, mistyped_unless};
-use crate::fields::{Fields, read_properties, read_source_properties};
-use crate::line::Line;
+use crate::fields::{Fields, judge_property, read_properties};
 use crate::package::{Keep, Package};
 use crate::package_property::{PackageProperty, package_property_named};
 use crate::seen_names::SeenNames;
@@ -34,10 +35,11 @@ pub(crate) struct PackageFields<'t> {
 }
 
 impl<'t> PackageFields<'t> {
-    ghost use Rattle.std.specs.Prelude.{◌≡◌, [], option_map, option_copied, bytes_eq, IfOk, OnOk};
+    ghost use Rattle.std.specs.Prelude.{◌≡◌, [], true, option_map, option_copied, bytes_eq, IfOk, OnOk};
     ghost use Rattle.cudf_text.specs.Views.{property_view};
     ghost use Rattle.cudf_document.specs.Values.{declared_test, test_of};
     ghost use Rattle.indexmap.specs.IndexSet.{insert_key};
+    ghost use Rattle.cudf_document.specs.Working.Borrows.{is_borrowed};
     ghost use Rattle.cudf_document.specs.Working.PackageFields.{package_property_named, package_property_test, wrong_kind, fault_on, package_fields_view, no_package_fields, with_package_property, kind_after, package_fields_after, package_from};
     ghost use Rattle.cudf_document.specs.Universe.{package_view};
     ghost use Rattle.cudf_document.specs.Ids.{id_with};
@@ -58,8 +60,30 @@ impl<'t> PackageFields<'t> {
         }
     }
 
+    /// Says what is wrong with a property, and keeps what it says, if it has a place here and its value
+    /// is a part of the source.
+    pub(crate) fn read(
+        &mut self,
+        alloc: Global,
+        declarations: &Declarations<'_>,
+        named: Option<PackageProperty>,
+        property: &Property<'t>,
+    ) -> Result<Option<Kind>, AllocError>
+        ensures kind { IfOk result (λ kind.
+            kind
+            ≡ wrong_kind (package_property_test declarations.now named property.now.name.now) (property_view property.now).value) }
+        ensures values { is_borrowed property.now ≡ true →
+            OnOk result (package_fields_view self.new
+            ≡ with_package_property declarations.now named (property_view property.now).value (package_fields_view self.old)) }
+    {
+        match source_value(property) {
+            Some(text) => self.keep(alloc, declarations, named, property.name, text),
+            None => Ok(judge_property(declarations, named, property)),
+        }
+    }
+
     /// Keeps what a property says, if it has a place here, and says what is wrong with it.
-    pub(crate) fn keep(
+    fn keep(
         &mut self,
         alloc: Global,
         declarations: &Declarations<'_>,
@@ -185,38 +209,22 @@ pub(crate) fn read_keep(text: &str) -> Option<Keep>
     }
 }
 
-/// The first fault of a package's properties, and what they say.
-pub(crate) fn read_package<'t, 'a>(
-    alloc: Global,
-    names: &mut SeenNames<'t>,
-    declarations: &Declarations<'t>,
-    stanza: &'t Stanza<'a>,
-) -> Result<(Option<Fault>, PackageFields<'t>), AllocError>
-    ensures fault { IfOk result (λ r.
-        r.0
-        ≡ least (properties_faults declarations.now (Some PackageMark) (stanza_view stanza.now).properties)) }
-    ensures values { IfOk result (λ r.
-        package_fields_view r.1 ≡ package_fields_of declarations.now (stanza_view stanza.now).properties) }
-{
-    read_properties(alloc, names, declarations, &stanza.properties)
-}
-
-/// The same, where each value is a part of the source; `None` where one is joined of two texts.
-pub(crate) fn read_source_package<'a>(
+/// The first fault of a package's properties, and what they say, where each value is a part of the
+/// source.
+pub(crate) fn read_package<'a>(
     alloc: Global,
     names: &mut SeenNames<'a>,
     declarations: &Declarations<'_>,
     stanza: &Stanza<'a>,
-) -> Result<Option<(Option<Fault>, PackageFields<'a>)>, AllocError>
+) -> Result<(Option<Fault>, PackageFields<'a>), AllocError>
     ensures fault { IfOk result (λ r.
-        IfSome r (λ s.
-        s.0
-        ≡ least (properties_faults declarations.now (Some PackageMark) (stanza_view stanza.now).properties))) }
-    ensures values { IfOk result (λ r.
-        IfSome r (λ s.
-        package_fields_view s.1 ≡ package_fields_of declarations.now (stanza_view stanza.now).properties)) }
+        r.0
+        ≡ least (properties_faults declarations.now (Some PackageMark) (stanza_view stanza.now).properties)) }
+    ensures values { are_borrowed stanza.now.properties.items ≡ true →
+        IfOk result (λ r.
+        package_fields_view r.1 ≡ package_fields_of declarations.now (stanza_view stanza.now).properties) }
 {
-    read_source_properties(alloc, names, declarations, &stanza.properties)
+    read_properties(alloc, names, declarations, &stanza.properties)
 }
 
 impl<'t> Fields<'t> for PackageFields<'t> {
@@ -229,15 +237,15 @@ impl<'t> Fields<'t> for PackageFields<'t> {
         PackageFields::new()
     }
 
-    fn set<'n>(
+    fn set(
         &mut self,
         alloc: Global,
         declarations: &Declarations<'_>,
-        line: Line<'n, 't>,
+        property: &Property<'t>,
     ) -> Result<Option<Kind>, AllocError> {
-        let named = package_property_named(line.name);
-        self.keep(alloc, declarations, named, line.name, line.value)
+        let named = package_property_named(property.name);
+        self.read(alloc, declarations, named, property)
     }
 
-    fn skip<'n>(&self, declarations: &Declarations<'_>, line: Line<'n, 't>) {}
+    fn skip(&self, declarations: &Declarations<'_>, property: &Property<'t>) {}
 }

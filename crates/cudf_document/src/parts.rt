@@ -1,59 +1,58 @@
-//! What is kept of a problem whose values are all parts of the source.
-ghost use Rattle.std.specs.Prelude.{◌≡◌, option_map};
+//! What is kept of a problem whose values are parts of the source.
+ghost use Rattle.std.specs.Prelude.{◌≡◌, ◌++◌, map, option_map, option_to_list, OnOk};
 ghost use Rattle.cudf_document.specs.Ids.{is_among};
+ghost use Rattle.cudf_document.specs.Universe.{package_view};
 ghost use Rattle.cudf_document.specs.Working.PackageFields.{passes};
 
 use crate::bare_package::read_bare_package;
+use crate::borrowed::are_borrowed;
 use crate::chosen::Chosen;
 use crate::declarations::Declarations;
-use crate::fields::judge_package;
 use crate::package::Package;
-use crate::package_fields::{PackageFields, read_source_package};
-use crate::problem_builder::{ProblemBuilder, push_some};
+use crate::package_fields::{PackageFields, read_package};
+use crate::postmark::is_preamble;
+use crate::problem::Problem;
 use crate::request::Request;
-use crate::request_fields::{judge_request, read_source_request};
+use crate::request_fields::read_request;
 use crate::seen_names::SeenNames;
 use crate::walk::{Kept, Walk};
 use cudf_text::{Fault, Stanza};
 use std::alloc::{AllocError, Global};
 
-/// The packages and the first request of the stanzas so far, unless a value was joined.
+/// The packages and the first request of the stanzas so far.
 #[derive(Drop)]
 pub(crate) struct Parts<'a, 'c, 's> {
     /// The packages of which what they need is kept; all, where it isn't known which are chosen.
     pub(crate) chosen: Option<&'c Chosen<'s>>,
     pub(crate) packages: Vec<Package<'a>>,
     pub(crate) request: Option<Request<'a>>,
-    /// Whether a package or request had a value that is joined of two texts: it isn't kept.
-    pub(crate) joined: bool,
 }
 
 impl<'a, 'c, 's> Parts<'a, 'c, 's> {
-    ghost use Rattle.std.specs.Prelude.{◌≡◌, [], false, Some, map, option_map, is_some, if◌then◌else◌, IfOk, IfSome};
+    ghost use Rattle.std.specs.Prelude.{◌≡◌, [], true, Some, option_map, is_some, if◌then◌else◌, IfOk};
     ghost use Rattle.cudf_text.specs.Views.{stanza_view};
     ghost use Rattle.cudf_document.specs.Faults.{least};
     ghost use Rattle.cudf_document.specs.ProblemFaults.{properties_faults};
-    ghost use Rattle.cudf_document.specs.Universe.{package_view, request_view};
+    ghost use Rattle.cudf_document.specs.Universe.{request_view};
     ghost use Rattle.cudf_document.specs.declared.postmark.Postmark.TheVariants.{Package as PackageMark};
-    ghost use Rattle.cudf_document.specs.Working.Kept.{IsParts, kept_by};
+    ghost use Rattle.cudf_document.specs.Working.Borrows.{are_borrowed};
+    ghost use Rattle.cudf_document.specs.Working.Kept.{IsParts, IsReady, kept_by, gathered_of};
     ghost use Rattle.cudf_document.specs.Working.PackageFields.{package_fields_view, package_fields_of, passes, needing_if};
-    ghost use Rattle.cudf_document.specs.Working.ProblemBuilders.{builder_view};
+    ghost use Rattle.cudf_document.specs.Working.ProblemBuilders.{problem_of};
 
     /// Before the first stanza.
     pub(crate) fn new(alloc: Global, chosen: Option<&'c Chosen<'s>>) -> Self
-        ensures parts { IsParts (kept_by chosen.entry) [] result }
-        ensures joined { result.joined ≡ false }
+        ensures { IsParts (kept_by chosen.entry) [] result }
     {
         Parts {
             chosen,
             packages: Vec::new(alloc),
             request: None,
-            joined: false,
         }
     }
 
-    /// The first fault of a package's properties, and what they say, without what it needs if others
-    /// are chosen; `None` where a value is joined of two texts.
+    /// The first fault of a package's properties, and what they say, where each value is a part of the
+    /// source; without what it needs if others are chosen.
     #[inline(always)]
     fn read_kept(
         &self,
@@ -62,18 +61,17 @@ impl<'a, 'c, 's> Parts<'a, 'c, 's> {
         declarations: &Declarations<'_>,
         id: Option<(&'a str, u64)>,
         stanza: &Stanza<'a>,
-    ) -> Result<Option<(Option<Fault>, PackageFields<'a>)>, AllocError>
+    ) -> Result<(Option<Fault>, PackageFields<'a>), AllocError>
         ensures fault { IfOk result (λ r.
-            IfSome r (λ s.
-            s.0
-            ≡ least (properties_faults declarations.now (Some PackageMark) (stanza_view stanza.now).properties))) }
-        ensures values { IfOk result (λ r.
-            IfSome r (λ s.
-            package_fields_view s.1
-            ≡ needing_if (passes (kept_by self.now.chosen) (option_map (λ id. (id.0.now, id.1)) id.entry)) (package_fields_of declarations.now (stanza_view stanza.now).properties))) }
+            r.0
+            ≡ least (properties_faults declarations.now (Some PackageMark) (stanza_view stanza.now).properties)) }
+        ensures values { are_borrowed stanza.now.properties.items ≡ true →
+            IfOk result (λ r.
+            package_fields_view r.1
+            ≡ needing_if (passes (kept_by self.now.chosen) (option_map (λ id. (id.0.now, id.1)) id.entry)) (package_fields_of declarations.now (stanza_view stanza.now).properties)) }
     {
         if self.keeps(id) {
-            read_source_package(alloc, names, declarations, stanza)
+            read_package(alloc, names, declarations, stanza)
         } else {
             read_bare_package(alloc, names, declarations, stanza)
         }
@@ -96,7 +94,6 @@ impl<'a, 'c, 's> Parts<'a, 'c, 's> {
         ensures request { option_map request_view self.new.request
             ≡ (if is_some (option_map request_view self.old.request) then option_map request_view self.old.request else Some (request_view request.entry)) }
         ensures packages { self.new.packages ≡ self.old.packages }
-        ensures joined { self.new.joined ≡ self.old.joined }
         ensures chosen { self.new.chosen ≡ self.old.chosen }
     {
         if self.request.is_none() {
@@ -104,24 +101,19 @@ impl<'a, 'c, 's> Parts<'a, 'c, 's> {
         }
     }
 
-    /// What the walk has gathered, once it is over.
-    pub(crate) fn into_builder<'h>(self, walk: Walk<'h, 'a>) -> ProblemBuilder<'h>
+    /// The problem, once a walk without fault is over.
+    pub(crate) fn into_problem<'h>(
+        self,
+        alloc: Global,
+        walk: Walk<'h, 'a>,
+    ) -> Result<Problem<'h>, AllocError>
     where
         'a: 'h,
-        ensures { builder_view result ≡ record {
-          declared = walk.entry.declarations;
-          ids = walk.entry.ids;
-          packages = map package_view self.entry.packages.items;
-          request = option_map request_view self.entry.request;
-        } }
+        requires { IsReady walk self }
+        ensures { IfOk result (λ p. p ≡ problem_of (gathered_of walk.entry self.entry)) }
     {
-        ProblemBuilder {
-            declarations: walk.declarations,
-            ids: walk.ids,
-            packages: self.packages,
-            request: self.request,
-            names: walk.names,
-        }
+        let recommends = walk.declarations.recommends_default(alloc)?;
+        Ok(Problem::new(self.packages, self.request.unwrap(), recommends, walk.ids))
     }
 }
 
@@ -135,10 +127,37 @@ fn is_chosen(chosen: &Chosen<'_>, id: Option<(&str, u64)>) -> bool
     }
 }
 
+/// Adds the package, if there is one.
+#[inline(always)]
+fn push_some<'t>(
+    packages: &mut Vec<Package<'t>>,
+    added: Option<Package<'t>>,
+) -> Result<(), AllocError>
+    ensures { OnOk result (map package_view packages.new.items
+        ≡ map package_view packages.old.items ++ option_to_list (option_map package_view added.entry)) }
+{
+    match added {
+        Some(package) => Ok(packages.push(package)?),
+        None => Ok(()),
+    }
+}
+
 impl<'a, 'c, 's> Kept<'a> for Parts<'a, 'c, 's> {
-    ghost use Rattle.cudf_document.specs.Working.Kept.{IsParts};
+    ghost use Rattle.std.specs.Prelude.{true};
+    ghost use Rattle.cudf_document.specs.Working.Kept.{IsParts, has_joined};
 
     ghost IsKept = { λ is_kept before parts. IsParts is_kept before parts };
+
+    ghost is_lost = { has_joined };
+
+    ghost may_stop = { true };
+
+    fn loses(&self, stanza: &Stanza<'a>) -> bool {
+        if are_borrowed(&stanza.properties) {
+            return false;
+        }
+        !is_preamble(stanza)
+    }
 
     fn take_package(
         &mut self,
@@ -148,16 +167,9 @@ impl<'a, 'c, 's> Kept<'a> for Parts<'a, 'c, 's> {
         id: Option<(&'a str, u64)>,
         stanza: &Stanza<'a>,
     ) -> Result<Option<Fault>, AllocError> {
-        match self.read_kept(alloc, names, declarations, id, stanza)? {
-            Some(read) => {
-                push_some(&mut self.packages, read.1.into_package(alloc, stanza.line))?;
-                Ok(read.0)
-            }
-            None => {
-                self.joined = true;
-                judge_package(alloc, names, declarations, stanza)
-            }
-        }
+        let (fault, fields) = self.read_kept(alloc, names, declarations, id, stanza)?;
+        push_some(&mut self.packages, fields.into_package(alloc, stanza.line))?;
+        Ok(fault)
     }
 
     fn take_request(
@@ -166,16 +178,9 @@ impl<'a, 'c, 's> Kept<'a> for Parts<'a, 'c, 's> {
         names: &mut SeenNames<'a>,
         stanza: &Stanza<'a>,
     ) -> Result<Option<Fault>, AllocError> {
-        match read_source_request(alloc, names, stanza)? {
-            Some(read) => {
-                self.keep_first(read.1);
-                Ok(read.0)
-            }
-            None => {
-                self.joined = true;
-                judge_request(alloc, stanza)
-            }
-        }
+        let (fault, request) = read_request(alloc, names, stanza)?;
+        self.keep_first(request);
+        Ok(fault)
     }
 
     fn pass(&self, stanza: &Stanza<'a>) {}

@@ -1,7 +1,7 @@
 //! What a stanza is: CUDF 2.0, syntax of documents.
 ghost use Rattle.std.specs.Prelude.{◌≡◌};
 ghost use Rattle.cudf_text.specs.Views.{stanza_view};
-ghost use Rattle.cudf_document.specs.Documents.{postmark, postmark_named};
+ghost use Rattle.cudf_document.specs.Documents.{postmark, postmark_named, is_preamble};
 
 use cudf_text::Stanza;
 
@@ -32,4 +32,11 @@ fn mark_named(name: &str) -> Option<Postmark>
         "request" => Some(Postmark::Request),
         _ => None,
     }
+}
+
+/// Whether the stanza is a preamble, in a right place or not.
+pub(crate) fn is_preamble(stanza: &Stanza<'_>) -> bool
+    ensures { result ≡ is_preamble (stanza_view stanza.now) }
+{
+    matches!(postmark_of(stanza), Some(Postmark::Preamble))
 }

@@ -119,18 +119,17 @@ fn problem_of_parts<'h, 'a, 'c, 's>(
         IfSome r (λ p. p ≡ thin_problem (kept_by chosen.entry) (plain_problem stanzas.entry.text))) }
     ensures fault { IfErr result (IsFirstFault (problem_faults stanzas.entry.text)) }
 {
-    let (walk, parts): (Walk<'h, 'a>, Parts<'a, 'c, 's>) = walk_all(
+    let walked: Option<(Walk<'h, 'a>, Parts<'a, 'c, 's>)> = walk_all(
         alloc,
         stanzas,
         head,
         Parts::new(alloc, chosen),
     )?;
+    let Some((walk, parts)) = walked else {
+        return Ok(None);
+    };
     if let Some(fault) = walk.first {
         return Err(ReadError::Fault(fault));
     }
-    if parts.joined {
-        return Ok(None);
-    }
-    let builder = parts.into_builder(walk);
-    Ok(Some(builder.into_problem(alloc)?))
+    Ok(Some(parts.into_problem(alloc, walk)?))
 }

@@ -1,13 +1,14 @@
 //! The walk over a problem's stanzas, one at a time: their first fault, and what is kept of them.
-ghost use Rattle.std.specs.Prelude.{◌≡◌, Bool, ◌||◌, List, [], ◌∷◌, Some, max, option_map, option_copied, codes, find, IfOk, OnOk};
+ghost use Rattle.std.specs.Prelude.{◌≡◌, Bool, not, ◌||◌, ◌&&◌, List, [], ◌∷◌, ◌++◌, Some, max, is_none, option_map, option_copied, bytes_eq, codes, find, IfOk, OnOk, IfSome, IfNone, IsTrue};
 ghost use Rattle.cudf_document.specs.Preamble.{declared};
 ghost use Rattle.cudf_text.specs.Stanzas.{PlainStanza, PlainText};
 ghost use Rattle.cudf_text.specs.Views.{stanza_view, property_view};
-ghost use Rattle.cudf_document.specs.Faults.{least};
-ghost use Rattle.cudf_document.specs.Documents.{value_of, has_name, marks_request};
+ghost use Rattle.cudf_text.specs.declared.fault.Kind.TheVariants.{E11, E12};
+ghost use Rattle.cudf_document.specs.Faults.{least, fault_if};
+ghost use Rattle.cudf_document.specs.Documents.{value_of, has_name, line_of, marks_preamble, marks_request};
 ghost use Rattle.cudf_document.specs.Ids.{Id, id_with, id_under};
 ghost use Rattle.cudf_document.specs.Values.{name_value, version_value};
-ghost use Rattle.cudf_document.specs.ProblemFaults.{properties_faults};
+ghost use Rattle.cudf_document.specs.ProblemFaults.{properties_faults, place_faults, version_property};
 ghost use Rattle.cudf_document.specs.Working.Walks.{GoesOn, IsWhole};
 ghost use Rattle.cudf_document.specs.declared.postmark.Postmark.TheVariants.{Preamble as PreambleMark, Package as PackageMark};
 
@@ -17,8 +18,6 @@ use crate::ids::Ids;
 use crate::package_fields::source_name;
 use crate::postmark::{Postmark, postmark_of};
 use crate::preamble::read_preamble;
-use crate::problem_builder::{find_property, package_fault};
-use crate::problem_reader::place_fault;
 use crate::seen_names::SeenNames;
 use cudf_text::{Fault, Kind, Next, Property, Stanza, Stanzas};
 use cudf_value::read_posint;
@@ -26,7 +25,8 @@ use std::alloc::{AllocError, Global};
 
 /// What is kept of a problem's stanzas on the walk.
 pub(crate) trait Kept<'a>: Sized + Drop {
-    ghost use Rattle.std.specs.Prelude.{◌≡◌, Bool, ◌++◌, ◌∷◌, [], List, Some, false, option_map, IfOk, OnOk};
+    ghost use Rattle.std.specs.Prelude.{◌≡◌, Bool, ◌++◌, ◌∷◌, [], List, Some, false, option_map, IfOk, OnOk, IsTrue};
+    ghost use Rattle.cudf_text.specs.declared.text.Stanza.{Stanza};
     ghost use Rattle.cudf_text.specs.Stanzas.{PlainStanza};
     ghost use Rattle.cudf_text.specs.Views.{stanza_view};
     ghost use Rattle.cudf_document.specs.Faults.{least};
@@ -38,6 +38,17 @@ pub(crate) trait Kept<'a>: Sized + Drop {
 
     // This was kept of the stanzas, where the test tells of which packages what they need is kept.
     ghost IsKept: { (Id → Bool) → List PlainStanza → Self → Type 0 };
+
+    // What the stanza says can't be kept.
+    ghost is_lost: { Stanza → Bool };
+
+    // Some stanzas are lost, so that the walk may stop before the end.
+    ghost may_stop: { Bool };
+
+    /// Whether what the stanza says can't be kept: then the walk stops.
+    fn loses(&self, stanza: &Stanza<'a>) -> bool
+        ensures lost { result ≡ is_lost stanza.now }
+        ensures stops { IsTrue result → IsTrue may_stop };
 
     /// Keeps a package of this name and version, and answers the first fault of its properties.
     fn take_package(
@@ -52,6 +63,7 @@ pub(crate) trait Kept<'a>: Sized + Drop {
             fault
             ≡ least (properties_faults declarations.now (Some PackageMark) (stanza_view stanza.now).properties)) }
         ensures kept { (is_kept : Id → Bool) →
+            is_lost stanza.now ≡ false →
             (before : List PlainStanza) →
             postmark (stanza_view stanza.now) ≡ Some PackageMark →
             option_map (λ id. (id.0.now, id.1)) id.entry
@@ -70,6 +82,7 @@ pub(crate) trait Kept<'a>: Sized + Drop {
         ensures fault { IfOk result (λ fault.
             fault ≡ least (properties_faults [] (Some RequestMark) (stanza_view stanza.now).properties)) }
         ensures kept { (is_kept : Id → Bool) →
+            is_lost stanza.now ≡ false →
             (before : List PlainStanza) →
             postmark (stanza_view stanza.now) ≡ Some RequestMark →
             IsKept is_kept before self.old →
@@ -85,16 +98,19 @@ pub(crate) trait Kept<'a>: Sized + Drop {
             IsKept is_kept (before ++ stanza_view stanza.now ∷ []) self.now };
 }
 
-/// Walks over all stanzas; the first one is held in `head`. Before it nothing is kept.
+/// Walks over all stanzas; the first one is held in `head`. Before it nothing is kept. `None` where
+/// the walk stopped before the end.
 pub(crate) fn walk_all<'h, 'a, K: Kept<'a>>(
     alloc: Global,
     stanzas: Stanzas<'a>,
     head: &'h mut Stanza<'a>,
     kept: K,
-) -> Result<(Walk<'h, 'a>, K), AllocError>
-    ensures { (is_kept : Id → Bool) →
+) -> Result<Option<(Walk<'h, 'a>, K)>, AllocError>
+    ensures whole { (is_kept : Id → Bool) →
         K.IsKept is_kept [] kept →
-        IfOk result (λ r. IsWhole (λ ss. K.IsKept is_kept ss r.1) r.0 stanzas.entry.text) }
+        IfOk result (λ r.
+        IfSome r (λ w. IsWhole (λ ss. K.IsKept is_kept ss w.1) w.0 stanzas.entry.text)) }
+    ensures stopped { IfOk result (λ r. IfNone r (IsTrue K.may_stop)) }
 {
     let mut stanzas = stanzas;
     let mut kept = kept;
@@ -102,28 +118,32 @@ pub(crate) fn walk_all<'h, 'a, K: Kept<'a>>(
         Next::End { fault, lines } => {
             let mut walk: Walk<'h, 'a> = Walk::new(alloc);
             walk.end(fault, lines);
-            Ok((walk, kept))
+            Ok(Some((walk, kept)))
         }
         Next::Stanza { line, last } => {
             head.line = line;
             head.last = last;
+            if kept.loses(head) {
+                return Ok(None);
+            }
             let walk: Walk<'h, 'a> = Walk::start(alloc, &mut kept, head)?;
             walk_on(alloc, walk, kept, stanzas)
         }
     }
 }
 
-/// Walks over the stanzas behind the first one.
+/// Walks over the stanzas behind the first one. `None` where the walk stopped before the end.
 fn walk_on<'h, 'a, K: Kept<'a>>(
     alloc: Global,
     walk: Walk<'h, 'a>,
     kept: K,
     stanzas: Stanzas<'a>,
-) -> Result<(Walk<'h, 'a>, K), AllocError>
-    ensures { (is_kept : Id → Bool) →
+) -> Result<Option<(Walk<'h, 'a>, K)>, AllocError>
+    ensures whole { (is_kept : Id → Bool) →
         (text : PlainText) →
         GoesOn (λ ss. K.IsKept is_kept ss kept) walk.entry stanzas.entry.text text →
-        IfOk result (λ r. IsWhole (λ ss. K.IsKept is_kept ss r.1) r.0 text) }
+        IfOk result (λ r. IfSome r (λ w. IsWhole (λ ss. K.IsKept is_kept ss w.1) w.0 text)) }
+    ensures stopped { IfOk result (λ r. IfNone r (IsTrue K.may_stop)) }
 {
     let mut walk = walk;
     let mut kept = kept;
@@ -138,11 +158,14 @@ fn walk_on<'h, 'a, K: Kept<'a>>(
             Next::Stanza { line, last } => {
                 stanza.line = line;
                 stanza.last = last;
+                if kept.loses(&stanza) {
+                    return Ok(None);
+                }
                 walk.take(alloc, &mut kept, false, &stanza)?;
             }
             Next::End { fault, lines } => {
                 walk.end(fault, lines);
-                return Ok((walk, kept));
+                return Ok(Some((walk, kept)));
             }
         }
     }
@@ -161,20 +184,20 @@ pub(crate) struct Walk<'h, 'a> {
 }
 
 impl<'h, 'a> Walk<'h, 'a> {
-    ghost use Rattle.std.specs.Prelude.{◌≡◌, Bool, List, [], ◌∷◌, ◌++◌, not, max, IfOk, OnOk};
+    ghost use Rattle.std.specs.Prelude.{◌≡◌, Bool, false, List, [], ◌∷◌, ◌++◌, not, max, IfOk, OnOk};
     ghost use Rattle.cudf_text.specs.Stanzas.{PlainStanza};
     ghost use Rattle.cudf_text.specs.Views.{stanza_view};
     ghost use Rattle.cudf_text.specs.declared.fault.Kind.TheVariants.{E13};
     ghost use Rattle.cudf_document.specs.Faults.{least, lesser, fault_if};
     ghost use Rattle.cudf_document.specs.Ids.{Id, with_id, id_under};
     ghost use Rattle.cudf_document.specs.Working.ProblemBuilders.{package_faults};
-    ghost use Rattle.cudf_document.specs.Working.Walks.{IsKnown, judged_faults, judged_ids};
+    ghost use Rattle.cudf_document.specs.Working.Walks.{IsKnown, IsSoFar, judged_faults, judged_ids};
     ghost use Rattle.cudf_document.specs.Documents.{is_empty, postmark};
     ghost use Rattle.cudf_document.specs.Preamble.{declared};
     ghost use Rattle.cudf_document.specs.declared.postmark.Postmark.TheVariants.{Package as PackageMark};
 
     /// No stanza.
-    fn new(alloc: Global) -> Self
+    pub(crate) fn new(alloc: Global) -> Self
         ensures known { IsKnown result [] }
         ensures declared { result.declarations ≡ [] }
     {
@@ -196,6 +219,7 @@ impl<'h, 'a> Walk<'h, 'a> {
         ensures known { IfOk result (λ k. IsKnown k (stanza_view head.now ∷ [])) }
         ensures declared { IfOk result (λ k. k.declarations ≡ declared (stanza_view head.now ∷ [])) }
         ensures kept { (is_kept : Id → Bool) →
+            K.is_lost head.now ≡ false →
             K.IsKept is_kept [] kept.old →
             OnOk result (K.IsKept is_kept (stanza_view head.now ∷ []) kept.new) }
     {
@@ -203,6 +227,30 @@ impl<'h, 'a> Walk<'h, 'a> {
         walk.take(alloc, kept, true, head)?;
         declare(alloc, &mut walk.declarations, head)?;
         Ok(walk)
+    }
+
+    /// Takes the next of some stanzas that are held, as it is lent.
+    pub(crate) fn take_held<'b, K: Kept<'a>>(
+        &mut self,
+        alloc: Global,
+        kept: &mut K,
+        is_first: bool,
+        lent: &Stanza<'a>,
+        held: &'h Stanza<'b>,
+    ) -> Result<(), AllocError>
+        requires { stanza_view lent.now ≡ stanza_view held.now }
+        ensures { (is_kept : Id → Bool) →
+            K.is_lost lent.now ≡ false →
+            (before : List PlainStanza) →
+            is_first ≡ is_empty before →
+            IsSoFar (λ ss. K.IsKept is_kept ss kept.old) self.old before →
+            OnOk result (IsSoFar (λ ss. K.IsKept is_kept ss kept.new) self.new (before ++ stanza_view held.now ∷ [])) }
+    {
+        self.take(alloc, kept, is_first, lent)?;
+        if is_first {
+            declare(alloc, &mut self.declarations, held)?;
+        }
+        Ok(())
     }
 
     /// Takes the next stanza; what it declares is left out.
@@ -220,6 +268,7 @@ impl<'h, 'a> Walk<'h, 'a> {
             OnOk result (IsKnown self.new (before ++ stanza_view stanza.now ∷ [])) }
         ensures declarations { OnOk result (self.new.declarations ≡ self.old.declarations) }
         ensures kept { (is_kept : Id → Bool) →
+            K.is_lost stanza.now ≡ false →
             (before : List PlainStanza) →
             self.old.declarations ≡ declared before →
             K.IsKept is_kept before kept.old →
@@ -248,6 +297,7 @@ impl<'h, 'a> Walk<'h, 'a> {
         ensures requested { OnOk result (self.new.requested ≡ self.old.requested) }
         ensures first { OnOk result (self.new.first ≡ self.old.first) }
         ensures kept { (is_kept : Id → Bool) →
+            K.is_lost stanza.now ≡ false →
             (before : List PlainStanza) →
             postmark (stanza_view stanza.now) ≡ mark →
             self.old.declarations ≡ declared before →
@@ -283,6 +333,7 @@ impl<'h, 'a> Walk<'h, 'a> {
         ensures requested { OnOk result (self.new.requested ≡ self.old.requested) }
         ensures first { OnOk result (self.new.first ≡ self.old.first) }
         ensures kept { (is_kept : Id → Bool) →
+            K.is_lost stanza.now ≡ false →
             (before : List PlainStanza) →
             postmark (stanza_view stanza.now) ≡ Some PackageMark →
             self.old.declarations ≡ declared before →
@@ -296,7 +347,7 @@ impl<'h, 'a> Walk<'h, 'a> {
     }
 
     /// Takes the end of the text, with its first faulty line and the number of its lines.
-    fn end(&mut self, fault: Option<Fault>, lines: u64)
+    pub(crate) fn end(&mut self, fault: Option<Fault>, lines: u64)
         ensures first { self.new.first
             ≡ lesser (lesser fault self.old.first) (least (fault_if (not self.old.requested) (max 1 lines) E13)) }
         ensures declarations { self.new.declarations ≡ self.old.declarations }
@@ -341,12 +392,50 @@ fn package_version(stanza: &Stanza<'_>) -> Option<u64>
     }
 }
 
+/// The first fault of a package's name and version: it is repeated, or has no version.
+fn package_fault(is_repeated: bool, stanza: &Stanza<'_>) -> Option<Fault>
+    ensures { result
+        ≡ least (fault_if is_repeated (line_of (version_property (stanza_view stanza.now))) E11
+        ++ fault_if (is_none (version_property (stanza_view stanza.now))) stanza.now.last E12) }
+{
+    match first_named(stanza, "version") {
+        Some(version) => fault_if(is_repeated, version.line, Kind::E11),
+        None => lesser(
+            fault_if(is_repeated, 0, Kind::E11),
+            fault_if(true, stanza.last, Kind::E12),
+        ),
+    }
+}
+
 /// The first property of this name.
 fn first_named<'s, 'a>(stanza: &'s Stanza<'a>, name: &str) -> Option<&'s Property<'a>>
     ensures { option_map (λ p. property_view p.now) result
         ≡ find (has_name name.now) (stanza_view stanza.now).properties }
 {
     find_property(&stanza.properties, name)
+}
+
+fn find_property<'s, 'a>(properties: &'s [Property<'a>], name: &str) -> Option<&'s Property<'a>>
+    ensures { option_map (λ p. p.now) result
+        ≡ find (λ p. bytes_eq p.name.now name.now) properties.now }
+{
+    properties.iter().find(|p| p.name == name)
+}
+
+/// The first fault of where a stanza stands.
+fn place_fault(is_first: bool, is_late: bool, mark: Option<Postmark>, line: u64) -> Option<Fault>
+    ensures { result ≡ least (place_faults is_first is_late mark line) }
+{
+    let unmarked = fault_if(mark.is_none(), line, Kind::E4);
+    let late_preamble = fault_if(is_late_preamble(is_first, mark), line, Kind::E5);
+    let late = fault_if(is_late, line, Kind::E6);
+    lesser(lesser(unmarked, late_preamble), late)
+}
+
+fn is_late_preamble(is_first: bool, mark: Option<Postmark>) -> bool
+    ensures { result ≡ (marks_preamble mark && not is_first) }
+{
+    matches!(mark, Some(Postmark::Preamble)) && !is_first
 }
 
 /// The first fault of the properties of a preamble.
@@ -377,8 +466,8 @@ fn declare<'h, 'a>(
     declarations: &mut Declarations<'h>,
     head: &'h Stanza<'a>,
 ) -> Result<(), AllocError>
-    requires { declarations.old ≡ [] }
-    ensures { OnOk result (declarations.new ≡ declared (stanza_view head.now ∷ [])) }
+    ensures { declarations.old ≡ [] →
+        OnOk result (declarations.new ≡ declared (stanza_view head.now ∷ [])) }
 {
     match postmark_of(head) {
         Some(Postmark::Preamble) => {

@@ -1,11 +1,17 @@
 -- What is kept of the stanzas of a problem on the walk.
-use Rattle.std.specs.Prelude.{◌≡◌, Bool, true, false, List, map, Option, Some, None, option_map}
+use Rattle.std.specs.Prelude.{◌≡◌, Bool, true, false, not, List, map, Option, Some, None, option_map, IsSome, if◌then◌else◌}
 use Rattle.std.specs.Borrow.{Bor}
+use Rattle.cudf_text.specs.declared.text.Stanza.{Stanza}
 use Rattle.cudf_text.specs.Stanzas.{PlainStanza}
+use Rattle.cudf_text.specs.Views.{stanza_view}
 use Rattle.cudf_document.specs.declared.parts.Parts.{Parts}
-use Rattle.cudf_document.specs.Ids.{Id, is_among}
+use Rattle.cudf_document.specs.declared.walk.Walk.{Walk}
+use Rattle.cudf_document.specs.Documents.{is_preamble}
+use Rattle.cudf_document.specs.Ids.{Id, is_among, are_distinct}
 use Rattle.cudf_document.specs.Thin.{thin_package}
-use Rattle.cudf_document.specs.Universe.{package_view, request_view, packages_in, request_in}
+use Rattle.cudf_document.specs.Universe.{package_id, package_view, request_view, packages_in, request_in}
+use Rattle.cudf_document.specs.Working.Borrows.{are_borrowed}
+use Rattle.cudf_document.specs.Working.ProblemBuilders.{PlainBuilder}
 
 -- what packages need is kept of those that are chosen; of all, where it isn't known which are
 abbrev pub kept_by : Option (Bor (List Id)) → Id → Bool
@@ -17,7 +23,23 @@ abbrev pub AreParts : (Id → Bool) → List PlainStanza → Parts → Type 0
 AreParts is_kept before p =
     (map package_view p.packages.items ≡ map (thin_package is_kept) (packages_in before)) × (option_map request_view p.request ≡ request_in before)
 
--- this is the test, and where no value was joined, these are the stanzas' packages and request
+-- this is the test, and these are the stanzas' packages and request
 pub record IsParts (is_kept : Id → Bool) (before : List PlainStanza) (p : Parts) : Type 0 where
   pub kept_are : kept_by p.chosen ≡ is_kept
-  pub parts_are : p.joined ≡ false → AreParts is_kept before p
+  pub parts_are : AreParts is_kept before p
+
+-- a value that is to be kept is joined of two texts; of a preamble nothing is kept
+abbrev pub has_joined : Stanza → Bool
+has_joined s = if are_borrowed s.properties.items then false else not (is_preamble (stanza_view s))
+
+-- ---- the end of a walk
+
+-- what was known and kept on it
+abbrev pub gathered_of : Walk → Parts → PlainBuilder
+gathered_of w p = record { declared = w.declarations; ids = w.ids; packages = map package_view p.packages.items; request = option_map request_view p.request }
+
+-- a problem can be made of that: there is a request, and no package twice
+pub record IsReady (w : Walk) (p : Parts) : Type 0 where
+  pub requested : IsSome p.request
+  pub ids_are : w.ids ≡ map package_id (map package_view p.packages.items)
+  pub distinct : are_distinct w.ids ≡ true

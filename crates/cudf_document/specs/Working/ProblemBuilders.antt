@@ -1,6 +1,6 @@
 -- What the stanzas of a problem say, while they are read.
-use Rattle.std.specs.Prelude.{◌≡◌, ℕ, Bool, not, List, [], ◌∷◌, ◌++◌, map, filter_map, Option, Some, None, option_map, option_to_list, is_some, is_none, bytes_eq, codes, if◌then◌else◌}
-use Rattle.std.specs.List.{list_any, flat_map}
+use Rattle.std.specs.Prelude.{◌≡◌, ℕ, Bool, List, [], ◌∷◌, ◌++◌, map, filter_map, Option, Some, None, option_to_list, is_some, is_none, bytes_eq, codes, if◌then◌else◌}
+use Rattle.std.specs.List.{list_any}
 use Rattle.indexmap.specs.IndexSet.{insert_key}
 use Rattle.cudf_text.specs.declared.fault.Fault.{Fault}
 use Rattle.cudf_text.specs.declared.fault.Kind.{Kind}
@@ -9,13 +9,12 @@ use Rattle.cudf_text.specs.Stanzas.{PlainProperty, PlainStanza}
 use Rattle.cudf_value.specs.Declarations.{PlainDeclaration}
 use Rattle.cudf_document.specs.declared.postmark.Postmark.{Postmark}
 use Rattle.cudf_document.specs.declared.postmark.Postmark.TheVariants.{Preamble, Package, Request}
-use Rattle.cudf_document.specs.declared.problem_builder.ProblemBuilder.{ProblemBuilder}
-use Rattle.cudf_document.specs.Faults.{least, fault_if}
-use Rattle.cudf_document.specs.Documents.{is_empty, has_name, with_earlier, line_of}
+use Rattle.cudf_document.specs.Faults.{fault_if}
+use Rattle.cudf_document.specs.Documents.{has_name, line_of}
 use Rattle.cudf_document.specs.Ids.{Id, is_id, is_among, is_known, id_under, id_of, with_id}
 use Rattle.cudf_document.specs.Preamble.{declared_after, is_bad_declaration, declared, recommends_default}
-use Rattle.cudf_document.specs.ProblemFaults.{properties_faults, version_property, stanza_faults}
-use Rattle.cudf_document.specs.Universe.{PlainPackage, package_id, PlainRequest, PlainProblem, or_default, no_request, package_view, request_view, request_of, packages_in, request_in}
+use Rattle.cudf_document.specs.ProblemFaults.{properties_faults, version_property}
+use Rattle.cudf_document.specs.Universe.{PlainPackage, package_id, PlainRequest, PlainProblem, or_default, no_request, request_of, packages_in, request_in}
 use Rattle.cudf_document.specs.Working.PackageFields.{package_fields_of, package_from}
 
 -- what is wrong with a preamble's property: it is a bad declaration, or else it is repeated
@@ -28,14 +27,6 @@ pub record PlainBuilder : Type 0 where
   pub ids : List Id
   pub packages : List PlainPackage
   pub request : Option PlainRequest
-
-abbrev pub builder_view : ProblemBuilder → PlainBuilder
-builder_view g = record {
-  declared = g.declarations;
-  ids = g.ids;
-  packages = map package_view g.packages.items;
-  request = option_map request_view g.request;
-}
 
 -- what a preamble adds, where it is the first stanza
 abbrev pub with_preamble : Bool → PlainStanza → PlainBuilder → PlainBuilder
@@ -89,13 +80,6 @@ first_ids ids (id ∷ more) = first_ids (insert_key is_id ids id) more
 -- the pairs are those of the packages
 abbrev pub IsListed : PlainBuilder → Type 0
 IsListed g = g.ids ≡ first_ids [] (map package_id g.packages)
-
--- and this is their first fault
-pub record Knows (fault : Option Fault) (started : Bool) (g : PlainBuilder) (before : List PlainStanza) : Type 0 where
-  pub first_is : fault ≡ least (flat_map stanza_faults (with_earlier [] before))
-  pub started_is : not started ≡ is_empty before
-  pub builder : IsBuilt g before
-  pub listed : IsListed g
 
 -- the problem of what was gathered
 abbrev pub problem_of : PlainBuilder → PlainProblem

@@ -33,6 +33,12 @@ pub record IsKnown (k : Walk) (before : List PlainStanza) : Type 0 where
   pub listed_are : k.ids ≡ first_ids [] (map package_id (packages_in before))
   pub requested_is : k.requested ≡ list_any is_request before
 
+-- and their declarations, and this was kept of them
+pub record IsSoFar (IsKept : List PlainStanza → Type 0) (k : Walk) (before : List PlainStanza) : Type 0 where
+  pub declared_are : k.declarations ≡ declared before
+  pub known : IsKnown k before
+  pub kept : IsKept before
+
 -- some stanzas of the text are known, this was kept of them, and these are left
 pub record GoesOn (IsKept : List PlainStanza → Type 0) (k : Walk) (left text : PlainText) : Type 0 where
   pub now : List PlainStanza

@@ -1,14 +1,12 @@
-use Rattle.std.proofs.Common.{map, take, ◌+◌, ◌++◌, ◌∷◌, [], ◌≡◌, ◌∙◌, refl, sym, ap, subst, arith, bytes_eq}
-use Rattle.indexmap.specs.IndexSet.{insert_key}
-use Rattle.cudf_text.specs.Stanzas.{PlainProperty}
+use Rattle.std.proofs.Common.{map, take, ◌+◌, ◌++◌, ◌∷◌, [], ◌≡◌, refl, sym, subst, arith}
 use Rattle.cudf_text.specs.Views.{property_view}
-use Rattle.cudf_document.specs.Working.PackageFields.{fault_on, kind_after}
-use Rattle.cudf_document.proofs.ListLemmas.{map_next}
+use Rattle.cudf_document.specs.Working.Borrows.{is_borrowed}
+use Rattle.cudf_document.proofs.ListLemmas.{map_next, all_here}
 use Rattle.cudf_document.proofs.PackageLemmas.{IsJudgedTo-none, IsJudgedTo-next}
 use Rattle.cudf_document.proofs.fields.read_properties.Goals as goal
 
 pub loop-property-init : goal.loop-property-init
-loop-property-init g c = (IsJudgedTo-none c.args.declarations.now c.clear.new.self c.clear.ensures, c.start-sink.ensures c.args.declarations.now)
+loop-property-init g c = (IsJudgedTo-none c.args.declarations.now c.clear.new.self c.clear.ensures, λ borrowed. c.start-sink.ensures c.args.declarations.now)
 
 pub loop-property-preserved : goal.loop-property-preserved
 loop-property-preserved g c =
@@ -21,9 +19,10 @@ loop-property-preserved g c =
     let more : map property_view (take (i + 1) items) ≡ ps ++ p ∷ [] = map_next property_view items items i c.property-item.result (omega arith) c.property-item.is refl in (
       IsJudgedTo-next ds ps names c.loop-property.first p (map property_view (take (i + 1) items)) c.read_property.new.names c.in_ok-fault.fault c.keep_lesser.new.first
           c.loop-property.invariant.0 more
-          (c.in_ok-fault.ensures.names ∙ ap (λ (q : PlainProperty). insert_key bytes_eq names q.name) c.line_of-line.ensures)
-          (c.in_ok-fault.ensures.fault ∙ ap (λ (q : PlainProperty). fault_on q.line (kind_after ds names q)) c.line_of-line.ensures)
-          c.keep_lesser.ensures,
-      subst (λ qs. g.S.Fields.IsRead ds qs c.read_property.new.sink) (ap (λ q. ps ++ q ∷ []) c.line_of-line.ensures ∙ sym more)
-          (c.in_ok-fault.ensures.read ps c.loop-property.invariant.0.names_are c.loop-property.invariant.1),
+          c.in_ok-fault.ensures.names c.in_ok-fault.ensures.fault c.keep_lesser.ensures,
+      λ borrowed.
+          subst (λ qs. g.S.Fields.IsRead ds qs c.read_property.new.sink) (sym more)
+          (c.in_ok-fault.ensures.read ps c.loop-property.invariant.0.names_are
+          (all_here is_borrowed items i c.property-item.result (omega arith) c.property-item.is borrowed)
+          (c.loop-property.invariant.1 borrowed)),
     )

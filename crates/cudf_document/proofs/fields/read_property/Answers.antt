@@ -1,15 +1,13 @@
 use Rattle.std.proofs.Common.{sym, ap, not, ◌∙◌}
-use Rattle.cudf_document.specs.Working.Lines.{line_view}
 use Rattle.cudf_document.proofs.BuilderLemmas.{not_swap}
 use Rattle.cudf_document.proofs.fields.read_property.Goals as goal
 
 pub returns-then-not-branch-clause-read : goal.returns-then-not-branch-clause-read
 returns-then-not-branch-clause-read g c =
-    λ ps are read.
-    c.skip.ensures ps (sym (are c.args.line.name.now) ∙ not_swap _ _ c.in_ok-insert.ensures.is_new ∙ ap not c.if-not-branch.true) read
+    λ ps are borrowed read.
+    c.skip.ensures ps (sym (are c.args.property.now.name.now) ∙ not_swap _ _ c.in_ok-insert.ensures.is_new ∙ ap not c.if-not-branch.true) read
 
 pub returns-clause-read : goal.returns-clause-read
 returns-clause-read g c =
-    let p = line_view c.args.line in
-    λ ps are read.
-    c.in_ok-kind.ensures.read ps (sym (are p.name) ∙ not_swap _ _ c.in_ok-insert.ensures.is_new ∙ ap not c.if-not-branch.false) read
+    λ ps are borrowed read.
+    c.in_ok-kind.ensures.read ps (sym (are c.args.property.now.name.now) ∙ not_swap _ _ c.in_ok-insert.ensures.is_new ∙ ap not c.if-not-branch.false) borrowed read

@@ -1,31 +1,21 @@
-use Rattle.std.proofs.Common.{◌≡◌, [], map, sym, ap, ◌∙◌}
+use Rattle.std.proofs.Common.{true, refl, sym, ◌∙◌}
 use Rattle.cudf_text.specs.Views.{text_view}
-use Rattle.cudf_document.specs.Ids.{are_distinct}
-use Rattle.cudf_document.specs.ProblemFaults.{problem_faults}
-use Rattle.cudf_document.specs.Universe.{package_id, request_view}
-use Rattle.cudf_document.specs.Working.ProblemBuilders.{builder_view}
-use Rattle.cudf_document.proofs.ListLemmas.{is_some-option_map, IsSome-from}
-use Rattle.cudf_document.proofs.FaultLemmas.{least-none}
-use Rattle.cudf_document.proofs.FaultlessLemmas.{has_request, ids_distinct}
-use Rattle.cudf_document.proofs.BuilderLemmas.{all_ids, requested_is}
+use Rattle.cudf_document.specs.Universe.{plain_problem}
+use Rattle.cudf_document.specs.Working.Kept.{IsParts}
+use Rattle.cudf_document.proofs.PartsLemmas.{faultless, ready, thin_problem_is}
+use Rattle.cudf_document.proofs.ThinLemmas.{thin_problem-all}
 use Rattle.cudf_document.proofs.problem_reader.read_problem.Goals as goal
 
-faultless : (c : goal.In_default) → problem_faults (text_view c.args.text.now) ≡ []
-faultless c = least-none (problem_faults (text_view c.args.text.now)) (sym c.in_ok-fault.ensures.fault ∙ c.in_default.is)
+pub returns-in-Some-clause-fault : goal.returns-in-Some-clause-fault
+returns-in-Some-clause-fault c = sym c.in_ok-walk.ensures.first_is ∙ c.in-Some.is
 
-pub into_problem-requires-clause-requested : goal.into_problem-requires-clause-requested
-into_problem-requires-clause-requested c =
-    let text = text_view c.args.text.now in
-    IsSome-from c.in_ok-fault.builder.request
-    (sym (is_some-option_map request_view c.in_ok-fault.builder.request)
-    ∙ requested_is (builder_view c.in_ok-fault.builder) text.stanzas c.in_ok-fault.ensures.builder ∙ has_request text (faultless c))
-
-pub into_problem-requires-clause-distinct : goal.into_problem-requires-clause-distinct
-into_problem-requires-clause-distinct c =
-    ap (λ l. are_distinct (map package_id l)) c.in_ok-fault.ensures.builder.packages_are ∙ ids_distinct (text_view c.args.text.now) (faultless c)
-
-pub into_problem-requires-clause-ids : goal.into_problem-requires-clause-ids
-into_problem-requires-clause-ids c = all_ids (builder_view c.in_ok-fault.builder) c.in_ok-fault.ensures.listed (into_problem-requires-clause-distinct c)
+pub into_problem-requires : goal.into_problem-requires
+into_problem-requires c = ready (λ id. true) c.in_ok-walk.parts c.in_ok-walk.walk (text_view c.args.text.now) c.in_ok-walk.ensures c.in_default.is
 
 pub returns-clause-sound : goal.returns-clause-sound
-returns-clause-sound c = least-none (problem_faults (text_view c.args.text.now)) (sym c.in_ok-fault.ensures.fault ∙ c.in_default.is)
+returns-clause-sound c = faultless (λ ss. IsParts (λ id. true) ss c.in_ok-walk.parts) c.in_ok-walk.walk (text_view c.args.text.now) c.in_ok-walk.ensures c.in_default.is
+
+pub returns-clause-problem : goal.returns-clause-problem
+returns-clause-problem c =
+    c.in_ok-into_problem.ensures ∙ thin_problem_is (λ id. true) c.in_ok-walk.parts c.in_ok-walk.walk (text_view c.args.text.now) c.in_ok-walk.ensures
+    ∙ thin_problem-all (λ id. true) (λ id. refl) (plain_problem (text_view c.args.text.now))

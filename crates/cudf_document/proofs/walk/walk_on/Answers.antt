@@ -1,4 +1,4 @@
-use Rattle.std.proofs.Common.{◌∙◌, ap, map}
+use Rattle.std.proofs.Common.{◌∙◌, sym, ap, map}
 use Rattle.cudf_text.specs.Cursor.{Left, with_next}
 use Rattle.cudf_text.specs.Stanzas.{PlainStanza}
 use Rattle.cudf_text.specs.Views.{property_view}
@@ -11,10 +11,10 @@ stanzas-preserved g c = λ is_kept text goes.
     GoesOn-next (λ ss. g.K.Kept.IsKept is_kept ss c.stanzas.kept) (λ ss. g.K.Kept.IsKept is_kept ss c.take.new.kept) c.stanzas.walk c.take.new.self c.stanzas.stanzas.text c.next.new.self.text text s
     (c.stanzas.invariant is_kept text goes)
     (ap (λ (l : Left). l.text) (c.in_ok-line.ensures.read ∙ ap (λ n. with_next n c.next.new.properties.items c.next.new.self) c.in-Stanza.is))
-    c.in_ok-take-in-Stanza.ensures.known (c.in_ok-take-in-Stanza.ensures.kept is_kept) c.in_ok-take-in-Stanza.ensures.declarations
+    c.in_ok-take-in-Stanza.ensures.known (c.in_ok-take-in-Stanza.ensures.kept is_kept (sym c.loses.ensures.lost ∙ c.if-loses.false)) c.in_ok-take-in-Stanza.ensures.declarations
 
-pub returns-in-End : goal.returns-in-End
-returns-in-End g c = λ is_kept text goes.
+pub returns-in-End-clause-whole : goal.returns-in-End-clause-whole
+returns-in-End-clause-whole g c = λ is_kept text goes.
     GoesOn-end (λ ss. g.K.Kept.IsKept is_kept ss c.stanzas.kept) c.stanzas.walk c.end.new.self c.stanzas.stanzas.text text c.in-End.fault c.in-End.lines (c.stanzas.invariant is_kept text goes)
     (ap (λ (l : Left). l.text) (c.in_ok-line.ensures.read ∙ ap (λ n. with_next n c.next.new.properties.items c.next.new.self) c.in-End.is))
     c.end.ensures.first c.end.ensures.declarations c.end.ensures.ids

@@ -1,4 +1,4 @@
-use Rattle.std.proofs.Common.{[], refl, ap, ◌∙◌}
+use Rattle.std.proofs.Common.{refl, ap, ◌∙◌}
 use Rattle.cudf_document.specs.Working.PackageFields.{no_package_fields, without_needs}
 use Rattle.cudf_document.proofs.PackageLemmas.{package_fields_of-none}
 use Rattle.cudf_document.proofs.bare_package.BarePackageFields.start.Goals as goal

@@ -1,5 +1,5 @@
 use Rattle.std.proofs.Common.{ap, ◌∙◌}
-use Rattle.cudf_document.specs.Working.Lines.{line_view}
+use Rattle.cudf_text.specs.Views.{property_view}
 use Rattle.cudf_document.specs.Working.PackageFields.{package_fields_view, with_package_property}
 use Rattle.cudf_document.proofs.PackageLemmas.{package_fields_of-first}
 use Rattle.cudf_document.proofs.ListLemmas.{OnOk-along}
@@ -7,10 +7,10 @@ use Rattle.cudf_document.proofs.package_fields.PackageFieldsFields.set.Goals as 
 
 pub returns-clause-read : goal.returns-clause-read
 returns-clause-read c =
-    let p = line_view c.args.line in
+    let p = property_view c.args.property.now in
     let ds = c.args.declarations.now in
     let old = package_fields_view c.args.self.now in
-    λ ps new is.
-    OnOk-along c.keep.result
+    λ ps new borrowed is.
+    OnOk-along c.read.result
     (λ e. e ∙ ap (λ f. with_package_property ds f p.value old) c.package_property_named-named.ensures ∙ package_fields_of-first ds ps p old is new)
-    c.keep.ensures.values
+    (c.read.ensures.values borrowed)

@@ -1,7 +1,7 @@
 use Rattle.std.proofs.Common.{◌∙◌}
 use Rattle.cudf_document.specs.Faults.{lesser}
 use Rattle.cudf_document.proofs.BuilderLemmas.{place_least, is_none-from}
-use Rattle.cudf_document.proofs.problem_reader.place_fault.Goals as goal
+use Rattle.cudf_document.proofs.walk.place_fault.Goals as goal
 
 pub returns : goal.returns
 returns c =

@@ -4,7 +4,7 @@ use Rattle.cudf_text.specs.declared.fault.Kind.TheVariants.{E11, E12}
 use Rattle.cudf_document.specs.Faults.{lesser, least, fault_if}
 use Rattle.cudf_document.specs.Documents.{line_of}
 use Rattle.cudf_document.proofs.FaultLemmas.{least-append}
-use Rattle.cudf_document.proofs.problem_builder.package_fault.Goals as goal
+use Rattle.cudf_document.proofs.walk.package_fault.Goals as goal
 
 pub returns-in-Some : goal.returns-in-Some
 returns-in-Some c =

@@ -1,9 +1,0 @@
-use Rattle.std.proofs.Common.{map, take}
-use Rattle.cudf_text.specs.Views.{property_view}
-use Rattle.cudf_document.proofs.PackageLemmas.{IsJudgedTo}
-use Rattle.cudf_document.proofs.fields.read_source_properties.Given as goal
-
-abbrev pub invariant-loop-property : goal.invariant-loop-property
-invariant-loop-property g l =
-    IsJudgedTo l.declarations (map property_view (take l.property-index l.properties)) l.names l.first
-    × g.S.Fields.IsRead l.declarations (map property_view (take l.property-index l.properties)) l.sink

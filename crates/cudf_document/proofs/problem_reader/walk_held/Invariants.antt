@@ -1,0 +1,11 @@
+use Rattle.std.proofs.Common.{◌≡◌, true, map, take}
+use Rattle.cudf_text.specs.Views.{stanza_view}
+use Rattle.cudf_document.specs.Documents.{is_empty}
+use Rattle.cudf_document.specs.Working.Kept.{IsParts}
+use Rattle.cudf_document.specs.Working.Walks.{IsSoFar}
+use Rattle.cudf_document.proofs.problem_reader.walk_held.Given as goal
+
+abbrev pub invariant-loop-stanza : goal.invariant-loop-stanza
+invariant-loop-stanza l =
+    (l.is_first ≡ is_empty (map stanza_view (take l.stanza-index l.text.stanzas.items)))
+    × IsSoFar (λ ss. IsParts (λ id. true) ss l.parts) l.walk (map stanza_view (take l.stanza-index l.text.stanzas.items))
