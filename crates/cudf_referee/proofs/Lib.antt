@@ -25,3 +25,4 @@ pub mod StatusLemmas
 pub mod ThinLemmas
 pub mod UnknownLemmas
 pub mod VpkgItems
+pub mod WritableLemmas
