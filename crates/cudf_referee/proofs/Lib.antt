@@ -27,3 +27,4 @@ pub mod ThinLemmas
 pub mod TouchedLemmas
 pub mod UnknownLemmas
 pub mod VpkgItems
+pub mod WritableLemmas

@@ -4,6 +4,7 @@ pub mod Grounds
 pub mod Judged
 pub mod KeyTexts
 pub mod Named
+pub mod Numbered
 pub mod Passes
 pub mod Places
 pub mod Searches

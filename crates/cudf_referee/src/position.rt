@@ -92,7 +92,7 @@ fn first_above(number: u64, unknown: &[Unknown<'_>], steps: &mut Steps) -> usize
 }
 
 /// The number of the stanza at a place, for one step.
-fn number_at(unknown: &[Unknown<'_>], place: usize, steps: &mut Steps) -> u64
+pub(crate) fn number_at(unknown: &[Unknown<'_>], place: usize, steps: &mut Steps) -> u64
     requires { place < length unknown.now }
     ensures value { (d : ℕ) → result ≡ slice_index_or (stanza_numbers (map unknown_view unknown.now)) place d }
     ensures price { steps.new ≡ steps.old + 1 }

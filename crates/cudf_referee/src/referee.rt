@@ -7,6 +7,7 @@ ghost use Rattle.cudf_referee.specs.Working.Named.{has_kept_name};
 ghost use Rattle.cudf_referee.specs.Walks.{left};
 
 mod instances;
+mod numbered;
 
 use crate::counting::count;
 use crate::criteria::Criteria;
@@ -14,6 +15,7 @@ use crate::instance::{Instance, What};
 use crate::key::{Key, Part};
 use cudf_universe::{GreatestNumbers, Index, Keep, Package, Problem, Solution, initial};
 pub use instances::Instances;
+use numbered::number;
 use std::alloc::{AllocError, Global};
 use std::marker::Model;
 
@@ -37,6 +39,7 @@ impl<'p, 't> Model for Referee<'p, 't> {
     ghost use Rattle.cudf_referee.specs.Criteria.{criteria as counts};
     ghost use Rattle.cudf_referee.specs.Proposals.{Proposal, put_forward};
     ghost use Rattle.cudf_referee.specs.Solutions.{is_solution};
+    ghost use Rattle.cudf_referee.specs.Working.Numbered.{IsNumbered};
     ghost use Rattle.cudf_referee.specs.Working.Walkers.{Agrees};
 
     ghost Value = { Proposal };
@@ -46,7 +49,8 @@ impl<'p, 't> Model for Referee<'p, 't> {
     ghost invariant = { λ r.
         Agrees r.problem.now (set.contains r.solution.now.status) r.before r.now r.named.items (map unknown_view r.solution.now.unknown.items)
         × (r.verdict ≡ is_solution (put_forward r.problem.now r.before r.now (map unknown_view r.solution.now.unknown.items)))
-        × (r.criteria ≡ counts (put_forward r.problem.now r.before r.now (map unknown_view r.solution.now.unknown.items))) };
+        × (r.criteria ≡ counts (put_forward r.problem.now r.before r.now (map unknown_view r.solution.now.unknown.items)))
+        × IsNumbered (put_forward r.problem.now r.before r.now (map unknown_view r.solution.now.unknown.items)) };
 }
 
 /// For each package of the universe, whether its name is to be kept, and the status has a package of it.
@@ -91,7 +95,7 @@ fn has_none(mut instances: Instances<'_, '_, '_>) -> bool
 }
 
 impl<'p, 't> Referee<'p, 't> {
-    ghost use Rattle.std.specs.Prelude.{◌≡◌, ◌≤◌, IsTrue, IfOk, length, map};
+    ghost use Rattle.std.specs.Prelude.{◌≡◌, ◌≤◌, All, IsTrue, IfOk, length, map};
     ghost use Rattle.std.specs.FinSet as set;
     ghost use Rattle.cudf_document.specs.Statuses.{is_initial, unknown_view, ascend_above};
     ghost use Rattle.cudf_universe.specs.Prices.{digits};
@@ -99,6 +103,7 @@ impl<'p, 't> Referee<'p, 't> {
     ghost use Rattle.cudf_referee.specs.Entries.{is_empty};
     ghost use Rattle.cudf_referee.specs.KeyViews.{key_view};
     ghost use Rattle.cudf_referee.specs.Pages.{least_search};
+    ghost use Rattle.cudf_referee.specs.Keys.{IsWritable};
     ghost use Rattle.cudf_referee.specs.Proposals.{proposal};
     ghost use Rattle.cudf_referee.specs.Sites.{at_start, at_key};
     ghost use Rattle.cudf_referee.specs.Solutions.{is_solution};
@@ -121,6 +126,7 @@ impl<'p, 't> Referee<'p, 't> {
         ensures { IfOk result (λ r. r ≡ proposal problem.now (is_initial problem.now) (set.contains solution.now.status)
             (map unknown_view solution.now.unknown.items)) }
     {
+        number(problem, solution);
         let was_installed = initial(alloc, problem)?;
         let before = GreatestNumbers::build(alloc, problem, &was_installed)?;
         let now = Index::build(alloc, problem, &solution.status)?;
@@ -138,10 +144,11 @@ impl<'p, 't> Referee<'p, 't> {
         })
     }
 
-    /// The walk over the violated instances, in key order.
+    /// The walk over the violated instances, in key order. Their keys can be written.
     pub fn instances(&self) -> Instances<'_, 'p, 't>
         ensures walk { result ≡ record { judged = self.entry.now; position = at_start; steps = 0 } }
         ensures left { left result ≡ listing self.entry.now }
+        ensures written { All (λ i. IsWritable i.key) (listing self.entry.now) }
     {
         // all that the referee holds, none of it a list of instances: a further field would have to be named here
         let Referee {

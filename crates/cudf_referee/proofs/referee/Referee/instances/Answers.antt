@@ -1,5 +1,10 @@
-use Rattle.std.proofs.Common.{arith}
+use Rattle.std.proofs.Common.{List, subst, arith}
+use Rattle.std.specs.Prelude.{All}
 use Rattle.std.proofs.lemmas.Grind.{common_steps}
+use Rattle.cudf_referee.specs.Keys.{IsWritable}
+use Rattle.cudf_referee.specs.Proposals.{Proposal}
+use Rattle.cudf_referee.specs.Violations.{listing}
+use Rattle.cudf_referee.proofs.WritableLemmas.{listing_written}
 use Rattle.cudf_referee.proofs.referee.Referee.instances.Goals as goal
 
 pub returns-clause-walk : goal.returns-clause-walk
@@ -7,3 +12,7 @@ returns-clause-walk c = grind (arith, common_steps)
 
 pub returns-clause-left : goal.returns-clause-left
 returns-clause-left c = grind (arith, common_steps)
+
+pub returns-clause-written : goal.returns-clause-written
+returns-clause-written c =
+    subst (λ (s : Proposal). All (λ i. IsWritable i.key) (listing s)) c.self.view_is (listing_written _ c.self.invariant.0.ascends c.self.invariant.3)
