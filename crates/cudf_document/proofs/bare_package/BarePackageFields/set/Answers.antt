@@ -1,6 +1,6 @@
-use Rattle.std.proofs.Common.{sym, ap, refl, ◌∙◌}
+use Rattle.std.proofs.Common.{sym, ap, ◌∙◌}
 use Rattle.cudf_document.specs.Working.Lines.{line_view}
-use Rattle.cudf_document.specs.Working.PackageFields.{package_fields_view, package_fields_of, with_package_property, without_needs}
+use Rattle.cudf_document.specs.Working.PackageFields.{with_package_property}
 use Rattle.cudf_document.proofs.ListLemmas.{OnOk-along}
 use Rattle.cudf_document.proofs.PackageLemmas.{bare-need, bare-other}
 use Rattle.cudf_document.proofs.bare_package.BarePackageFields.set.Goals as goal
