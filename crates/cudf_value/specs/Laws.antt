@@ -29,6 +29,6 @@ abbrev pub IsMadeOfTokens : List ℕ → Type 0
 IsMadeOfTokens text = IfSome (pieces text) (λ ps.
     (tokens : List Token) × (list_all is_token tokens ≡ true) × (text_of tokens ≡ text) × (map text_of (slice_split is_comma tokens) ≡ ps))
 
--- a text can stand between quotes exactly where it is made of what stands between quotes
+-- a text can stand between quotes exactly where it is made of characters, quotes and backslashes escaped
 abbrev pub IsQuotableAsMade : List ℕ → Type 0
 IsQuotableAsMade text = (is_quotable text ≡ true) ↔ ((inner : List Inner) × (list_all is_inner inner ≡ true) × (flat_map inner_text inner ≡ text))
