@@ -2,6 +2,7 @@
 #![tactic(auto)]
 
 ghost use Rattle.std.specs.Prelude.{◌≡◌, ◌≢◌, None, Some, IfOk, IfErr, MatchResult, map, option_map, string_bytes};
+ghost use Rattle.std.specs.Vec.Iter.{into_iter_items};
 ghost use Rattle.cudf_program.specs.Failure.{IsStatusOf, answer_status, failure_status};
 ghost use Rattle.cudf_program.specs.Program.{IsPrepared, IsFailureOf, IsOfFile, IsOpened, MayBeOpened, Ran, Responds, bytes_left};
 
@@ -17,7 +18,7 @@ use command::{FileName, command as order_of};
 use cudf_check::{Device, Job, Outcome, RunError, Sink, run};
 use failure::Failure;
 use file::{Input, open};
-use std::alloc::Global;
+use std::alloc::{AllocError, Global};
 use std::env;
 use std::fs::File;
 use std::io::{self, Read, Write};
@@ -35,9 +36,17 @@ fn main(rt: HostRuntime) -> ExitCode {
 
 /// The program's own name, and then the words of the command line.
 fn words(rt: &(impl Env + AllocGlobal)) -> io::Result<Vec<String>> {
-    let mut words = Vec::new(rt.alloc());
+    let args = env::args(rt)?;
+    Ok(gathered(rt.alloc(), args)?)
+}
+
+/// All of these words, in their order.
+fn gathered(alloc: Global, args: env::Args) -> Result<Vec<String>, AllocError>
+    ensures { IfOk result (λ words. words.items ≡ into_iter_items args) }
+{
+    let mut words = Vec::new(alloc);
     // A chain would try again by itself where its first growth is refused.
-    for word in env::args(rt)? {
+    for word in args {
         words.push(word)?;
     }
     Ok(words)
