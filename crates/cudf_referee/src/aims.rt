@@ -4,9 +4,8 @@ ghost use Rattle.cudf_referee.specs.Aims.{count_text, sign_text, sign_cmp, aim_c
 
 mod reading;
 
-pub use reading::read_criterion;
-
 use crate::criteria::Criteria;
+pub use reading::read_criterion;
 use std::cmp::Ordering;
 
 /// A count of `Criteria`, named as its field.

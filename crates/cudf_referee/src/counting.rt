@@ -15,8 +15,8 @@ use cudf_universe::{Index, Problem, Status};
 use recommends::count_unsatisfied;
 use standing::{count_changed, count_new, count_not_up_to_date, count_removed};
 use standings::standings_of;
-use touched::count_touched;
 use std::alloc::{AllocError, Global};
+use touched::count_touched;
 
 /// The counts of a proposed status beside the one before.
 pub(crate) fn count(

@@ -1,10 +1,9 @@
-use Rattle.std.proofs.Common.{◌≡◌, Option, ap, sym, ◌∙◌, rules, tests}
-use Rattle.std.specs.Prelude.{find, option_map}
+use Rattle.std.proofs.Common.{ap, sym, ◌∙◌, rules, tests}
+use Rattle.std.specs.Prelude.{option_map}
 use Rattle.std.specs.Option.{option_map_or}
 use Rattle.std.specs.declared.cmp.Ordering.TheVariants.{Equal}
 use Rattle.std.proofs.lemmas.Iterator.{YieldsList-from_slice}
 use Rattle.std.proofs.lemmas.Iterator.Search.{find_from_yields_List}
-use Rattle.cudf_referee.specs.declared.aims.Aim.{Aim}
 use Rattle.cudf_referee.specs.Aims.{aim_cmp, differ_in}
 use Rattle.cudf_referee.proofs.aims.compare.Goals as goal
 
