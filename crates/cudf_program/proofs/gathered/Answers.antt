@@ -10,5 +10,5 @@ returns c =
     let items : into_iter_items start ≡ into_iter_items c.args.args = search rules in
     let len : into_iter_len start ≡ length (into_iter_items c.args.args) = search rules in
     let all = YieldsList-end (YieldsList-from_vec (into_iter_items c.args.args) items len) c.loop-word.yielded c.loop-word.word-iterator c.loop-word.yielded_by
-        c.next.result c.next.new.self c.in-None.is c.next.ensures.steps in
+    c.next.result c.next.new.self c.in-None.is c.next.ensures.steps in
     c.loop-word.invariant ∙ (sym (map-id c.loop-word.yielded) ∙ all.0)
