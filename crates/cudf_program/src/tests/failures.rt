@@ -62,13 +62,42 @@ fn is_told(rt: &HostRuntime, failure: Failure<'_>, want: u8, told: &str) -> bool
     status == want && output.is_empty() && errors.as_slice() == told.as_bytes()
 }
 
+/// The text and the exit status of each error that breaks a run off.
+#[test]
+fn tells_of_a_broken_run(rt: HostRuntime) {
+    let broken = [
+        (
+            RunError::Read,
+            5,
+            "cudf_check: an input could not be read to its end; check that it is a file that can be read, and run again\n",
+        ),
+        (
+            RunError::TooLong,
+            5,
+            "cudf_check: an input is longer than 268435456 bytes; give a shorter one\n",
+        ),
+        (
+            RunError::Write,
+            5,
+            "cudf_check: the report could not be written to its end; make room for the output, and run again\n",
+        ),
+        (
+            RunError::Memory,
+            6,
+            "cudf_check: there is not enough memory for this input; free some, and run again\n",
+        ),
+    ];
+    for (error, status, told) in broken {
+        assert!(rt; is_told(&rt, Failure::Run(error), status, told), "{told}");
+    }
+}
+
 #[test]
 fn tells_of_memory(rt: HostRuntime) {
     let run = "cudf_check: there is not enough memory for this input; free some, and run again\n";
     let usage = "cudf_check: there is not enough memory; free some, and run again\n";
     let words = io::Error::from(ErrorKind::OutOfMemory);
     let file = io::Error::from(ErrorKind::OutOfMemory);
-    assert!(rt; is_told(&rt, Failure::Run(RunError::Memory), 6, run));
     assert!(rt; is_told(&rt, Failure::Usage(Usage::Memory), 6, usage));
     assert!(rt; is_told(&rt, Failure::from_words(words), 6, run));
     assert!(rt; is_told(&rt, Failure::from_open(FileName::Path("p"), file), 6, run));

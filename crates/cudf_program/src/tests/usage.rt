@@ -1,4 +1,5 @@
 //! The texts of help, of the version and of usage faults.
+use crate::command::Refusal;
 use crate::tests::output::{fails, first_failure, writes};
 use std::test::Fail;
 
@@ -115,5 +116,13 @@ fn tells_usage_faults(rt: HostRuntime) -> Result<(), Fail> {
         ),
     ];
     assert_eq!(rt; first_failure(&rt, &cases)?, None);
+    Ok(())
+}
+
+/// No words that are of the grammar lack one, so that no case above comes to this text.
+#[test]
+fn has_a_text_for_a_missing_word(rt: HostRuntime) -> Result<(), Fail> {
+    let text = format!(in rt.alloc(); "{}", Refusal::Missing)?;
+    assert_eq!(rt; text.as_str(), "a word is missing");
     Ok(())
 }
