@@ -3,7 +3,7 @@
 
 usage: room.py PROGRAM [TESTS]
 
-Each run has a stack of 128 KB, and must give its whole answer. In it are counted the growths (each time that memory was
+Each run of PROGRAM has a stack of 128 KB, and must give its whole answer. In it are counted the growths (each time that memory was
 asked for), the most bytes that were held at once, and the calls of read. Wanted is:
 
 - at most as many growths as the input has bytes, and 500 more; for twice the input, at most 2.2 times as many, and 500
@@ -17,8 +17,8 @@ An input of exactly 268435456 bytes is answered, with at most three bytes of mem
 more is told as too long, with status 5.
 
 TESTS is the executable of the tests of cudf_run_tests (`rt test` leaves it in out/). Each of those in `memory` makes one
-call of the library, some of them `run`, and must hold no more blocks at its end than those do that take no memory. (The
-program itself gives nothing back, on purpose, and ends.)
+call of the library, some of them `run`, and must hold no more blocks at its end than those do that take no memory. They
+have the usual stack.
 
 Each case is printed with what was measured of the larger size, and what isn't as wanted behind `WRONG`. The status is 1
 where something is wrong. For Linux; needs gcc and glibc; Python's standard library alone.
@@ -212,12 +212,12 @@ class Runner:
         source = os.path.join(HERE, "room.c")
         subprocess.run(["gcc", "-O2", "-fno-builtin", "-shared", "-fPIC", "-o", self.library, source], check=True)
 
-    def counted(self, words, data=None):
+    def counted(self, words, data=None, limit=limit_stack):
         """The status, both outputs and the counts of a run. The data is given at standard input, a byte at a time."""
         room = os.memfd_create("room")
         os.ftruncate(room, struct.calcsize("6l"))
         surroundings = dict(os.environ, LD_PRELOAD=self.library, ROOM=str(room))
-        how = {"env": surroundings, "pass_fds": (room,), "preexec_fn": limit_stack}
+        how = {"env": surroundings, "pass_fds": (room,), "preexec_fn": limit}
         try:
             status, output, errors = self.run(words, data, how)
             return status, output, errors, Counts(*struct.unpack("6l", os.pread(room, 48, 0)))
@@ -327,7 +327,7 @@ class Trials:
         """What the calls of the library hold at their end, beside those that take no memory."""
         listed = subprocess.run([tests, "--list"], capture_output=True, text=True, check=True).stdout.split()
         names = sorted({name.rstrip(":") for name in listed if name.startswith("memory::")})
-        held = {name: self.runner.counted([tests, name]) for name in names}
+        held = {name: self.runner.counted([tests, name], limit=None) for name in names}
         bare = max((held[name][3].blocks for name in names if name.startswith("memory::none::")), default=0)
         for name, (status, _, errors, counts) in held.items():
             faults = [] if status == 0 else [f"status {status}: {errors[-200:]}"]
