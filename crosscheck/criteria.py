@@ -1,7 +1,11 @@
-"""A second count of the criteria, as docs/RULES.md tells them. Python's standard library alone."""
+"""A second count of the criteria, and lists of them, as docs/RULES.md tells them. Python's standard library alone."""
+import re
 from dataclasses import dataclass
 
 from universe import satisfies_clause
+
+COUNTS = ("removed", "new", "changed", "notuptodate", "unsat_recommends", "touched")
+AIM = re.compile(rf"([-+])({'|'.join(COUNTS)})")
 
 
 @dataclass(frozen=True)
@@ -11,6 +15,11 @@ class Criteria:
     changed: int
     notuptodate: int
     unsat_recommends: int
+    touched: int
+
+    def told(self, aims):
+        """Each aim of a list with its count."""
+        return [f"{sign}{name} {getattr(self, name)}" for sign, name in aims]
 
     def lines(self):
         return [
@@ -43,4 +52,23 @@ def count(packages, initial, status):
         unsat_recommends=sum(
             not satisfies_clause(status, clause) for package in status for clause in package.recommends
         ),
+        touched=len({package.place for package in initial} ^ {package.place for package in status}),
     )
+
+
+# ---- lists
+
+
+def read_list(text):
+    """The aims of a list, each a sign and a count's name, or None where the text is no list."""
+    aims = [AIM.fullmatch(piece) for piece in text.split(",")]
+    return None if None in aims else [aim.groups() for aim in aims]
+
+
+def compare(aims, one, other):
+    """Below 0 where the one's counts are the better ones, above 0 where the other's are, and 0 where neither are."""
+    for sign, name in aims:
+        difference = getattr(one, name) - getattr(other, name)
+        if difference:
+            return difference if sign == "-" else -difference
+    return 0

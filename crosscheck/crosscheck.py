@@ -4,11 +4,13 @@
 usage: crosscheck.py PROGRAM SEED COUNT [WORKERS]
 
 Each input is a random problem with a random solution, spoilt ones and, of a thousand inputs one, long ones among them;
-every second problem has a long comment behind it, beside which its solution is short. Of each the program is asked for `lint`; `check` of two files, one of which may be standard input, and of both in one input;
-`score` of both forms; the whole listing in pages of 1, 2 and 3, each continued from the key that the page before printed
-(of a faulty document one page); two pages behind random keys, which may name no instance; and two behind random words,
-many of which are no keys or no limits. What a program doesn't know (`score`, pages) is left out, and the last line says
-so.
+every second problem has a long comment behind it, beside which its solution is short. Of each the program is asked for
+`lint`; `check` of two files, one of which may be standard input, and of both in one input; `score` of both forms, also
+with a random list of criteria; `rank` of one to six solutions by another list; the whole listing in pages of 1, 2 and 3,
+each continued from the key that the page before printed (of a faulty document one page); two pages behind random keys,
+which may name no instance; and two behind random words, many of which are no keys or no limits. Every second input is
+asked about with `--strict`. Options stand before, between or behind the files. What a program doesn't know (`score`,
+pages, `--strict`, `--criteria`, `rank`) is left out, and the last line says so.
 
 Prints each input that the two answer differently, how often each kind of line came, and how often the program was run.
 The status is 1 where an answer differed. Inputs are numbered from 1, and input N of a seed is the same whatever COUNT and
@@ -34,14 +36,16 @@ class Comparison:
     """One input with the program's and the second implementation's answers."""
 
     def __init__(self, program, seed, number, folder):
-        self.program, self.inputs = program, Inputs(f"{seed}/{number}")
+        self.program, self.folder, self.inputs = program, folder, Inputs(f"{seed}/{number}")
         pairs = self.inputs.pairs()
         self.problem, self.solution = self.inputs.problem(pairs), self.inputs.solution(pairs)
+        self.solutions = self.inputs.solutions(pairs)
         if self.inputs.now_and_then(0.5):
             self.problem += long_comment(self.solution)
         self.joined = self.problem + b"\n" * self.inputs.now_and_then(0.9) + self.solution
         self.files = [programs.write(folder, "problem", self.problem), programs.write(folder, "solution", self.solution)]
-        self.second = reports.Second(self.problem, self.solution)
+        self.is_strict = self.inputs.now_and_then(0.5) and program.has_strict
+        self.second = reports.Second(self.problem, self.solution, self.is_strict)
         self.runs, self.kinds, self.differing = 0, collections.Counter(), []
 
     def compare(self, words, data, wanted):
@@ -54,21 +58,42 @@ class Comparison:
         return given[0]
 
     def all(self):
-        self.compare(["lint", self.files[0]], b"", reports.lint(self.problem))
-        joined = reports.joined(self.joined)
-        self.both_files("check", self.second.check())
-        self.compare(["check", "-"], self.joined, joined.check())
+        self.compare(self.words("lint", self.files[:1]), b"", reports.lint(self.problem, self.is_strict))
+        joined = reports.joined(self.joined, self.is_strict)
+        self.both("check", self.second.check(), joined.check())
         if self.program.has_score:
-            self.both_files("score", self.second.score())
-            self.compare(["score", "-"], self.joined, joined.score())
+            self.both("score", self.second.score(), joined.score())
+        if self.program.has_lists:
+            aims = self.inputs.aims()
+            self.both("score", self.second.score(aims), joined.score(aims), [f"--criteria={aims}"])
         if self.program.has_pages:
             self.pages()
+        if self.program.has_rank:
+            self.rank(self.inputs.aims())
 
-    def both_files(self, job, wanted):
-        """Two files, one of which may be standard input."""
-        place = self.inputs.chance.randrange(3)
-        words = [job] + ["-" if at == place else name for at, name in enumerate(self.files)]
-        self.compare(words, (self.problem, self.solution, b"")[place], wanted)
+    def words(self, job, files, *options):
+        """The words of a job; options stand before, between or behind the files."""
+        words = [[name] for name in files]
+        for option in options + ((["--strict"],) if self.is_strict else ()):
+            words.insert(self.inputs.chance.randrange(len(words) + 1), option)
+        return [job] + sum(words, [])
+
+    def both(self, job, wanted, wanted_joined, *options):
+        """A job on two files, and on one input that holds both."""
+        self.files_of(job, self.files, (self.problem, self.solution), wanted, *options)
+        self.compare(self.words(job, ["-"], *options), self.joined, wanted_joined)
+
+    def files_of(self, job, files, texts, wanted, *options):
+        """A job on files, one of which may be standard input."""
+        place = self.inputs.chance.randrange(len(files) + 1)
+        names = ["-" if at == place else name for at, name in enumerate(files)]
+        self.compare(self.words(job, names, *options), (*texts, b"")[place], wanted)
+
+    def rank(self, aims):
+        files = [programs.write(self.folder, f"answer{at}", text) for at, text in enumerate(self.solutions)]
+        wanted = reports.rank(aims, self.problem, self.solutions, self.is_strict)
+        texts = (self.problem, *self.solutions)
+        self.files_of("rank", [self.files[0]] + files, texts, wanted, [f"--criteria={aims}"])
 
     def pages(self):
         for size in SIZES if self.second.judged else SIZES[:1]:
@@ -78,13 +103,10 @@ class Comparison:
             self.page(**self.inputs.page())
 
     def page(self, after=None, limit=None):
-        """One page, its options before, between or behind the files, as one word each or two."""
-        options = [(f"--{name}", value) for name, value in (("after", after), ("limit", limit)) if value is not None]
-        words = [[name] for name in self.files]
-        for name, value in options:
-            option = [f"{name}={value}"] if self.inputs.now_and_then(0.3) else [name, value]
-            words.insert(self.inputs.chance.randrange(len(words) + 1), option)
-        return self.compare(["check"] + sum(words, []), b"", self.second.check(after, limit))
+        """One page, its options as one word each or two."""
+        told = [(f"--{name}", value) for name, value in (("after", after), ("limit", limit)) if value is not None]
+        options = [[f"{name}={value}"] if self.inputs.now_and_then(0.3) else [name, value] for name, value in told]
+        return self.compare(self.words("check", self.files, *options), b"", self.second.check(after, limit))
 
     def walk(self, size):
         """The listing page by page, as the program's own keys lead, up to the first difference."""
@@ -109,9 +131,12 @@ def kind_of(line):
     """The kind of a line: without names, places and numbers."""
     fault = re.search(r": (E\d+)", line)
     if fault:
-        return fault.group(1)
+        return fault.group(1) + (" in rank" if re.match(r"solution \d+ line", line) else "")
+    ranked = re.match(r"\d+ solution \d+ (yes|no|FAIL)", line)
+    if ranked:
+        return "ranked " + ranked.group(1)
     first = line.split(" ")[0]
-    if line.startswith(("more after", "removed", "new", "changed", "notuptodate", "unsat_", "paranoid", "trendy")):
+    if line.startswith(("-", "+", "more after", "removed", "new", "changed", "notuptodate", "unsat_", "paranoid", "trendy")):
         return first + (" above 0" if re.search(r" [1-9]", line) and first != "more" else "")
     return re.sub(r"\d+", "N", first) if "." in first else line
 

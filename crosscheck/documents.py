@@ -9,7 +9,7 @@ KINDS = {
     1: "not UTF-8", 2: "not a property, continuation, comment or blank line", 3: "continuation of nothing",
     4: "stanza without postmark", 5: "preamble is not first", 6: "stanza after the request", 7: "property repeated",
     8: "property not declared", 9: "value is not of its type", 10: "bad declaration", 11: "package repeated",
-    12: "no version", 13: "no request",
+    12: "no version", 13: "no request", 14: "declared property missing", 15: "pair repeated",
 }
 
 
@@ -121,7 +121,12 @@ def declared_by(stanzas):
     return declared
 
 
-def package_faults(stanza, declared, ids):
+def lacks_declared(stanza, declared):
+    """Whether a declared name without a default is missing."""
+    return any(known.default is None and stanza.value(name) is None for name, known in declared.items())
+
+
+def package_faults(stanza, declared, ids, is_strict):
     for line, name, value in stanza.properties:
         fits = BUILT_IN.get(name) or name in declared and declared[name].fits
         if not fits:
@@ -129,6 +134,8 @@ def package_faults(stanza, declared, ids):
         elif not fits(value):
             yield (line, 9)
     yield from ((line, 7) for line in repeated(stanza))
+    if is_strict and lacks_declared(stanza, declared):
+        yield (stanza.last, 14)
     if stanza.value("version") is None:
         yield (stanza.last, 12)
     elif package_id(stanza) in ids:
@@ -153,7 +160,7 @@ def place_faults(stanza, is_first, is_late):
         yield (stanza.line, 6)
 
 
-def problem_faults(text):
+def problem_faults(text, is_strict=False):
     stanzas, fault, lines = read_stanzas(text)
     faults = {fault} if fault else set()
     declared, ids, is_late = {}, set(), False
@@ -166,7 +173,7 @@ def problem_faults(text):
         if stanza.mark() == "preamble":
             faults |= set(preamble_faults(stanza, declared))
         elif stanza.mark() == "package":
-            faults |= set(package_faults(stanza, declared, ids))
+            faults |= set(package_faults(stanza, declared, ids, is_strict))
         else:
             faults |= set(request_faults(stanza))
     if not is_late:
@@ -174,9 +181,20 @@ def problem_faults(text):
     return faults
 
 
-def solution_faults(text):
+def repeated_pairs(stanzas):
+    """The lines on which a pair of an earlier package stanza is told again, be it installed or not."""
+    seen = set()
+    for stanza in stanzas:
+        pair = package_id(stanza) if stanza.mark() == "package" else None
+        if pair in seen:
+            yield stanza.line_of("version")
+        seen |= {pair} - {None}
+
+
+def solution_faults(text, is_strict=False):
     stanzas, fault, _ = read_stanzas(text)
     faults = {fault} if fault else set()
+    faults |= {(line, 15) for line in repeated_pairs(stanzas)} if is_strict else set()
     for stanza in stanzas:
         if stanza.mark() not in POSTMARKS:
             faults.add((stanza.line, 4))

@@ -2,6 +2,7 @@
 import random
 
 import keys
+from criteria import COUNTS
 from values import OPERATORS
 
 NAMES = ("a", "b", "c", "f")
@@ -21,11 +22,23 @@ RECOMMENDS = (
     "recommends: vpkgformula = [a | b > 1, c]", "recommends: vpkgformula = f", "recommends: vpkgformula=[ false! ]",
     "recommends: vpkglist = [a]", "recommends: string",
 )
+# declarations without default, each with lines that a package may have
+NEEDED = {
+    "x: int": ("x: -1", "x:+0"), "note: string": ("note:", "note: any"), "e: enum[red, green]": ("e: red", "e:green"),
+    "size: nat": ("size: 3", "size: 0"),
+}
+REPEATED_VERSIONS = ("{}", "0{}", "+{}", "+00{} ")
+REPEATED_ENDS = (["installed: true"], ["installed: false"], [])
+ODD_LISTS = (
+    "", "removed", "-removed,", ",-new", "- removed", "-Removed", "-new,,+new", "-new, +new", "--new", "-size", "-changed +new",
+    "-paranoid", "-\u00e9", "+", "-new;+new", "-newer", "-unsat-recommends", " -new", "-new\n",
+)
 ODD_LIMITS = (" 2\t", "+1", "003", "18446744073709551615", "18446744073709551616", "0", "-1", "x", "", "1.0", "1 1", "\n1")
 ODD_ENDS = ("", ".", ".1", "0", " ", "\n", ".lower", "\u00e9", "e3", "18446744073709551615")
 WISHES = ("install", "remove", "upgrade")
 BLANK_STARTS = (" ", "\t", "  ")
 ODD_SOLUTIONS = (b"FAIL", b"# c\n FAIL\r\nx", b"\nFAIL\t\n\xff", b"FAIL x\n", b"fail\n")
+FAILS = ODD_SOLUTIONS[:2]
 
 
 class Inputs:
@@ -37,6 +50,10 @@ class Inputs:
         self.recommends = self.pick(RECOMMENDS) if self.now_and_then(0.3) else None
         # a long input is without fault, so that it has a long listing
         self.is_long = self.now_and_then(0.001)
+        # names declared without default, how often a package lacks one, and how often a solution tells a pair again
+        self.needed = self.chance.sample(list(NEEDED), self.pick((1, 1, 2, 4))) if self.now_and_then(0.25) else []
+        self.gap = 0 if self.is_long else self.pick((0, 0, 0.1, 0.5))
+        self.repeats = 0 if self.is_long else self.pick((0, 0, 0.4))
 
     def now_and_then(self, share):
         return self.chance.random() < share
@@ -75,7 +92,8 @@ class Inputs:
         lines += ["keep: " + self.pick(("version", "package", "feature", "none"))] * self.now_and_then(0.4)
         lines += ["installed: " + self.pick(("true", "true", "false"))] * self.now_and_then(0.6)
         lines += ["was-installed: x"] * self.now_and_then(0.05)
-        if self.recommends and self.now_and_then(0.5):
+        lines += [self.pick(NEEDED[declared]) for declared in self.needed if not self.now_and_then(self.gap)]
+        if self.recommends and self.now_and_then(0.5 if "=" in self.recommends else 1 - self.gap):
             lines.append("recommends: " + self.entries(self.vpkg if "list" in self.recommends else self.clause))
         lines += [self.pick(("x: 1", "e: red", "recommends: a | b", "note: any"))] * self.oddly(0.05)
         self.chance.shuffle(lines)
@@ -83,8 +101,10 @@ class Inputs:
 
     def preamble(self):
         kept = [f"property: {self.entries(lambda: self.pick(DECLARATIONS), 2)}" for _ in range(self.chance.randrange(3))]
-        if self.recommends or self.is_long:
-            kept = [f"property: {self.recommends or ''}"] + kept * self.oddly(0.1)
+        declared = self.needed + ([self.recommends] if self.recommends else [])
+        if declared or self.is_long:
+            together = [", ".join(declared)] if self.now_and_then(0.5) else declared
+            kept = [f"property: {text}" for text in together] + kept * self.oddly(0.1)
         return ["preamble: "] + kept
 
     def request(self):
@@ -92,7 +112,7 @@ class Inputs:
         return ["request: "] + wished + ["note: x"] * self.now_and_then(0.1)
 
     def problem(self, pairs):
-        stanzas = [self.preamble()] if self.recommends or self.now_and_then(0.2) else []
+        stanzas = [self.preamble()] if self.recommends or self.needed or self.now_and_then(0.2) else []
         stanzas += [self.package(name, version) for name, version in pairs]
         stanzas += [] if self.oddly(0.03) else [self.request()]
         return self.document(stanzas)
@@ -101,10 +121,33 @@ class Inputs:
         if self.oddly(0.04):
             return self.pick(ODD_SOLUTIONS)
         chosen = [pair for pair in pairs if self.now_and_then(0.6)] + [("z", 1)] * self.now_and_then(0.1)
-        self.chance.shuffle(chosen)
         stanzas = [[f"package: {name}", f"version: {version}", "installed: true"] for name, version in chosen]
+        if self.now_and_then(self.repeats):
+            pair = self.pick(chosen + pairs + [("z", 1)])
+            stanzas += [self.again(*pair) for _ in range(self.pick((1, 1, 2)))]
+        self.chance.shuffle(stanzas)
         stanzas += [["request: ", "install: ,"]] * self.now_and_then(0.05)
         return self.document(stanzas)
+
+    def again(self, name, version):
+        """A stanza of a solution that may tell a pair again."""
+        lines = [f"version: {self.pick(REPEATED_VERSIONS).format(version)}"] + self.pick(REPEATED_ENDS)
+        self.chance.shuffle(lines)
+        return [f"package: {name}"] + lines
+
+    def solutions(self, pairs):
+        """One to six solutions, equal ones among them; of a long input one or two."""
+        told = [self.solution(pairs)]
+        for _ in range(self.chance.randrange(2 if self.is_long else 6)):
+            told.append(self.pick(told) if self.now_and_then(0.2) else self.solution(pairs))
+            told[-1] = self.pick(FAILS) if self.now_and_then(0.1) else told[-1]
+        return told
+
+    def aims(self):
+        """The text of a list of criteria, a count with both signs or twice among them; now and then no list."""
+        if self.now_and_then(0.1):
+            return self.pick(ODD_LISTS)
+        return ",".join(self.pick("-+") + self.pick(COUNTS) for _ in range(self.pick((1, 1, 2, 2, 3, 4, 9))))
 
     def document(self, stanzas):
         """The stanzas as bytes, some of them spoilt."""

@@ -7,6 +7,8 @@ usage: outermost.py PROGRAM
 - Which refusal comes first where two things are wrong.
 - Standard input that is a folder, and one that fails after its first bytes.
 - Empty words.
+- A thousand solutions in one command.
+- Each command that README.md and examples/README.md show with what it prints.
 - The text of each error, to the byte. Of a usage fault found by the words' parser, and of the system's own part of a
   text, only what README.md, docs/FORMAT.md and the man page fix.
 
@@ -15,6 +17,7 @@ isn't as wanted is printed, and then how many there were. The status is 1 where 
 program. For Linux; Python's standard library alone.
 """
 import os
+import re
 import resource
 import socket
 import subprocess
@@ -28,11 +31,15 @@ GREATEST_INPUT = 268_435_456
 PROBLEM = "package: car\nversion: 1\ndepends: wheel > 2\ninstalled: true\n\npackage: wheel\nversion: 2\n\nrequest:\n"
 GOOD = "package: wheel\nversion: 2\ninstalled: true\n"
 BAD = "package: car\nversion: 1\ninstalled: true\n"
+SIZED = "preamble:\nproperty: size: nat\n\npackage: a\nversion: 1\n\nrequest:\n"
 UNMET = "p1.depends.1 car 1 line 1: needs wheel > 2\nsolution no\n"
 ANSWERED = "solution yes\n"
 FAULTY = "problem line 1: E2 not a property, continuation, comment or blank line\n"
 FAULTY_SOLUTION = "solution line 1: E2 not a property, continuation, comment or blank line\n"
 NO_REQUEST = "problem line 1: E13 no request\n"
+MISSING = "problem line 5: E14 declared property missing\n"
+REPEATED = "solution line 6: E15 pair repeated\n"
+RANKED = "1 solution 2 yes -removed 1\n2 solution 1 no\n3 solution 3 FAIL\n"
 
 UNREAD = "cudf_check: an input could not be read to its end; check that it is a file that can be read, and run again\n"
 LONG = "cudf_check: an input is longer than 268435456 bytes; give a shorter one\n"
@@ -43,10 +50,14 @@ NOT_UTF8 = ("cudf_check: the words can't be read: ", "; give them as UTF-8\n")
 TWICE = "- can stand for one file only"
 NO_KEY = "invalid value '{}' for '--after <KEY>': a key is written as in a report, as p1.depends.2"
 NO_NUMBER = "invalid value '{}' for '--limit <N>': it is no number from 1 to 18446744073709551615"
+NO_LIST = "invalid value '{}' for '--criteria=<LIST>': a list is written without blanks, as -removed,+new"
 
 FILES = {
     "p": PROBLEM, "good": GOOD, "bad": BAD, "fail": "FAIL\n", "faulty": "?\n", "empty": "", "both": PROBLEM + "\n" + BAD,
+    "sized": SIZED, "twice": GOOD + "\n" + GOOD,
 }
+ROOT = os.path.dirname(os.path.dirname(os.path.abspath(__file__)))
+DOCUMENTS = ("README.md", "examples/README.md")
 
 
 def missing(name):
@@ -57,7 +68,16 @@ class Trial:
     """Runs the program in a folder with the files, counts the rows, and prints the wrong ones."""
 
     def __init__(self, path):
-        self.path, self.rows, self.wrong = os.path.abspath(path), 0, 0
+        self.path, self.rows, self.wrong, self.left_out = os.path.abspath(path), 0, 0, 0
+        told = self.run(["--help"])[1] + self.run(["score", "--help"])[1]
+        self.unknown = [word for word in ("rank", "--criteria") if not re.search(rf"^ +{word}\b", told, re.MULTILINE)]
+
+    def leaves_out(self, words):
+        """Whether a word is one that the program doesn't know yet; such rows are counted."""
+        given = [word.decode(errors="replace") if isinstance(word, bytes) else word for word in words]
+        asks = any(word == one or word.startswith(one + "=") for word in given for one in self.unknown)
+        self.left_out += asks
+        return asks
 
     def run(self, words, before=None, **places):
         """The status and the bytes on both outputs; `before` is called in the child."""
@@ -80,6 +100,8 @@ class Trial:
 
     def expect(self, words, status, output, errors="", **places):
         words = words.split() if isinstance(words, str) else words
+        if self.leaves_out(words):
+            return
         self.note(words, self.run(words, **places), status, output, errors)
 
 
@@ -101,6 +123,18 @@ def statuses(trial):
         ("score p fail", 3, "solution FAIL\n"), ("check faulty fail", 2, FAULTY), ("lint empty", 2, NO_REQUEST),
         ("check p bad --limit 1", 1, UNMET), ("check p bad --after p1.depends.1", 1, "solution no\n"),
         ("--limit=1 check p bad", 4, ""), ("check --limit=1 p bad", 1, UNMET), ("--version", 0, "cudf_check 0.1.0\n"),
+        ("lint sized", 0, "problem ok\n"), ("lint sized --strict", 2, MISSING), ("lint --strict p", 0, "problem ok\n"),
+        ("check p twice", 0, ANSWERED), ("check --strict p twice", 2, REPEATED), ("score p --strict twice", 2, REPEATED),
+        ("check sized twice --strict", 2, MISSING), ("check p bad --limit 1 --strict", 1, UNMET),
+        ("score p good --criteria=-removed,+new", 0, "-removed 1\n+new 1\nsolution yes\n"),
+        ("score --criteria=-new both --strict", 1, "-new 0\nsolution no\n"),
+        ("score p fail --criteria=-new", 3, "solution FAIL\n"), ("rank --criteria=-removed p bad good fail", 0, RANKED),
+        ("rank p bad --strict good --criteria=-removed fail", 0, RANKED),
+        ("rank --criteria=+new p fail bad", 1, "1 solution 2 no\n2 solution 1 FAIL\n"),
+        ("rank --criteria=+new p fail", 3, "1 solution 1 FAIL\n"), ("rank --criteria=+new faulty faulty", 2, FAULTY),
+        ("rank --criteria=+new p fail faulty good", 2, FAULTY_SOLUTION.replace("solution", "solution 2", 1)),
+        ("rank --criteria=+new p good twice", 0, "1 solution 1 yes +new 1\n2 solution 2 yes +new 1\n"),
+        ("rank --criteria=+new p good twice --strict", 2, REPEATED.replace("solution", "solution 2")),
     ]
     for words, status, output in rows:
         trial.expect(words, status, output, [""] if status == 4 else "")
@@ -110,7 +144,7 @@ def statuses(trial):
 
 
 def first_refusals(trial):
-    """Usage before opening, the key before the limit and both before the files, and the first file before the second."""
+    """Usage before opening, the key before the limit, both and a list before the files, and these from the first on."""
     rows = [
         ("check p bad --after x --limit y", NO_KEY.format("x")), ("check p bad --limit y --after x", NO_KEY.format("x")),
         ("check p bad --limit 0", NO_NUMBER.format("0")), ("check none --limit y", NO_NUMBER.format("y")),
@@ -118,15 +152,31 @@ def first_refusals(trial):
         ("check - - --limit y", NO_NUMBER.format("y")), ("check - -", TWICE), ("score - -", TWICE),
         ("lint", ""), ("check", ""), ("score", ""), ("", ""), ("judge p", ""), ("lint p bad", ""), ("lint none -x", ""),
         ("check none none none", ""), ("lint p --limit 1", ""), ("check p --limit 1 --limit 1", ""), ("check p --limit", ""),
+        ("lint p --strict --strict", ""), ("rank --strict --criteria=-new p good --strict", ""), ("judge p --strict", ""),
+        ("--strict", ""), ("--strict lint p", ""), ("check p --strict=true", ""), ("lint --strict", ""),
+        ("score p --criteria", ""), ("score p --criteria -new", ""), ("score p --criteria=", ""),
+        ("rank --criteria -new p good", ""), ("rank --criteria p good", ""), ("score p --criteria=-new --criteria=-new", ""),
+        ("lint p --criteria=-new", ""), ("check p --criteria=-new", ""), ("judge p --criteria=-new", ""),
+        ("rank p good", ""), ("rank", ""), ("rank --criteria=-new", ""), ("rank --criteria=-new p", ""),
+        ("rank --criteria=-new p good --limit 1", ""), ("rank --criteria=-new p good --after r.install.1", ""),
+        ("score p good --criteria=-size", NO_LIST.format("-size")), ("rank --criteria=-size p good", NO_LIST.format("-size")),
+        ("score none --criteria=removed", NO_LIST.format("removed")), ("rank none other --criteria=-", NO_LIST.format("-")),
+        ("score - - --criteria=-New", NO_LIST.format("-New")), ("rank --criteria=-new, - -", NO_LIST.format("-new,")),
+        ("rank --criteria=-new - -", TWICE), ("rank --criteria=-new - good -", TWICE), ("rank --criteria=-new none - -", TWICE),
+        ("score - - --criteria=-new", TWICE),
     ]
     for words, text in rows:
         trial.expect(words, 4, "", ["error: " + text])
     for words, name in (
         ("lint none", "none"), ("check none other", "none"), ("check p other", "other"), ("score none p", "none"),
         ("check faulty other", "other"), ("check none faulty", "none"), ("check - other", "other"),
+        ("rank --criteria=-new none good", "none"), ("rank --criteria=-new none other", "none"),
+        ("rank --criteria=-new p good other fail", "other"), ("rank --criteria=-new p good other none", "other"),
+        ("rank --criteria=-new faulty faulty other", "other"), ("rank --criteria=-new p - other", "other"),
+        ("score none --criteria=-new --strict", "none"), ("lint none --strict", "none"),
     ):
         trial.expect(words, 5, "", missing(name))
-    for words in ("check - none", "check none -", "lint -", "score p -", "check -"):
+    for words in ("check - none", "check none -", "lint -", "score p -", "check -", "rank --criteria=-new none good -"):
         trial.expect(words, 5, "", CLOSED, before=lambda: os.close(0), stdin=None)
     for words in ("check - -", "check - --limit y", "lint"):
         trial.expect(words, 4, "", ["error: "], before=lambda: os.close(0), stdin=None)
@@ -137,16 +187,30 @@ def standard_input(trial):
 
     Whether a folder fails already at the empty read that tries it is the system's matter, and so which text tells of it.
     """
-    for words in ("lint -", "check -", "score -", "check - bad", "check p -", "check faulty -"):
+    for words in (
+        "lint -", "check -", "score -", "check - bad", "check p -", "check faulty -", "rank --criteria=-new - good",
+        "rank --criteria=-new p good -",
+    ):
         folder = os.open(".", os.O_RDONLY)
         trial.expect(words, 5, "", ["cudf_check: "], stdin=folder)
         os.close(folder)
-    for words in ("lint .", "check .", "check . bad", "check p .", "check faulty .", "score p ."):
+    for words in (
+        "lint .", "check .", "check . bad", "check p .", "check faulty .", "score p .", "rank --criteria=-new . good",
+        "rank --criteria=-new p good . fail", "rank --criteria=-new faulty .", "rank --criteria=-new p faulty .",
+    ):
         trial.expect(words, 5, "", UNREAD)
-    for words, status, output in (("check -", 1, UNMET), ("lint -", 2, FAULTY), ("check p -", 3, "solution FAIL\n")):
-        data = {"check -": FILES["both"], "lint -": "?\n", "check p -": "FAIL\n"}[words]
+    for words, data, status, output in (
+        ("check -", FILES["both"], 1, UNMET), ("lint -", "?\n", 2, FAULTY), ("check p -", "FAIL\n", 3, "solution FAIL\n"),
+        ("rank --criteria=-removed - bad good fail", PROBLEM, 0, RANKED), ("lint - --strict", SIZED, 2, MISSING),
+        ("rank --criteria=-removed p bad - fail", GOOD, 0, RANKED),
+        ("rank --criteria=-removed p bad good -", "FAIL\n", 0, RANKED),
+    ):
         trial.expect(words, status, output, stdin=held(data))
-    for words, front in (("lint -", PROBLEM), ("check -", FILES["both"]), ("check p -", "FAIL\n"), ("check p -", GOOD)):
+    for words, front in (
+        ("lint -", PROBLEM), ("check -", FILES["both"]), ("check p -", "FAIL\n"), ("check p -", GOOD),
+        ("rank --criteria=-new - good", PROBLEM), ("rank --criteria=-new p good -", GOOD),
+        ("rank --criteria=-new p - faulty", "FAIL\n"),
+    ):
         with failing(front) as source:
             trial.expect(words, 5, "", UNREAD, stdin=source)
 
@@ -172,34 +236,82 @@ def empty_words(trial):
     """An empty word is a file's name, a key or a number like any other, and none of these exists."""
     for words in (["check", "", "good"], ["check", ""], ["lint", ""], ["score", "", "bad"], ["check", "", "both"]):
         trial.expect(words, 5, "", missing(""))
-    for words in (["check", "p", ""], ["check", "both", ""], ["score", "p", ""]):
+    for words in (
+        ["check", "p", ""], ["check", "both", ""], ["score", "p", ""], ["rank", "--criteria=-new", "p", "good", ""],
+        ["rank", "--criteria=-new", "", "good"],
+    ):
         trial.expect(words, 5, "", missing(""))
     trial.expect(["check", "p", "--after", ""], 4, "", ["error: " + NO_KEY.format("")])
     trial.expect(["check", "p", "--limit", ""], 4, "", ["error: " + NO_NUMBER.format("")])
-    for words in (["", "check", "p"], ["check", "p", "bad", ""], ["lint", "p", ""], [""]):
+    for words in (
+        ["", "check", "p"], ["check", "p", "bad", ""], ["lint", "p", ""], [""], ["rank", "", "p", "good"],
+        ["rank", "--criteria=-new", ""],
+    ):
         trial.expect(words, 4, "", ["error: "])
+
+
+def many_solutions(trial):
+    """A thousand solutions: good ones, empty ones, bad ones and FAIL in turn; then one that isn't there or is faulty."""
+    names = [f"s{place}" for place in range(1, 1001)]
+    kinds = {place: ("good", "empty", "bad", "fail")[place % 4] for place in range(1, 1001)}
+    for place, name in enumerate(names, 1):
+        with open(name, "w", encoding="ascii") as file:
+            file.write(FILES[kinds[place]])
+    told = {"good": "yes +new 1", "empty": "yes +new 0", "bad": "no", "fail": "FAIL"}
+    ranked = [(place, text) for kind, text in told.items() for place in kinds if kinds[place] == kind]
+    lines = [f"{at} solution {place} {text}\n" for at, (place, text) in enumerate(ranked, 1)]
+    words = ["rank", "--criteria=+new", "p"]
+    trial.expect(words + names, 0, "".join(lines))
+    trial.expect(words + names[:-1] + ["none"], 5, "", missing("none"))
+    trial.expect(words + names[:-1] + ["faulty"], 2, FAULTY_SOLUTION.replace("solution", "solution 1000", 1))
+
+
+def shown(trial):
+    """What the documents show: behind `$` commands, each with what it prints, and a script with the block below it."""
+    os.symlink(trial.path, "cudf_check")
+    surroundings = dict(os.environ, PATH=os.getcwd() + os.pathsep + os.environ["PATH"])
+    for name in DOCUMENTS:
+        with open(os.path.join(ROOT, name), encoding="utf-8") as file:
+            text = file.read()
+        scripts = re.findall(r"^```sh\n(.*?)^```\n\n```\n(.*?)^```$", text, re.MULTILINE | re.DOTALL)
+        for block in re.findall(r"^```\n(\$ .*?)^```$", text, re.MULTILINE | re.DOTALL):
+            lines = block.splitlines(keepends=True)
+            commands = "".join(line[2:] for line in lines if line.startswith("$ "))
+            scripts.append((commands, "".join(line for line in lines if not line.startswith("$ "))))
+        for script, wanted in scripts:
+            places = {"cwd": ROOT, "env": surroundings, "capture_output": True, "text": True}
+            ran = subprocess.run(["sh", "-c", script], timeout=LIMIT_SECONDS, check=False, **places)
+            trial.note(f"{name}: {script}", (0, ran.stdout, ran.stderr), 0, wanted, "")
 
 
 def texts(trial):
     """A text too long, a full device, a word that isn't UTF-8, and too little memory."""
     with open("long", "wb") as file:
         os.truncate(file.fileno(), GREATEST_INPUT + 1)
-    for words in ("lint long", "check long", "check p long", "check long missing-not", "score long p"):
+    for words in (
+        "lint long", "check long", "check p long", "check long missing-not", "score long p", "rank --criteria=-new long good",
+        "rank --criteria=-new p good long", "rank --criteria=-new p faulty long",
+    ):
         if words.endswith("missing-not"):
             trial.expect(words, 5, "", missing("missing-not"))
         else:
             trial.expect(words, 5, "", LONG)
     with open("long", "rb") as file:
         trial.expect("check p -", 5, "", LONG, stdin=file)
-    for words in ("check p bad", "lint p", "score p bad"):
+    for words in ("check p bad", "lint p", "score p bad", "score p bad --criteria=-new", "rank --criteria=-new p bad fail"):
         with open("/dev/full", "wb") as full:
             trial.expect(words, 5, "", UNWRITTEN, stdout=full)
-    for words in ([b"lint", b"\xff"], [b"\xff"], [b"check", b"p", b"--after", b"\xff"]):
+    for words in (
+        [b"lint", b"\xff"], [b"\xff"], [b"check", b"p", b"--after", b"\xff"], [b"rank", b"--criteria=\xff", b"p", b"good"],
+    ):
         trial.expect(words, 4, "", NOT_UTF8)
     with open("wide", "w", encoding="ascii") as file:
         file.write("request:\n" + "#" * (200 * MEGABYTE))
     limit = 100 * MEGABYTE
-    for words in ("lint wide", "check wide", "check p wide", "score wide p"):
+    for words in (
+        "lint wide", "check wide", "check p wide", "score wide p", "rank --criteria=-new wide good",
+        "rank --criteria=-new p good wide",
+    ):
         trial.expect(words, 6, "", NO_ROOM, before=lambda: resource.setrlimit(resource.RLIMIT_AS, (limit, limit)))
 
 
@@ -210,10 +322,11 @@ def main(path):
         for name, text in FILES.items():
             with open(name, "w", encoding="ascii") as file:
                 file.write(text)
-        for rows in (statuses, first_refusals, standard_input, empty_words, texts):
+        for rows in (statuses, first_refusals, standard_input, empty_words, many_solutions, shown, texts):
             rows(trial)
         os.chdir("/")
-    print(f"{trial.rows} rows, {trial.wrong} wrong")
+    left_out = f"; left out, since it doesn't know them: {trial.left_out} of {', '.join(trial.unknown)}" if trial.unknown else ""
+    print(f"{trial.rows} rows, {trial.wrong} wrong{left_out}")
     return 1 if trial.wrong else 0
 
 

@@ -34,6 +34,9 @@ class Program:
         self.path = path
         self.has_score = self.run(["score", "-"], EMPTY)[1] == 0
         self.has_pages = self.run(["check", "-", "--limit", "1"], EMPTY)[1] == 0
+        self.has_strict = self.run(["lint", "-", "--strict"], EMPTY)[1] == 0
+        self.has_lists = self.run(["score", "-", "--criteria=-new"], EMPTY)[1] == 0
+        self.has_rank = self.run(["rank", "--criteria=-new", "-", os.devnull], EMPTY)[1] == 0
         version, status = self.run(["--version"])
         self.has_version = status != 4
         is_line = len(version) == 1 and re.fullmatch(r"cudf_check [0-9]\S*", version[0]) is not None
@@ -41,7 +44,11 @@ class Program:
 
     def told(self):
         """What isn't compared, and the version's form."""
-        left = [name for name, has in (("score", self.has_score), ("pages", self.has_pages)) if not has]
+        known = {
+            "score": self.has_score, "pages": self.has_pages, "--strict": self.has_strict, "--criteria": self.has_lists,
+            "rank": self.has_rank,
+        }
+        left = [name for name, has in known.items() if not has]
         version = "of the right form" if self.is_version_fine else "WRONG" if self.has_version else "not known"
         return f"not known to the program: {', '.join(left) or 'nothing'}; --version {version}"
 
@@ -59,21 +66,20 @@ class Program:
             os.close(source)
             os.close(sink)
 
-    def judge(self, job, problem, solution=None):
-        """The answer to a job on a problem and a solution; None where it stands behind the problem."""
-        if solution is None:
-            return self.run(job[:1] + ["-"] + job[1:], problem)
-        with tempfile.NamedTemporaryFile() as file:
-            file.write(solution)
-            file.flush()
-            return self.run(job[:1] + ["-", file.name] + job[1:], problem)
+    def judge(self, job, problem, *solutions):
+        """The answer to a job on a problem and solutions; where there are none they stand behind the problem."""
+        with tempfile.TemporaryDirectory() as folder:
+            files = [write(folder, f"solution{place}", data) for place, data in enumerate(solutions, 1)]
+            return self.run(job[:1] + ["-"] + files + job[1:], problem)
 
 
 def has(program, job):
     """Whether the program knows the words of a job."""
-    if "--" in job:
-        return program.has_pages
-    return program.has_score or not job.startswith("score")
+    asked = {
+        "score": program.has_score, "--after": program.has_pages, "--limit": program.has_pages,
+        "--strict": program.has_strict, "--criteria": program.has_lists, "rank": program.has_rank,
+    }
+    return all(is_known for word, is_known in asked.items() if word in job)
 
 
 def lines_of(output):

@@ -2,6 +2,9 @@
 
 An answer is the report's lines and the exit status.
 """
+import functools
+
+import criteria
 import documents
 import keys
 from judge import Judgement
@@ -9,6 +12,7 @@ from values import read_posint
 
 YES, NO, FAULTY, FAIL, USAGE, TROUBLE, NO_MEMORY = range(7)
 GREATEST_INPUT = 268435456
+VERDICTS = {YES: "yes", NO: "no", FAIL: "FAIL"}
 
 
 def faulty(whose, faults):
@@ -16,35 +20,35 @@ def faulty(whose, faults):
     return [f"{whose} line {line}: E{kind} {documents.KINDS[kind]}"], FAULTY
 
 
-def problem_fault(data):
+def problem_fault(data, is_strict=False):
     fault = documents.utf8_fault(data)
-    faults = {fault} if fault else documents.problem_faults(data.decode())
+    faults = {fault} if fault else documents.problem_faults(data.decode(), is_strict)
     return faulty("problem", faults) if faults else None
 
 
-def solution_answer(data):
+def solution_answer(data, is_strict=False, whose="solution"):
     """The answer to a solution that isn't judged."""
     fault = documents.utf8_fault(data)
     if fault:
-        return faulty("solution", {fault})
+        return faulty(whose, {fault})
     if documents.says_fail(data.decode()):
         return ["solution FAIL"], FAIL
-    faults = documents.solution_faults(data.decode())
-    return faulty("solution", faults) if faults else None
+    faults = documents.solution_faults(data.decode(), is_strict)
+    return faulty(whose, faults) if faults else None
 
 
-def lint(problem):
+def lint(problem, is_strict=False):
     if len(problem) > GREATEST_INPUT:
         return [], TROUBLE
-    return problem_fault(problem) or (["problem ok"], YES)
+    return problem_fault(problem, is_strict) or (["problem ok"], YES)
 
 
 class Second:
     """The second implementation's answers to one problem and one solution, read and judged once."""
 
-    def __init__(self, problem, solution):
+    def __init__(self, problem, solution, is_strict=False):
         self.refused = ([], TROUBLE) if max(len(problem), len(solution)) > GREATEST_INPUT else None
-        self.refused = self.refused or problem_fault(problem) or solution_answer(solution)
+        self.refused = self.refused or problem_fault(problem, is_strict) or solution_answer(solution, is_strict)
         self.judged = None if self.refused else Judgement(problem.decode(), solution.decode())
 
     def verdict(self, lines):
@@ -58,11 +62,61 @@ class Second:
             return [], USAGE
         return self.refused or self.verdict(self.judged.page(after, number))
 
-    def score(self):
-        return self.refused or self.verdict(self.judged.criteria.lines())
+    def score(self, aims=None):
+        """The counts, or those of a list, which is the word of the command line."""
+        listed = None if aims is None else criteria.read_list(aims)
+        if aims is not None and listed is None:
+            return [], USAGE
+        if self.refused:
+            return self.refused
+        counts = self.judged.criteria
+        return self.verdict(counts.lines() if listed is None else counts.told(listed))
 
 
-def joined(data):
+def joined(data, is_strict=False):
     if len(data) > GREATEST_INPUT:
-        return Second(data, b"")
-    return Second(*documents.cut_joined(data))
+        return Second(data, b"", is_strict)
+    return Second(*documents.cut_joined(data), is_strict)
+
+
+# ---- several solutions of one problem
+
+
+class Standing:
+    """What one of several solutions, none of them faulty, is ranked by."""
+
+    def __init__(self, place, problem, solution):
+        self.place = place
+        self.judged = None if documents.says_fail(solution.decode()) else Judgement(problem.decode(), solution.decode())
+        self.verdict = FAIL if self.judged is None else NO if self.judged.instances else YES
+
+    def line(self, aims):
+        told = self.judged.criteria.told(aims) if self.verdict == YES else []
+        return " ".join([f"solution {self.place} {VERDICTS[self.verdict]}"] + told)
+
+
+def better(aims, one, other):
+    """Below 0 where the one stands before the other."""
+    by_counts = 0
+    if one.verdict == other.verdict == YES:
+        by_counts = criteria.compare(aims, one.judged.criteria, other.judged.criteria)
+    return one.verdict - other.verdict or by_counts or one.place - other.place
+
+
+def rank(aims, problem, solutions, is_strict=False):
+    """The answer to several solutions, by the list that is the word of the command line."""
+    listed = criteria.read_list(aims)
+    if listed is None:
+        return [], USAGE
+    if max(map(len, [problem, *solutions])) > GREATEST_INPUT:
+        return [], TROUBLE
+    if refused := problem_fault(problem, is_strict):
+        return refused
+    for place, solution in enumerate(solutions, 1):
+        refused = solution_answer(solution, is_strict, f"solution {place}")
+        if refused and refused[1] == FAULTY:
+            return refused
+    standings = [Standing(place, problem, solution) for place, solution in enumerate(solutions, 1)]
+    ranked = sorted(standings, key=functools.cmp_to_key(functools.partial(better, listed)))
+    lines = [f"{at} {standing.line(listed)}" for at, standing in enumerate(ranked, 1)]
+    return lines, min(standing.verdict for standing in standings)

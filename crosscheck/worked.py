@@ -4,13 +4,15 @@
 usage: worked.py [PROGRAM]
 
 Prints each example that is answered otherwise, and how many there are. In the table `¶` is a line end, and `<car 1>` the
-three lines of an installed package; such stanzas side by side have a blank line between. A job is the words behind the
-files; a solution of None stands behind the problem in one input. Python's standard library alone.
+three lines of an installed package; such stanzas side by side have a blank line between. A job is the command and the
+words behind the files; a solution of None stands behind the problem in one input, and `rank` has a tuple of them.
+Python's standard library alone.
 """
 import re
 import sys
 import tempfile
 
+import criteria
 import keys
 import programs
 import reports
@@ -57,6 +59,10 @@ GATE = (
     "package: door¶version: 3¶¶request: r¶upgrade: door¶"
 )
 ONE_CAR = "package: car¶version: 1¶installed: true¶¶request: r¶remove: car¶"
+GHOSTS = "<ghost 9><car 1>¶package: ghost¶version: 9¶¶<ghost 9>"
+SIZED = "preamble:¶property: size: nat¶¶package: a¶version: 1¶"
+ANSWERS = ("FAIL", "<car 2><bus 1>", "<ghost 1>", "<car 1>", "")
+MISSING, REPEATED = "E14 declared property missing", "E15 pair repeated"
 FIVE = ("removed", "new", "changed", "notuptodate", "unsat_recommends")
 
 
@@ -122,7 +128,7 @@ TABLE = [
     ("a feature kept by all versions", "check", KEPT, "<any 1>", "solution yes", 0),
     ("a feature isn't kept by another version", "check", KEPT, "<one 1>",
      "p1.keep.1 old 1 line 1: keep feature e = 2¶solution no", 1),
-    ("unknown stanzas", "check", ONE_CAR, "<ghost 9><car 1>¶package: ghost¶version: 9¶¶<ghost 9>",
+    ("unknown stanzas", "check", ONE_CAR, GHOSTS,
      "r.remove.1 line 5: must remove car, met by car 1¶s.unknown.1 ghost 9 line 1: not in the universe¶"
      "s.unknown.4 ghost 9 line 12: not in the universe¶solution no", 1),
     ("recommends that are declared", "score", RED_OR_GREEN, "<a 1>", score(0, 0, 0, 0, 2, verdict="yes"), 0),
@@ -159,7 +165,96 @@ TABLE = [
      "problem line 5: E11 package repeated", 2),
     ("no version", "lint", "package: a¶installed: true¶¶request:¶", "", "problem line 2: E12 no version", 2),
     ("no request", "lint", "package: a¶version: 1¶", "", "problem line 2: E13 no request", 2),
+    # --strict: declared properties
+    ("a declared property is absent", "lint", SIZED + "¶request:¶", "", "problem ok", 0),
+    ("it is missing", "lint --strict", SIZED + "¶request:¶", "", f"problem line 5: {MISSING}", 2),
+    ("E12 beside E14", "lint --strict", "preamble:¶property: size: nat¶¶package: a¶¶request:¶", "",
+     "problem line 4: E12 no version", 2),
+    ("declared with defaults", "lint --strict", RED_OR_GREEN, "", "problem ok", 0),
+    ("an empty default", "lint --strict", "preamble:¶property: l: vpkglist = []¶¶package: a¶version: 1¶¶request:¶", "",
+     "problem ok", 0),
+    ("nothing is declared", "lint --strict", "preamble:¶¶package: a¶version: 1¶¶request:¶", "", "problem ok", 0),
+    ("it is there", "lint --strict", SIZED + "size: 0¶¶request:¶", "", "problem ok", 0),
+    ("the second package lacks it", "lint --strict", SIZED + "size: 0¶¶package: b¶version: 1¶keep: none¶¶request:¶", "",
+     f"problem line 10: {MISSING}", 2),
+    ("two are missing, and then a fault", "lint --strict",
+     "preamble:¶property: size: nat, x: int¶¶package: a¶version: 1¶¶package: b¶version: 0¶¶request:¶", "",
+     f"problem line 5: {MISSING}", 2),
+    ("E2 beside E14", "lint --strict", SIZED + "junk¶¶request:¶", "",
+     "problem line 6: E2 not a property, continuation, comment or blank line", 2),
+    ("E6 without E14", "lint --strict", "preamble:¶property: size: nat¶¶request:¶¶package: a¶version: 1¶", "",
+     "problem line 6: E6 stanza after the request", 2),
+    ("E7 before E14", "lint --strict", SIZED + "keep: none¶keep: none¶installed: true¶¶request:¶", "",
+     "problem line 7: E7 property repeated", 2),
+    ("E7 beside E14", "lint --strict", SIZED + "keep: none¶keep: none¶¶request:¶", "",
+     "problem line 7: E7 property repeated", 2),
+    ("E8 beside E14", "lint --strict", SIZED + "x: 1¶¶request:¶", "", "problem line 6: E8 property not declared", 2),
+    ("E9 beside E14", "lint --strict", SIZED + "keep: x¶¶request:¶", "", "problem line 6: E9 value is not of its type", 2),
+    ("a wrong value is there", "lint --strict", SIZED + "size: x¶¶request:¶", "",
+     "problem line 6: E9 value is not of its type", 2),
+    ("E11 beside E14", "lint --strict", SIZED + "size: 1¶¶package: a¶version: 01¶¶request:¶", "",
+     "problem line 9: E11 package repeated", 2),
+    ("E13 beside E14", "lint --strict", SIZED, "", "problem line 5: E13 no request", 2),
+    # --strict: pairs
+    ("the second of three, not installed", "check --strict", ONE_CAR, GHOSTS, f"solution line 10: {REPEATED}", 2),
+    ("the first isn't installed", "check --strict", COUNTED, "package: car¶version: 1¶¶<car 1>",
+     f"solution line 5: {REPEATED}", 2),
+    ("01 is 1", "check --strict", COUNTED, "<car 1>¶package: car¶version: 01¶", f"solution line 6: {REPEATED}", 2),
+    ("a pair twice is one pair", "check", COUNTED, "<car 1>¶package: car¶version: 01¶", "solution yes", 0),
+    ("two versions are two pairs", "check --strict", COUNTED, "<car 1><car 2>", "solution yes", 0),
+    ("E7 behind E15", "score --strict", COUNTED, "<car 1>¶package: car¶version: 1¶version: 2¶",
+     f"solution line 6: {REPEATED}", 2),
+    ("E9 before E15", "check --strict", COUNTED, "<car 1>¶package: car¶installed: x¶version: 1¶",
+     "solution line 6: E9 value is not of its type", 2),
+    ("behind FAIL nothing is read", "check --strict", COUNTED, "FAIL¶¶<car 1><car 1>", "solution FAIL", 3),
+    ("a pair twice in one input", "check --strict", COUNTED + "¶<car 1><car 1>", None, f"solution line 6: {REPEATED}", 2),
+    ("both are faulty", "check --strict", SIZED + "¶request:¶", "<a 1><a 1>", f"problem line 5: {MISSING}", 2),
+    # lists of criteria
+    ("a list in its order", "score --criteria=-removed,+new,-touched", COUNTED, "<car 2><bus 1>",
+     "-removed 0¶+new 1¶-touched 3¶solution yes", 0),
+    ("a count three times", "score --criteria=-new,+new,-new", COUNTED, "<bus 1>", "-new 1¶+new 1¶-new 1¶solution yes", 0),
+    ("a wrong status is counted by a list", "score --criteria=+notuptodate", DOORS, "<door 1><door 2>",
+     "+notuptodate 1¶solution no", 1),
+    ("FAIL isn't counted by a list", "score --criteria=-new", COUNTED, "FAIL", "solution FAIL", 3),
+    ("no count of that name", "score --criteria=-size", COUNTED, "FAIL", "", 4),
+    ("a list in one input", "score --strict --criteria=-touched", COUNTED + "¶<car 2>", None, "-touched 2¶solution yes", 0),
+    # rank
+    ("five solutions", "rank --criteria=-changed,-touched", COUNTED, ANSWERS,
+     "1 solution 4 yes -changed 0 -touched 0¶2 solution 5 yes -changed 1 -touched 1¶"
+     "3 solution 2 yes -changed 2 -touched 3¶4 solution 3 no¶5 solution 1 FAIL", 0),
+    ("the greater is the better, equal ones by place", "rank --criteria=+new", COUNTED, ANSWERS,
+     "1 solution 2 yes +new 1¶2 solution 4 yes +new 0¶3 solution 5 yes +new 0¶4 solution 3 no¶5 solution 1 FAIL", 0),
+    ("none is a solution", "rank --criteria=+new", COUNTED, ("FAIL", "<ghost 1>"), "1 solution 2 no¶2 solution 1 FAIL", 1),
+    ("FAIL alone", "rank --criteria=+new", COUNTED, ("FAIL",), "1 solution 1 FAIL", 3),
+    ("one is faulty", "rank --criteria=-new", COUNTED, ("<car 1>", "package: a¶"), "solution 2 line 1: E12 no version", 2),
+    ("no list", "rank --criteria=-size", COUNTED, ("<car 1>",), "", 4),
+    ("the first aim decides", "rank --criteria=+new,-new", COUNTED, ("<car 1>", "<bus 1>"),
+     "1 solution 2 yes +new 1 -new 1¶2 solution 1 yes +new 0 -new 0", 0),
+    ("three equal ones", "rank --criteria=-new", COUNTED, ("FAIL", "<car 2>", "<car 1>", ""),
+     "1 solution 2 yes -new 0¶2 solution 3 yes -new 0¶3 solution 4 yes -new 0¶4 solution 1 FAIL", 0),
+    ("an unknown stanza beside equal counts", "rank --criteria=-new", COUNTED, ("<car 1><ghost 1>", "<car 1>"),
+     "1 solution 2 yes -new 0¶2 solution 1 no", 0),
+    ("refused ones and FAIL by place", "rank --criteria=-new", COUNTED, ("FAIL", "<ghost 2>", "# c¶FAIL", "<ghost 1>"),
+     "1 solution 2 no¶2 solution 4 no¶3 solution 1 FAIL¶4 solution 3 FAIL", 1),
+    ("the first faulty one, behind FAIL", "rank --criteria=-new", COUNTED, ("FAIL", "package: a¶", "junk"),
+     "solution 2 line 1: E12 no version", 2),
+    ("the problem's fault first", "rank --criteria=-new", "", ("junk", "FAIL"), "problem line 1: E13 no request", 2),
+    ("a FAIL that isn't UTF-8 is ranked by its fault", "rank --criteria=-new", COUNTED, ("<car 1>", b"FAIL\n\xff"),
+     "solution 2 line 2: E1 not UTF-8", 2),
+    ("a pair twice in the second", "rank --strict --criteria=-new", COUNTED, ("<car 1>", "<car 2><car 2>"),
+     f"solution 2 line 6: {REPEATED}", 2),
+    ("the same without the flag", "rank --criteria=-new", COUNTED, ("<car 1>", "<car 2><car 2>"),
+     "1 solution 1 yes -new 0¶2 solution 2 yes -new 0", 0),
 ]
+LISTS = {
+    "-removed": "removed -", "+new,-new": "new + new -", "-new,-new": "new - new -",
+    "-removed,-notuptodate,-unsat_recommends,-new": "removed - notuptodate - unsat_recommends - new -",
+    "+touched,-changed": "touched + changed -",
+}
+NO_LISTS = (
+    "", "removed", "-removed,", ",-removed", "- removed", "-Removed", " -removed", "-removed ", "-new, -removed", "-new,,-new",
+    "--removed", "+-removed", "-removed-new", "-size", "-newer", "-paranoid", "-", "-unsat-recommends", "-new;+new", "-new\n",
+)
 NO_KEYS = ("p0.keep.1", "p01.keep.1", "r.upgrade.1", "r.install.1.many", "P1.keep.1", " r.install.1", "", "s.unknown.0",
            "p1.depends.18446744073709551616", "p1.install.1", "r.keep.1", "r.upgrade.1.lower.1", "p1.keep.1\n", "p1.keep")
 ASCENDING = (
@@ -172,7 +267,11 @@ NOT_UNDERSTOOD = (
     "check - -", "", "lint", "lint P P", "check", "check P P P", "judge P", "lint P --limit 1", "lint P --after p1.keep.1",
     "check P --limit", "check P --after", "check P --limit 1 --limit 1", "check P --after r.install.1 --after r.install.1",
     "check P --limit x", "check P --limit -1", "check P --limit 18446744073709551616", "score P --limit 1",
-    "check P --unknown",
+    "check P --unknown", "lint P --strict --strict", "check P --strict=true", "lint P --criteria=-new",
+    "check P --criteria=-new", "score P --criteria -new", "score P --criteria", "score P --criteria=",
+    "score P --criteria=-new --criteria=-new", "score - - --criteria=-new", "rank P P", "rank --criteria=-new",
+    "rank --criteria=-new P", "rank --criteria -new P P", "rank --criteria=-new - P -", "rank --criteria=-new - -",
+    "rank --criteria=-new P P --limit 1", "rank --criteria=-size P P", "rank --criteria=-new --strict P P --strict",
 )
 ASKS_FOR_HELP = ("--help", "-h", "help")
 
@@ -185,27 +284,33 @@ def written(text):
     return re.sub(r"<(\w+) (\d+)>", r"package: \1¶version: \2¶installed: true¶", stanzas).replace("¶", "\n").encode()
 
 
-def options_of(job):
-    """The words behind `--after` and `--limit`."""
-    words = job.split()[1:]
-    return {name[2:]: value for name, value in zip(words[::2], words[1::2])}
+def second_answer(job, problem, solutions):
+    command, *words = job.split()
+    is_strict = "--strict" in words
+    options = dict(re.findall(r"--(after|limit|criteria)[ =](\S+)", job))
+    if command == "lint":
+        return reports.lint(problem, is_strict)
+    if command == "rank":
+        return reports.rank(options["criteria"], problem, solutions, is_strict)
+    second = reports.Second(problem, *solutions, is_strict) if solutions else reports.joined(problem, is_strict)
+    return second.score(options.get("criteria")) if command == "score" else second.check(**options)
 
 
-def second_answer(job, problem, solution):
-    if job == "lint":
-        return reports.lint(problem)
-    second = reports.joined(problem) if solution is None else reports.Second(problem, solution)
-    return second.score() if job == "score" else second.check(**options_of(job))
+def solutions_of(job, told):
+    """The bytes of a row's solutions; none where it has one input."""
+    if job.startswith("lint") or told is None:
+        return []
+    return [written(text) for text in (told if isinstance(told, tuple) else (told,))]
 
 
 def wrong_rows(program):
     """The examples that are answered otherwise, with their answers."""
-    for name, job, problem, solution, report, status in TABLE:
-        data, other = written(problem), None if solution is None else written(solution)
+    for name, job, problem, told, report, status in TABLE:
+        data, solutions = written(problem), solutions_of(job, told)
         wanted = (report.replace("¶", "\n").split("\n") if report else []), status
-        answers = [second_answer(job, data, other)]
+        answers = [second_answer(job, data, solutions)]
         if program and programs.has(program, job):
-            answers.append(program.judge(job.split(), data, other if job != "lint" else None))
+            answers.append(program.judge(job.split(), data, *solutions))
         for given in answers:
             if given != wanted:
                 yield f"{name}: {given}, expected {wanted}"
@@ -218,6 +323,21 @@ def wrong_keys():
     read = [keys.parse(text) for text in ASCENDING]
     if None in read or sorted(read) != read or [keys.printed(key) for key in read] != list(ASCENDING):
         yield f"keys in order: {read}"
+
+
+def wrong_lists(program):
+    """Lists of criteria that are read otherwise; the program prints the lines of those that it reads."""
+    for text in NO_LISTS:
+        if criteria.read_list(text) is not None:
+            yield f"{text} is no list"
+    for text, told in LISTS.items():
+        if criteria.read_list(text) != [(sign, name) for name, sign in zip(told.split()[::2], told.split()[1::2])]:
+            yield f"{text} is {told}"
+    for text in (*NO_LISTS, *LISTS) if program and program.has_lists else ():
+        lines = [aim + " 0" for aim in text.split(",")] + ["solution yes"]
+        given = program.run(["score", "-", f"--criteria={text}"], programs.EMPTY)
+        if given != ((lines, reports.YES) if text in LISTS else ([], reports.USAGE)):
+            yield f"{text}: {given}"
 
 
 def wrong_words(program):
@@ -237,9 +357,10 @@ def wrong_words(program):
 
 def main(words):
     program = programs.Program(words[0]) if words else None
-    wrong = list(wrong_rows(program)) + list(wrong_keys()) + (list(wrong_words(program)) if program else [])
+    wrong = [*wrong_rows(program), *wrong_keys(), *wrong_lists(program), *(wrong_words(program) if program else ())]
     print(*wrong, sep="\n", end="\n" if wrong else "")
-    print(f"examples {len(TABLE)}, keys {len(NO_KEYS) + len(ASCENDING)}, words {len(NOT_UNDERSTOOD)}, wrong {len(wrong)}")
+    told = {"examples": TABLE, "keys": NO_KEYS + ASCENDING, "lists": [*NO_LISTS, *LISTS], "words": NOT_UNDERSTOOD}
+    print(", ".join(f"{name} {len(rows)}" for name, rows in told.items()) + f", wrong {len(wrong)}")
     if program:
         print(program.told())
     return 1 if wrong else 0

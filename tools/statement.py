@@ -11,7 +11,7 @@ The headline is the contract of `run`, a public function of the crate `cudf_chec
 - and so on, down the `use` lines of each file that is reached. Of the file of laws only what the two laws name.
 
 The program has to call `run`, and nothing else of `cudf_check` may stand for it: no other public function there may
-write.
+write but `rank`, which the program may call beside it and whose contract is a promise of its own.
 
 A proof that is written by hand may set what contracts alone see as it likes. So the two functions of `Steps` that
 set a count are the only ones with such a proof: with a further one a count could be set back.
@@ -42,8 +42,9 @@ END = "<!-- end of statement -->"
 MARK = "crates/cudf_universe/proofs/steps/mark/Mark"
 PROOFS_BY_HAND = {f"{MARK}/grow/Proof.antt", f"{MARK}/new/Proof.antt"}
 
-# the one entry of cudf_check, which carries the headline, and the laws that it leans on
+# the entry of cudf_check that carries the headline, that for several solutions, and the laws that the headline leans on
 ENTRY = "run"
+RANKING = "rank"
 LAWS = ("ascending", "empty")
 
 # where a line begins a `use`, and the two forms that are read: of definitions, and of Rust's items
@@ -245,12 +246,12 @@ def needed(crate, name):
 # ---- what the program calls
 
 def check_entry():
-    """`run` is there, and no second entry: no other public function of cudf_check takes something to write to."""
+    """`run` is there, and no other entry but `rank`: no other public function of cudf_check takes something to write to."""
     needed("cudf_check", ENTRY)
     for path, text in sources("cudf_check").items():
         for begin in re.finditer(r"^( *)pub fn (\w+)", text, re.M):
             indent, name = begin.groups()
-            if (indent or name != ENTRY) and re.search(r"\b(?:Sink|Write)\b", contract_at(text, begin.start())):
+            if (indent or name not in (ENTRY, RANKING)) and re.search(r"\b(?:Sink|Write)\b", contract_at(text, begin.start())):
                 raise Broken(f"`{name}` of {path.relative_to(ROOT)} writes beside `{ENTRY}`")
 
 
@@ -263,7 +264,7 @@ def calls_entry(text):
     called = False
     for name, path in names.items():
         is_entry = path == f"cudf_check::{ENTRY}"
-        if path.islower() and not is_entry:
+        if path.islower() and not is_entry and path != f"cudf_check::{RANKING}":
             raise Broken(f"the program uses `{path}`, which doesn't carry the headline")
         called = called or is_entry and re.search(r"(?<![\w.:])%s\s*(?:::\s*<|\()" % re.escape(name), body) is not None
     return called

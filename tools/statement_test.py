@@ -192,7 +192,7 @@ class Uses(Copy):
         self.assert_follows("use Rattle.cudf_check.specs.Working.Pages as pages -- all of them")
 
     def test_comment_behind_in_rust(self):
-        self.plant("cudf_check/src/lib.rt", "Runs.{change, change_of_lent, lent, returned, Runs, SkipsSolution};",
+        self.plant("cudf_check/src/lib.rt", "Runs.{change, change_of_lent, lent, returned, IsStopped, Runs, SkipsSolution};",
                    "Working.Pages.{change, change_of_lent, lent, returned, Runs, SkipsSolution}; // a run")
         self.assert_refused(1, "the headline rests on crates/cudf_check/specs/Working/Pages.antt")
 

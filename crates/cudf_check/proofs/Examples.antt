@@ -4,6 +4,7 @@ use Rattle.std.specs.Fmt.{digits}
 use Rattle.std.specs.List.{flat_map}
 use Rattle.std.specs.Str.{is_utf8, chars}
 use lib.Utf8.{encode}
+use Rattle.cudf_document.specs.declared.mode.Mode.TheVariants.{Lenient}
 use Rattle.cudf_text.specs.Chars.{is_ident}
 use Rattle.cudf_text.specs.Stanzas.{plain_text}
 use Rattle.cudf_text.specs.Joined.{is_fail}
@@ -15,6 +16,8 @@ use Rattle.cudf_value.specs.Declarations.{declarations}
 use Rattle.cudf_document.specs.ProblemFaults.{problem_faults}
 use Rattle.cudf_document.specs.SolutionFaults.{solution_faults}
 use Rattle.cudf_document.specs.Universe.{plain_problem}
+use Rattle.cudf_referee.specs.declared.aims.Count.TheVariants as count
+use Rattle.cudf_referee.specs.declared.aims.Sign.TheVariants.{Least, Most}
 use Rattle.cudf_referee.specs.declared.key.Key.{Key}
 use Rattle.cudf_referee.specs.declared.key.Part.TheVariants.{Package, Request}
 use Rattle.cudf_referee.specs.declared.key.Rule.TheVariants.{Depends, Install}
@@ -26,7 +29,7 @@ use Rattle.cudf_referee.specs.Solutions.{is_solution}
 use Rattle.cudf_check.specs.declared.job.Job.TheVariants.{Check, Score}
 use Rattle.cudf_check.specs.declared.outcome.Outcome.{Outcome}
 use Rattle.cudf_check.specs.declared.outcome.Outcome.TheVariants.{Yes, No, Faulty, Fail}
-use Rattle.cudf_check.specs.Report.{Report, check_text, inputs_report, report}
+use Rattle.cudf_check.specs.Report.{Report, check_text, scored_text, inputs_report, report}
 
 -- lines, each with its end
 abbrev text_of : List (List ℕ) → List ℕ
@@ -34,7 +37,7 @@ text_of lines = flat_map (λ line. line ++ 10 ∷ []) lines
 
 -- the report on a problem's lines and a solution's
 abbrev judged : List (List ℕ) → List (List ℕ) → Report
-judged problem solution = report (Check None None) (text_of problem) (Some (text_of solution))
+judged problem solution = report (Check None None) Lenient (text_of problem) (Some (text_of solution))
 
 abbrev says : Outcome → List (List ℕ) → Report
 says outcome lines = record { text = text_of lines; outcome = outcome }
@@ -207,10 +210,10 @@ fault_before_fail = refl
 
 -- the report on a page, by its key as it is read
 abbrev paged : Option PlainKey → Option ℕ → List (List ℕ) → List (List ℕ) → Report
-paged after limit problem solution = inputs_report (check_text after limit) (text_of problem) (Some (text_of solution))
+paged after limit problem solution = inputs_report Lenient (check_text after limit) (text_of problem) (Some (text_of solution))
 
 -- it is the report of a check with that key
-paged_is_report : (key : Key) → (limit : Option ℕ) → (problem solution : List (List ℕ)) → report (Check (Some key) limit) (text_of problem) (Some (text_of solution)) ≡ paged (Some (key_view key)) limit problem solution
+paged_is_report : (key : Key) → (limit : Option ℕ) → (problem solution : List (List ℕ)) → report (Check (Some key) limit) Lenient (text_of problem) (Some (text_of solution)) ≡ paged (Some (key_view key)) limit problem solution
 unfolding report
 paged_is_report key limit problem solution = refl
 
@@ -221,7 +224,7 @@ first_depends place = record { part = Package 1; rule = Depends; place = place; 
 abbrev lone : List (List ℕ)
 lone = codes "package: user" ∷ codes "version: 1" ∷ codes "depends: a, a" ∷ [] ∷ codes "request: r" ∷ []
 
-page_tells_where_the_next_begins : report (Check None (Some 1)) (text_of lone) (Some (text_of (chosen (codes "user") (codes "1")))) ≡ says No (codes "p1.depends.1 user 1 line 1: needs a" ∷ codes "more after p1.depends.1" ∷ codes "solution no" ∷ [])
+page_tells_where_the_next_begins : report (Check None (Some 1)) Lenient (text_of lone) (Some (text_of (chosen (codes "user") (codes "1")))) ≡ says No (codes "p1.depends.1 user 1 line 1: needs a" ∷ codes "more after p1.depends.1" ∷ codes "solution no" ∷ [])
 unfolding report listing is_solution plain_text is_ident is_fail problem_faults plain_problem solution_faults vpkg veqpkg formula vpkglist veqpkglist positive natural truth is_pkgname is_utf8 chars encode digits
 page_tells_where_the_next_begins = refl
 
@@ -258,7 +261,7 @@ page_of_all = refl
 -- ---- scores
 
 abbrev scored : List (List ℕ) → List (List ℕ) → Report
-scored problem solution = report Score (text_of problem) (Some (text_of solution))
+scored problem solution = report (Score None) Lenient (text_of problem) (Some (text_of solution))
 
 abbrev fleet : List (List ℕ)
 fleet = codes "package: car" ∷ codes "version: 1" ∷ codes "installed: true" ∷ [] ∷ codes "package: car" ∷ codes "version: 2" ∷
@@ -268,6 +271,12 @@ score_of_a_new_name : scored fleet (chosen (codes "car") (codes "2") ++ chosen (
     codes "unsat_recommends 0" ∷ codes "paranoid 0 2" ∷ codes "trendy 0 0 0 1" ∷ codes "solution yes" ∷ [])
 unfolding report criteria listing is_solution plain_text is_ident is_fail problem_faults plain_problem solution_faults vpkg veqpkg formula vpkglist veqpkglist positive natural truth is_pkgname is_utf8 chars encode digits
 score_of_a_new_name = refl
+
+-- the counts that a list of aims names, in its order
+score_by_aims : inputs_report Lenient (scored_text (Some (record { sign = Least; count = count.Removed } ∷ record { sign = Most; count = count.New } ∷ record { sign = Least; count = count.Touched } ∷ [])))
+    (text_of fleet) (Some (text_of (chosen (codes "car") (codes "2") ++ chosen (codes "bus") (codes "1")))) ≡ says Yes (codes "-removed 0" ∷ codes "+new 1" ∷ codes "-touched 3" ∷ codes "solution yes" ∷ [])
+unfolding criteria listing is_solution plain_text is_ident is_fail problem_faults plain_problem solution_faults vpkg veqpkg formula vpkglist veqpkglist positive natural truth is_pkgname is_utf8 chars encode digits
+score_by_aims = refl
 
 score_of_an_older_door : scored door (chosen (codes "door") (codes "1") ++ chosen (codes "door") (codes "2")) ≡ says No (codes "removed 0" ∷ codes "new 0" ∷ codes "changed 1" ∷ codes "notuptodate 1" ∷
     codes "unsat_recommends 0" ∷ codes "paranoid 0 1" ∷ codes "trendy 0 1 0 0" ∷ codes "solution no" ∷ [])
@@ -286,7 +295,7 @@ wide = codes "preamble:" ∷ codes "property: recommends: vpkgformula = [true!],
     codes "recommends: b | c, d" ∷ codes "number: 1.0-2" ∷ codes "colour: green" ∷ codes "installed: true" ∷ [] ∷
     codes "package: d" ∷ codes "version: 1" ∷ [] ∷ []
 
-score_of_what_is_recommended : report Score (text_of wide ++ codes "request: r") (Some (text_of (chosen (codes "a") (codes "1")))) ≡ says Yes (codes "removed 0" ∷ codes "new 0" ∷ codes "changed 0" ∷ codes "notuptodate 0" ∷
+score_of_what_is_recommended : report (Score None) Lenient (text_of wide ++ codes "request: r") (Some (text_of (chosen (codes "a") (codes "1")))) ≡ says Yes (codes "removed 0" ∷ codes "new 0" ∷ codes "changed 0" ∷ codes "notuptodate 0" ∷
     codes "unsat_recommends 2" ∷ codes "paranoid 0 0" ∷ codes "trendy 0 0 2 0" ∷ codes "solution yes" ∷ [])
 unfolding report criteria listing is_solution plain_text is_ident is_fail problem_faults plain_problem solution_faults vpkg veqpkg formula vpkglist veqpkglist positive natural truth is_pkgname is_utf8 chars encode digits declarations
 score_of_what_is_recommended = refl

@@ -1,7 +1,8 @@
 -- Printing one text after another.
-use Rattle.std.proofs.Common.{◌≡◌, ◌+◌, ◌<◌, ℕ, List, [], ◌∷◌, ◌++◌, length, get_or, take, drop, take-append-drop, Result, Ok, Err, IsErr, IsErrAnd, refl, sym, ap, ◌∙◌, subst, append_assoc, append-nil, arith}
-use Rattle.std.specs.List.{flat_map}
-use Rattle.std.proofs.lemmas.List.{take_more}
+use Rattle.std.proofs.Common.{◌≡◌, ◌+◌, ◌<◌, ◌≤◌, ℕ, List, [], ◌∷◌, ◌++◌, length, get_or, take, drop, take-append-drop, Result, Ok, Err, IsErr, IsErrAnd, refl, sym, ap, ◌∙◌, subst, append_assoc, append-nil, arith}
+use Rattle.std.specs.List.{flat_map, enumerate_from}
+use Rattle.std.proofs.lemmas.List.{take_more, take_all}
+use Rattle.std.proofs.lemmas.List.FromFn.{length-enumerate_from, get_or-enumerate_from}
 use Rattle.std.proofs.lemmas.Grind.{flat_map-append}
 use Rattle.std.proofs.lemmas.Result.{on_ok_weaker}
 use Rattle.cudf_check.specs.declared.outcome.RunError.{RunError}
@@ -103,6 +104,34 @@ texts-all f xs i d end below =
     ∙ ap (λ x. x ++ (flat_map f (drop (i + 1) xs) ++ end)) (texts-more f xs i d below)
     ∙ sym (append_assoc (flat_map f (take (i + 1) xs)) (flat_map f (drop (i + 1) xs)) end)
     ∙ ap (λ x. x ++ end) (sym (flat_map-append f (take (i + 1) xs) (drop (i + 1) xs)) ∙ ap (flat_map f) (take-append-drop (i + 1) xs))
+
+-- ---- texts of a list's elements, each with its number from 1
+
+numbered : {A : Type 0} (xs : List A) (i : ℕ) (d : A) → i < length xs → get_or (enumerate_from 1 xs) i (0, d) ≡ (i + 1, get_or xs i d)
+numbered xs i d below =
+    let next : 1 + i ≡ i + 1 = omega arith in
+    get_or-enumerate_from 1 xs i (0, d) below ∙ ap (λ n. (n, get_or xs i d)) next
+
+-- one element more
+pub numbered-more : {A : Type 0} (f : ℕ × A → List ℕ) (xs : List A) (i : ℕ) (d : A) → i < length xs
+    → flat_map f (take i (enumerate_from 1 xs)) ++ f (i + 1, get_or xs i d) ≡ flat_map f (take (i + 1) (enumerate_from 1 xs))
+numbered-more f xs i d below =
+    let inside : i < length (enumerate_from 1 xs) = omega (arith, length-enumerate_from 1 xs) in
+    ap (λ x. flat_map f (take i (enumerate_from 1 xs)) ++ f x) (sym (numbered xs i d below)) ∙ texts-more f (enumerate_from 1 xs) i (0, d) inside
+
+-- the elements so far, one more, and the others
+pub numbered-all : {A : Type 0} (f : ℕ × A → List ℕ) (xs : List A) (i : ℕ) (d : A) → i < length xs
+    → flat_map f (take i (enumerate_from 1 xs)) ++ (f (i + 1, get_or xs i d) ++ (flat_map f (drop (i + 1) (enumerate_from 1 xs)) ++ [])) ≡ flat_map f (enumerate_from 1 xs)
+numbered-all f xs i d below =
+    let inside : i < length (enumerate_from 1 xs) = omega (arith, length-enumerate_from 1 xs) in
+    ap (λ x. flat_map f (take i (enumerate_from 1 xs)) ++ (f x ++ (flat_map f (drop (i + 1) (enumerate_from 1 xs)) ++ []))) (sym (numbered xs i d below))
+    ∙ texts-all f (enumerate_from 1 xs) i (0, d) [] inside ∙ append-nil (flat_map f (enumerate_from 1 xs))
+
+-- no element is left
+pub numbered-end : {A : Type 0} (f : ℕ × A → List ℕ) (xs : List A) (i : ℕ) → length xs ≤ i → flat_map f (take i (enumerate_from 1 xs)) ≡ flat_map f (enumerate_from 1 xs)
+numbered-end f xs i end =
+    let past : length (enumerate_from 1 xs) ≤ i = omega (arith, length-enumerate_from 1 xs) in
+    ap (flat_map f) (take_all i (enumerate_from 1 xs) past)
 
 -- ---- a listing, as far as it is printed
 

@@ -8,6 +8,7 @@ use Rattle.std.proofs.lemmas.Option.{slice_get-map}
 use Rattle.cudf_text.specs.Joined.{is_fail}
 use Rattle.cudf_text.specs.Stanzas.{PlainStanza, PlainText, plain_text}
 use Rattle.cudf_text.specs.Views.{utf8_fault}
+use Rattle.cudf_document.specs.declared.mode.Mode.{Mode}
 use Rattle.cudf_document.specs.Faults.{least}
 use Rattle.cudf_document.specs.Ids.{Id, is_among}
 use Rattle.cudf_document.specs.SolutionFaults.{solution_faults}
@@ -24,11 +25,11 @@ use Rattle.cudf_referee.specs.Violations.{listing, met_by}
 use Rattle.cudf_referee.specs.declared.key.Aspect.{Aspect}
 use Rattle.cudf_check.specs.Report as report
 use Rattle.cudf_check.specs.declared.outcome.Outcome.TheVariants.{Yes, No, Fail}
-use Rattle.cudf_check.specs.Report.{Report, line, what_text, place_text, met_line, instance_line, listed, limited, last_key, more_text, page_text, check_text, score_text, criteria_text, verdict_text, judged_report, proposal_of, solution_report, faulty_or, alone, faulty}
+use Rattle.cudf_check.specs.Report.{Report, line, what_text, place_text, met_line, instance_line, listed, limited, last_key, more_text, page_text, check_text, criteria_text, aims_text, verdict_text, judged_report, proposal_of, solution_report, faulty_or, alone, faulty}
 use Rattle.cudf_check.specs.Working.Chosen.{AreChosen}
 use Rattle.cudf_check.specs.Working.Found.{found_text}
 use Rattle.cudf_check.specs.declared.lines.judged.Found.{Found}
-use Rattle.cudf_check.specs.declared.lines.judged.Found.TheVariants.{Page, Score}
+use Rattle.cudf_check.specs.declared.lines.judged.Found.TheVariants.{Page, Score, Aims}
 
 -- ---- what is found of proposals that are judged alike
 
@@ -69,6 +70,7 @@ listed-same s t same (Some key) = ap (filter (λ i. is_lt (key_cmp key i.key))) 
 
 found-same : (k : Id → Bool) (s t : Proposal) → s.packages ≡ map (thin_package k) t.packages → AreJudgedAlike s t → (found : Found) → found_text found s ≡ found_text found t
 found-same k s t thin alike Score = ap criteria_text alike.criteria_are
+found-same k s t thin alike (Aims aims) = ap (aims_text aims.now) alike.criteria_are
 found-same k s t thin alike (Page after limit) =
     ap (λ is. page_text s (limited limit is)) (listed-same s t alike.listing_is (option_map key_view after))
     ∙ page (limited limit (listed (option_map key_view after) t))
@@ -137,17 +139,17 @@ judged-thin law is_chosen thin whole fits text same found =
         (same (package_id p) ∙ sym (ap (λ o. option_map_or (λ q. is_among (installed_ids text.stanzas) (package_id q)) o false) there) ∙ proposed)
 
 -- a problem that is thinned for what the bytes install has the report of the whole one
-pub report-thin : ThinIsEnough → (chosen : List Id) (thin whole : PlainProblem) → IsThinFor (is_among chosen) thin whole
+pub report-thin : (mode : Mode) → ThinIsEnough → (chosen : List Id) (thin whole : PlainProblem) → IsThinFor (is_among chosen) thin whole
     → (bytes : List ℕ) → AreChosen chosen bytes
-    → (found : Found) → solution_report (found_text found) thin bytes ≡ solution_report (found_text found) whole bytes
-report-thin law chosen thin whole fits bytes same found = by (is_utf8 bytes) refl
+    → (found : Found) → solution_report mode (found_text found) thin bytes ≡ solution_report mode (found_text found) whole bytes
+report-thin mode law chosen thin whole fits bytes same found = by (is_utf8 bytes) refl
   where
     judged : PlainProblem → Report
     judged problem = if is_fail bytes then alone (codes "solution FAIL") Fail
-        else faulty_or (codes "solution") (least (solution_faults (plain_text bytes))) (judged_report (found_text found) (proposal_of problem (plain_text bytes)))
+        else faulty_or (codes "solution") (least (solution_faults (plain_text bytes) mode)) (judged_report (found_text found) (proposal_of problem (plain_text bytes)))
 
     by : (b : Bool) → is_utf8 bytes ≡ b
         → (if b then judged thin else faulty (codes "solution") (utf8_fault bytes)) ≡ (if b then judged whole else faulty (codes "solution") (utf8_fault bytes))
-    by true is = ap (λ r. if is_fail bytes then alone (codes "solution FAIL") Fail else faulty_or (codes "solution") (least (solution_faults (plain_text bytes))) r)
+    by true is = ap (λ r. if is_fail bytes then alone (codes "solution FAIL") Fail else faulty_or (codes "solution") (least (solution_faults (plain_text bytes) mode)) r)
         (judged-thin law (is_among chosen) thin whole fits (plain_text bytes) (same is) found)
     by false is = refl

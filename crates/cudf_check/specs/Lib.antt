@@ -1,8 +1,13 @@
 pub mod Device
 pub mod DeviceInside
 pub mod Limits
+pub mod ManyRuns
 pub mod Outcome
 pub mod Prefix
+pub mod RankLaws
+pub mod RankReport
+pub mod RankRuns
+pub mod Ranking
 pub mod Report
 pub mod Runs
 pub mod Working

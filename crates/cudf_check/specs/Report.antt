@@ -9,12 +9,15 @@ use Rattle.cudf_text.specs.Views.{utf8_fault}
 use Rattle.cudf_text.specs.Joined.{problem_part, solution_part, is_fail}
 use Rattle.cudf_value.specs.Vpkgs.{PlainVpkg}
 use Rattle.cudf_value.specs.Printing.{vpkg_text, clause_text}
+use Rattle.cudf_document.specs.declared.mode.Mode.{Mode}
 use Rattle.cudf_document.specs.Faults.{least}
 use Rattle.cudf_document.specs.ProblemFaults.{problem_faults}
 use Rattle.cudf_document.specs.SolutionFaults.{solution_faults}
 use Rattle.cudf_document.specs.Universe.{PlainPackage, PlainProblem, plain_problem}
 use Rattle.cudf_document.specs.Statuses.{is_initial, is_proposed, unknown_stanzas}
 use Rattle.cudf_universe.specs.Satisfaction.{Pair}
+use Rattle.cudf_referee.specs.Aims.{aim_text, count_of}
+use Rattle.cudf_referee.specs.declared.aims.Aim.{Aim}
 use Rattle.cudf_referee.specs.declared.key.Aspect.{Aspect}
 use Rattle.cudf_referee.specs.declared.key.Aspect.TheVariants.{Unsatisfied, Many, Lower}
 use Rattle.cudf_referee.specs.declared.criteria.Criteria.{Criteria}
@@ -168,6 +171,19 @@ criteria_text c =
 abbrev pub score_text : Proposal → List ℕ
 score_text s = criteria_text (criteria s)
 
+-- `-removed 2`
+abbrev pub aim_line : Criteria → Aim → List ℕ
+aim_line c aim = count_line (aim_text aim) (count_of c aim.count)
+
+-- a line for each aim of the list, in its order
+abbrev pub aims_text : List Aim → Criteria → List ℕ
+aims_text aims c = flat_map (aim_line c) aims
+
+-- the counts that the aims name, where there are aims; and else the counts and vectors of the competition
+abbrev pub scored_text : Option (List Aim) → Proposal → List ℕ
+scored_text None s = score_text s
+scored_text (Some aims) s = aims_text aims (criteria s)
+
 -- ---- judging
 
 abbrev pub verdict_text : Bool → List ℕ
@@ -187,37 +203,37 @@ proposal_of problem text = proposal problem (is_initial problem) (is_proposed pr
 -- ---- documents
 
 -- a solution that doesn't say FAIL
-abbrev pub solution_text_report : (Proposal → List ℕ) → PlainProblem → PlainText → Report
-solution_text_report found problem text = faulty_or (codes "solution") (least (solution_faults text)) (judged_report found (proposal_of problem text))
+abbrev pub solution_text_report : Mode → (Proposal → List ℕ) → PlainProblem → PlainText → Report
+solution_text_report mode found problem text = faulty_or (codes "solution") (least (solution_faults text mode)) (judged_report found (proposal_of problem text))
 
 -- a solution, beside a problem without fault
-abbrev pub solution_report : (Proposal → List ℕ) → PlainProblem → List ℕ → Report
-solution_report found problem bytes = of_bytes (codes "solution") bytes
-    (λ text. if is_fail bytes then alone (codes "solution FAIL") Fail else solution_text_report found problem text)
+abbrev pub solution_report : Mode → (Proposal → List ℕ) → PlainProblem → List ℕ → Report
+solution_report mode found problem bytes = of_bytes (codes "solution") bytes
+    (λ text. if is_fail bytes then alone (codes "solution FAIL") Fail else solution_text_report mode found problem text)
 
 -- a problem's text, and a solution
-abbrev pub problem_text_report : (Proposal → List ℕ) → List ℕ → PlainText → Report
-problem_text_report found solution text = faulty_or (codes "problem") (least (problem_faults text)) (solution_report found (plain_problem text) solution)
+abbrev pub problem_text_report : Mode → (Proposal → List ℕ) → List ℕ → PlainText → Report
+problem_text_report mode found solution text = faulty_or (codes "problem") (least (problem_faults text mode)) (solution_report mode found (plain_problem text) solution)
 
 -- a problem and a solution
-abbrev pub pair_report : (Proposal → List ℕ) → List ℕ → List ℕ → Report
-pair_report found problem solution = of_bytes (codes "problem") problem (problem_text_report found solution)
+abbrev pub pair_report : Mode → (Proposal → List ℕ) → List ℕ → List ℕ → Report
+pair_report mode found problem solution = of_bytes (codes "problem") problem (problem_text_report mode found solution)
 
 -- a problem's text alone
-abbrev pub lint_text_report : PlainText → Report
-lint_text_report text = faulty_or (codes "problem") (least (problem_faults text)) (alone (codes "problem ok") Yes)
+abbrev pub lint_text_report : Mode → PlainText → Report
+lint_text_report mode text = faulty_or (codes "problem") (least (problem_faults text mode)) (alone (codes "problem ok") Yes)
 
-abbrev pub lint_report : List ℕ → Report
-lint_report problem = of_bytes (codes "problem") problem lint_text_report
+abbrev pub lint_report : Mode → List ℕ → Report
+lint_report mode problem = of_bytes (codes "problem") problem (lint_text_report mode)
 
 -- ---- the report
 
 -- the second input is the solution; where there is none, the first one is cut
-abbrev pub inputs_report : (Proposal → List ℕ) → List ℕ → Option (List ℕ) → Report
-inputs_report found input None = pair_report found (problem_part input) (solution_part input)
-inputs_report found input (Some solution) = pair_report found input solution
+abbrev pub inputs_report : Mode → (Proposal → List ℕ) → List ℕ → Option (List ℕ) → Report
+inputs_report mode found input None = pair_report mode found (problem_part input) (solution_part input)
+inputs_report mode found input (Some solution) = pair_report mode found input solution
 
-unfoldable pub report : Job → List ℕ → Option (List ℕ) → Report
-report Lint input solution = lint_report input
-report (Check after limit) input solution = inputs_report (check_text (option_map key_view after) limit) input solution
-report Score input solution = inputs_report score_text input solution
+unfoldable pub report : Job → Mode → List ℕ → Option (List ℕ) → Report
+report Lint mode input solution = lint_report mode input
+report (Check after limit) mode input solution = inputs_report mode (check_text (option_map key_view after) limit) input solution
+report (Score aims) mode input solution = inputs_report mode (scored_text (option_map (λ list. list.items) aims)) input solution

@@ -3,6 +3,7 @@ use Rattle.std.specs.Prelude.{◌≡◌, ◌≢◌, ◌+◌, ◌<◌, ◌≤◌,
 use Rattle.std.proofs.Common.{inl, inr}
 use Rattle.std.specs.Borrow.{MutBor}
 use Rattle.std.specs.Io.KnownBytes.{Appends, Consumes, IsAtEnd, Keeps}
+use Rattle.cudf_document.specs.declared.mode.Mode.{Mode}
 use Rattle.cudf_check.specs.Device.{SourceState, SinkState}
 use Rattle.cudf_check.specs.Limits.{most_bytes, most_turns}
 use Rattle.cudf_check.specs.Prefix.{AppendsPrefix}
@@ -81,10 +82,14 @@ abbrev pub OfReader : (Change SourceState → Type 0) → Option (Change SourceS
 OfReader P None = ⊥
 OfReader P (Some reader) = P reader
 
--- the solution isn't read: the job needs none, or reading the first input ended in an error, whichever it is
+-- the reading ended in an error, whichever it is
+abbrev pub IsStopped : Change SourceState → Type 0
+IsStopped reader = IsUnfinished reader ⊎ (IsTooLong reader ⊎ IsUnended reader)
+
+-- the solution isn't read: the job needs none, or the reading of the first input ended in an error
 abbrev pub SkipsSolution : Job → Change SourceState → Type 0
 SkipsSolution Lint input = Unit {0}
-SkipsSolution job input = IsUnfinished input ⊎ (IsTooLong input ⊎ IsUnended input)
+SkipsSolution job input = IsStopped input
 
 -- ---- the inputs and what is written of their report
 
@@ -94,27 +99,27 @@ pub record ReadsInputs (job : Job) (input : Change SourceState) (solution : Opti
   pub second_read : ReadsIfThere (reader_for job solution) second
 
 -- the report of the inputs was written whole, and the outcome is the report's
-pub record Reports (job : Job) (input : Change SourceState) (solution : Option (Change SourceState)) (out : Change SinkState) (outcome : Outcome) : Type 0 where
+pub record Reports (job : Job) (mode : Mode) (input : Change SourceState) (solution : Option (Change SourceState)) (out : Change SinkState) (outcome : Outcome) : Type 0 where
   pub first : List ℕ
   pub second : Option (List ℕ)
   pub read : ReadsInputs job input solution first second
-  pub written : Appends out.before.contents out.after.contents (report job first second).text
-  pub answered : outcome ≡ (report job first second).outcome
+  pub written : Appends out.before.contents out.after.contents (report job mode first second).text
+  pub answered : outcome ≡ (report job mode first second).outcome
 
 -- a prefix of the report of the inputs was written
-pub record IsCutShort (job : Job) (input : Change SourceState) (solution : Option (Change SourceState)) (out : Change SinkState) : Type 0 where
+pub record IsCutShort (job : Job) (mode : Mode) (input : Change SourceState) (solution : Option (Change SourceState)) (out : Change SinkState) : Type 0 where
   pub first : List ℕ
   pub second : Option (List ℕ)
   pub read : ReadsInputs job input solution first second
-  pub written : AppendsPrefix out.before.contents out.after.contents (report job first second).text
+  pub written : AppendsPrefix out.before.contents out.after.contents (report job mode first second).text
 
 -- ---- the run
 
-pub record Runs (job : Job) (input : Change SourceState) (solution : Option (Change SourceState)) (out : Change SinkState) (result : Result Outcome RunError) : Type 0 where
+pub record Runs (job : Job) (mode : Mode) (input : Change SourceState) (solution : Option (Change SourceState)) (out : Change SinkState) (result : Result Outcome RunError) : Type 0 where
   -- an outcome: the inputs were read whole, and their report was written whole
-  pub done : IfOk result (Reports job input solution out)
+  pub done : IfOk result (Reports job mode input solution out)
   -- `Write`: the inputs were read whole, and a prefix of their report was written
-  pub cut_short : IsErrOf result Write → IsCutShort job input solution out
+  pub cut_short : IsErrOf result Write → IsCutShort job mode input solution out
   -- any other error: nothing was written
   pub untouched : IfErr result (λ e. e ≢ Write → Keeps out.before.contents out.after.contents)
   -- `Read` exactly where a reader failed or didn't end within its turns

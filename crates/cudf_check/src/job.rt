@@ -1,8 +1,8 @@
 //! What a run is asked to do.
-use cudf_referee::Key;
+use cudf_referee::{Aim, Key};
 
 /// One run's task.
-#[derive(Clone, Copy, Debug, PartialEq, Eq)]
+#[derive(Debug, PartialEq, Eq, Drop)]
 pub enum Job {
     /// Say whether the input is a problem without fault. No solution is read.
     Lint,
@@ -12,6 +12,9 @@ pub enum Job {
         after: Option<Key>,
         limit: Option<u64>,
     },
-    /// Judge the solution and count what it changes and lacks, by the criteria of the MISC competition.
-    Score,
+    /// Judge the solution and count what it changes and lacks: the counts that `aims` name, one at least, each with its
+    /// sign and in this order; or else those of the MISC competition's criteria, with its two vectors.
+    Score {
+        aims: Option<Vec<Aim>>,
+    },
 }

@@ -1,29 +1,39 @@
-//! Checks a proposed solution of a CUDF 2.0 problem, and reports each rule that it breaks: one call, `run`, from readers
-//! of the documents to the written report.
+//! Checks proposed solutions of a CUDF 2.0 problem: two calls, from readers of the documents to the written report. `run`
+//! reports each rule that a solution breaks, `rank` compares several solutions of one problem.
 #![tactic(auto)]
 
 ghost use Rattle.std.specs.Prelude.{◌≡◌, None, Some};
-ghost use Rattle.cudf_check.specs.Runs.{change, change_of_lent, lent, returned, Runs, SkipsSolution};
+ghost use Rattle.cudf_check.specs.ManyRuns.{changes, LeavesBehind};
+ghost use Rattle.cudf_check.specs.RankRuns.{RanksRun};
+ghost use Rattle.cudf_check.specs.Runs.{change, change_of_lent, lent, returned, IsStopped, Runs, SkipsSolution};
 
 mod buffer;
 mod device;
 mod input;
+mod inputs;
 mod job;
+mod judging;
+pub mod laws;
 mod lines;
 mod outcome;
 mod output;
+mod rank_report;
+mod ranking;
 mod report;
 
-pub use cudf_referee::Key;
+pub use cudf_referee::{Aim, Count, Key, Sign};
+pub use cudf_universe::Mode;
 pub use device::{Device, Sink, Source, Trouble};
 use input::read_all;
+use inputs::read_each;
 pub use job::Job;
 pub use outcome::{Outcome, RunError};
+use rank_report::answer_ranking;
 use report::answer_job;
 use std::alloc::Global;
 
-/// Reads `input` to its end, and then `solution`, where it is given and the job judges one; answers
-/// the job and writes its report to `out`. `None` as the solution means that the input holds both.
+/// Reads `input` to its end, and then `solution`, where it is given and the job judges one; reads both
+/// documents in this mode, answers the job and writes its report to `out`. `None` as the solution means that the input holds both.
 ///
 /// # Errors
 ///
@@ -38,11 +48,12 @@ use std::alloc::Global;
 pub fn run<R: Source, S: Source, W: Sink>(
     alloc: Global,
     job: &Job,
+    mode: Mode,
     input: &mut R,
     solution: Option<&mut S>,
     out: &mut W,
 ) -> Result<Outcome, RunError>
-    ensures runs { Runs job.now (change R.state input.old input.new)
+    ensures runs { Runs job.now mode (change R.state input.old input.new)
         (change_of_lent S.state (lent solution.entry) (returned solution.exit))
         (change W.state out.old out.new) result }
 
@@ -50,42 +61,89 @@ pub fn run<R: Source, S: Source, W: Sink>(
     ensures unread { SkipsSolution job.now (change R.state input.old input.new) → returned solution.exit ≡ lent solution.entry }
 {
     match solution {
-        Some(solution) => run_two(alloc, job, input, solution, out),
-        None => run_one(alloc, job, input, out),
+        Some(solution) => run_two(alloc, job, mode, input, solution, out),
+        None => run_one(alloc, job, mode, input, out),
     }
+}
+
+/// Reads `problem` to its end, and then each of the `solutions` in order; reads the documents in this mode, judges and ranks them by the `aims`, and writes
+/// their ranking to `out`. Own.
+///
+/// The ranking has a line for each solution, the best first: its rank from 1, its place among the solutions from 1, and
+/// what was found of it, as `2 solution 5 yes -changed 1 -touched 1`, `4 solution 3 no` or `5 solution 1 FAIL`. Solutions
+/// come first, the better one by [`compare`](cudf_referee::compare) before the other; then those that are none; then those
+/// that say FAIL. Where these tie, the order is that of their places. The outcome is `Yes` where one is a solution, or else
+/// `No` where one doesn't say FAIL, or else `Fail`.
+///
+/// Where a document is faulty, a single line says so, and the outcome is `Faulty`: the problem's first fault, as
+/// `problem line 3: E9 value is not of its type`; or else the first fault of the first solution that has one, as
+/// `solution 2 line 1: E12 no version`, by its place from 1. A solution that says FAIL can have E1 alone.
+///
+/// # Errors
+///
+/// - `Read`: a read failed, or turn 536870912 of a reader neither ended its input nor made it too
+///   long. A turn is one call of `read`; an interrupted one is tried again.
+/// - `TooLong`: a reader gave more than 268435456 bytes (256 MiB).
+/// - `Write`: a call of `write` answered a trouble or took no byte. What was taken before is a
+///   prefix of the report.
+/// - `Memory`: a growth was refused.
+///
+/// After `Read`, `TooLong` and `Memory` nothing was written. The readers behind one whose reading ended in an error aren't
+/// called.
+pub fn rank<R: Source, S: Source, W: Sink>(
+    alloc: Global,
+    aims: &[Aim],
+    mode: Mode,
+    problem: &mut R,
+    solutions: &mut [S],
+    out: &mut W,
+) -> Result<Outcome, RunError>
+    ensures ranks { RanksRun aims.now mode (change R.state problem.old problem.new) (changes S.state solutions.old solutions.new)
+        (change W.state out.old out.new) result }
+
+    // Where the problem's reading ended in an error, the solutions are as they were lent; where a solution's did, those
+    // behind it.
+    ensures unread { IsStopped (change R.state problem.old problem.new) → solutions.new ≡ solutions.old }
+    ensures behind { LeavesBehind (λ old new. IsStopped (change S.state old new)) solutions.old solutions.new }
+{
+    let first = read_all(alloc, problem)?;
+    let others = read_each(alloc, solutions)?;
+    answer_ranking(alloc, aims, mode, &first, &others, out)
 }
 
 /// The run on one input.
 fn run_one<R: Source, W: Sink>(
     alloc: Global,
     job: &Job,
+    mode: Mode,
     input: &mut R,
     out: &mut W,
 ) -> Result<Outcome, RunError>
-    ensures { Runs job.now (change R.state input.old input.new) None (change W.state out.old out.new) result }
+    ensures { Runs job.now mode (change R.state input.old input.new) None (change W.state out.old out.new) result }
 {
     let bytes = read_all(alloc, input)?;
-    answer_job(alloc, job, &bytes, None, out)
+    answer_job(alloc, job, mode, &bytes, None, out)
 }
 
 /// The run on two inputs. The second isn't read where the job judges no solution.
 fn run_two<R: Source, S: Source, W: Sink>(
     alloc: Global,
     job: &Job,
+    mode: Mode,
     input: &mut R,
     solution: &mut S,
     out: &mut W,
 ) -> Result<Outcome, RunError>
-    ensures runs { Runs job.now (change R.state input.old input.new) (Some (change S.state solution.old solution.new))
+    ensures runs { Runs job.now mode (change R.state input.old input.new) (Some (change S.state solution.old solution.new))
         (change W.state out.old out.new) result }
     ensures unread { SkipsSolution job.now (change R.state input.old input.new) → solution.new ≡ solution.old }
 {
     let first = read_all(alloc, input)?;
     match job {
-        Job::Lint => answer_job(alloc, job, &first, None, out),
-        Job::Check { .. } | Job::Score => {
+        Job::Lint => answer_job(alloc, job, mode, &first, None, out),
+        Job::Check { .. } | Job::Score { .. } => {
             let second = read_all(alloc, solution)?;
-            answer_job(alloc, job, &first, Some(&second), out)
+            answer_job(alloc, job, mode, &first, Some(&second), out)
         }
     }
 }

@@ -1,10 +1,10 @@
 //! Decides which report the inputs have.
-ghost use Rattle.std.specs.Prelude.{◌≡◌, IsTrue, IfOk, codes, map, option_copied};
+ghost use Rattle.std.specs.Prelude.{◌≡◌, IsTrue, IfOk, codes, map, option_copied, option_map};
 ghost use Rattle.std.specs.FinSet as set;
 ghost use Rattle.cudf_document.specs.Statuses.{is_initial, unknown_view, ascend_above};
 ghost use Rattle.cudf_referee.specs.Proposals.{proposal};
 ghost use Rattle.cudf_check.specs.declared.outcome.Outcome.TheVariants.{Yes};
-ghost use Rattle.cudf_check.specs.Report.{Report, alone, faulty, faulty_or, judged_report, solution_text_report, solution_report, problem_text_report, pair_report, lint_text_report, lint_report, inputs_report, report};
+ghost use Rattle.cudf_check.specs.Report.{Report, alone, faulty, faulty_or, judged_report, solution_text_report, solution_report, problem_text_report, pair_report, lint_text_report, lint_report, inputs_report, scored_text, report};
 ghost use Rattle.cudf_check.specs.Working.Answering.{Answers};
 ghost use Rattle.cudf_check.specs.Working.Chosen.{AreChosen};
 ghost use Rattle.cudf_check.specs.Working.Found.{found_text};
@@ -14,16 +14,17 @@ use crate::device::Sink;
 use crate::job::Job;
 use crate::lines::{Found, answer, answer_fault, answer_judged};
 use crate::outcome::{Outcome, RunError};
-use cudf_referee::Referee;
 use cudf_referee::laws::{ascending, thin};
+use cudf_referee::{Aim, Referee};
 use cudf_text::{Fault, Stanzas, cut_joined, is_fail, source_of, stanzas};
 use cudf_universe::{
-    Chosen, Problem, ReadError, Room, Solution, first_fault, problem_for, problem_of, solution_of,
+    Chosen, Mode, Problem, ReadError, Room, Solution, first_fault, problem_for, problem_of,
+    solution_of,
 };
 use std::alloc::{AllocError, Global};
 
 /// Answers a document that isn't judged.
-fn answer_refusal<W: Sink>(
+pub(crate) fn answer_refusal<W: Sink>(
     alloc: Global,
     out: &mut W,
     whose: &'static str,
@@ -41,12 +42,12 @@ fn answer_refusal<W: Sink>(
 fn answer_proposal<W: Sink>(
     alloc: Global,
     out: &mut W,
-    found: Found,
+    found: Found<'_>,
     problem: &Problem<'_>,
     solution: &Solution<'_>,
 ) -> Result<Outcome, RunError>
     requires { IsTrue (ascend_above 0 (map unknown_view solution.now.unknown.items)) }
-    ensures { Answers (W.state out.old) (W.state out.new) (judged_report (found_text found) (proposal problem.now (is_initial problem.now) (set.contains solution.now.status)
+    ensures { Answers (W.state out.old) (W.state out.new) (judged_report (found_text found.entry) (proposal problem.now (is_initial problem.now) (set.contains solution.now.status)
         (map unknown_view solution.now.unknown.items))) result }
 {
     match Referee::new(alloc, problem, solution) {
@@ -62,13 +63,14 @@ fn answer_proposal<W: Sink>(
 fn answer_solution_stanzas<W: Sink>(
     alloc: Global,
     out: &mut W,
-    found: Found,
+    found: Found<'_>,
+    mode: Mode,
     problem: &Problem<'_>,
     stanzas: Stanzas<'_>,
 ) -> Result<Outcome, RunError>
-    ensures { Answers (W.state out.old) (W.state out.new) (solution_text_report (found_text found) problem.now stanzas.entry.text) result }
+    ensures { Answers (W.state out.old) (W.state out.new) (solution_text_report mode (found_text found.entry) problem.now stanzas.entry.text) result }
 {
-    match solution_of(alloc, stanzas, problem) {
+    match solution_of(alloc, stanzas, problem, mode) {
         Ok(solution) => answer_proposal(alloc, out, found, problem, &solution),
         Err(error) => answer_refusal(alloc, out, "solution", error),
     }
@@ -78,18 +80,19 @@ fn answer_solution_stanzas<W: Sink>(
 fn answer_solution<W: Sink>(
     alloc: Global,
     out: &mut W,
-    found: Found,
+    found: Found<'_>,
+    mode: Mode,
     problem: &Problem<'_>,
     bytes: &[u8],
 ) -> Result<Outcome, RunError>
-    ensures { Answers (W.state out.old) (W.state out.new) (solution_report (found_text found) problem.now bytes.now) result }
+    ensures { Answers (W.state out.old) (W.state out.new) (solution_report mode (found_text found.entry) problem.now bytes.now) result }
 {
     match source_of(bytes) {
         Ok(source) => {
             if is_fail(source) {
                 return answer(alloc, out, &["solution FAIL", "\n"], Outcome::Fail);
             }
-            answer_solution_stanzas(alloc, out, found, problem, Stanzas::new(source))
+            answer_solution_stanzas(alloc, out, found, mode, problem, Stanzas::new(source))
         }
         Err(fault) => answer_fault(alloc, out, "solution", fault),
     }
@@ -109,19 +112,20 @@ fn chosen_by(alloc: Global, solution: &[u8]) -> Result<Chosen<'_>, AllocError>
 fn answer_chosen<W: Sink>(
     alloc: Global,
     out: &mut W,
-    found: Found,
+    found: Found<'_>,
+    mode: Mode,
     stanzas: Stanzas<'_>,
     solution: &[u8],
     chosen: &Chosen<'_>,
 ) -> Result<Outcome, RunError>
     requires { AreChosen chosen.now solution.now }
-    ensures { Answers (W.state out.old) (W.state out.new) (problem_text_report (found_text found) solution.now stanzas.entry.text) result }
+    ensures { Answers (W.state out.old) (W.state out.new) (problem_text_report mode (found_text found.entry) solution.now stanzas.entry.text) result }
 {
     let mut room = Room::new(alloc);
-    match problem_for(alloc, stanzas, &mut room, chosen) {
+    match problem_for(alloc, stanzas, &mut room, chosen, mode) {
         Ok(problem) => {
             thin();
-            answer_solution(alloc, out, found, &problem, solution)
+            answer_solution(alloc, out, found, mode, &problem, solution)
         }
         Err(error) => answer_refusal(alloc, out, "problem", error),
     }
@@ -132,14 +136,15 @@ fn answer_chosen<W: Sink>(
 fn answer_thin<W: Sink>(
     alloc: Global,
     out: &mut W,
-    found: Found,
+    found: Found<'_>,
+    mode: Mode,
     stanzas: Stanzas<'_>,
     solution: &[u8],
 ) -> Result<Outcome, RunError>
-    ensures { Answers (W.state out.old) (W.state out.new) (problem_text_report (found_text found) solution.now stanzas.entry.text) result }
+    ensures { Answers (W.state out.old) (W.state out.new) (problem_text_report mode (found_text found.entry) solution.now stanzas.entry.text) result }
 {
     match chosen_by(alloc, solution) {
-        Ok(chosen) => answer_chosen(alloc, out, found, stanzas, solution, &chosen),
+        Ok(chosen) => answer_chosen(alloc, out, found, mode, stanzas, solution, &chosen),
         Err(_) => Err(RunError::Memory),
     }
 }
@@ -148,15 +153,16 @@ fn answer_thin<W: Sink>(
 fn answer_whole<W: Sink>(
     alloc: Global,
     out: &mut W,
-    found: Found,
+    found: Found<'_>,
+    mode: Mode,
     stanzas: Stanzas<'_>,
     solution: &[u8],
 ) -> Result<Outcome, RunError>
-    ensures { Answers (W.state out.old) (W.state out.new) (problem_text_report (found_text found) solution.now stanzas.entry.text) result }
+    ensures { Answers (W.state out.old) (W.state out.new) (problem_text_report mode (found_text found.entry) solution.now stanzas.entry.text) result }
 {
     let mut room = Room::new(alloc);
-    match problem_of(alloc, stanzas, &mut room) {
-        Ok(problem) => answer_solution(alloc, out, found, &problem, solution),
+    match problem_of(alloc, stanzas, &mut room, mode) {
+        Ok(problem) => answer_solution(alloc, out, found, mode, &problem, solution),
         Err(error) => answer_refusal(alloc, out, "problem", error),
     }
 }
@@ -171,17 +177,18 @@ fn is_short_beside(solution: &[u8], problem: &[u8]) -> bool {
 fn answer_problem_stanzas<W: Sink>(
     alloc: Global,
     out: &mut W,
-    found: Found,
+    found: Found<'_>,
+    mode: Mode,
     stanzas: Stanzas<'_>,
     solution: &[u8],
     is_short: bool,
 ) -> Result<Outcome, RunError>
-    ensures { Answers (W.state out.old) (W.state out.new) (problem_text_report (found_text found) solution.now stanzas.entry.text) result }
+    ensures { Answers (W.state out.old) (W.state out.new) (problem_text_report mode (found_text found.entry) solution.now stanzas.entry.text) result }
 {
     if is_short {
-        answer_thin(alloc, out, found, stanzas, solution)
+        answer_thin(alloc, out, found, mode, stanzas, solution)
     } else {
-        answer_whole(alloc, out, found, stanzas, solution)
+        answer_whole(alloc, out, found, mode, stanzas, solution)
     }
 }
 
@@ -189,16 +196,17 @@ fn answer_problem_stanzas<W: Sink>(
 fn check<W: Sink>(
     alloc: Global,
     out: &mut W,
-    found: Found,
+    found: Found<'_>,
+    mode: Mode,
     problem: &[u8],
     solution: &[u8],
 ) -> Result<Outcome, RunError>
-    ensures { Answers (W.state out.old) (W.state out.new) (pair_report (found_text found) problem.now solution.now) result }
+    ensures { Answers (W.state out.old) (W.state out.new) (pair_report mode (found_text found.entry) problem.now solution.now) result }
 {
     match stanzas(problem) {
         Ok(stanzas) => {
             let is_short = is_short_beside(solution, problem);
-            answer_problem_stanzas(alloc, out, found, stanzas, solution, is_short)
+            answer_problem_stanzas(alloc, out, found, mode, stanzas, solution, is_short)
         }
         Err(fault) => answer_fault(alloc, out, "problem", fault),
     }
@@ -222,22 +230,28 @@ fn answer_lint<W: Sink>(
 fn lint_stanzas<W: Sink>(
     alloc: Global,
     out: &mut W,
+    mode: Mode,
     stanzas: Stanzas<'_>,
 ) -> Result<Outcome, RunError>
-    ensures { Answers (W.state out.old) (W.state out.new) (lint_text_report stanzas.entry.text) result }
+    ensures { Answers (W.state out.old) (W.state out.new) (lint_text_report mode stanzas.entry.text) result }
 {
-    match first_fault(alloc, stanzas) {
+    match first_fault(alloc, stanzas, mode) {
         Ok(first) => answer_lint(alloc, out, first),
         Err(_) => Err(RunError::Memory),
     }
 }
 
 /// Says whether a problem has a fault.
-fn lint<W: Sink>(alloc: Global, out: &mut W, problem: &[u8]) -> Result<Outcome, RunError>
-    ensures { Answers (W.state out.old) (W.state out.new) (lint_report problem.now) result }
+fn lint<W: Sink>(
+    alloc: Global,
+    out: &mut W,
+    mode: Mode,
+    problem: &[u8],
+) -> Result<Outcome, RunError>
+    ensures { Answers (W.state out.old) (W.state out.new) (lint_report mode problem.now) result }
 {
     match stanzas(problem) {
-        Ok(stanzas) => lint_stanzas(alloc, out, stanzas),
+        Ok(stanzas) => lint_stanzas(alloc, out, mode, stanzas),
         Err(fault) => answer_fault(alloc, out, "problem", fault),
     }
 }
@@ -247,18 +261,29 @@ fn lint<W: Sink>(alloc: Global, out: &mut W, problem: &[u8]) -> Result<Outcome, 
 fn check_inputs<W: Sink>(
     alloc: Global,
     out: &mut W,
-    found: Found,
+    found: Found<'_>,
+    mode: Mode,
     input: &[u8],
     solution: Option<&[u8]>,
 ) -> Result<Outcome, RunError>
-    ensures { Answers (W.state out.old) (W.state out.new) (inputs_report (found_text found) input.now (option_copied solution.entry)) result }
+    ensures { Answers (W.state out.old) (W.state out.new) (inputs_report mode (found_text found.entry) input.now (option_copied solution.entry)) result }
 {
     match solution {
-        Some(solution) => check(alloc, out, found, input, solution),
+        Some(solution) => check(alloc, out, found, mode, input, solution),
         None => {
             let (problem, solution) = cut_joined(input);
-            check(alloc, out, found, problem, solution)
+            check(alloc, out, found, mode, problem, solution)
         }
+    }
+}
+
+/// What is counted: the counts that the aims name, or else those of the competition.
+fn found_by(aims: &Option<Vec<Aim>>) -> Found<'_>
+    ensures { found_text result ≡ scored_text (option_map (λ aims. aims.items) aims.now) }
+{
+    match aims {
+        Some(aims) => Found::Aims(aims),
+        None => Found::Score,
     }
 }
 
@@ -267,21 +292,22 @@ fn check_inputs<W: Sink>(
 pub(crate) fn answer_job<W: Sink>(
     alloc: Global,
     job: &Job,
+    mode: Mode,
     input: &[u8],
     solution: Option<&[u8]>,
     out: &mut W,
 ) -> Result<Outcome, RunError>
-    ensures { Answers (W.state out.old) (W.state out.new) (report job.now input.now (option_copied solution.entry)) result }
+    ensures { Answers (W.state out.old) (W.state out.new) (report job.now mode input.now (option_copied solution.entry)) result }
 {
     match job {
-        Job::Lint => lint(alloc, out, input),
+        Job::Lint => lint(alloc, out, mode, input),
         Job::Check { after, limit } => {
             let found = Found::Page {
                 after: *after,
                 limit: *limit,
             };
-            check_inputs(alloc, out, found, input, solution)
+            check_inputs(alloc, out, found, mode, input, solution)
         }
-        Job::Score => check_inputs(alloc, out, Found::Score, input, solution),
+        Job::Score { aims } => check_inputs(alloc, out, found_by(aims), mode, input, solution),
     }
 }

@@ -1,5 +1,6 @@
 -- What is gathered of the stanzas of a problem, one after the other.
 use Rattle.std.proofs.Common.{◌≡◌, ℕ, Bool, true, false, not, ◌||◌, ◌&&◌, List, [], ◌∷◌, ◌++◌, Option, None, Some, is_some, is_none, nat_eq, max, find, filter_map, map, refl, sym, ap, ◌∙◌, if◌then◌else◌, option_map, option_to_list, bytes_eq}
+use Rattle.std.proofs.Math.Bool.{and-true, and-false}
 use Rattle.std.proofs.lemmas.Bool.{and_parts, eqb-true, not-true}
 use Rattle.std.proofs.lemmas.List.{append-nil, append_assoc, map_push}
 use Rattle.std.proofs.lemmas.List.Elements.{filter_map-append}
@@ -8,16 +9,17 @@ use Rattle.std.specs.List.{list_any, list_all, flat_map, cons_option}
 use Rattle.std.specs.Option.{option_or}
 use Rattle.indexmap.specs.IndexSet.{insert_key}
 use Rattle.cudf_text.specs.declared.fault.Fault.{Fault}
-use Rattle.cudf_text.specs.declared.fault.Kind.TheVariants.{E4, E5, E6, E11, E12, E13}
+use Rattle.cudf_text.specs.declared.fault.Kind.TheVariants.{E4, E5, E6, E11, E12, E13, E14}
 use Rattle.cudf_text.specs.Stanzas.{PlainProperty, PlainStanza, PlainText}
 use Rattle.cudf_value.specs.Declarations.{PlainDeclaration}
+use Rattle.cudf_document.specs.declared.mode.Mode.{Mode}
 use Rattle.cudf_document.specs.declared.postmark.Postmark.{Postmark}
 use Rattle.cudf_document.specs.declared.postmark.Postmark.TheVariants.{Preamble, Package, Request}
 use Rattle.cudf_document.specs.Faults.{lesser, least, fault_if}
 use Rattle.cudf_document.specs.Documents.{is_empty, with_earlier, postmark, marks_preamble, marks_package, marks_request, is_request, line_of}
 use Rattle.cudf_document.specs.Ids.{Id, are_distinct, is_id, is_among, is_known, id_under, id_of, with_id}
 use Rattle.cudf_document.specs.Preamble.{declared_under, declared}
-use Rattle.cudf_document.specs.ProblemFaults.{place_faults, property_faults, version_property, inner_faults, stanza_faults, requestless_faults, problem_faults}
+use Rattle.cudf_document.specs.ProblemFaults.{place_faults, property_faults, version_property, required_names, lacks_one, inner_faults, stanza_faults, requestless_faults, problem_faults}
 use Rattle.cudf_document.specs.Universe.{PlainPackage, package_id, package_with, package_of, packages_in, request_of, request_in}
 use Rattle.cudf_document.specs.Working.PackageFields.{package_fields_of, package_from}
 use Rattle.cudf_document.specs.Working.ProblemBuilders.{PlainBuilder, with_stanza, faults_inside, IsBuilt, IsListed, first_ids}
@@ -56,7 +58,7 @@ with_id-append ids (Some new) id =
     ∙ (λ i. is_among ids id || sym (or_false (is_id id new)) i)
     ∙ sym (list_any-append (is_id id) ids (new ∷ []))
 
-is_known-along : (ids others : List Id) (o : Option Id) → ((id : Id) → is_among ids id ≡ is_among others id) → is_known ids o ≡ is_known others o
+pub is_known-along : (ids others : List Id) (o : Option Id) → ((id : Id) → is_among ids id ≡ is_among others id) → is_known ids o ≡ is_known others o
 is_known-along ids others None same = refl
 is_known-along ids others (Some id) same = same id
 
@@ -163,50 +165,65 @@ module _ (g : PlainBuilder) (before : List PlainStanza) (s : PlainStanza) (so_fa
         ∙ sym (request_in-push before s);
   }
 
-  -- the faults inside a stanza with a postmark
-  inside_is : (mark : Postmark) → postmark s ≡ Some mark → faults_inside (Some mark) g s ≡ inner_faults before s
-  inside_is Preamble marked =
-      sym ((λ i. flat_map (property_faults (declared before) (marked i)) (with_earlier [] s.properties)
-      ++ fault_if (is_known (filter_map id_of before) (id_under (marked i) s.properties)) (line_of (version_property s)) E11
-      ++ fault_if (marks_package (marked i) && is_none (version_property s)) s.last E12)
+  -- the faults inside a stanza with a postmark, by whether a required property is missing
+  abbrev inner_of : Mode → Option Postmark → Bool → List Fault
+  inner_of mode mark lacks =
+      fault_if lacks s.last E14
+      ++ flat_map (property_faults (declared before) mark) (with_earlier [] s.properties)
+      ++ fault_if (is_known (filter_map id_of before) (id_under mark s.properties)) (line_of (version_property s)) E11
+      ++ fault_if (marks_package mark && is_none (version_property s)) s.last E12
+
+  inside_is : (mode : Mode) (mark : Postmark) → postmark s ≡ Some mark → faults_inside (Some mark) (required_names mode (declared before)) g s ≡ inner_faults mode before s
+  inside_is mode Preamble marked =
+      let lacks = lacks_one (required_names mode (declared before)) s.properties in
+      sym ((λ i. inner_of mode (marked i) (lacks && marks_package (marked i)))
+      ∙ ap (inner_of mode (Some Preamble)) (and-false lacks)
       ∙ append-nil (flat_map (property_faults (declared before) (Some Preamble)) (with_earlier [] s.properties) ++ [])
       ∙ append-nil (flat_map (property_faults (declared before) (Some Preamble)) (with_earlier [] s.properties)))
-  inside_is Request marked =
-      sym ((λ i. flat_map (property_faults (declared before) (marked i)) (with_earlier [] s.properties)
-      ++ fault_if (is_known (filter_map id_of before) (id_under (marked i) s.properties)) (line_of (version_property s)) E11
-      ++ fault_if (marks_package (marked i) && is_none (version_property s)) s.last E12)
+  inside_is mode Request marked =
+      let lacks = lacks_one (required_names mode (declared before)) s.properties in
+      sym ((λ i. inner_of mode (marked i) (lacks && marks_package (marked i)))
+      ∙ ap (inner_of mode (Some Request)) (and-false lacks)
       ∙ append-nil (flat_map (property_faults (declared before) (Some Request)) (with_earlier [] s.properties) ++ [])
       ∙ append-nil (flat_map (property_faults (declared before) (Some Request)) (with_earlier [] s.properties)))
-  inside_is Package marked =
-      (λ i. flat_map (property_faults (so_far.declared_are i) (sym marked i)) (with_earlier [] s.properties)
+  inside_is mode Package marked =
+      let required = required_names mode (declared before) in
+      let lacks = lacks_one required s.properties in
+      (λ i. fault_if (sym (and-true lacks) i) s.last E14
+      ++ flat_map (property_faults (so_far.declared_are i) (Some Package)) (with_earlier [] s.properties)
+      ++ fault_if (is_known g.ids (id_under (Some Package) s.properties)) (line_of (version_property s)) E11
+      ++ fault_if (is_none (version_property s)) s.last E12)
+      ∙ (λ i. fault_if (lacks && marks_package (sym marked i)) s.last E14
+      ++ flat_map (property_faults (declared before) (sym marked i)) (with_earlier [] s.properties)
       ++ fault_if (is_known g.ids (id_under (sym marked i) s.properties)) (line_of (version_property s)) E11
       ++ fault_if (marks_package (sym marked i) && is_none (version_property s)) s.last E12)
-      ∙ ap (λ b. flat_map (property_faults (declared before) (postmark s)) (with_earlier [] s.properties)
+      ∙ ap (λ b. fault_if (lacks && marks_package (postmark s)) s.last E14
+      ++ flat_map (property_faults (declared before) (postmark s)) (with_earlier [] s.properties)
       ++ fault_if b (line_of (version_property s)) E11
       ++ fault_if (marks_package (postmark s) && is_none (version_property s)) s.last E12)
       (is_known-along g.ids (filter_map id_of before) (id_of s) so_far.ids_are)
 
   -- a stanza's first fault, by where it stands or else inside it
-  pub stanza_least : (mark : Option Postmark) (is_first : Bool) (place inside : Option Fault) → postmark s ≡ mark → is_first ≡ is_empty before
-      → place ≡ least (place_faults is_first (is_some g.request) mark s.line) → inside ≡ least (faults_inside mark g s)
-      → option_or place inside ≡ least (stanza_faults (before, s))
-  stanza_least mark is_first place inside marked first place_is inside_eq =
+  pub stanza_least : (mode : Mode) (mark : Option Postmark) (is_first : Bool) (place inside : Option Fault) → postmark s ≡ mark → is_first ≡ is_empty before
+      → place ≡ least (place_faults is_first (is_some g.request) mark s.line) → inside ≡ least (faults_inside mark (required_names mode (declared before)) g s)
+      → option_or place inside ≡ least (stanza_faults mode (before, s))
+  stanza_least mode mark is_first place inside marked first place_is inside_eq =
       (λ i. option_or ((place_is ∙ (λ j. least (place_faults (first j) (requested_is g before so_far j) (sym marked j) s.line))) i) (inside_eq i))
       ∙ within mark marked
-      ∙ sym (least-faults_or (place_faults (is_empty before) (list_any is_request before) (postmark s) s.line) (inner_faults before s))
+      ∙ sym (least-faults_or (place_faults (is_empty before) (list_any is_request before) (postmark s) s.line) (inner_faults mode before s))
     where
       some_or : (f : Fault) (x y z : Option Fault) → option_or (lesser (Some f) x) y ≡ option_or (lesser (Some f) x) z
       some_or f None y z = refl
       some_or f (Some g') y z = refl
 
       within : (m : Option Postmark) → postmark s ≡ m
-          → option_or (least (place_faults (is_empty before) (list_any is_request before) (postmark s) s.line)) (least (faults_inside m g s))
-          ≡ option_or (least (place_faults (is_empty before) (list_any is_request before) (postmark s) s.line)) (least (inner_faults before s))
-      within (Some m) e = ap (λ fs. option_or (least (place_faults (is_empty before) (list_any is_request before) (postmark s) s.line)) (least fs)) (inside_is m e)
+          → option_or (least (place_faults (is_empty before) (list_any is_request before) (postmark s) s.line)) (least (faults_inside m (required_names mode (declared before)) g s))
+          ≡ option_or (least (place_faults (is_empty before) (list_any is_request before) (postmark s) s.line)) (least (inner_faults mode before s))
+      within (Some m) e = ap (λ fs. option_or (least (place_faults (is_empty before) (list_any is_request before) (postmark s) s.line)) (least fs)) (inside_is mode m e)
       within None e =
           ap (λ m. option_or (least (place_faults (is_empty before) (list_any is_request before) m s.line)) None) e
-          ∙ some_or (record { line = s.line; kind = E4 }) (least ([] ++ fault_if (list_any is_request before) s.line E6)) None (least (inner_faults before s))
-          ∙ ap (λ m. option_or (least (place_faults (is_empty before) (list_any is_request before) m s.line)) (least (inner_faults before s))) (sym e)
+          ∙ some_or (record { line = s.line; kind = E4 }) (least ([] ++ fault_if (list_any is_request before) s.line E6)) None (least (inner_faults mode before s))
+          ∙ ap (λ m. option_or (least (place_faults (is_empty before) (list_any is_request before) m s.line)) (least (inner_faults mode before s))) (sym e)
 
 -- ---- each pair once
 
@@ -245,14 +262,14 @@ least-option : (fault : Option Fault) → least (option_to_list fault) ≡ fault
 least-option None = refl
 least-option (Some f) = refl
 
-pub problem_least : (text : PlainText) (first : Option Fault) (none : Bool) (line : ℕ) → first ≡ least (flat_map stanza_faults (with_earlier [] text.stanzas))
+pub problem_least : (text : PlainText) (mode : Mode) (first : Option Fault) (none : Bool) (line : ℕ) → first ≡ least (flat_map (stanza_faults mode) (with_earlier [] text.stanzas))
     → none ≡ not (list_any is_request text.stanzas) → line ≡ max 1 text.lines
-    → lesser (lesser text.fault first) (least (fault_if none line E13)) ≡ least (problem_faults text)
+    → lesser (lesser text.fault first) (least (fault_if none line E13)) ≡ least (problem_faults text mode)
 unfolding problem_faults
-problem_least text first none line first_is none_is line_is =
+problem_least text mode first none line first_is none_is line_is =
     (λ i. lesser (lesser (sym (least-option text.fault) i) (first_is i)) (least (fault_if (none_is i) (line_is i) E13)))
-    ∙ ap (λ x. lesser x (least (requestless_faults text))) (sym (least-append (option_to_list text.fault) (flat_map stanza_faults (with_earlier [] text.stanzas))))
-    ∙ sym (least-append (option_to_list text.fault ++ flat_map stanza_faults (with_earlier [] text.stanzas)) (requestless_faults text))
+    ∙ ap (λ x. lesser x (least (requestless_faults text))) (sym (least-append (option_to_list text.fault) (flat_map (stanza_faults mode) (with_earlier [] text.stanzas))))
+    ∙ sym (least-append (option_to_list text.fault ++ flat_map (stanza_faults mode) (with_earlier [] text.stanzas)) (requestless_faults text))
 
 pub place_least : (is_first is_late none preamble : Bool) (mark : Option Postmark) (line : ℕ) → none ≡ is_none mark → preamble ≡ (marks_preamble mark && not is_first)
     → lesser (lesser (least (fault_if none line E4)) (least (fault_if preamble line E5))) (least (fault_if is_late line E6)) ≡ least (place_faults is_first is_late mark line)

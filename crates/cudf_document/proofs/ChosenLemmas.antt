@@ -1,30 +1,19 @@
 -- The pairs that a solution's stanzas install, one stanza after the other.
-use Rattle.std.proofs.Common.{◌≡◌, ℕ, ◌||◌, List, [], ◌∷◌, ◌++◌, Option, sym, ap, ◌∙◌}
+use Rattle.std.proofs.Common.{◌≡◌, ℕ, List, [], ◌∷◌, ◌++◌, Option, sym, ap, ◌∙◌}
 use Rattle.std.proofs.lemmas.List.{append_assoc, append-nil}
-use Rattle.std.proofs.lemmas.List.Elements.{filter_map-append}
-use Rattle.std.proofs.lemmas.List.Folds.{list_any-append}
-use Rattle.std.specs.List.{cons_option}
 use Rattle.cudf_text.specs.declared.fault.Fault.{Fault}
 use Rattle.cudf_text.specs.Stanzas.{PlainStanza, PlainText}
-use Rattle.cudf_document.specs.Ids.{Id, is_id, is_among, with_id}
+use Rattle.cudf_document.specs.Ids.{Id, is_among, with_id}
 use Rattle.cudf_document.specs.Statuses.{installed_id, installed_ids}
 use Rattle.cudf_document.specs.Working.Chosen.{ChosenGoesOn}
-use Rattle.cudf_document.proofs.BuilderLemmas.{with_id-append}
-
-installed-push : (ids : List Id) (seen : List PlainStanza) (s : PlainStanza) → ((id : Id) → is_among ids id ≡ is_among (installed_ids seen) id)
-    → (id : Id) → is_among (with_id ids (installed_id s)) id ≡ is_among (installed_ids (seen ++ s ∷ [])) id
-installed-push ids seen s so_far id =
-    with_id-append ids (installed_id s) id ∙ list_any-append (is_id id) ids (cons_option (installed_id s) [])
-    ∙ ap (λ b. b || is_among (cons_option (installed_id s) []) id) (so_far id)
-    ∙ sym (list_any-append (is_id id) (installed_ids seen) (cons_option (installed_id s) []))
-    ∙ ap (λ l. is_among l id) (sym (filter_map-append installed_id seen (s ∷ [])))
+use Rattle.cudf_document.proofs.PairLemmas.{picked-push}
 
 pub ChosenGoesOn-next : (old new : List Id) (left later text : PlainText) (s : PlainStanza)
     → ChosenGoesOn old left text → ◌≡◌ {A = PlainText} left (record later { stanzas = s ∷ later.stanzas })
     → new ≡ with_id old (installed_id s) → ChosenGoesOn new later text
 ChosenGoesOn-next old new left later text s goes read takes = record {
   seen = goes.seen ++ s ∷ [];
-  ids_are = λ id. ap (λ ids. is_among ids id) takes ∙ installed-push old goes.seen s goes.ids_are id;
+  ids_are = λ id. ap (λ ids. is_among ids id) takes ∙ picked-push installed_id old goes.seen s goes.ids_are id;
   whole = (λ i. let t : PlainText = record later { stanzas = append_assoc goes.seen (s ∷ []) later.stanzas i } in t)
       ∙ (λ i. let t : PlainText = record (sym read i) { stanzas = goes.seen ++ (sym read i).stanzas } in t) ∙ goes.whole;
 }

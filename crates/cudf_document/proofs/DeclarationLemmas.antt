@@ -1,12 +1,14 @@
 -- Declarations, one after the other.
-use Rattle.std.proofs.Common.{◌≡◌, ℕ, ◌≤◌, Bool, true, false, ◌&&◌, List, [], ◌∷◌, ◌++◌, map, length, take, Some, find, refl, sym, ap, ◌∙◌, arith, if◌then◌else◌, option_map, bytes_eq}
+use Rattle.std.proofs.Common.{◌≡◌, ℕ, ◌≤◌, Bool, true, false, ◌&&◌, List, [], ◌∷◌, ◌++◌, map, length, take, Some, None, Option, find, filter_map, refl, sym, ap, ◌∙◌, arith, if◌then◌else◌, option_map, option_to_list, is_some, is_none, bytes_eq}
 use Rattle.std.proofs.lemmas.List.{append_assoc, append-nil, take-append-le, length-take, take_all}
+use Rattle.std.proofs.lemmas.List.Elements.{filter_map-append}
 use Rattle.std.proofs.lemmas.List.Folds.{list_all-append}
-use Rattle.std.specs.List.{list_all}
+use Rattle.std.specs.List.{list_all, cons_option}
 use Rattle.cudf_value.specs.Declarations.{PlainDeclaration}
 use Rattle.cudf_document.specs.Values.{declared_test, test_of}
 use Rattle.cudf_document.specs.Documents.{with_earlier}
 use Rattle.cudf_document.specs.Preamble.{is_declarable, all_declarable}
+use Rattle.cudf_document.specs.ProblemFaults.{name_without_default}
 use Rattle.cudf_document.proofs.ListLemmas.{with_earlier-push}
 
 -- the test of a declared name is that of its first declaration
@@ -67,3 +69,24 @@ Added-next before now ds d all is_added new so_far is new_is = record {
     still : (b : Bool) → take (length before) (if b then now ++ d ∷ [] else now) ≡ before
     still true = take-append-le (length before) now (d ∷ []) inside ∙ so_far.kept
     still false = so_far.kept
+
+-- ---- the names without default
+
+-- there is one where there is no default
+pub named_unless : (d : PlainDeclaration) (has : Bool) → has ≡ is_some d.default → option_to_list (name_without_default d) ≡ (if has then [] else d.name ∷ [])
+named_unless d has is = by d.default has is
+  where
+    by : (o : Option (List ℕ)) (b : Bool) → b ≡ is_some o → option_to_list (if is_none o then Some d.name else None) ≡ (if b then [] else d.name ∷ [])
+    by None true h = absurd cc
+    by None false h = refl
+    by (Some x) true h = refl
+    by (Some x) false h = absurd cc
+
+pub required_more : (names more : List (List ℕ)) (ds : List PlainDeclaration) (d : PlainDeclaration) → names ≡ filter_map name_without_default ds
+    → more ≡ names ++ option_to_list (name_without_default d) → more ≡ filter_map name_without_default (ds ++ d ∷ [])
+required_more names more ds d so_far more_is =
+    more_is ∙ (λ i. so_far i ++ by (name_without_default d) i) ∙ sym (filter_map-append name_without_default ds (d ∷ []))
+  where
+    by : (o : Option (List ℕ)) → option_to_list o ≡ cons_option o []
+    by None = refl
+    by (Some x) = refl

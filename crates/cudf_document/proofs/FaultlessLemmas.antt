@@ -11,6 +11,7 @@ use Rattle.cudf_text.specs.declared.fault.Kind.{Kind}
 use Rattle.cudf_text.specs.declared.fault.Kind.TheVariants.{E4, E5, E6, E9, E11, E12, E13}
 use Rattle.cudf_text.specs.Stanzas.{PlainProperty, PlainStanza, PlainText}
 use Rattle.cudf_value.specs.Declarations.{PlainDeclaration}
+use Rattle.cudf_document.specs.declared.mode.Mode.{Mode}
 use Rattle.cudf_document.specs.declared.postmark.Postmark.{Postmark}
 use Rattle.cudf_document.specs.declared.postmark.Postmark.TheVariants.{Preamble, Package, Request}
 use Rattle.cudf_document.specs.Faults.{fault_if}
@@ -18,7 +19,7 @@ use Rattle.cudf_document.specs.Documents.{is_empty, with_earlier, first_mark, po
 use Rattle.cudf_document.specs.Ids.{Id, is_id, is_among, is_known, id_with, id_under, id_of, are_distinct}
 use Rattle.cudf_document.specs.Values.{Test, name_value, version_value, can_be, test_of, fails}
 use Rattle.cudf_document.specs.Preamble.{declared}
-use Rattle.cudf_document.specs.ProblemFaults.{tests, place_faults, property_faults, repeated_faults, undeclared_faults, mistyped_faults, misdeclared_faults, version_property, repeated_package_faults, unversioned_faults, inner_faults, faults_or, stanza_faults, requestless_faults, problem_faults}
+use Rattle.cudf_document.specs.ProblemFaults.{tests, place_faults, property_faults, repeated_faults, undeclared_faults, mistyped_faults, misdeclared_faults, version_property, repeated_package_faults, unversioned_faults, required_names, missing_faults, inner_faults, faults_or, stanza_faults, requestless_faults, problem_faults}
 use Rattle.cudf_document.specs.Universe.{PlainPackage, package_id, package_with, package_of, packages_in}
 use Rattle.cudf_document.specs.Laws.{IsSound}
 use Rattle.cudf_document.proofs.ListLemmas.{is_some-find, is_some-option_map}
@@ -65,36 +66,39 @@ typed_property ds mark (before, p) none =
     let typed = nil_parts (repeated_faults mark (before, p) ++ undeclared_faults ds mark p) (mistyped_faults ds mark p) front.0 in
     ap not (none_of (fails (test_of p.name (tests ds mark)) p.value) p.line E9 typed.1)
 
-clean : (before : List PlainStanza) (s : PlainStanza) → stanza_faults (before, s) ≡ [] → IsClean before s
-clean before s none =
-    let both = neither (place_faults (is_empty before) (list_any is_request before) (postmark s) s.line) (inner_faults before s) none in
+clean : (mode : Mode) (before : List PlainStanza) (s : PlainStanza) → stanza_faults mode (before, s) ≡ [] → IsClean before s
+clean mode before s none =
+    let both = neither (place_faults (is_empty before) (list_any is_request before) (postmark s) s.line) (inner_faults mode before s) none in
     let place = nil_parts (fault_if (is_none (postmark s)) s.line E4 ++ fault_if (marks_preamble (postmark s) && not (is_empty before)) s.line E5)
     (fault_if (list_any is_request before) s.line E6) both.0 in
-    let inner = nil_parts (flat_map (property_faults (declared before) (postmark s)) (with_earlier [] s.properties) ++ repeated_package_faults (filter_map id_of before) s) (unversioned_faults s) both.1 in
-    let front = nil_parts (flat_map (property_faults (declared before) (postmark s)) (with_earlier [] s.properties)) (repeated_package_faults (filter_map id_of before) s) inner.0 in
+    let missing = missing_faults (required_names mode (declared before)) s in
+    let properties = flat_map (property_faults (declared before) (postmark s)) (with_earlier [] s.properties) in
+    let inner = nil_parts (missing ++ properties ++ repeated_package_faults (filter_map id_of before) s) (unversioned_faults s) both.1 in
+    let front = nil_parts (missing ++ properties) (repeated_package_faults (filter_map id_of before) s) inner.0 in
+    let typed = nil_parts missing properties front.0 in
     record {
       not_late = none_of (list_any is_request before) s.line E6 place.1;
       well_typed =
           sym (all_after (λ p. not (fails (test_of p.name (tests (declared before) (postmark s))) p.value)) [] s.properties)
           ∙ all_without (property_faults (declared before) (postmark s)) (λ x. not (fails (test_of x.1.name (tests (declared before) (postmark s))) x.1.value))
-          (typed_property (declared before) (postmark s)) (with_earlier [] s.properties) front.0;
+          (typed_property (declared before) (postmark s)) (with_earlier [] s.properties) typed.1;
       fresh = none_of (is_known (filter_map id_of before) (id_of s)) (line_of (version_property s)) E11 front.1;
       versioned = none_of (marks_package (postmark s) && is_none (version_property s)) s.last E12 inner.1;
     }
 
 -- ---- the parts of a problem
 
-stanzas_clean : (text : PlainText) → problem_faults text ≡ [] → flat_map stanza_faults (with_earlier [] text.stanzas) ≡ []
+stanzas_clean : (text : PlainText) (mode : Mode) → problem_faults text mode ≡ [] → flat_map (stanza_faults mode) (with_earlier [] text.stanzas) ≡ []
 unfolding problem_faults
-stanzas_clean text none =
-    let parts = nil_parts (option_to_list text.fault ++ flat_map stanza_faults (with_earlier [] text.stanzas)) (requestless_faults text) none in
-    (nil_parts (option_to_list text.fault) (flat_map stanza_faults (with_earlier [] text.stanzas)) parts.0).1
+stanzas_clean text mode none =
+    let parts = nil_parts (option_to_list text.fault ++ flat_map (stanza_faults mode) (with_earlier [] text.stanzas)) (requestless_faults text) none in
+    (nil_parts (option_to_list text.fault) (flat_map (stanza_faults mode) (with_earlier [] text.stanzas)) parts.0).1
 
 -- there is a request
-pub has_request : (text : PlainText) → problem_faults text ≡ [] → list_any is_request text.stanzas ≡ true
+pub has_request : (text : PlainText) (mode : Mode) → problem_faults text mode ≡ [] → list_any is_request text.stanzas ≡ true
 unfolding problem_faults
-has_request text none =
-    let parts = nil_parts (option_to_list text.fault ++ flat_map stanza_faults (with_earlier [] text.stanzas)) (requestless_faults text) none in
+has_request text mode none =
+    let parts = nil_parts (option_to_list text.fault ++ flat_map (stanza_faults mode) (with_earlier [] text.stanzas)) (requestless_faults text) none in
     not-false (list_any is_request text.stanzas) (none_of (not (list_any is_request text.stanzas)) (max 1 text.lines) E13 parts.1)
 
 -- ---- no pair twice
@@ -129,13 +133,13 @@ fresh_each before (s ∷ stanzas) = by (id_of s) refl (fresh_each (before ++ s �
         (filter_map-append id_of before (s ∷ []) ∙ ap (λ o. filter_map id_of before ++ cons_option o []) is))
 
 -- no two packages have one name and version
-pub ids_distinct : (text : PlainText) → problem_faults text ≡ [] → are_distinct (map package_id (packages_in text.stanzas)) ≡ true
-ids_distinct text none =
+pub ids_distinct : (text : PlainText) (mode : Mode) → problem_faults text mode ≡ [] → are_distinct (map package_id (packages_in text.stanzas)) ≡ true
+ids_distinct text mode none =
     ap are_distinct (packages_ids (declared text.stanzas) text.stanzas)
     ∙ sym (fresh_each [] text.stanzas)
-    ∙ all_without stanza_faults (λ x. not (is_known (filter_map id_of x.0) (id_of x.1)))
-    (λ x clean_x. not_from_false (is_known (filter_map id_of x.0) (id_of x.1)) (clean x.0 x.1 clean_x).fresh)
-    (with_earlier [] text.stanzas) (stanzas_clean text none)
+    ∙ all_without (stanza_faults mode) (λ x. not (is_known (filter_map id_of x.0) (id_of x.1)))
+    (λ x clean_x. not_from_false (is_known (filter_map id_of x.0) (id_of x.1)) (clean mode x.0 x.1 clean_x).fresh)
+    (with_earlier [] text.stanzas) (stanzas_clean text mode none)
 
 -- of pairs of which none stands twice, each isn't among those before it
 pub distinct-at : (ids : List Id) (i : ℕ) (d : Id) → are_distinct ids ≡ true → i < length ids → is_among (take i ids) (get_or ids i d) ≡ false
@@ -201,14 +205,14 @@ one_passes {A} p before (x ∷ xs) all none one =
     by false is rest = rest after (so_far false is) (ap (λ b. b || list_any p xs) (sym is) ∙ one)
 
 -- there is one request
-one_request : (text : PlainText) → problem_faults text ≡ [] → count_by is_request text.stanzas ≡ 1
-one_request text none =
+one_request : (text : PlainText) (mode : Mode) → problem_faults text mode ≡ [] → count_by is_request text.stanzas ≡ 1
+one_request text mode none =
     sym (length-filter is_request text.stanzas)
     ∙ one_passes is_request [] text.stanzas
-    (all_without stanza_faults (λ x. not (list_any is_request x.0))
-    (λ x clean_x. not_from_false (list_any is_request x.0) (clean x.0 x.1 clean_x).not_late)
-    (with_earlier [] text.stanzas) (stanzas_clean text none))
-    refl (has_request text none)
+    (all_without (stanza_faults mode) (λ x. not (list_any is_request x.0))
+    (λ x clean_x. not_from_false (list_any is_request x.0) (clean mode x.0 x.1 clean_x).not_late)
+    (with_earlier [] text.stanzas) (stanzas_clean text mode none))
+    refl (has_request text mode none)
 
 -- a property that is there and of its type has a value
 value_there : {A : Type 0} (read : List ℕ → Option A) (name : List ℕ) (known : List (List ℕ × Test)) (ps : List PlainProperty)
@@ -269,15 +273,15 @@ id_there before s (Some Package) marked c =
     is_there None h = absurd cc
     is_there (Some x) h = refl
 
-pub faultless_is_sound : (text : PlainText) → problem_faults text ≡ [] → IsSound text
-faultless_is_sound text none = record {
+pub faultless_is_sound : (text : PlainText) (mode : Mode) → problem_faults text mode ≡ [] → IsSound text
+faultless_is_sound text mode none = record {
   described =
       sym (all_after (λ s. not (is_package s) || is_some (package_of (declared text.stanzas) s)) [] text.stanzas)
-      ∙ all_without stanza_faults (λ x. not (is_package x.1) || is_some (package_of (declared text.stanzas) x.1))
+      ∙ all_without (stanza_faults mode) (λ x. not (is_package x.1) || is_some (package_of (declared text.stanzas) x.1))
       (λ x clean_x.
       ap (λ b. not (is_package x.1) || b) (is_some-option_map (package_with (declared text.stanzas) x.1.line x.1.properties) (id_of x.1))
-      ∙ id_there x.0 x.1 (postmark x.1) refl (clean x.0 x.1 clean_x))
-      (with_earlier [] text.stanzas) (stanzas_clean text none);
-  distinct = all_apart (packages_in text.stanzas) (ids_distinct text none);
-  requested = one_request text none;
+      ∙ id_there x.0 x.1 (postmark x.1) refl (clean mode x.0 x.1 clean_x))
+      (with_earlier [] text.stanzas) (stanzas_clean text mode none);
+  distinct = all_apart (packages_in text.stanzas) (ids_distinct text mode none);
+  requested = one_request text mode none;
 }

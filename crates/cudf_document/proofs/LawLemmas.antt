@@ -5,7 +5,7 @@ use Rattle.std.proofs.lemmas.Option.{same_Some}
 use Rattle.std.proofs.lemmas.List.Elements.{Contains-append_cases, Contains-append_right}
 use Rattle.cudf_text.specs.declared.fault.Fault.{Fault}
 use Rattle.cudf_text.specs.declared.fault.Kind.{Kind}
-use Rattle.cudf_text.specs.declared.fault.Kind.TheVariants.{E1, E2, E3, E4, E5, E6, E7, E8, E9, E10, E11, E12, E13}
+use Rattle.cudf_text.specs.declared.fault.Kind.TheVariants.{E1, E2, E3, E4, E5, E6, E7, E8, E9, E10, E11, E12, E13, E14, E15}
 use Rattle.cudf_document.specs.Faults.{rank, precedes, lesser, least}
 use Rattle.cudf_document.specs.Laws.{IsFirst, LeastIsFirst}
 use Rattle.cudf_document.proofs.FaultLemmas.{precedes_along, least-none}
@@ -15,7 +15,7 @@ use Rattle.cudf_document.proofs.FaultLemmas.{precedes_along, least-none}
 abbrev kind_numbered : ℕ → Kind
 kind_numbered n = if n == 1 then E1 else (if n == 2 then E2 else (if n == 3 then E3 else (if n == 4 then E4 else (if n == 5 then E5
     else (if n == 6 then E6 else (if n == 7 then E7 else (if n == 8 then E8 else (if n == 9 then E9 else (if n == 10 then E10
-    else (if n == 11 then E11 else (if n == 12 then E12 else E13)))))))))))
+    else (if n == 11 then E11 else (if n == 12 then E12 else (if n == 13 then E13 else (if n == 14 then E14 else E15)))))))))))))
 
 numbered : (k : Kind) → kind_numbered (rank k) ≡ k
 numbered E1 = refl
@@ -31,6 +31,8 @@ numbered E10 = refl
 numbered E11 = refl
 numbered E12 = refl
 numbered E13 = refl
+numbered E14 = refl
+numbered E15 = refl
 
 same_kind : (k l : Kind) → rank k ≡ rank l → k ≡ l
 same_kind k l same = sym (numbered k) ∙ ap kind_numbered same ∙ numbered l
@@ -49,17 +51,17 @@ same_fault f g p q =
 
 -- ---- the least is the first
 
-head_or_after : (x g : Fault) (xs : List Fault) → Contains (x ∷ xs) g → (g ≡ x) ⊎ Contains xs g
+pub head_or_after : (x g : Fault) (xs : List Fault) → Contains (x ∷ xs) g → (g ≡ x) ⊎ Contains xs g
 head_or_after x g xs there = elim (Contains-append_cases (x ∷ []) xs g there) [ inl one ↦ inl (alone one) | inr more ↦ inr more ]
   where
     alone : Contains (x ∷ []) g → g ≡ x
     alone (zero, lt, is) = sym is
     alone (suc k, lt, is) = absurd (omega arith)
 
-none_in_nil : (g : Fault) → Contains [] g → ⊥
+pub none_in_nil : (g : Fault) → Contains [] g → ⊥
 none_in_nil g (k, lt, is) = omega arith
 
-at_head : (x : Fault) (xs : List Fault) → Contains (x ∷ xs) x
+pub at_head : (x : Fault) (xs : List Fault) → Contains (x ∷ xs) x
 at_head x xs = (zero, omega arith, refl)
 
 -- x before faults of which m is the first

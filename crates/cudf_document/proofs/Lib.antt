@@ -11,7 +11,9 @@ pub mod PreambleLemmas
 pub mod BuilderLemmas
 pub mod FaultlessLemmas
 pub mod LawLemmas
+mod ModeLemmas
 pub mod SolutionPackageLemmas
+mod PairLemmas
 pub mod SolutionBuilderLemmas
 mod SolutionReaderLemmas
 mod Examples

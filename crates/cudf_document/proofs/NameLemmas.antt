@@ -1,5 +1,5 @@
 -- Names of properties, and what the first property of a name says.
-use Rattle.std.proofs.Common.{◌≡◌, ℕ, Bool, true, false, ◌||◌, List, [], ◌∷◌, ◌++◌, map, Bor, Option, None, Some, is_some, find, refl, sym, ap, ◌∙◌, if◌then◌else◌, option_and_then, bytes_eq}
+use Rattle.std.proofs.Common.{◌≡◌, ℕ, Bool, true, false, not, ◌||◌, List, [], ◌∷◌, ◌++◌, map, Bor, Option, None, Some, is_some, find, refl, sym, ap, ◌∙◌, if◌then◌else◌, option_and_then, bytes_eq}
 use Rattle.std.proofs.lemmas.Bool.{true≢false}
 use Rattle.std.proofs.lemmas.Slice.Eq.{bytes_eq-Decides}
 use Rattle.std.proofs.lemmas.List.{append_assoc, map_push}
@@ -10,6 +10,7 @@ use Rattle.indexmap.specs.IndexSet.{insert_key}
 use Rattle.cudf_text.specs.Stanzas.{PlainProperty}
 use Rattle.cudf_document.specs.Working.SeenNames.{AreNames}
 use Rattle.cudf_document.specs.Documents.{has_name, same_name, value_of}
+use Rattle.cudf_document.specs.ProblemFaults.{lacks_one}
 use Rattle.cudf_document.proofs.ListLemmas.{or_false, is_some-find, find_none, list_any-map, list_any-insert_key}
 
 -- ---- equal names
@@ -41,6 +42,19 @@ pub AreNames-more : (names : List (List ℕ)) (ps : List PlainProperty) (p : Pla
     → AreNames names ps → more ≡ ps ++ p ∷ [] → new_names ≡ insert_key bytes_eq names p.name → AreNames new_names more
 AreNames-more names ps p more new_names are more_is names_is name =
     ap (list_any (bytes_eq name)) names_is ∙ AreNames-next names ps p are name ∙ ap (list_any (λ q. bytes_eq name q.name)) (sym more_is)
+
+-- ---- names that a stanza has to have
+
+any_named : (name : List ℕ) (ps : List PlainProperty) → list_any (λ p. bytes_eq name p.name) ps ≡ list_any (has_name name) ps
+any_named name [] = refl
+any_named name (p ∷ ps) = (λ i. bytes_eq-sym name p.name i || any_named name ps i)
+
+-- one isn't among the names where no property has it
+pub lacks_one-seen : (names : List (List ℕ)) (ps : List PlainProperty) (required : List (List ℕ)) → AreNames names ps
+    → list_any (λ name. not (list_any (bytes_eq name) names)) required ≡ lacks_one required ps
+lacks_one-seen names ps [] are = refl
+lacks_one-seen names ps (name ∷ required) are =
+    (λ i. not ((are name ∙ any_named name ps) i) || lacks_one-seen names ps required are i)
 
 -- ---- values
 

@@ -6,6 +6,7 @@ use Rattle.cudf_text.specs.declared.text.Stanza.{Stanza}
 use Rattle.cudf_text.specs.Stanzas.{PlainStanza, PlainText}
 use Rattle.cudf_text.specs.Views.{stanza_view}
 use Rattle.cudf_value.specs.Declarations.{PlainDeclaration}
+use Rattle.cudf_document.specs.declared.mode.Mode.{Mode}
 use Rattle.cudf_document.specs.declared.parts.Parts.{Parts}
 use Rattle.cudf_document.specs.declared.walk.Walk.{Walk}
 use Rattle.cudf_document.specs.declared.postmark.Postmark.{Postmark}
@@ -100,26 +101,26 @@ kept_values s mark lost marked other = by (are_borrowed s.properties.items) (is_
 
 -- ---- the whole text
 
-pub faultless : (IsKept : List PlainStanza → Type 0) (w : Walk) (text : PlainText) → IsWhole IsKept w text → w.first ≡ None → problem_faults text ≡ []
-faultless IsKept w text whole none = least-none (problem_faults text) (sym whole.first_is ∙ none)
+pub faultless : (mode : Mode) (IsKept : List PlainStanza → Type 0) (w : Walk) (text : PlainText) → IsWhole mode IsKept w text → w.first ≡ None → problem_faults text mode ≡ []
+faultless mode IsKept w text whole none = least-none (problem_faults text mode) (sym whole.first_is ∙ none)
 
-module _ (is_kept : Id → Bool) (p : Parts) (w : Walk) (text : PlainText) (whole : IsWhole (λ ss. IsParts is_kept ss p) w text) where
+module _ (is_kept : Id → Bool) (p : Parts) (w : Walk) (text : PlainText) (mode : Mode) (whole : IsWhole mode (λ ss. IsParts is_kept ss p) w text) where
   requested : w.first ≡ None → is_some (gathered_of w p).request ≡ true
   requested none =
       ap is_some whole.kept.parts_are.1 ∙ is_some-option_map request_of (find is_request text.stanzas) ∙ is_some-find is_request text.stanzas
-      ∙ has_request text (faultless (λ ss. IsParts is_kept ss p) w text whole none)
+      ∙ has_request text mode (faultless mode (λ ss. IsParts is_kept ss p) w text whole none)
 
   -- the names and versions are those of the text's packages
   same_ids : map package_id (gathered_of w p).packages ≡ map package_id (packages_in text.stanzas)
   same_ids = ap (map package_id) whole.kept.parts_are.0 ∙ ids-thin is_kept (packages_in text.stanzas)
 
   distinct : w.first ≡ None → are_distinct (map package_id (gathered_of w p).packages) ≡ true
-  distinct none = ap are_distinct same_ids ∙ ids_distinct text (faultless (λ ss. IsParts is_kept ss p) w text whole none)
+  distinct none = ap are_distinct same_ids ∙ ids_distinct text mode (faultless mode (λ ss. IsParts is_kept ss p) w text whole none)
 
   listed : w.first ≡ None → (gathered_of w p).ids ≡ map package_id (gathered_of w p).packages
   listed none =
       all_ids (record { declared = w.declarations; ids = w.ids; packages = packages_in text.stanzas; request = request_in text.stanzas }) whole.listed_are
-      (ids_distinct text (faultless (λ ss. IsParts is_kept ss p) w text whole none))
+      (ids_distinct text mode (faultless mode (λ ss. IsParts is_kept ss p) w text whole none))
       ∙ sym same_ids
 
   pub ready : w.first ≡ None → IsReady w p

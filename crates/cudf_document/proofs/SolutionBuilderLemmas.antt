@@ -12,12 +12,14 @@ use Rattle.std.specs.List.{list_any, prefix_len, flat_map, enumerate_from}
 use Rattle.std.specs.Option.{option_map_or}
 use Rattle.cudf_text.specs.declared.fault.Fault.{Fault}
 use Rattle.cudf_text.specs.Stanzas.{PlainStanza}
+use Rattle.cudf_document.specs.declared.mode.Mode.{Mode}
 use Rattle.cudf_document.specs.declared.solution_reader.SolutionReader.{SolutionReader}
 use Rattle.cudf_document.specs.Faults.{lesser, least}
 use Rattle.cudf_document.specs.Ids.{Id, is_id, is_among, are_distinct}
 use Rattle.cudf_document.specs.SolutionFaults.{solution_stanza_faults}
 use Rattle.cudf_document.specs.Universe.{PlainPackage, PlainProblem, package_id}
 use Rattle.cudf_document.specs.Statuses.{installed_id, installed_ids, is_proposed, unknown_view, unknown_with, unknown_of, unknown_stanzas}
+use Rattle.cudf_document.specs.Working.Pairs.{ArePairs}
 use Rattle.cudf_document.specs.Working.SolutionBuilders.{ids_of}
 use Rattle.cudf_document.specs.Working.SolutionReaders.{IsSolutionRead}
 use Rattle.cudf_document.proofs.ListLemmas.{or_false}
@@ -160,19 +162,20 @@ unknown-push problem seen s =
 
 -- ---- one more stanza
 
-pub IsSolutionRead-next : (problem : PlainProblem) (old new : SolutionReader) (seen : List PlainStanza) (s : PlainStanza) (fault : Option Fault) (id : Option Id)
-    → IsSolutionRead problem seen old
-    → fault ≡ least (solution_stanza_faults s) → new.first ≡ lesser old.first fault → id ≡ installed_id s → new.number ≡ old.number + 1
+pub IsSolutionRead-next : (problem : PlainProblem) (mode : Mode) (old new : SolutionReader) (seen : List PlainStanza) (s : PlainStanza) (fault : Option Fault) (id : Option Id)
+    → IsSolutionRead problem mode seen old
+    → ArePairs mode (seen ++ s ∷ []) new.pairs → fault ≡ least (solution_stanza_faults s) → new.first ≡ lesser old.first fault → id ≡ installed_id s → new.number ≡ old.number + 1
     → new.builder.flags.items ≡ map (is_among (installed_ids seen ++ option_to_list id)) (ids_of problem)
     → map unknown_view new.builder.unknown.items ≡ map unknown_view old.builder.unknown.items ++ option_to_list (option_and_then (unknown_with problem new.number s.line) id)
-    → IsSolutionRead problem (seen ++ s ∷ []) new
-IsSolutionRead-next problem old new seen s fault id so_far fault_is lesser_is id_is number_is flags_is unknown_is =
+    → IsSolutionRead problem mode (seen ++ s ∷ []) new
+IsSolutionRead-next problem mode old new seen s fault id so_far pairs_are fault_is lesser_is id_is number_is flags_is unknown_is =
     let next : new.number ≡ 1 + length seen = let e = so_far.number_is in omega (arith, e, number_is) in
     record {
       first_is = lesser_is ∙ (λ i. lesser (so_far.first_is i) (fault_is i))
           ∙ sym (least-append (flat_map solution_stanza_faults seen) (solution_stanza_faults s))
           ∙ ap (λ fs. least (flat_map solution_stanza_faults seen ++ fs)) (sym (append-nil (solution_stanza_faults s)))
           ∙ ap least (sym (flat_map-append solution_stanza_faults seen (s ∷ [])));
+      pairs_are = pairs_are;
       number_is = let m = length_push seen s in omega (arith, next, m);
       flags_are = flags_is ∙ (λ i. map (is_among (installed_ids seen ++ option_to_list (id_is i))) (ids_of problem))
           ∙ ap (λ l. map (is_among (installed_ids seen ++ l)) (ids_of problem)) (as_list (installed_id s))

@@ -1,5 +1,5 @@
 -- What is known of stanzas on the walk: as of those that are gathered.
-use Rattle.std.proofs.Common.{◌≡◌, ℕ, max, map, filter_map, Bool, true, false, not, ◌||◌, ◌&&◌, nat_lt, List, [], ◌∷◌, ◌++◌, Option, Some, None, refl, sym, ap, subst, ◌∙◌, if◌then◌else◌, ◌==◌}
+use Rattle.std.proofs.Common.{◌≡◌, ℕ, max, map, filter_map, Bool, true, false, not, ◌||◌, ◌&&◌, nat_lt, List, [], ◌∷◌, ◌++◌, Option, Some, None, refl, sym, ap, subst, ◌∙◌, if◌then◌else◌, ◌==◌, IsTrue}
 use Rattle.std.specs.List.{list_any, list_all, flat_map}
 use Rattle.std.specs.Option.{option_or}
 use Rattle.std.specs.Cow.{cow_str_bytes}
@@ -13,6 +13,8 @@ use Rattle.cudf_text.specs.Joins.{is_owned, IsJoined}
 use Rattle.cudf_text.specs.Stanzas.{PlainStanza, PlainText}
 use Rattle.cudf_value.specs.Chars.{is_pkgname_char}
 use Rattle.cudf_value.specs.Words.{is_pkgname}
+use Rattle.cudf_document.specs.declared.mode.Mode.{Mode}
+use Rattle.cudf_document.specs.declared.mode.Mode.TheVariants.{Lenient, Strict}
 use Rattle.cudf_document.specs.declared.walk.Walk.{Walk}
 use Rattle.cudf_document.specs.declared.postmark.Postmark.{Postmark}
 use Rattle.cudf_document.specs.declared.postmark.Postmark.TheVariants.{Preamble, Package, Request}
@@ -22,7 +24,7 @@ use Rattle.std.proofs.lemmas.List.{append_assoc, append-nil}
 use Rattle.cudf_document.specs.Documents.{is_empty, with_earlier, postmark, is_request, marks_request}
 use Rattle.cudf_document.specs.Ids.{is_id, id_of}
 use Rattle.cudf_document.specs.Preamble.{declared}
-use Rattle.cudf_document.specs.ProblemFaults.{place_faults, stanza_faults}
+use Rattle.cudf_document.specs.ProblemFaults.{place_faults, required_names, stanza_faults}
 use Rattle.cudf_document.specs.Universe.{package_id, packages_in, request_in}
 use Rattle.cudf_document.specs.Values.{name_value}
 use Rattle.cudf_document.specs.Working.ProblemBuilders.{PlainBuilder, with_stanza, faults_inside, IsBuilt, first_ids}
@@ -68,14 +70,15 @@ joined_no_name v joined owned =
 abbrev as_builder : Walk → List PlainStanza → PlainBuilder
 as_builder k before = record { declared = k.declarations; ids = k.ids; packages = packages_in before; request = request_in before }
 
-is_built : (k : Walk) (before : List PlainStanza) → IsKnown k before → k.declarations ≡ declared before → IsBuilt (as_builder k before) before
-is_built k before so_far ds = record { declared_are = ds; ids_are = so_far.ids_are; packages_are = refl; request_is = refl }
+is_built : (mode : Mode) (k : Walk) (before : List PlainStanza) → IsKnown mode k before → k.declarations ≡ declared before → IsBuilt (as_builder k before) before
+is_built mode k before so_far ds = record { declared_are = ds; ids_are = so_far.ids_are; packages_are = refl; request_is = refl }
 
-judged_inside : (mark : Option Postmark) (k : Walk) (before : List PlainStanza) (s : PlainStanza) → judged_faults mark k.declarations k.ids s ≡ faults_inside mark (as_builder k before) s
-judged_inside (Some Package) k before s = refl
-judged_inside (Some Preamble) k before s = refl
-judged_inside (Some Request) k before s = refl
-judged_inside None k before s = refl
+judged_inside : (mark : Option Postmark) (required : List (List ℕ)) (k : Walk) (before : List PlainStanza) (s : PlainStanza)
+    → judged_faults mark required k.declarations k.ids s ≡ faults_inside mark required (as_builder k before) s
+judged_inside (Some Package) required k before s = refl
+judged_inside (Some Preamble) required k before s = refl
+judged_inside (Some Request) required k before s = refl
+judged_inside None required k before s = refl
 
 ids_inside : (mark : Option Postmark) (is_first : Bool) (k : Walk) (before : List PlainStanza) (s : PlainStanza) → judged_ids mark k.ids s ≡ (with_stanza mark is_first s (as_builder k before)).ids
 ids_inside (Some Package) is_first k before s = refl
@@ -89,20 +92,21 @@ or_swap true false = refl
 or_swap false true = refl
 or_swap false false = refl
 
-pub IsKnown-next : (old new : Walk) (before : List PlainStanza) (s : PlainStanza) (mark : Option Postmark) (is_first : Bool) (place inside : Option Fault)
-    → is_first ≡ is_empty before → old.declarations ≡ declared before → IsKnown old before → mark ≡ postmark s
-    → place ≡ least (place_faults is_first old.requested mark s.line) → inside ≡ least (judged_faults mark old.declarations old.ids s)
+pub IsKnown-next : (mode : Mode) (required : List (List ℕ)) (old new : Walk) (before : List PlainStanza) (s : PlainStanza) (mark : Option Postmark) (is_first : Bool) (place inside : Option Fault)
+    → is_first ≡ is_empty before → old.declarations ≡ declared before → required ≡ required_names mode (declared before) → IsKnown mode old before → mark ≡ postmark s
+    → place ≡ least (place_faults is_first old.requested mark s.line) → inside ≡ least (judged_faults mark required old.declarations old.ids s)
     → new.first ≡ lesser old.first (option_or place inside) → new.ids ≡ judged_ids mark old.ids s → new.requested ≡ (marks_request mark || old.requested)
-    → IsKnown new (before ++ s ∷ [])
-IsKnown-next old new before s mark is_first place inside first ds so_far marked place_is inside_is first_is ids_are requested =
+    → IsKnown mode new (before ++ s ∷ [])
+IsKnown-next mode required old new before s mark is_first place inside first ds required_are so_far marked place_is inside_is first_is ids_are requested =
     let g = as_builder old before in
-    let builder = is_built old before so_far ds in
+    let builder = is_built mode old before so_far ds in
     let was = requested_is g before builder in
     record {
-      first_is = first_is ∙ faults-next stanza_faults before s old.first (option_or place inside) so_far.first_is
-          (stanza_least g before s builder mark is_first place inside (sym marked) first
+      first_is = first_is ∙ faults-next (stanza_faults mode) before s old.first (option_or place inside) so_far.first_is
+          (stanza_least g before s builder mode mark is_first place inside (sym marked) first
           (place_is ∙ ap (λ late. least (place_faults is_first late mark s.line)) (so_far.requested_is ∙ sym was))
-          (inside_is ∙ ap least (judged_inside mark old before s)));
+          (inside_is ∙ ap (λ names. least (judged_faults mark names old.declarations old.ids s)) required_are
+          ∙ ap least (judged_inside mark (required_names mode (declared before)) old before s)));
       ids_are = λ id.
           ap (λ l. list_any (is_id id) l) (ids_are ∙ ids_inside mark is_first old before s)
           ∙ (IsBuilt-next g before s builder mark is_first (sym marked) first).ids_are id;
@@ -117,39 +121,46 @@ declared_later : (before : List PlainStanza) (s : PlainStanza) → false ≡ is_
 declared_later [] s some = absurd cc
 declared_later (t ∷ before) s some = refl
 
-pub IsKnown-none : (k : Walk) → k.first ≡ None → k.ids ≡ [] → k.requested ≡ false → IsKnown k []
-IsKnown-none k first ids requested = record { first_is = first; ids_are = λ id. ap (λ l. list_any (is_id id) l) ids; listed_are = ids; requested_is = requested }
+pub IsKnown-none : (mode : Mode) (k : Walk) → k.first ≡ None → k.ids ≡ [] → k.requested ≡ false → IsKnown mode k []
+IsKnown-none mode k first ids requested = record { first_is = first; ids_are = λ id. ap (λ l. list_any (is_id id) l) ids; listed_are = ids; requested_is = requested }
 
-pub GoesOn-next : (Old New : List PlainStanza → Type 0) (old new : Walk) (left later text : PlainText) (s : PlainStanza) → GoesOn Old old left text
+pub required_none : (mode : Mode) → [] ≡ required_names mode []
+required_none Lenient = refl
+required_none Strict = refl
+
+pub GoesOn-next : (mode : Mode) (required : List (List ℕ)) (Old New : List PlainStanza → Type 0) (old new : Walk) (left later text : PlainText) (s : PlainStanza)
+    → GoesOn mode required Old old left text
     → ◌≡◌ {A = PlainText} left (record later { stanzas = s ∷ later.stanzas })
-    → ((before : List PlainStanza) → false ≡ is_empty before → old.declarations ≡ declared before → IsKnown old before → IsKnown new (before ++ s ∷ []))
+    → ((before : List PlainStanza) → false ≡ is_empty before → old.declarations ≡ declared before → required ≡ required_names mode (declared before)
+    → IsKnown mode old before → IsKnown mode new (before ++ s ∷ []))
     → ((before : List PlainStanza) → old.declarations ≡ declared before → Old before → New (before ++ s ∷ []))
-    → new.declarations ≡ old.declarations → GoesOn New new later text
-GoesOn-next Old New old new left later text s goes read knows keeps same = record {
+    → new.declarations ≡ old.declarations → GoesOn mode required New new later text
+GoesOn-next mode required Old New old new left later text s goes read knows keeps same = record {
   now = goes.now ++ s ∷ [];
   some = sym (is_empty-push goes.now s);
   declared_are = same ∙ goes.declared_are ∙ sym (declared_later goes.now s goes.some);
-  known = knows goes.now goes.some goes.declared_are goes.known;
+  required_are = goes.required_are ∙ ap (required_names mode) (sym (declared_later goes.now s goes.some));
+  known = knows goes.now goes.some goes.declared_are goes.required_are goes.known;
   kept = keeps goes.now goes.declared_are goes.kept;
   whole = (λ i. let t : PlainText = record later { stanzas = append_assoc goes.now (s ∷ []) later.stanzas i } in t)
       ∙ (λ i. let t : PlainText = record (sym read i) { stanzas = goes.now ++ (sym read i).stanzas } in t) ∙ goes.whole;
 }
 
 -- nothing is left behind these stanzas
-all_known : (Kept : List PlainStanza → Type 0) (old new : Walk) (now : List PlainStanza) (left text : PlainText) (fault : Option Fault) (lines : ℕ)
-    → old.declarations ≡ declared now → IsKnown old now → Kept now
+all_known : (mode : Mode) (Kept : List PlainStanza → Type 0) (old new : Walk) (now : List PlainStanza) (left text : PlainText) (fault : Option Fault) (lines : ℕ)
+    → old.declarations ≡ declared now → IsKnown mode old now → Kept now
     → ◌≡◌ {A = PlainText} (record left { stanzas = now ++ left.stanzas }) text → ◌≡◌ {A = PlainText} left (record { stanzas = []; fault = fault; lines = lines })
     → new.first ≡ lesser (lesser fault old.first) (least (fault_if (not old.requested) (max 1 lines) E13))
-    → new.declarations ≡ old.declarations → new.ids ≡ old.ids → IsWhole Kept new text
-all_known Kept old new now left text fault lines ds knows keeps whole read first same_ds same_ids =
+    → new.declarations ≡ old.declarations → new.ids ≡ old.ids → IsWhole mode Kept new text
+all_known mode Kept old new now left text fault lines ds knows keeps whole read first same_ds same_ids =
     let end : ◌≡◌ {A = PlainText} (record { stanzas = now ++ []; fault = fault; lines = lines }) text =
     (λ i. let t : PlainText = record (sym read i) { stanzas = now ++ (sym read i).stanzas } in t) ∙ whole in
     let ss : now ≡ text.stanzas = sym (append-nil now) ∙ (λ i. (end i).stanzas) in
     record {
       first_is = first
           ∙ (λ i. lesser (lesser ((end i).fault) old.first) (least (fault_if (not old.requested) (max 1 lines) E13)))
-          ∙ problem_least text old.first (not old.requested) (max 1 lines)
-          (knows.first_is ∙ ap (λ l. least (flat_map stanza_faults (with_earlier [] l))) ss)
+          ∙ problem_least text mode old.first (not old.requested) (max 1 lines)
+          (knows.first_is ∙ ap (λ l. least (flat_map (stanza_faults mode) (with_earlier [] l))) ss)
           (ap not (knows.requested_is ∙ ap (list_any is_request) ss))
           (λ i. max 1 (end i).lines);
       declared_are = same_ds ∙ ds ∙ ap declared ss;
@@ -158,33 +169,44 @@ all_known Kept old new now left text fault lines ds knows keeps whole read first
       kept = subst Kept ss keeps;
     }
 
-pub GoesOn-end : (Kept : List PlainStanza → Type 0) (old new : Walk) (left text : PlainText) (fault : Option Fault) (lines : ℕ) → GoesOn Kept old left text
+pub GoesOn-end : (mode : Mode) (required : List (List ℕ)) (Kept : List PlainStanza → Type 0) (old new : Walk) (left text : PlainText) (fault : Option Fault) (lines : ℕ) → GoesOn mode required Kept old left text
     → ◌≡◌ {A = PlainText} left (record { stanzas = []; fault = fault; lines = lines })
     → new.first ≡ lesser (lesser fault old.first) (least (fault_if (not old.requested) (max 1 lines) E13))
-    → new.declarations ≡ old.declarations → new.ids ≡ old.ids → IsWhole Kept new text
-GoesOn-end Kept old new left text fault lines goes read first same_ds same_ids =
-    all_known Kept old new goes.now left text fault lines goes.declared_are goes.known goes.kept goes.whole read first same_ds same_ids
+    → new.declarations ≡ old.declarations → new.ids ≡ old.ids → IsWhole mode Kept new text
+GoesOn-end mode required Kept old new left text fault lines goes read first same_ds same_ids =
+    all_known mode Kept old new goes.now left text fault lines goes.declared_are goes.known goes.kept goes.whole read first same_ds same_ids
 
-pub no_stanza : (Kept : List PlainStanza → Type 0) (old new : Walk) (text : PlainText) (fault : Option Fault) (lines : ℕ) → old.declarations ≡ [] → IsKnown old [] → Kept []
+pub no_stanza : (mode : Mode) (Kept : List PlainStanza → Type 0) (old new : Walk) (text : PlainText) (fault : Option Fault) (lines : ℕ)
+    → old.declarations ≡ [] → IsKnown mode old [] → Kept []
     → ◌≡◌ {A = PlainText} text (record { stanzas = []; fault = fault; lines = lines })
     → new.first ≡ lesser (lesser fault old.first) (least (fault_if (not old.requested) (max 1 lines) E13))
-    → new.declarations ≡ old.declarations → new.ids ≡ old.ids → IsWhole Kept new text
-no_stanza Kept old new text fault lines ds knows keeps read first same_ds same_ids =
-    all_known Kept old new [] text text fault lines ds knows keeps refl read first same_ds same_ids
+    → new.declarations ≡ old.declarations → new.ids ≡ old.ids → IsWhole mode Kept new text
+no_stanza mode Kept old new text fault lines ds knows keeps read first same_ds same_ids =
+    all_known mode Kept old new [] text text fault lines ds knows keeps refl read first same_ds same_ids
 
-pub GoesOn-first : (Kept : List PlainStanza → Type 0) (k : Walk) (later text : PlainText) (s : PlainStanza) → ◌≡◌ {A = PlainText} text (record later { stanzas = s ∷ later.stanzas })
-    → IsKnown k (s ∷ []) → k.declarations ≡ declared (s ∷ []) → Kept (s ∷ []) → GoesOn Kept k later text
-GoesOn-first Kept k later text s read knows ds keeps = record { now = s ∷ []; some = refl; declared_are = ds; known = knows; kept = keeps; whole = sym read }
+pub GoesOn-first : (mode : Mode) (Kept : List PlainStanza → Type 0) (k : Walk) (later text : PlainText) (s : PlainStanza)
+    → ◌≡◌ {A = PlainText} text (record later { stanzas = s ∷ later.stanzas })
+    → IsKnown mode k (s ∷ []) → k.declarations ≡ declared (s ∷ []) → Kept (s ∷ []) → GoesOn mode (required_names mode k.declarations) Kept k later text
+GoesOn-first mode Kept k later text s read knows ds keeps = record { now = s ∷ []; some = refl; declared_are = ds; required_are = ap (required_names mode) ds; known = knows; kept = keeps; whole = sym read }
 
 -- ---- stanzas that are held
 
-pub IsSoFar-none : (Kept : List PlainStanza → Type 0) (k : Walk) → k.declarations ≡ [] → IsKnown k [] → Kept [] → IsSoFar Kept k []
-IsSoFar-none Kept k ds knows keeps = record { declared_are = ds; known = knows; kept = keeps }
+pub IsSoFar-none : (mode : Mode) (Kept : List PlainStanza → Type 0) (k : Walk) → k.declarations ≡ [] → IsKnown mode k [] → Kept [] → IsSoFar mode Kept k []
+IsSoFar-none mode Kept k ds knows keeps = record { declared_are = ds; known = knows; kept = keeps }
 
-pub IsSoFar-end : (Kept : List PlainStanza → Type 0) (old new : Walk) (text : PlainText) → IsSoFar Kept old text.stanzas
+pub IsSoFar-end : (mode : Mode) (Kept : List PlainStanza → Type 0) (old new : Walk) (text : PlainText) → IsSoFar mode Kept old text.stanzas
     → new.first ≡ lesser (lesser text.fault old.first) (least (fault_if (not old.requested) (max 1 text.lines) E13))
-    → new.declarations ≡ old.declarations → new.ids ≡ old.ids → IsWhole Kept new text
-IsSoFar-end Kept old new text so_far first same_ds same_ids =
-    all_known Kept old new text.stanzas (record { stanzas = []; fault = text.fault; lines = text.lines }) text text.fault text.lines
+    → new.declarations ≡ old.declarations → new.ids ≡ old.ids → IsWhole mode Kept new text
+IsSoFar-end mode Kept old new text so_far first same_ds same_ids =
+    all_known mode Kept old new text.stanzas (record { stanzas = []; fault = text.fault; lines = text.lines }) text text.fault text.lines
     so_far.declared_are so_far.known so_far.kept
     (λ i. let t : PlainText = record text { stanzas = append-nil text.stanzas i } in t) refl first same_ds same_ids
+
+-- what is required by these stanzas, behind one more
+pub required_next : (mode : Mode) (is_first : Bool) (old new : List (List ℕ)) (k : Walk) (before : List PlainStanza) (s : PlainStanza) → is_first ≡ is_empty before
+    → k.declarations ≡ declared (before ++ s ∷ []) → old ≡ required_names mode (declared before)
+    → (IsTrue is_first → new ≡ required_names mode k.declarations) → (IsTrue (not is_first) → new ≡ old) → new ≡ required_names mode (declared (before ++ s ∷ []))
+required_next mode true old new k [] s first ds old_is here later = here refl ∙ ap (required_names mode) ds
+required_next mode false old new k [] s first ds old_is here later = absurd cc
+required_next mode true old new k (t ∷ before) s first ds old_is here later = absurd cc
+required_next mode false old new k (t ∷ before) s first ds old_is here later = later refl ∙ old_is

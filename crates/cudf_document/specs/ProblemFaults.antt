@@ -1,11 +1,13 @@
 -- What is wrong with a problem: a definition for each kind of fault, with its line (own). The rules that they break are
 -- those of CUDF 2.0, syntax of documents and of stanzas, the preamble, package and request properties.
-use Rattle.std.specs.Prelude.{ℕ, Bool, not, ◌&&◌, max, List, [], ◌++◌, map, is_none, Option, Some, find, filter_map, option_to_list, if◌then◌else◌, codes}
+use Rattle.std.specs.Prelude.{ℕ, Bool, not, ◌&&◌, max, List, [], ◌++◌, map, is_none, Option, Some, None, find, filter_map, option_to_list, if◌then◌else◌, codes}
 use Rattle.std.specs.List.{list_any, flat_map}
 use Rattle.cudf_text.specs.declared.fault.Fault.{Fault}
-use Rattle.cudf_text.specs.declared.fault.Kind.TheVariants.{E4, E5, E6, E7, E8, E9, E10, E11, E12, E13}
+use Rattle.cudf_text.specs.declared.fault.Kind.TheVariants.{E4, E5, E6, E7, E8, E9, E10, E11, E12, E13, E14}
 use Rattle.cudf_text.specs.Stanzas.{PlainProperty, PlainStanza, PlainText}
 use Rattle.cudf_value.specs.Declarations.{PlainDeclaration}
+use Rattle.cudf_document.specs.declared.mode.Mode.{Mode}
+use Rattle.cudf_document.specs.declared.mode.Mode.TheVariants.{Lenient, Strict}
 use Rattle.cudf_document.specs.declared.postmark.Postmark.{Postmark}
 use Rattle.cudf_document.specs.declared.postmark.Postmark.TheVariants.{Package, Request}
 use Rattle.cudf_document.specs.Faults.{fault_if}
@@ -81,24 +83,44 @@ repeated_package_faults ids s = fault_if (is_known ids (id_of s)) (line_of (vers
 abbrev pub unversioned_faults : PlainStanza → List Fault
 unversioned_faults s = fault_if (marks_package (postmark s) && is_none (version_property s)) s.last E12
 
+-- ---- strictly, what a package has to say
+
+-- the name of a declared property that has no default
+abbrev pub name_without_default : PlainDeclaration → Option (List ℕ)
+name_without_default d = if is_none d.default then Some d.name else None
+
+-- the properties that each package has to have
+abbrev pub required_names : Mode → List PlainDeclaration → List (List ℕ)
+required_names Lenient ds = []
+required_names Strict ds = filter_map name_without_default ds
+
+-- for one of these names there is no property
+abbrev pub lacks_one : List (List ℕ) → List PlainProperty → Bool
+lacks_one names ps = list_any (λ name. not (list_any (has_name name) ps)) names
+
+-- E14, declared property missing
+abbrev pub missing_faults : List (List ℕ) → PlainStanza → List Fault
+missing_faults required s = fault_if (lacks_one required s.properties && marks_package (postmark s)) s.last E14
+
 -- ---- a stanza after those before it, and a problem
 
-abbrev pub inner_faults : List PlainStanza → PlainStanza → List Fault
-inner_faults before s =
-    properties_faults (declared before) (postmark s) s.properties
+abbrev pub inner_faults : Mode → List PlainStanza → PlainStanza → List Fault
+inner_faults mode before s =
+    missing_faults (required_names mode (declared before)) s
+    ++ properties_faults (declared before) (postmark s) s.properties
     ++ repeated_package_faults (filter_map id_of before) s ++ unversioned_faults s
 
 -- a stanza in a wrong place has no other fault (own)
 abbrev pub faults_or : List Fault → List Fault → List Fault
 faults_or place inner = if is_empty place then inner else place
 
-abbrev pub stanza_faults : List PlainStanza × PlainStanza → List Fault
-stanza_faults (before, s) = faults_or (place_faults (is_empty before) (list_any is_request before) (postmark s) s.line) (inner_faults before s)
+abbrev pub stanza_faults : Mode → List PlainStanza × PlainStanza → List Fault
+stanza_faults mode (before, s) = faults_or (place_faults (is_empty before) (list_any is_request before) (postmark s) s.line) (inner_faults mode before s)
 
 -- E13, no request
 abbrev pub requestless_faults : PlainText → List Fault
 requestless_faults text = fault_if (not (list_any is_request text.stanzas)) (max 1 text.lines) E13
 
 -- the faults of a problem, in no order; the fault of a line is E2 or E3
-unfoldable pub problem_faults : PlainText → List Fault
-problem_faults text = option_to_list text.fault ++ flat_map stanza_faults (with_earlier [] text.stanzas) ++ requestless_faults text
+unfoldable pub problem_faults : PlainText → Mode → List Fault
+problem_faults text mode = option_to_list text.fault ++ flat_map (stanza_faults mode) (with_earlier [] text.stanzas) ++ requestless_faults text

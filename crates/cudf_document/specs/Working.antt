@@ -3,6 +3,7 @@ pub mod Chosen
 pub mod Enums
 pub mod Flags
 pub mod Kept
+pub mod Pairs
 pub mod PackageFields
 pub mod ProblemBuilders
 pub mod RequestFields

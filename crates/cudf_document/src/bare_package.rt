@@ -1,10 +1,11 @@
 //! Packages without what they need.
-ghost use Rattle.std.specs.Prelude.{◌≡◌, Some, true, IfOk};
+ghost use Rattle.std.specs.Prelude.{◌≡◌, Some, true, IfOk, OnOk};
 ghost use Rattle.cudf_text.specs.Views.{stanza_view};
 ghost use Rattle.cudf_document.specs.Faults.{least};
 ghost use Rattle.cudf_document.specs.ProblemFaults.{properties_faults};
 ghost use Rattle.cudf_document.specs.Working.Borrows.{are_borrowed};
 ghost use Rattle.cudf_document.specs.Working.PackageFields.{package_fields_view, package_fields_of, without_needs, is_need};
+ghost use Rattle.cudf_document.specs.Working.SeenNames.{AreNames};
 ghost use Rattle.cudf_document.specs.declared.postmark.Postmark.TheVariants.{Package as PackageMark};
 
 use crate::declarations::Declarations;
@@ -71,6 +72,7 @@ pub(crate) fn read_bare_package<'a>(
     ensures fault { IfOk result (λ r.
         r.0
         ≡ least (properties_faults declarations.now (Some PackageMark) (stanza_view stanza.now).properties)) }
+    ensures names { OnOk result (AreNames names.new (stanza_view stanza.now).properties) }
     ensures values { are_borrowed stanza.now.properties.items ≡ true →
         IfOk result (λ r.
         package_fields_view r.1

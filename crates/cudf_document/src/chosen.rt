@@ -67,8 +67,8 @@ impl<'a> Chosen<'a> {
     fn take(&mut self, stanza: &Stanza<'a>) -> Result<(), AllocError>
         ensures { OnOk result (self.new ≡ with_id self.old (installed_id (stanza_view stanza.now))) }
     {
-        let (_fault, id) = read_stanza(stanza);
-        self.ids.insert_some(id)?;
+        let said = read_stanza(stanza);
+        self.ids.insert_some(said.installed)?;
         Ok(())
     }
 

@@ -1,12 +1,14 @@
 //! The extra package properties that a document declares.
-ghost use Rattle.std.specs.Prelude.{◌≡◌, Bool, false, not, ◌&&◌, ◌||◌, [], ◌∷◌, ◌++◌, map, take, length, find, is_some, Some, None, option_map, unwrap_or, bytes_eq, IfOk, OnOk, IsTrue, if◌then◌else◌};
+ghost use Rattle.std.specs.Prelude.{◌≡◌, Bool, false, not, ◌&&◌, ◌||◌, [], ◌∷◌, ◌++◌, map, take, length, filter_map, find, is_some, Some, None, option_map, option_to_list, unwrap_or, bytes_eq, IfOk, OnOk, IsTrue, if◌then◌else◌};
 ghost use Rattle.cudf_value.specs.Formulas.{formula_view};
 ghost use Rattle.cudf_value.specs.Declarations.{declaration_view};
 ghost use Rattle.cudf_document.specs.Values.{declared_test, test_of};
+ghost use Rattle.cudf_document.specs.ProblemFaults.{name_without_default, required_names};
 ghost use Rattle.cudf_document.specs.Preamble.{is_reserved, is_declared, is_declarable, all_declarable, if_declarable, declared_by, recommends_in, recommends_default};
 ghost use Rattle.cudf_document.specs.Working.PackageFields.{wrong_kind};
 
 use crate::declared::Declared;
+use crate::mode::Mode;
 use cudf_text::Kind;
 use cudf_value::{Declaration, Formula, read_declarations};
 use indexmap::IndexMap;
@@ -86,6 +88,28 @@ impl<'t> Declarations<'t> {
             Some(declared) => declared.default_formula(alloc),
             None => Ok(None),
         }
+    }
+
+    /// The names that each package has to have.
+    pub(crate) fn required(&self, alloc: Global, mode: Mode) -> Result<Vec<&'t str>, AllocError>
+        ensures { IfOk result (λ names. map (λ name. name.now) names.items ≡ required_names mode self.now) }
+    {
+        match mode {
+            Mode::Lenient => Ok(Vec::new(alloc)),
+            Mode::Strict => self.without_default(alloc),
+        }
+    }
+
+    /// The names of those that have no default.
+    fn without_default(&self, alloc: Global) -> Result<Vec<&'t str>, AllocError>
+        ensures { IfOk result (λ names.
+            map (λ name. name.now) names.items ≡ filter_map name_without_default self.now) }
+    {
+        let mut names = Vec::new(alloc);
+        for declared in self.known.values() {
+            push_required(&mut names, declared)?;
+        }
+        Ok(names)
     }
 
     /// Adds what a `property` value declares and answers true, or adds nothing where it is a bad
@@ -190,6 +214,17 @@ impl<'t> Declarations<'t> {
         self.known.insert(declared.name(), declared)?;
         Ok(())
     }
+}
+
+/// Adds the name of a declared property, if it has no default.
+fn push_required<'t>(names: &mut Vec<&'t str>, declared: &Declared<'t>) -> Result<(), AllocError>
+    ensures { OnOk result (map (λ name. name.now) names.new.items
+        ≡ map (λ name. name.now) names.old.items ++ option_to_list (name_without_default declared.now)) }
+{
+    if declared.has_default() {
+        return Ok(());
+    }
+    Ok(names.push(declared.name())?)
 }
 
 fn both(one: bool, other: bool) -> bool

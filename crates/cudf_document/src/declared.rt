@@ -31,7 +31,7 @@ impl<'t> Model for Declared<'t> {
 }
 
 impl<'t> Declared<'t> {
-    ghost use Rattle.std.specs.Prelude.{◌≡◌, option_map, IfOk};
+    ghost use Rattle.std.specs.Prelude.{◌≡◌, is_some, option_map, IfOk};
     ghost use Rattle.cudf_text.specs.Chars.{trim};
     ghost use Rattle.cudf_value.specs.Types.{is_of_type};
     ghost use Rattle.cudf_value.specs.Formulas.{formula_view};
@@ -52,6 +52,12 @@ impl<'t> Declared<'t> {
         ensures { result.now ≡ self.now.name }
     {
         self.declaration.name
+    }
+
+    pub(crate) fn has_default(&self) -> bool
+        ensures { result ≡ is_some self.now.default }
+    {
+        self.declaration.default.is_some()
     }
 
     /// Whether the text, but for blanks round it, is of the declared type.

@@ -72,6 +72,7 @@ pub(crate) fn read_properties<'a, S: Fields<'a>>(
     ensures fault { IfOk result (λ r.
         r.0
         ≡ least (properties_faults declarations.now (Some PackageMark) (map property_view properties.now))) }
+    ensures names { OnOk result (AreNames names.new (map property_view properties.now)) }
     ensures read { are_borrowed properties.now ≡ true →
         IfOk result (λ r. S.IsRead declarations.now (map property_view properties.now) r.1) }
 {
@@ -145,9 +146,10 @@ pub(crate) fn judge_package<'a>(
     declarations: &Declarations<'_>,
     stanza: &Stanza<'a>,
 ) -> Result<Option<Fault>, AllocError>
-    ensures { IfOk result (λ fault.
+    ensures fault { IfOk result (λ fault.
         fault
         ≡ least (properties_faults declarations.now (Some PackageMark) (stanza_view stanza.now).properties)) }
+    ensures names { OnOk result (AreNames names.new (stanza_view stanza.now).properties) }
 {
     let (fault, _judged): (Option<Fault>, Judged) = read_properties(
         alloc,

@@ -1,5 +1,5 @@
 //! What follows from the definitions alone. Each law is the contract of a function without effect.
-ghost use Rattle.cudf_document.specs.Laws.{LeastIsFirst, FaultlessIsSound};
+ghost use Rattle.cudf_document.specs.Laws.{LeastIsFirst, FaultlessIsSound, StrictAddsOneKind};
 
 /// The fault that a reader answers is one of the document's faults and precedes every other one,
 /// and no other fault does.
@@ -11,4 +11,11 @@ pub fn first()
 /// one name and version, and there is one request.
 pub fn sound()
     ensures { FaultlessIsSound }
+{}
+
+/// Strictly a problem has the faults that it has leniently and some of kind E14, a solution those and
+/// some of kind E15; leniently no stanza has a fault of these kinds. So a document that has no fault
+/// strictly has none leniently.
+pub fn lenient()
+    ensures { StrictAddsOneKind }
 {}

@@ -5,22 +5,29 @@ ghost use Rattle.cudf_document.specs.ProblemFaults.{problem_faults};
 
 use crate::declarations::Declarations;
 use crate::fields::judge_package;
+use crate::mode::Mode;
 use crate::request_fields::read_request;
 use crate::seen_names::SeenNames;
 use crate::walk::{Kept, Walk, walk_all};
 use cudf_text::{Fault, Stanza, Stanzas};
 use std::alloc::{AllocError, Global};
 
-/// The first fault of a problem, if it has one.
-pub fn first_fault(alloc: Global, stanzas: Stanzas<'_>) -> Result<Option<Fault>, AllocError>
-    ensures { IfOk result (λ fault. fault ≡ least (problem_faults stanzas.entry.text)) }
+/// The first fault of a problem that is read in this mode, if it has one.
+pub fn first_fault(
+    alloc: Global,
+    stanzas: Stanzas<'_>,
+    mode: Mode,
+) -> Result<Option<Fault>, AllocError>
+    ensures { IfOk result (λ fault. fault ≡ least (problem_faults stanzas.entry.text mode)) }
 {
     let mut head = Stanza {
         line: 0,
         last: 0,
         properties: Vec::new(alloc),
     };
-    let walked: Option<(Walk<'_, '_>, Nothing)> = walk_all(alloc, stanzas, &mut head, Nothing)?;
+    let walked: Option<(Walk<'_, '_>, Nothing)> = walk_all(
+        alloc, stanzas, &mut head, Nothing, mode,
+    )?;
     match walked {
         Some((walk, _nothing)) => Ok(walk.first),
         None => Ok(None),

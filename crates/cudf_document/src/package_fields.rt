@@ -1,11 +1,12 @@
 //! The values of a package's properties.
-ghost use Rattle.std.specs.Prelude.{◌≡◌, Some, [], true, option_copied, IfOk};
+ghost use Rattle.std.specs.Prelude.{◌≡◌, Some, [], true, option_copied, IfOk, OnOk};
 ghost use Rattle.cudf_text.specs.Views.{stanza_view, property_view};
 ghost use Rattle.cudf_document.specs.Faults.{least};
 ghost use Rattle.cudf_document.specs.Values.{name_value, keep_value};
 ghost use Rattle.cudf_document.specs.ProblemFaults.{properties_faults};
 ghost use Rattle.cudf_document.specs.Working.Borrows.{are_borrowed};
 ghost use Rattle.cudf_document.specs.Working.PackageFields.{package_fields_view, package_fields_of};
+ghost use Rattle.cudf_document.specs.Working.SeenNames.{AreNames};
 ghost use Rattle.cudf_document.specs.declared.postmark.Postmark.TheVariants.{Package as PackageMark};
 
 use crate::borrowed::source_value;
@@ -220,6 +221,7 @@ pub(crate) fn read_package<'a>(
     ensures fault { IfOk result (λ r.
         r.0
         ≡ least (properties_faults declarations.now (Some PackageMark) (stanza_view stanza.now).properties)) }
+    ensures names { OnOk result (AreNames names.new (stanza_view stanza.now).properties) }
     ensures values { are_borrowed stanza.now.properties.items ≡ true →
         IfOk result (λ r.
         package_fields_view r.1 ≡ package_fields_of declarations.now (stanza_view stanza.now).properties) }

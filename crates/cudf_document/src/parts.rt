@@ -29,7 +29,7 @@ pub(crate) struct Parts<'a, 'c, 's> {
 }
 
 impl<'a, 'c, 's> Parts<'a, 'c, 's> {
-    ghost use Rattle.std.specs.Prelude.{◌≡◌, [], true, Some, option_map, is_some, if◌then◌else◌, IfOk};
+    ghost use Rattle.std.specs.Prelude.{◌≡◌, [], true, Some, option_map, is_some, if◌then◌else◌, IfOk, OnOk};
     ghost use Rattle.cudf_text.specs.Views.{stanza_view};
     ghost use Rattle.cudf_document.specs.Faults.{least};
     ghost use Rattle.cudf_document.specs.ProblemFaults.{properties_faults};
@@ -39,6 +39,7 @@ impl<'a, 'c, 's> Parts<'a, 'c, 's> {
     ghost use Rattle.cudf_document.specs.Working.Kept.{IsParts, IsReady, kept_by, gathered_of};
     ghost use Rattle.cudf_document.specs.Working.PackageFields.{package_fields_view, package_fields_of, passes, needing_if};
     ghost use Rattle.cudf_document.specs.Working.ProblemBuilders.{problem_of};
+    ghost use Rattle.cudf_document.specs.Working.SeenNames.{AreNames};
 
     /// Before the first stanza.
     pub(crate) fn new(alloc: Global, chosen: Option<&'c Chosen<'s>>) -> Self
@@ -65,6 +66,7 @@ impl<'a, 'c, 's> Parts<'a, 'c, 's> {
         ensures fault { IfOk result (λ r.
             r.0
             ≡ least (properties_faults declarations.now (Some PackageMark) (stanza_view stanza.now).properties)) }
+        ensures names { OnOk result (AreNames names.new (stanza_view stanza.now).properties) }
         ensures values { are_borrowed stanza.now.properties.items ≡ true →
             IfOk result (λ r.
             package_fields_view r.1

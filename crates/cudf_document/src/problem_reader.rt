@@ -9,8 +9,10 @@ ghost use Rattle.cudf_document.specs.Working.Walks.{IsWhole};
 
 use crate::borrowed::lend;
 use crate::error::ReadError;
+use crate::mode::Mode;
 use crate::parts::Parts;
 use crate::problem::Problem;
+use crate::required::require;
 use crate::walk::Walk;
 use cudf_text::{Stanza, Text};
 use std::alloc::{AllocError, Global};
@@ -20,15 +22,19 @@ use std::alloc::{AllocError, Global};
 /// # Errors
 ///
 /// The problem's first fault, of any kind but E1, or `Memory` where a growth is refused.
-pub fn read_problem<'t, 'a>(alloc: Global, text: &'t Text<'a>) -> Result<Problem<'t>, ReadError>
+pub fn read_problem<'t, 'a>(
+    alloc: Global,
+    text: &'t Text<'a>,
+    mode: Mode,
+) -> Result<Problem<'t>, ReadError>
     // The problem has no fault,
-    ensures sound { IfOk result (λ _. problem_faults (text_view text.now) ≡ []) }
+    ensures sound { IfOk result (λ _. problem_faults (text_view text.now) mode ≡ []) }
     // and this is what it says.
     ensures problem { IfOk result (λ p. p ≡ plain_problem (text_view text.now)) }
     // The fault is the first of its faults.
-    ensures fault { IfErr result (IsFirstFault (problem_faults (text_view text.now))) }
+    ensures fault { IfErr result (IsFirstFault (problem_faults (text_view text.now) mode)) }
 {
-    let (walk, parts) = walk_held(alloc, text)?;
+    let (walk, parts) = walk_held(alloc, text, mode)?;
     if let Some(fault) = walk.first {
         return Err(ReadError::Fault(fault));
     }
@@ -39,9 +45,10 @@ pub fn read_problem<'t, 'a>(alloc: Global, text: &'t Text<'a>) -> Result<Problem
 fn walk_held<'t, 'a>(
     alloc: Global,
     text: &'t Text<'a>,
+    mode: Mode,
 ) -> Result<(Walk<'t, 't>, Parts<'t, 't, 't>), AllocError>
     ensures { IfOk result (λ r.
-        IsWhole (λ ss. IsParts (λ id. true) ss r.1) r.0 (text_view text.now)) }
+        IsWhole mode (λ ss. IsParts (λ id. true) ss r.1) r.0 (text_view text.now)) }
 {
     let mut walk: Walk<'t, 't> = Walk::new(alloc);
     let mut parts: Parts<'t, 't, 't> = Parts::new(alloc, None);
@@ -50,10 +57,12 @@ fn walk_held<'t, 'a>(
         last: 0,
         properties: Vec::new(alloc),
     };
+    let mut required: Vec<&'t str> = Vec::new(alloc);
     let mut is_first = true;
     for stanza in &text.stanzas {
         lend(stanza, &mut lent)?;
-        walk.take_held(alloc, &mut parts, is_first, &lent, stanza)?;
+        walk.take_held(alloc, &mut parts, is_first, &lent, stanza, &required)?;
+        require(alloc, &mut required, is_first, &walk.declarations, mode)?;
         is_first = false;
     }
     walk.end(text.fault, text.lines);

@@ -8,6 +8,7 @@ ghost use Rattle.cudf_document.specs.SolutionFaults.{solution_faults};
 ghost use Rattle.cudf_document.specs.Statuses.{is_proposed, unknown_view, unknown_stanzas, IsStatusOf, ascend_above, are_outside};
 
 use crate::error::ReadError;
+use crate::mode::Mode;
 use crate::problem::Problem;
 use crate::solution_reader::SolutionReader;
 use crate::status::Status;
@@ -37,21 +38,22 @@ pub struct Unknown<'t> {
 }
 
 /// Reads a solution of the problem. Of its packages `package`, `version` and `installed` count,
-/// other stanzas are skipped, repeated pairs mean the same pair, and a stanza with
-/// `installed: false` takes nothing back.
+/// other stanzas are skipped, and a stanza with `installed: false` takes nothing back. Leniently
+/// repeated pairs mean the same pair.
 ///
 /// # Errors
 ///
-/// The solution's first fault, of kind E2, E3, E4, E7, E9 or E12, or `Memory` where a growth is
-/// refused.
+/// The solution's first fault, of kind E2, E3, E4, E7, E9 or E12, or strictly E15, or `Memory` where
+/// a growth is refused.
 pub fn read_solution<'t, 'a, 'p>(
     alloc: Global,
     text: &'t Text<'a>,
     problem: &Problem<'p>,
+    mode: Mode,
 ) -> Result<Solution<'t>, ReadError>
     requires { is_fail text.now.source.now ≡ false }
     // The solution has no fault,
-    ensures sound { IfOk result (λ _. solution_faults (text_view text.now) ≡ []) }
+    ensures sound { IfOk result (λ _. solution_faults (text_view text.now) mode ≡ []) }
     // and this is the status that it proposes,
     ensures status { IfOk result (λ s.
         (place : ℕ) → set.contains s.status place
@@ -64,9 +66,9 @@ pub fn read_solution<'t, 'a, 'p>(
     ensures outside { IfOk result (λ s.
         IsTrue (are_outside problem.now (map unknown_view s.unknown.items))) }
     // The fault is the first of its faults.
-    ensures fault { IfErr result (IsFirstFault (solution_faults (text_view text.now))) }
+    ensures fault { IfErr result (IsFirstFault (solution_faults (text_view text.now) mode)) }
 {
-    let mut reader = SolutionReader::new(alloc, problem)?;
+    let mut reader = SolutionReader::new(alloc, problem, mode)?;
     for stanza in &text.stanzas {
         reader.take(problem, stanza)?;
     }
@@ -83,9 +85,10 @@ pub fn solution_of<'a, 'p>(
     alloc: Global,
     stanzas: Stanzas<'a>,
     problem: &Problem<'p>,
+    mode: Mode,
 ) -> Result<Solution<'a>, ReadError>
     // The solution has no fault,
-    ensures sound { IfOk result (λ _. solution_faults stanzas.entry.text ≡ []) }
+    ensures sound { IfOk result (λ _. solution_faults stanzas.entry.text mode ≡ []) }
     // and this is the status that it proposes,
     ensures status { IfOk result (λ s.
         (place : ℕ) → set.contains s.status place
@@ -98,10 +101,10 @@ pub fn solution_of<'a, 'p>(
     ensures outside { IfOk result (λ s.
         IsTrue (are_outside problem.now (map unknown_view s.unknown.items))) }
     // The fault is the first of its faults.
-    ensures fault { IfErr result (IsFirstFault (solution_faults stanzas.entry.text)) }
+    ensures fault { IfErr result (IsFirstFault (solution_faults stanzas.entry.text mode)) }
 {
     let mut stanzas = stanzas;
-    let mut reader = SolutionReader::new(alloc, problem)?;
+    let mut reader = SolutionReader::new(alloc, problem, mode)?;
     let mut stanza = Stanza {
         line: 0,
         last: 0,

@@ -46,6 +46,7 @@ pub(crate) struct SolutionPackage<'a> {
 impl<'a> SolutionPackage<'a> {
     ghost use Rattle.std.specs.Prelude.{◌≡◌, [], Some, option_map};
     ghost use Rattle.cudf_text.specs.Views.{property_view};
+    ghost use Rattle.cudf_document.specs.Ids.{id_with};
     ghost use Rattle.cudf_document.specs.Working.PackageFields.{fault_on};
     ghost use Rattle.cudf_document.specs.Working.SolutionPackages.{solution_property_named, solution_package_view, solution_package_of, with_solution_property, solution_kind, with_property, solution_kind_of, solution_package_id};
     ghost use Rattle.cudf_document.specs.declared.solution_package.SolutionProperty.TheVariants as counted;
@@ -121,12 +122,19 @@ impl<'a> SolutionPackage<'a> {
         mistyped_unless(self.installed.is_some())
     }
 
+    /// The name and the version, where both are of their types.
+    pub(crate) fn id(&self) -> Option<(&'a str, u64)>
+        ensures { option_map (λ id. (id.0.now, id.1)) result ≡ id_with (solution_package_view self.now).name (solution_package_view self.now).version }
+    {
+        Some((self.name?, self.version?))
+    }
+
     /// The name and the version, if they are installed.
     pub(crate) fn installed_id(&self) -> Option<(&'a str, u64)>
         ensures { option_map (λ id. (id.0.now, id.1)) result ≡ solution_package_id (solution_package_view self.now) }
     {
         if self.installed.unwrap_or(false) {
-            Some((self.name?, self.version?))
+            self.id()
         } else {
             None
         }

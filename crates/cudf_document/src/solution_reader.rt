@@ -2,11 +2,14 @@
 ghost use Rattle.std.specs.Prelude.{◌≡◌, option_map};
 ghost use Rattle.cudf_text.specs.Views.{stanza_view};
 ghost use Rattle.cudf_document.specs.Faults.{least};
+ghost use Rattle.cudf_document.specs.Ids.{id_of};
 ghost use Rattle.cudf_document.specs.SolutionFaults.{solution_stanza_faults};
 ghost use Rattle.cudf_document.specs.Statuses.{installed_id};
 
 use crate::error::ReadError;
 use crate::fault::{fault_if, lesser};
+use crate::mode::Mode;
+use crate::pairs::Pairs;
 use crate::postmark::{Postmark, postmark_of};
 use crate::problem::Problem;
 use crate::solution::Solution;
@@ -19,8 +22,10 @@ use std::alloc::{AllocError, Global};
 /// What is known after some stanzas.
 #[derive(Drop)]
 pub(crate) struct SolutionReader<'a> {
-    /// Their first fault.
+    /// Their first fault, each for itself.
     pub(crate) first: Option<Fault>,
+    /// Their pairs, and the first that strictly is repeated.
+    pub(crate) pairs: Pairs<'a>,
     /// How many there were.
     pub(crate) number: u64,
     /// What they propose.
@@ -34,14 +39,16 @@ impl<'a> SolutionReader<'a> {
     ghost use Rattle.cudf_document.specs.Faults.{IsFirstFault};
     ghost use Rattle.cudf_document.specs.SolutionFaults.{solution_faults};
     ghost use Rattle.cudf_document.specs.Universe.{PlainProblem};
+    ghost use Rattle.cudf_document.specs.declared.mode.Mode.{Mode};
     ghost use Rattle.cudf_document.specs.Working.SolutionReaders.{IsSolutionRead, IsSolutionOf};
 
     /// Before the first stanza.
-    pub(crate) fn new(alloc: Global, problem: &Problem<'_>) -> Result<Self, AllocError>
-        ensures { IfOk result (IsSolutionRead problem.now []) }
+    pub(crate) fn new(alloc: Global, problem: &Problem<'_>, mode: Mode) -> Result<Self, AllocError>
+        ensures { IfOk result (IsSolutionRead problem.now mode []) }
     {
         Ok(SolutionReader {
             first: None,
+            pairs: Pairs::new(alloc, mode),
             number: 0,
             builder: SolutionBuilder::new(alloc, problem)?,
         })
@@ -54,33 +61,43 @@ impl<'a> SolutionReader<'a> {
         stanza: &Stanza<'a>,
     ) -> Result<(), AllocError>
         requires { length self.old.builder.flags.items ≡ length problem.now.packages }
-        ensures { (seen : List PlainStanza) →
-            IsSolutionRead problem.now seen self.old →
-            OnOk result (IsSolutionRead problem.now (seen ++ stanza_view stanza.now ∷ []) self.new) }
+        ensures { (mode : Mode) →
+            (seen : List PlainStanza) →
+            IsSolutionRead problem.now mode seen self.old →
+            OnOk result (IsSolutionRead problem.now mode (seen ++ stanza_view stanza.now ∷ []) self.new) }
     {
-        let (fault, id) = read_stanza(stanza);
-        self.first = lesser(self.first, fault);
+        let said = read_stanza(stanza);
+        self.first = lesser(self.first, said.fault);
+        self.pairs.take(said.id, stanza)?;
         // A text of more stanzas than a number counts is larger than any memory.
         self.number = self.number.checked_add(1).ok_or(AllocError)?;
-        self.builder.add(problem, self.number, stanza.line, id)?;
+        self.builder
+            .add(problem, self.number, stanza.line, said.installed)?;
         Ok(())
     }
 
-    /// The solution, unless a line or a stanza has a fault.
+    /// The solution, unless a line, a stanza or a pair has a fault.
     pub(crate) fn finish(self, line_fault: Option<Fault>) -> Result<Solution<'a>, ReadError>
         ensures solution { (problem : PlainProblem) →
+            (mode : Mode) →
             (text : PlainText) →
             line_fault ≡ text.fault →
-            IsSolutionRead problem text.stanzas self.entry →
-            IfOk result (IsSolutionOf problem text) }
+            IsSolutionRead problem mode text.stanzas self.entry →
+            IfOk result (IsSolutionOf problem mode text) }
         ensures fault { (problem : PlainProblem) →
+            (mode : Mode) →
             (text : PlainText) →
             line_fault ≡ text.fault →
-            IsSolutionRead problem text.stanzas self.entry →
-            IfErr result (IsFirstFault (solution_faults text)) }
+            IsSolutionRead problem mode text.stanzas self.entry →
+            IfErr result (IsFirstFault (solution_faults text mode)) }
     {
-        let SolutionReader { first, builder, .. } = self;
-        if let Some(fault) = lesser(line_fault, first) {
+        let SolutionReader {
+            first,
+            pairs,
+            builder,
+            ..
+        } = self;
+        if let Some(fault) = lesser(pairs.first, lesser(line_fault, first)) {
             return Err(ReadError::Fault(fault));
         }
         let SolutionBuilder { flags, unknown } = builder;
@@ -91,19 +108,43 @@ impl<'a> SolutionReader<'a> {
     }
 }
 
-/// The first fault of a stanza, and the pair that it installs, if it installs one.
-pub(crate) fn read_stanza<'a>(stanza: &Stanza<'a>) -> (Option<Fault>, Option<(&'a str, u64)>)
-    ensures fault { result.0 ≡ least (solution_stanza_faults (stanza_view stanza.now)) }
-    ensures installed { option_map (λ id. (id.0.now, id.1)) result.1
+/// What a stanza says.
+#[derive(Clone, Copy)]
+pub(crate) struct SaidOfStanza<'a> {
+    /// Its first fault, whatever stands before it.
+    pub(crate) fault: Option<Fault>,
+    /// The name and the version of a package, where both are of their types.
+    pub(crate) id: Option<(&'a str, u64)>,
+    /// The same of a package that it installs.
+    pub(crate) installed: Option<(&'a str, u64)>,
+}
+
+/// Reads a stanza for itself.
+pub(crate) fn read_stanza<'a>(stanza: &Stanza<'a>) -> SaidOfStanza<'a>
+    ensures fault { result.fault ≡ least (solution_stanza_faults (stanza_view stanza.now)) }
+    ensures id { option_map (λ id. (id.0.now, id.1)) result.id ≡ id_of (stanza_view stanza.now) }
+    ensures installed { option_map (λ id. (id.0.now, id.1)) result.installed
         ≡ installed_id (stanza_view stanza.now) }
 {
     match postmark_of(stanza) {
         Some(Postmark::Package) => {
             let (fault, entry) = read_solution_package(stanza);
             let unversioned = fault_if(!entry.has_version, stanza.last, Kind::E12);
-            (lesser(fault, unversioned), entry.installed_id())
+            SaidOfStanza {
+                fault: lesser(fault, unversioned),
+                id: entry.id(),
+                installed: entry.installed_id(),
+            }
         }
-        Some(Postmark::Preamble | Postmark::Request) => (None, None),
-        None => (fault_if(true, stanza.line, Kind::E4), None),
+        Some(Postmark::Preamble | Postmark::Request) => SaidOfStanza {
+            fault: None,
+            id: None,
+            installed: None,
+        },
+        None => SaidOfStanza {
+            fault: fault_if(true, stanza.line, Kind::E4),
+            id: None,
+            installed: None,
+        },
     }
 }

@@ -9,6 +9,7 @@ ghost use Rattle.cudf_document.specs.Working.Kept.{kept_by};
 
 use crate::chosen::Chosen;
 use crate::error::ReadError;
+use crate::mode::Mode;
 use crate::parts::Parts;
 use crate::problem::Problem;
 use crate::problem_reader::read_problem;
@@ -53,15 +54,16 @@ pub fn problem_of<'t, 'a>(
     alloc: Global,
     stanzas: Stanzas<'a>,
     room: &'t mut Room<'a>,
+    mode: Mode,
 ) -> Result<Problem<'t>, ReadError>
     // The problem has no fault,
-    ensures sound { IfOk result (λ _. problem_faults stanzas.entry.text ≡ []) }
+    ensures sound { IfOk result (λ _. problem_faults stanzas.entry.text mode ≡ []) }
     // and this is what it says.
     ensures problem { IfOk result (λ p. p ≡ plain_problem stanzas.entry.text) }
     // The fault is the first of its faults.
-    ensures fault { IfErr result (IsFirstFault (problem_faults stanzas.entry.text)) }
+    ensures fault { IfErr result (IsFirstFault (problem_faults stanzas.entry.text mode)) }
 {
-    problem_with(alloc, stanzas, room, None)
+    problem_with(alloc, stanzas, room, None, mode)
 }
 
 /// Reads a problem as `problem_of` does, for a solution that installs these: what other packages
@@ -75,16 +77,17 @@ pub fn problem_for<'t, 'a>(
     stanzas: Stanzas<'a>,
     room: &'t mut Room<'a>,
     chosen: &Chosen<'_>,
+    mode: Mode,
 ) -> Result<Problem<'t>, ReadError>
     // The problem has no fault,
-    ensures sound { IfOk result (λ _. problem_faults stanzas.entry.text ≡ []) }
+    ensures sound { IfOk result (λ _. problem_faults stanzas.entry.text mode ≡ []) }
     // and this is what it says, but for what some packages need that aren't chosen.
     ensures problem { IfOk result (λ p.
         IsThinFor (is_among chosen.now) p (plain_problem stanzas.entry.text)) }
     // The fault is the first of its faults.
-    ensures fault { IfErr result (IsFirstFault (problem_faults stanzas.entry.text)) }
+    ensures fault { IfErr result (IsFirstFault (problem_faults stanzas.entry.text mode)) }
 {
-    problem_with(alloc, stanzas, room, Some(chosen))
+    problem_with(alloc, stanzas, room, Some(chosen), mode)
 }
 
 /// Reads a problem, where what packages need may be left out unless they are chosen.
@@ -93,18 +96,19 @@ fn problem_with<'t, 'a>(
     stanzas: Stanzas<'a>,
     room: &'t mut Room<'a>,
     chosen: Option<&Chosen<'_>>,
+    mode: Mode,
 ) -> Result<Problem<'t>, ReadError>
-    ensures sound { IfOk result (λ _. problem_faults stanzas.entry.text ≡ []) }
+    ensures sound { IfOk result (λ _. problem_faults stanzas.entry.text mode ≡ []) }
     ensures problem { IfOk result (λ p.
         IsThinFor (kept_by chosen.entry) p (plain_problem stanzas.entry.text)) }
-    ensures fault { IfErr result (IsFirstFault (problem_faults stanzas.entry.text)) }
+    ensures fault { IfErr result (IsFirstFault (problem_faults stanzas.entry.text mode)) }
 {
     let Room { head, text } = room;
-    if let Some(problem) = problem_of_parts(alloc, stanzas.fork(), head, chosen)? {
+    if let Some(problem) = problem_of_parts(alloc, stanzas.fork(), head, chosen, mode)? {
         return Ok(problem);
     }
     *text = stanzas.read_rest(alloc)?;
-    read_problem(alloc, text)
+    read_problem(alloc, text, mode)
 }
 
 /// The problem, or `None` where a value that is to be kept is joined of two texts.
@@ -113,17 +117,19 @@ fn problem_of_parts<'h, 'a, 'c, 's>(
     stanzas: Stanzas<'a>,
     head: &'h mut Stanza<'a>,
     chosen: Option<&'c Chosen<'s>>,
+    mode: Mode,
 ) -> Result<Option<Problem<'h>>, ReadError>
-    ensures sound { IfOk result (λ r. IfSome r (λ _. problem_faults stanzas.entry.text ≡ [])) }
+    ensures sound { IfOk result (λ r. IfSome r (λ _. problem_faults stanzas.entry.text mode ≡ [])) }
     ensures problem { IfOk result (λ r.
         IfSome r (λ p. p ≡ thin_problem (kept_by chosen.entry) (plain_problem stanzas.entry.text))) }
-    ensures fault { IfErr result (IsFirstFault (problem_faults stanzas.entry.text)) }
+    ensures fault { IfErr result (IsFirstFault (problem_faults stanzas.entry.text mode)) }
 {
     let walked: Option<(Walk<'h, 'a>, Parts<'a, 'c, 's>)> = walk_all(
         alloc,
         stanzas,
         head,
         Parts::new(alloc, chosen),
+        mode,
     )?;
     let Some((walk, parts)) = walked else {
         return Ok(None);

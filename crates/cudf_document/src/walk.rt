@@ -8,16 +8,18 @@ ghost use Rattle.cudf_document.specs.Faults.{least, fault_if};
 ghost use Rattle.cudf_document.specs.Documents.{value_of, has_name, line_of, marks_preamble, marks_request};
 ghost use Rattle.cudf_document.specs.Ids.{Id, id_with, id_under};
 ghost use Rattle.cudf_document.specs.Values.{name_value, version_value};
-ghost use Rattle.cudf_document.specs.ProblemFaults.{properties_faults, place_faults, version_property};
-ghost use Rattle.cudf_document.specs.Working.Walks.{GoesOn, IsWhole};
+ghost use Rattle.cudf_document.specs.ProblemFaults.{properties_faults, place_faults, version_property, required_names};
+ghost use Rattle.cudf_document.specs.Working.Walks.{texts, GoesOn, IsWhole};
 ghost use Rattle.cudf_document.specs.declared.postmark.Postmark.TheVariants.{Preamble as PreambleMark, Package as PackageMark};
 
 use crate::declarations::Declarations;
 use crate::fault::{fault_if, keep_lesser, lesser};
 use crate::ids::Ids;
+use crate::mode::Mode;
 use crate::package_fields::source_name;
 use crate::postmark::{Postmark, postmark_of};
 use crate::preamble::read_preamble;
+use crate::required::lacks_one;
 use crate::seen_names::SeenNames;
 use cudf_text::{Fault, Kind, Next, Property, Stanza, Stanzas};
 use cudf_value::read_posint;
@@ -34,6 +36,7 @@ pub(crate) trait Kept<'a>: Sized + Drop {
     ghost use Rattle.cudf_document.specs.Ids.{Id, id_under};
     ghost use Rattle.cudf_document.specs.Preamble.{declared};
     ghost use Rattle.cudf_document.specs.ProblemFaults.{properties_faults};
+    ghost use Rattle.cudf_document.specs.Working.SeenNames.{AreNames};
     ghost use Rattle.cudf_document.specs.declared.postmark.Postmark.TheVariants.{Package as PackageMark, Request as RequestMark};
 
     // This was kept of the stanzas, where the test tells of which packages what they need is kept.
@@ -62,6 +65,8 @@ pub(crate) trait Kept<'a>: Sized + Drop {
         ensures fault { IfOk result (λ fault.
             fault
             ≡ least (properties_faults declarations.now (Some PackageMark) (stanza_view stanza.now).properties)) }
+        // The names are those of its properties.
+        ensures names { OnOk result (AreNames names.new (stanza_view stanza.now).properties) }
         ensures kept { (is_kept : Id → Bool) →
             is_lost stanza.now ≡ false →
             (before : List PlainStanza) →
@@ -105,11 +110,12 @@ pub(crate) fn walk_all<'h, 'a, K: Kept<'a>>(
     stanzas: Stanzas<'a>,
     head: &'h mut Stanza<'a>,
     kept: K,
+    mode: Mode,
 ) -> Result<Option<(Walk<'h, 'a>, K)>, AllocError>
     ensures whole { (is_kept : Id → Bool) →
         K.IsKept is_kept [] kept →
         IfOk result (λ r.
-        IfSome r (λ w. IsWhole (λ ss. K.IsKept is_kept ss w.1) w.0 stanzas.entry.text)) }
+        IfSome r (λ w. IsWhole mode (λ ss. K.IsKept is_kept ss w.1) w.0 stanzas.entry.text)) }
     ensures stopped { IfOk result (λ r. IfNone r (IsTrue K.may_stop)) }
 {
     let mut stanzas = stanzas;
@@ -127,22 +133,43 @@ pub(crate) fn walk_all<'h, 'a, K: Kept<'a>>(
                 return Ok(None);
             }
             let walk: Walk<'h, 'a> = Walk::start(alloc, &mut kept, head)?;
-            walk_on(alloc, walk, kept, stanzas)
+            walk_behind(alloc, walk, kept, stanzas, mode)
         }
     }
 }
 
-/// Walks over the stanzas behind the first one. `None` where the walk stopped before the end.
+/// Walks over the stanzas behind the first one, whose packages have to have what that requires. `None`
+/// where the walk stopped before the end.
+fn walk_behind<'h, 'a, K: Kept<'a>>(
+    alloc: Global,
+    walk: Walk<'h, 'a>,
+    kept: K,
+    stanzas: Stanzas<'a>,
+    mode: Mode,
+) -> Result<Option<(Walk<'h, 'a>, K)>, AllocError>
+    ensures whole { (is_kept : Id → Bool) →
+        (text : PlainText) →
+        GoesOn mode (required_names mode walk.entry.declarations) (λ ss. K.IsKept is_kept ss kept) walk.entry stanzas.entry.text text →
+        IfOk result (λ r. IfSome r (λ w. IsWhole mode (λ ss. K.IsKept is_kept ss w.1) w.0 text)) }
+    ensures stopped { IfOk result (λ r. IfNone r (IsTrue K.may_stop)) }
+{
+    let required = walk.declarations.required(alloc, mode)?;
+    walk_on(alloc, walk, kept, stanzas, &required)
+}
+
+/// Walks over stanzas. `None` where the walk stopped before the end.
 fn walk_on<'h, 'a, K: Kept<'a>>(
     alloc: Global,
     walk: Walk<'h, 'a>,
     kept: K,
     stanzas: Stanzas<'a>,
+    required: &[&str],
 ) -> Result<Option<(Walk<'h, 'a>, K)>, AllocError>
     ensures whole { (is_kept : Id → Bool) →
+        (mode : Mode) →
         (text : PlainText) →
-        GoesOn (λ ss. K.IsKept is_kept ss kept) walk.entry stanzas.entry.text text →
-        IfOk result (λ r. IfSome r (λ w. IsWhole (λ ss. K.IsKept is_kept ss w.1) w.0 text)) }
+        GoesOn mode (texts required.now) (λ ss. K.IsKept is_kept ss kept) walk.entry stanzas.entry.text text →
+        IfOk result (λ r. IfSome r (λ w. IsWhole mode (λ ss. K.IsKept is_kept ss w.1) w.0 text)) }
     ensures stopped { IfOk result (λ r. IfNone r (IsTrue K.may_stop)) }
 {
     let mut walk = walk;
@@ -161,7 +188,7 @@ fn walk_on<'h, 'a, K: Kept<'a>>(
                 if kept.loses(&stanza) {
                     return Ok(None);
                 }
-                walk.take(alloc, &mut kept, false, &stanza)?;
+                walk.take(alloc, &mut kept, false, &stanza, required)?;
             }
             Next::End { fault, lines } => {
                 walk.end(fault, lines);
@@ -191,14 +218,15 @@ impl<'h, 'a> Walk<'h, 'a> {
     ghost use Rattle.cudf_document.specs.Faults.{least, lesser, fault_if};
     ghost use Rattle.cudf_document.specs.Ids.{Id, with_id, id_under};
     ghost use Rattle.cudf_document.specs.Working.ProblemBuilders.{package_faults};
-    ghost use Rattle.cudf_document.specs.Working.Walks.{IsKnown, IsSoFar, judged_faults, judged_ids};
+    ghost use Rattle.cudf_document.specs.ProblemFaults.{required_names};
+    ghost use Rattle.cudf_document.specs.Working.Walks.{texts, IsKnown, IsSoFar, judged_faults, judged_ids};
     ghost use Rattle.cudf_document.specs.Documents.{is_empty, postmark};
     ghost use Rattle.cudf_document.specs.Preamble.{declared};
     ghost use Rattle.cudf_document.specs.declared.postmark.Postmark.TheVariants.{Package as PackageMark};
 
     /// No stanza.
     pub(crate) fn new(alloc: Global) -> Self
-        ensures known { IsKnown result [] }
+        ensures known { (mode : Mode) → IsKnown mode result [] }
         ensures declared { result.declarations ≡ [] }
     {
         Walk {
@@ -216,7 +244,7 @@ impl<'h, 'a> Walk<'h, 'a> {
         kept: &mut K,
         head: &'h Stanza<'a>,
     ) -> Result<Self, AllocError>
-        ensures known { IfOk result (λ k. IsKnown k (stanza_view head.now ∷ [])) }
+        ensures known { (mode : Mode) → IfOk result (λ k. IsKnown mode k (stanza_view head.now ∷ [])) }
         ensures declared { IfOk result (λ k. k.declarations ≡ declared (stanza_view head.now ∷ [])) }
         ensures kept { (is_kept : Id → Bool) →
             K.is_lost head.now ≡ false →
@@ -224,7 +252,7 @@ impl<'h, 'a> Walk<'h, 'a> {
             OnOk result (K.IsKept is_kept (stanza_view head.now ∷ []) kept.new) }
     {
         let mut walk: Walk<'h, 'a> = Walk::new(alloc);
-        walk.take(alloc, kept, true, head)?;
+        walk.take(alloc, kept, true, head, &[])?;
         declare(alloc, &mut walk.declarations, head)?;
         Ok(walk)
     }
@@ -237,16 +265,19 @@ impl<'h, 'a> Walk<'h, 'a> {
         is_first: bool,
         lent: &Stanza<'a>,
         held: &'h Stanza<'b>,
+        required: &[&str],
     ) -> Result<(), AllocError>
         requires { stanza_view lent.now ≡ stanza_view held.now }
         ensures { (is_kept : Id → Bool) →
             K.is_lost lent.now ≡ false →
+            (mode : Mode) →
             (before : List PlainStanza) →
             is_first ≡ is_empty before →
-            IsSoFar (λ ss. K.IsKept is_kept ss kept.old) self.old before →
-            OnOk result (IsSoFar (λ ss. K.IsKept is_kept ss kept.new) self.new (before ++ stanza_view held.now ∷ [])) }
+            texts required.now ≡ required_names mode (declared before) →
+            IsSoFar mode (λ ss. K.IsKept is_kept ss kept.old) self.old before →
+            OnOk result (IsSoFar mode (λ ss. K.IsKept is_kept ss kept.new) self.new (before ++ stanza_view held.now ∷ [])) }
     {
-        self.take(alloc, kept, is_first, lent)?;
+        self.take(alloc, kept, is_first, lent, required)?;
         if is_first {
             declare(alloc, &mut self.declarations, held)?;
         }
@@ -260,12 +291,15 @@ impl<'h, 'a> Walk<'h, 'a> {
         kept: &mut K,
         is_first: bool,
         stanza: &Stanza<'a>,
+        required: &[&str],
     ) -> Result<(), AllocError>
-        ensures known { (before : List PlainStanza) →
+        ensures known { (mode : Mode) →
+            (before : List PlainStanza) →
             is_first ≡ is_empty before →
             self.old.declarations ≡ declared before →
-            IsKnown self.old before →
-            OnOk result (IsKnown self.new (before ++ stanza_view stanza.now ∷ [])) }
+            texts required.now ≡ required_names mode (declared before) →
+            IsKnown mode self.old before →
+            OnOk result (IsKnown mode self.new (before ++ stanza_view stanza.now ∷ [])) }
         ensures declarations { OnOk result (self.new.declarations ≡ self.old.declarations) }
         ensures kept { (is_kept : Id → Bool) →
             K.is_lost stanza.now ≡ false →
@@ -276,7 +310,7 @@ impl<'h, 'a> Walk<'h, 'a> {
     {
         let mark = postmark_of(stanza);
         let place = place_fault(is_first, self.requested, mark, stanza.line);
-        let inside = self.judge(alloc, kept, mark, stanza)?;
+        let inside = self.judge(alloc, kept, mark, stanza, required)?;
         keep_lesser(&mut self.first, place.or(inside));
         self.requested = either(is_request(mark), self.requested);
         Ok(())
@@ -289,9 +323,10 @@ impl<'h, 'a> Walk<'h, 'a> {
         kept: &mut K,
         mark: Option<Postmark>,
         stanza: &Stanza<'a>,
+        required: &[&str],
     ) -> Result<Option<Fault>, AllocError>
         ensures fault { IfOk result (λ fault.
-            fault ≡ least (judged_faults mark self.old.declarations self.old.ids (stanza_view stanza.now))) }
+            fault ≡ least (judged_faults mark (texts required.now) self.old.declarations self.old.ids (stanza_view stanza.now))) }
         ensures ids { OnOk result (self.new.ids ≡ judged_ids mark self.old.ids (stanza_view stanza.now)) }
         ensures declarations { OnOk result (self.new.declarations ≡ self.old.declarations) }
         ensures requested { OnOk result (self.new.requested ≡ self.old.requested) }
@@ -309,7 +344,7 @@ impl<'h, 'a> Walk<'h, 'a> {
                 kept.pass(stanza);
                 judge_preamble(alloc, stanza)
             }
-            Some(Postmark::Package) => self.take_package(alloc, kept, stanza),
+            Some(Postmark::Package) => self.take_package(alloc, kept, stanza, required),
             Some(Postmark::Request) => kept.take_request(alloc, &mut self.names, stanza),
             None => {
                 kept.pass(stanza);
@@ -324,9 +359,10 @@ impl<'h, 'a> Walk<'h, 'a> {
         alloc: Global,
         kept: &mut K,
         stanza: &Stanza<'a>,
+        required: &[&str],
     ) -> Result<Option<Fault>, AllocError>
         ensures fault { IfOk result (λ fault.
-            fault ≡ least (package_faults self.old.declarations self.old.ids (stanza_view stanza.now))) }
+            fault ≡ least (package_faults (texts required.now) self.old.declarations self.old.ids (stanza_view stanza.now))) }
         ensures ids { OnOk result (self.new.ids
             ≡ with_id self.old.ids (id_under (Some PackageMark) (stanza_view stanza.now).properties)) }
         ensures declarations { OnOk result (self.new.declarations ≡ self.old.declarations) }
@@ -343,7 +379,8 @@ impl<'h, 'a> Walk<'h, 'a> {
         let id = package_id(stanza);
         let fault = kept.take_package(alloc, &mut self.names, &self.declarations, id, stanza)?;
         let is_repeated = self.ids.insert_some(id)?;
-        Ok(lesser(fault, package_fault(is_repeated, stanza)))
+        let missing = fault_if(lacks_one(required, &self.names), stanza.last, Kind::E14);
+        Ok(lesser(missing, lesser(fault, package_fault(is_repeated, stanza))))
     }
 
     /// Takes the end of the text, with its first faulty line and the number of its lines.
@@ -408,7 +445,7 @@ fn package_fault(is_repeated: bool, stanza: &Stanza<'_>) -> Option<Fault>
 }
 
 /// The first property of this name.
-fn first_named<'s, 'a>(stanza: &'s Stanza<'a>, name: &str) -> Option<&'s Property<'a>>
+pub(crate) fn first_named<'s, 'a>(stanza: &'s Stanza<'a>, name: &str) -> Option<&'s Property<'a>>
     ensures { option_map (λ p. property_view p.now) result
         ≡ find (has_name name.now) (stanza_view stanza.now).properties }
 {

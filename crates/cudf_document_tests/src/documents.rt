@@ -3,3 +3,5 @@
 mod faults;
 mod problems;
 mod solutions;
+mod strict;
+mod strict_solutions;

@@ -2,8 +2,8 @@
 //! and memory is missed in none.
 use crate::table::assert_rows;
 use cudf_document::{
-    Chosen, Problem, ReadError, Room, Solution, first_fault, problem_for, problem_of, read_problem,
-    read_solution, solution_of,
+    Chosen, Mode, Problem, ReadError, Room, Solution, first_fault, problem_for, problem_of,
+    read_problem, read_solution, solution_of,
 };
 use cudf_text::{Stanzas, Text, is_fail, read, stanzas};
 use cudf_value::{read_formula, read_veqpkglist, read_vpkglist};
@@ -143,7 +143,7 @@ fn texts_are_read(alloc: Global, problem: &str, solution: &str, count: u64) -> b
         read(alloc, problem.as_bytes()),
         read(alloc, solution.as_bytes()),
     ) {
-        (Ok(problem), Ok(solution)) => match read_problem(alloc, &problem) {
+        (Ok(problem), Ok(solution)) => match read_problem(alloc, &problem, Mode::Lenient) {
             Ok(problem) => is_installed_by(alloc, &problem, &solution, count),
             Err(_) => false,
         },
@@ -155,7 +155,11 @@ fn is_installed_by(alloc: Global, problem: &Problem<'_>, text: &Text<'_>, count:
     if is_fail(text.source) {
         return false;
     }
-    is_installed(problem, read_solution(alloc, text, problem), count)
+    is_installed(
+        problem,
+        read_solution(alloc, text, problem, Mode::Lenient),
+        count,
+    )
 }
 
 /// Whether the problem has so many packages, and the last of them is installed.
@@ -184,7 +188,7 @@ fn stanzas_are_read(alloc: Global, problem: &str, solution: &str, count: u64) ->
 }
 
 fn is_sound(alloc: Global, problem: Stanzas<'_>) -> bool {
-    match first_fault(alloc, problem) {
+    match first_fault(alloc, problem, Mode::Lenient) {
         Ok(fault) => fault.is_none(),
         Err(_) => false,
     }
@@ -192,8 +196,12 @@ fn is_sound(alloc: Global, problem: Stanzas<'_>) -> bool {
 
 fn all_is_read(alloc: Global, problem: Stanzas<'_>, solution: Stanzas<'_>, count: u64) -> bool {
     let mut room = Room::new(alloc);
-    match problem_of(alloc, problem, &mut room) {
-        Ok(problem) => is_installed(&problem, solution_of(alloc, solution, &problem), count),
+    match problem_of(alloc, problem, &mut room, Mode::Lenient) {
+        Ok(problem) => is_installed(
+            &problem,
+            solution_of(alloc, solution, &problem, Mode::Lenient),
+            count,
+        ),
         Err(_) => false,
     }
 }
@@ -201,7 +209,7 @@ fn all_is_read(alloc: Global, problem: Stanzas<'_>, solution: Stanzas<'_>, count
 fn chosen_is_read(alloc: Global, problem: Stanzas<'_>, solution: Stanzas<'_>, count: u64) -> bool {
     let mut room = Room::new(alloc);
     match Chosen::of(alloc, solution) {
-        Ok(chosen) => match problem_for(alloc, problem, &mut room, &chosen) {
+        Ok(chosen) => match problem_for(alloc, problem, &mut room, &chosen, Mode::Lenient) {
             Ok(problem) => problem.packages().len() as u64 == count,
             Err(_) => false,
         },

@@ -238,7 +238,7 @@ fn joined_input(rt: HostRuntime) {
     assert_rows(&rt, rt.alloc(), &PARTS, is_cut);
 }
 
-const KINDS: [(Kind, &str); 13] = [
+const KINDS: [(Kind, &str); 15] = [
     (Kind::E1, "E1 not UTF-8"),
     (
         Kind::E2,
@@ -255,6 +255,8 @@ const KINDS: [(Kind, &str); 13] = [
     (Kind::E11, "E11 package repeated"),
     (Kind::E12, "E12 no version"),
     (Kind::E13, "E13 no request"),
+    (Kind::E14, "E14 declared property missing"),
+    (Kind::E15, "E15 pair repeated"),
 ];
 
 fn is_called(_: Global, row: &(Kind, &str)) -> bool {
@@ -286,7 +288,7 @@ fn kinds(rt: HostRuntime) {
     assert_rows(
         &rt,
         rt.alloc(),
-        &[0, 1, 2, 3, 4, 5, 6, 7, 8, 9, 10, 11],
+        &[0, 1, 2, 3, 4, 5, 6, 7, 8, 9, 10, 11, 12, 13],
         is_before_next,
     );
 }

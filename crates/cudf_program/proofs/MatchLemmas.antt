@@ -8,18 +8,19 @@ use Rattle.cudf_program.specs.declared.command.Order.{Order}
 use Rattle.cudf_program.specs.declared.command.Refusal.{Refusal}
 use Rattle.cudf_program.specs.Command.{Words, words_of, words_in, Asks, AsksOf}
 
-abbrev four : (problem solution after limit : Option (List ℕ)) → Words
-four problem solution after limit = record { problem = problem; solution = solution; after = after; limit = limit }
+abbrev five : (problem solution after limit strict : Option (List ℕ)) → Words
+five problem solution after limit strict = record { problem = problem; solution = solution; after = after; limit = limit; strict = strict }
 
 words-rows : (found : Found) → words_of found ≡ words_in (rows_of found)
 words-rows found =
     let old = λ (id : List ℕ). first_value found id in
     let new = λ (id : List ℕ). first_of id (rows_of found) in
     let same = first_value-rows found in
-    ap (λ (w : Option (List ℕ)). four w (old (codes "solution")) (old (codes "after")) (old (codes "limit"))) (same (codes "problem"))
-    ∙ (ap (λ (w : Option (List ℕ)). four (new (codes "problem")) w (old (codes "after")) (old (codes "limit"))) (same (codes "solution"))
-    ∙ (ap (λ (w : Option (List ℕ)). four (new (codes "problem")) (new (codes "solution")) w (old (codes "limit"))) (same (codes "after"))
-    ∙ ap (λ (w : Option (List ℕ)). four (new (codes "problem")) (new (codes "solution")) (new (codes "after")) w) (same (codes "limit"))))
+    ap (λ (w : Option (List ℕ)). five w (old (codes "solution")) (old (codes "after")) (old (codes "limit")) (old (codes "strict"))) (same (codes "problem"))
+    ∙ (ap (λ (w : Option (List ℕ)). five (new (codes "problem")) w (old (codes "after")) (old (codes "limit")) (old (codes "strict"))) (same (codes "solution"))
+    ∙ (ap (λ (w : Option (List ℕ)). five (new (codes "problem")) (new (codes "solution")) w (old (codes "limit")) (old (codes "strict"))) (same (codes "after"))
+    ∙ (ap (λ (w : Option (List ℕ)). five (new (codes "problem")) (new (codes "solution")) (new (codes "after")) w (old (codes "strict"))) (same (codes "limit"))
+    ∙ ap (λ (w : Option (List ℕ)). five (new (codes "problem")) (new (codes "solution")) (new (codes "after")) (new (codes "limit")) w) (same (codes "strict")))))
 
 -- what is asked of the entries is asked of the name and the rows
 pub asked : {B : Type 0} (f : B → List ℕ × List Row) (sub : Option B) (name : List ℕ) (found : Found) (result : Result Order Refusal)

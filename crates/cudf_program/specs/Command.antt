@@ -1,5 +1,5 @@
 -- What the words of the command line ask for.
-use Rattle.std.specs.Prelude.{◌≡◌, ◌≢◌, ◌&&◌, ◌||◌, ℕ, Bool, true, false, List, codes, Option, Some, None, Result, MatchResult}
+use Rattle.std.specs.Prelude.{◌≡◌, ◌≢◌, ◌&&◌, ◌||◌, if◌then◌else◌, bytes_eq, ℕ, Bool, true, false, List, codes, Option, Some, None, Result, MatchResult}
 use Rattle.std.specs.Option.{option_map_or}
 use Rattle.std.specs.Result.{IsErrAnd}
 use Rattle.clap.specs.Matches.{first_value}
@@ -10,6 +10,8 @@ use Rattle.cudf_value.specs.Numbers.{positive}
 use Rattle.cudf_referee.specs.Keys.{PlainKey, IsWritable, key_text}
 use Rattle.cudf_referee.specs.KeyViews.{key_view}
 use Rattle.cudf_referee.specs.declared.key.Key.{Key}
+use Rattle.cudf_document.specs.declared.mode.Mode.{Mode}
+use Rattle.cudf_document.specs.declared.mode.Mode.TheVariants.{Lenient, Strict}
 use Rattle.cudf_check.specs.declared.job.Job.{Job}
 use Rattle.cudf_check.specs.declared.job.Job.TheVariants.{Lint, Check, Score}
 use Rattle.cudf_program.specs.declared.command.FileName.{FileName}
@@ -50,9 +52,10 @@ takes_standard order = is_standard order.problem || option_map_or is_standard or
 abbrev pub takes_standard_twice : Order → Bool
 takes_standard_twice order = is_standard order.problem && option_map_or is_standard order.solution false
 
--- a job, with the files that these words name
-pub record IsOrder (job : Job) (problem solution : Option (List ℕ)) (order : Order) : Type 0 where
+-- a job in a mode, with the files that these words name
+pub record IsOrder (job : Job) (mode : Mode) (problem solution : Option (List ℕ)) (order : Order) : Type 0 where
   pub job_is : order.job ≡ job
+  pub mode_is : order.mode ≡ mode
   pub problem_is : IsGivenBy problem order.problem
   pub solution_is : MayBeNamedBy solution order.solution
   pub standard_once : takes_standard_twice order ≡ false
@@ -102,6 +105,16 @@ RefusesLimit given (NoNumber word) = (given ≡ Some word.now) × (positive (tri
 abbrev pub HasLimit : Option (List ℕ) → Type 0
 HasLimit given = (limit : Option ℕ) × IsLimit given limit
 
+-- ---- modes
+
+-- `--strict` is among the words: a parse gives a flag the value `true`, and without the flag the value `false`
+abbrev pub is_given : Option (List ℕ) → Bool
+is_given flag = option_map_or (λ value. bytes_eq value (codes "true")) flag false
+
+-- documents are read strictly where the flag is given
+abbrev pub mode_of : Option (List ℕ) → Mode
+mode_of flag = if is_given flag then Strict else Lenient
+
 -- ---- commands
 
 -- the words of a command, by what they stand for
@@ -110,6 +123,7 @@ pub record Words : Type 0 where
   pub solution : Option (List ℕ)
   pub after : Option (List ℕ)
   pub limit : Option (List ℕ)
+  pub strict : Option (List ℕ)
 
 abbrev pub words_of : Found → Words
 words_of found = record {
@@ -117,17 +131,18 @@ words_of found = record {
   solution = first_value found (codes "solution");
   after = first_value found (codes "after");
   limit = first_value found (codes "limit");
+  strict = first_value found (codes "strict");
 }
 
 -- the job is to check, and its page is that of these words
 abbrev pub IsPage : Option (List ℕ) → Option (List ℕ) → Job → Type 0
 IsPage after limit Lint = ⊥
 IsPage after limit (Check key number) = IsAfter after key × IsLimit limit number
-IsPage after limit Score = ⊥
+IsPage after limit (Score aims) = ⊥
 
 pub record IsCheck (words : Words) (order : Order) : Type 0 where
   pub page_is : IsPage words.after words.limit order.job
-  pub files_are : IsOrder order.job words.problem words.solution order
+  pub files_are : IsOrder order.job (mode_of words.strict) words.problem words.solution order
 
 -- the words of a check, of which the key is judged first, then the limit, and the files last
 abbrev pub RefusesCheck : Words → Refusal → Type 0
@@ -138,9 +153,9 @@ RefusesCheck words (NoNumber word) = HasAfter words.after × RefusesLimit words.
 
 -- what the words of the command of this name ask for
 pub record Asks (name : List ℕ) (words : Words) (result : Result Order Refusal) : Type 0 where
-  pub lint : name ≡ codes "lint" → MatchResult result (IsOrder Lint words.problem None) (RefusesFiles words.problem None)
+  pub lint : name ≡ codes "lint" → MatchResult result (IsOrder Lint (mode_of words.strict) words.problem None) (RefusesFiles words.problem None)
   pub check : name ≡ codes "check" → MatchResult result (IsCheck words) (RefusesCheck words)
-  pub score : name ≡ codes "score" → MatchResult result (IsOrder Score words.problem words.solution) (RefusesFiles words.problem words.solution)
+  pub score : name ≡ codes "score" → MatchResult result (IsOrder (Score None) (mode_of words.strict) words.problem words.solution) (RefusesFiles words.problem words.solution)
 
 -- the same words, in the rows that a parse has of a command
 abbrev pub words_in : List Row → Words
@@ -149,6 +164,7 @@ words_in rows = record {
   solution = first_of (codes "solution") rows;
   after = first_of (codes "after") rows;
   limit = first_of (codes "limit") rows;
+  strict = first_of (codes "strict") rows;
 }
 
 -- what the command that a parse met asks for, by its name and its rows; without one a word is missing

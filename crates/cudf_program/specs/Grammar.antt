@@ -2,6 +2,7 @@
 use Rattle.std.specs.Prelude.{◌≡◌, [], true, false, codes, Some}
 use Rattle.clap.specs.Words.{App, Rule, app_of, new_app, new_rule, with_rule, with_subcommand}
 use Rattle.clap.specs.Simple.{new_shape}
+use Rattle.clap.specs.declared.builder.action.ArgAction.TheVariants.{SetTrue}
 use Rattle.clap.specs.declared.builder.command.Command.{Command}
 use Rattle.clap.specs.declared.builder.command.Command.TheViews.{out-Command}
 
@@ -21,14 +22,18 @@ after_option = record (new_rule (codes "after")) { long = Some (codes "after"); 
 abbrev pub limit_option : Rule
 limit_option = record (new_rule (codes "limit")) { long = Some (codes "limit"); value_names = 1 }
 
+-- `--strict`
+abbrev pub strict_flag : Rule
+strict_flag = record (new_rule (codes "strict")) { long = Some (codes "strict"); action = Some SetTrue }
+
 abbrev pub lint_grammar : App
-lint_grammar = with_rule (new_app (codes "lint")) problem_word
+lint_grammar = with_rule (with_rule (new_app (codes "lint")) problem_word) strict_flag
 
 abbrev pub check_grammar : App
-check_grammar = with_rule (with_rule (with_rule (with_rule (new_app (codes "check")) problem_word) solution_word) after_option) limit_option
+check_grammar = with_rule (with_rule (with_rule (with_rule (with_rule (new_app (codes "check")) problem_word) solution_word) after_option) limit_option) strict_flag
 
 abbrev pub score_grammar : App
-score_grammar = with_rule (with_rule (new_app (codes "score")) problem_word) solution_word
+score_grammar = with_rule (with_rule (with_rule (new_app (codes "score")) problem_word) solution_word) strict_flag
 
 -- the program has a version, and one of its commands has to be named
 abbrev pub plain_grammar : App

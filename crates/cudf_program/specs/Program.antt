@@ -1,6 +1,7 @@
 -- What the program prints on standard output, and its exit status.
 use Rattle.std.specs.Prelude.{◌≡◌, ◌≢◌, ◌⊎◌, ℕ, List, Option, Some, None, Result, Ok, Err, option_map}
 use Rattle.std.specs.Io.KnownBytes.{Appends, Keeps}
+use Rattle.cudf_document.specs.declared.mode.Mode.{Mode}
 use Rattle.cudf_check.specs.Report.{report}
 use Rattle.cudf_check.specs.declared.job.Job.{Job}
 use Rattle.cudf_check.specs.declared.job.Job.TheVariants.{Lint}
@@ -40,7 +41,7 @@ MayBeOpened standard (Some name) (Some opened) = IsOpened standard name opened
 
 -- the task is what the words ask for, on the files that they name
 abbrev pub IsPrepared : {I : Type 0} → List (List ℕ) → I → Task I → Type 0
-IsPrepared words standard task = (order : Order) × IsAskedFor words order × (task.job ≡ order.job)
+IsPrepared words standard task = (order : Order) × IsAskedFor words order × (task.job ≡ order.job) × (task.mode ≡ order.mode)
     × IsOpened standard order.problem task.problem × MayBeOpened standard order.solution task.solution
 
 -- ---- a run
@@ -63,18 +64,18 @@ read_for Lint solution = None
 read_for job solution = solution
 
 -- the whole report of inputs of these bytes was printed, and this is its outcome
-pub record Prints (job : Job) (problem : Option (List ℕ)) (solution : Option (Option (List ℕ))) (before after : Option (List ℕ)) (outcome : Outcome) : Type 0 where
+pub record Prints (job : Job) (mode : Mode) (problem : Option (List ℕ)) (solution : Option (Option (List ℕ))) (before after : Option (List ℕ)) (outcome : Outcome) : Type 0 where
   pub first : List ℕ
   pub second : Option (List ℕ)
   pub first_is : IsKnownAs problem first
   pub second_is : MayBeKnownAs (read_for job solution) second
-  pub printed : Appends before after (report job first second).text
-  pub answered : outcome ≡ (report job first second).outcome
+  pub printed : Appends before after (report job mode first second).text
+  pub answered : outcome ≡ (report job mode first second).outcome
 
 -- what a run on these inputs printed: its whole report, or nothing unless a write failed
-abbrev pub Ran : Job → Option (List ℕ) → Option (Option (List ℕ)) → Option (List ℕ) → Option (List ℕ) → Result Outcome RunError → Type 0
-Ran job problem solution before after (Ok outcome) = Prints job problem solution before after outcome
-Ran job problem solution before after (Err error) = error ≢ Write → Keeps before after
+abbrev pub Ran : Job → Mode → Option (List ℕ) → Option (Option (List ℕ)) → Option (List ℕ) → Option (List ℕ) → Result Outcome RunError → Type 0
+Ran job mode problem solution before after (Ok outcome) = Prints job mode problem solution before after outcome
+Ran job mode problem solution before after (Err error) = error ≢ Write → Keeps before after
 
 -- ---- the program
 
@@ -88,7 +89,7 @@ pub record Answers (words : List (List ℕ)) (standard before after : Option (Li
   pub order : Order
   pub asked : IsAskedFor words order
   pub answer : Result Outcome RunError
-  pub ran : Ran order.job (known_of standard order.problem) (option_map (known_of standard) order.solution) before after answer
+  pub ran : Ran order.job order.mode (known_of standard order.problem) (option_map (known_of standard) order.solution) before after answer
   pub status_is : status ≡ answer_status answer
 
 -- such a failure comes of these words before anything is read

@@ -3,14 +3,14 @@ ghost use Rattle.std.specs.Prelude.{◌≡◌, None, IfOk, MatchResult, codes, m
 ghost use Rattle.clap.specs.Matches.{first_value, found_of};
 ghost use Rattle.clap.specs.Words.{subcommand_rows_of};
 ghost use Rattle.cudf_check.specs.declared.job.Job.TheVariants.{Lint, Score};
-ghost use Rattle.cudf_program.specs.Command.{IsNamedBy, IsOrder, RefusesFiles, IsAfter, RefusesAfter, IsLimit, RefusesLimit, words_of, IsCheck, RefusesCheck, Asks, AsksOf, takes_standard_twice};
+ghost use Rattle.cudf_program.specs.Command.{IsNamedBy, IsOrder, RefusesFiles, IsAfter, RefusesAfter, IsLimit, RefusesLimit, words_of, IsCheck, RefusesCheck, Asks, AsksOf, mode_of, takes_standard_twice};
 ghost use Rattle.cudf_program.specs.Orders.{IsAskedFor, IsUnasked};
 
-use crate::grammar::{AFTER, CHECK, LIMIT, LINT, PROBLEM, SCORE, SOLUTION, program};
+use crate::grammar::{AFTER, CHECK, LIMIT, LINT, PROBLEM, SCORE, SOLUTION, STRICT, program};
 use crate::usage::Usage;
 use clap::ArgMatches;
 use clap::error::ErrorKind;
-use cudf_check::{Job, Key};
+use cudf_check::{Job, Key, Mode};
 use cudf_value::read_posint;
 use std::alloc::Global;
 use std::fmt;
@@ -25,10 +25,12 @@ pub(crate) enum FileName<'w> {
 }
 
 /// One run, as the words ask for it.
-#[derive(Clone, Copy, Debug, PartialEq, Eq)]
+#[derive(Debug, PartialEq, Eq, Drop)]
 pub(crate) struct Order<'w> {
     /// What to do.
     pub job: Job,
+    /// How strictly to read the files.
+    pub mode: Mode,
     /// The file of the problem, or of the problem and the solution behind it.
     pub problem: FileName<'w>,
     /// The file of the solution, where it has one of its own.
@@ -116,10 +118,11 @@ fn order_of<'w>(name: &str, found: &ArgMatches<'w>) -> Result<Order<'w>, Refusal
 }
 
 fn lint_order<'w>(found: &ArgMatches<'w>) -> Result<Order<'w>, Refusal<'w>>
-    ensures { MatchResult result (IsOrder Lint (first_value (found_of found.now) (codes "problem")) None)
+    ensures { MatchResult result (IsOrder Lint (mode_of (first_value (found_of found.now) (codes "strict"))) (first_value (found_of found.now) (codes "problem")) None)
         (RefusesFiles (first_value (found_of found.now) (codes "problem")) None) }
 {
-    Order::new(Job::Lint, found.get_str(PROBLEM), None)
+    let mode = mode(found.get_str(STRICT));
+    Order::new(Job::Lint, mode, found.get_str(PROBLEM), None)
 }
 
 fn check_order<'w>(found: &ArgMatches<'w>) -> Result<Order<'w>, Refusal<'w>>
@@ -128,15 +131,32 @@ fn check_order<'w>(found: &ArgMatches<'w>) -> Result<Order<'w>, Refusal<'w>>
     let after = read_after(found.get_str(AFTER))?;
     let limit = read_limit(found.get_str(LIMIT))?;
     let job = Job::Check { after, limit };
-    Order::new(job, found.get_str(PROBLEM), found.get_str(SOLUTION))
+    let mode = mode(found.get_str(STRICT));
+    Order::new(job, mode, found.get_str(PROBLEM), found.get_str(SOLUTION))
 }
 
 fn score_order<'w>(found: &ArgMatches<'w>) -> Result<Order<'w>, Refusal<'w>>
     ensures { MatchResult result
-        (IsOrder Score (first_value (found_of found.now) (codes "problem")) (first_value (found_of found.now) (codes "solution")))
+        (IsOrder (Score None) (mode_of (first_value (found_of found.now) (codes "strict"))) (first_value (found_of found.now) (codes "problem")) (first_value (found_of found.now) (codes "solution")))
         (RefusesFiles (first_value (found_of found.now) (codes "problem")) (first_value (found_of found.now) (codes "solution"))) }
 {
-    Order::new(Job::Score, found.get_str(PROBLEM), found.get_str(SOLUTION))
+    let mode = mode(found.get_str(STRICT));
+    Order::new(
+        Job::Score { aims: None },
+        mode,
+        found.get_str(PROBLEM),
+        found.get_str(SOLUTION),
+    )
+}
+
+/// How strictly to read, by the value of `--strict`.
+fn mode(flag: Option<&str>) -> Mode
+    ensures { result ≡ mode_of (option_map (λ w. w.now) flag.entry) }
+{
+    match flag {
+        Some("true") => Mode::Strict,
+        _ => Mode::Lenient,
+    }
 }
 
 /// The key of the word of `--after`.
@@ -169,18 +189,20 @@ impl<'w> Order<'w> {
     ghost use Rattle.std.specs.Prelude.{◌≡◌, MatchResult, option_map};
     ghost use Rattle.cudf_program.specs.Command.{takes_standard, takes_standard_twice, IsOrder, RefusesFiles};
 
-    /// A job on the files that these words name. The first word has to be there, and `-` can stand for one file only.
+    /// A job in a mode on the files that these words name. The first word has to be there, and `-` can stand for one file only.
     fn new(
         job: Job,
+        mode: Mode,
         problem: Option<&'w str>,
         solution: Option<&'w str>,
     ) -> Result<Order<'w>, Refusal<'w>>
         ensures { MatchResult result
-            (IsOrder job (option_map (λ w. w.now) problem.entry) (option_map (λ w. w.now) solution.entry))
+            (IsOrder job mode (option_map (λ w. w.now) problem.entry) (option_map (λ w. w.now) solution.entry))
             (RefusesFiles (option_map (λ w. w.now) problem.entry) (option_map (λ w. w.now) solution.entry)) }
     {
         let order = Order {
             job,
+            mode,
             problem: file_name(problem.ok_or(Refusal::Missing)?),
             solution: match solution {
                 Some(word) => Some(file_name(word)),

@@ -1,9 +1,9 @@
 //! The commands, their options and the texts of help.
 ghost use Rattle.std.specs.Prelude.{◌≡◌, IfOk, false};
 ghost use Rattle.clap.specs.Words.{rule_of};
-ghost use Rattle.cudf_program.specs.Grammar.{problem_word, solution_word, after_option, limit_option, lint_grammar, check_grammar, score_grammar, grammar, IsOf};
+ghost use Rattle.cudf_program.specs.Grammar.{problem_word, solution_word, after_option, limit_option, strict_flag, lint_grammar, check_grammar, score_grammar, grammar, IsOf};
 
-use clap::{Arg, Command};
+use clap::{Arg, ArgAction, Command};
 use std::alloc::{AllocError, Global};
 
 /// The version of the program.
@@ -22,6 +22,8 @@ pub(crate) const SOLUTION: &str = "solution";
 pub(crate) const AFTER: &str = "after";
 
 pub(crate) const LIMIT: &str = "limit";
+
+pub(crate) const STRICT: &str = "strict";
 
 const ABOUT_SCORE: &str =
     "Counts what a solution changes and lacks, by the criteria of the MISC competition";
@@ -56,7 +58,8 @@ fn lint_command<'w>(alloc: Global) -> Result<Command<'w>, AllocError>
 {
     Command::new(alloc, LINT)
         .about("Says whether a file is a problem without fault")
-        .arg(problem(alloc))
+        .arg(problem(alloc))?
+        .arg(strict(alloc))
 }
 
 fn check_command<'w>(alloc: Global) -> Result<Command<'w>, AllocError>
@@ -67,7 +70,8 @@ fn check_command<'w>(alloc: Global) -> Result<Command<'w>, AllocError>
         .arg(problem(alloc))?
         .arg(solution(alloc))?
         .arg(after(alloc))?
-        .arg(limit(alloc))
+        .arg(limit(alloc))?
+        .arg(strict(alloc))
 }
 
 fn score_command<'w>(alloc: Global) -> Result<Command<'w>, AllocError>
@@ -77,7 +81,8 @@ fn score_command<'w>(alloc: Global) -> Result<Command<'w>, AllocError>
         .about(ABOUT_SCORE)
         .long_about(ABOUT_SCORE_LINES)
         .arg(problem(alloc))?
-        .arg(solution(alloc))
+        .arg(solution(alloc))?
+        .arg(strict(alloc))
 }
 
 fn problem<'w>(alloc: Global) -> Arg<'w>
@@ -116,4 +121,16 @@ fn limit<'w>(alloc: Global) -> Arg<'w>
     Arg::new(alloc, LIMIT).long(LIMIT).value_name("N").help(
         "Prints at most N of these lines, and after which key the next one comes",
     )
+}
+
+fn strict<'w>(alloc: Global) -> Arg<'w>
+    ensures rule { rule_of result ≡ strict_flag }
+    ensures local { result.global ≡ false }
+{
+    Arg::new(alloc, STRICT)
+        .long(STRICT)
+        .action(ArgAction::SetTrue)
+        .help(
+            "Refuses packages without a declared property that has no default, and pairs that a solution gives twice",
+        )
 }

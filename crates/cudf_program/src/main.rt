@@ -15,7 +15,7 @@ mod tests;
 mod usage;
 
 use command::{FileName, command as order_of};
-use cudf_check::{Device, Job, Outcome, RunError, Sink, run};
+use cudf_check::{Device, Job, Mode, Outcome, RunError, Sink, run};
 use failure::Failure;
 use file::{Input, open};
 use std::alloc::{AllocError, Global};
@@ -95,6 +95,7 @@ fn close<O: Write, E: Write>(
 #[derive(Drop)]
 struct Task<I> {
     job: Job,
+    mode: Mode,
     problem: Input<I>,
     solution: Option<Input<I>>,
 }
@@ -116,6 +117,7 @@ fn prepare<'w, I: Read + Copy + Drop>(
     let solution = open_solution(rt, order.solution, standard)?;
     Ok(Task {
         job: order.job,
+        mode: order.mode,
         problem,
         solution,
     })
@@ -165,31 +167,30 @@ fn run_task<I: Read + Drop, O: Write + Drop>(
     task: Task<I>,
     output: O,
 ) -> (Result<Outcome, RunError>, O)
-    ensures { Ran task.job (bytes_left I.remaining task.problem) (option_map (bytes_left I.remaining) task.solution) (O.contents output) (O.contents result.1) result.0 }
+    ensures { Ran task.job task.mode (bytes_left I.remaining task.problem) (option_map (bytes_left I.remaining) task.solution) (O.contents output) (O.contents result.1) result.0 }
 {
-    let Task {
-        job,
-        problem,
-        solution,
-    } = task;
     let mut out = Device::new(output);
-    let answer = run_inputs(rt.alloc(), &job, problem, solution, &mut out);
+    let answer = run_inputs(rt.alloc(), task, &mut out);
     (answer, out.into_inner())
 }
 
 /// Runs on one file or on two.
 fn run_inputs<I: Read + Drop, W: Sink>(
     alloc: Global,
-    job: &Job,
-    problem: Input<I>,
-    solution: Option<Input<I>>,
+    task: Task<I>,
     out: &mut W,
 ) -> Result<Outcome, RunError>
-    ensures { Ran job.now (bytes_left I.remaining problem) (option_map (bytes_left I.remaining) solution) (W.state out.old).contents (W.state out.new).contents result }
+    ensures { Ran task.job task.mode (bytes_left I.remaining task.problem) (option_map (bytes_left I.remaining) task.solution) (W.state out.old).contents (W.state out.new).contents result }
 {
+    let Task {
+        job,
+        mode,
+        problem,
+        solution,
+    } = task;
     match solution {
-        Some(solution) => run_two(alloc, job, problem, solution, out),
-        None => run_one(alloc, job, problem, out),
+        Some(solution) => run_two(alloc, &job, mode, problem, solution, out),
+        None => run_one(alloc, &job, mode, problem, out),
     }
 }
 
@@ -197,28 +198,30 @@ fn run_inputs<I: Read + Drop, W: Sink>(
 fn run_one<I: Read + Drop, W: Sink>(
     alloc: Global,
     job: &Job,
+    mode: Mode,
     problem: Input<I>,
     out: &mut W,
 ) -> Result<Outcome, RunError>
-    ensures { Ran job.now (bytes_left I.remaining problem) None (W.state out.old).contents (W.state out.new).contents result }
+    ensures { Ran job.now mode (bytes_left I.remaining problem) None (W.state out.old).contents (W.state out.new).contents result }
 {
     let mut input = Device::new(problem);
-    run::<_, Device<File>, _>(alloc, job, &mut input, None, out)
+    run::<_, Device<File>, _>(alloc, job, mode, &mut input, None, out)
 }
 
 /// Runs on two files.
 fn run_two<I: Read + Drop, W: Sink>(
     alloc: Global,
     job: &Job,
+    mode: Mode,
     problem: Input<I>,
     solution: Input<I>,
     out: &mut W,
 ) -> Result<Outcome, RunError>
-    ensures { Ran job.now (bytes_left I.remaining problem) (Some (bytes_left I.remaining solution)) (W.state out.old).contents (W.state out.new).contents result }
+    ensures { Ran job.now mode (bytes_left I.remaining problem) (Some (bytes_left I.remaining solution)) (W.state out.old).contents (W.state out.new).contents result }
 {
     let mut input = Device::new(problem);
     let mut proposed = Device::new(solution);
-    run(alloc, job, &mut input, Some(&mut proposed), out)
+    run(alloc, job, mode, &mut input, Some(&mut proposed), out)
 }
 
 /// Prints what went wrong, and answers the exit status. Help that can't be printed is a write fault.

@@ -6,7 +6,7 @@ mod listings;
 
 use cudf_referee::Referee;
 use cudf_text::{Text, is_fail, read};
-use cudf_universe::{Problem, read_problem, read_solution};
+use cudf_universe::{Mode, Problem, read_problem, read_solution};
 use std::alloc::Global;
 
 /// What the referee of a problem and a solution has to answer.
@@ -18,7 +18,7 @@ trait Question {
 /// Asks the referee of a problem and a solution.
 fn asks<Q: Question>(alloc: Global, problem: &str, solution: &str, question: &Q) -> bool {
     match read(alloc, problem.as_bytes()) {
-        Ok(text) => match read_problem(alloc, &text) {
+        Ok(text) => match read_problem(alloc, &text, Mode::Lenient) {
             Ok(problem) => asks_of(alloc, &problem, solution, question),
             Err(_) => false,
         },
@@ -47,7 +47,7 @@ fn asks_proposal<Q: Question>(
     if is_fail(text.source) {
         return false;
     }
-    match read_solution(alloc, text, problem) {
+    match read_solution(alloc, text, problem, Mode::Lenient) {
         Ok(solution) => match Referee::new(alloc, problem, &solution) {
             Ok(referee) => question.is_answered(alloc, &referee),
             Err(_) => false,

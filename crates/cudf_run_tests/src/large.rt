@@ -1,6 +1,6 @@
 //! Documents so large that a limit of stanzas, of properties in a stanza, of names, of entries in
 //! a list or of bytes would be met, were there one that no rule of the format has.
-use cudf_check::{Device, Job, Key, Outcome, run};
+use cudf_check::{Device, Job, Key, Mode, Outcome, run};
 use std::alloc::{AllocError, Global};
 use std::ops::Range;
 use std::test::Fail;
@@ -54,7 +54,14 @@ fn reports(
     let mut problem = Device::new(problem.as_bytes());
     let mut solution = Device::new(solution.as_bytes());
     let mut out = Device::new(Vec::new(alloc));
-    match run(alloc, job, &mut problem, Some(&mut solution), &mut out) {
+    match run(
+        alloc,
+        job,
+        Mode::Lenient,
+        &mut problem,
+        Some(&mut solution),
+        &mut out,
+    ) {
         Ok(outcome) => outcome == want && out.into_inner().as_slice() == report,
         Err(_) => false,
     }

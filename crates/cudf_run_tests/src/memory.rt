@@ -4,6 +4,7 @@
 
 mod calls;
 mod none;
+mod rankings;
 mod runs;
 
 use std::process::Abort;

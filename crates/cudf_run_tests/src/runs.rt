@@ -2,10 +2,11 @@
 
 mod devices;
 mod either;
+mod rankings;
 mod readers;
 
 use crate::table::assert_rows;
-use cudf_check::{Job, Outcome, RunError, run};
+use cudf_check::{Job, Mode, Outcome, RunError, run};
 use devices::{FOREVER, Giver, Refusal, Taker};
 use std::alloc::Global;
 
@@ -40,7 +41,7 @@ fn answers(
     report: &[u8],
 ) -> bool {
     let mut out = ample(alloc);
-    let answer = run::<_, Giver<'_>, _>(alloc, &CHECK, input, None, &mut out);
+    let answer = run::<_, Giver<'_>, _>(alloc, &CHECK, Mode::Lenient, input, None, &mut out);
     answer == want && out.taken.as_slice() == report
 }
 
@@ -128,7 +129,14 @@ fn accepts_the_most_bytes(rt: HostRuntime) {
     let mut input = Giver::new(b"request:\n#");
     input.length = BYTES;
     let mut out = ample(rt.alloc());
-    let answer = run::<_, Giver<'_>, _>(rt.alloc(), &Job::Lint, &mut input, None, &mut out);
+    let answer = run::<_, Giver<'_>, _>(
+        rt.alloc(),
+        &Job::Lint,
+        Mode::Lenient,
+        &mut input,
+        None,
+        &mut out,
+    );
     assert!(rt; answer == Ok(Outcome::Yes));
     assert!(rt; out.taken.as_slice() == b"problem ok\n".as_slice());
 }
@@ -161,7 +169,7 @@ fn leaves_prefix(
 ) -> bool {
     let mut out = Taker::new(Vec::new(alloc), row.0, room, row.1);
     let mut input = Giver::new(JOINED);
-    let answer = run::<_, Giver<'_>, _>(alloc, &CHECK, &mut input, None, &mut out);
+    let answer = run::<_, Giver<'_>, _>(alloc, &CHECK, Mode::Lenient, &mut input, None, &mut out);
     answer == want && out.taken.len() == room && REPORT.starts_with(&out.taken)
 }
 
@@ -169,7 +177,7 @@ fn leaves_prefix(
 fn is_written_in_calls(alloc: Global, per_call: &usize) -> bool {
     let mut out = Taker::new(Vec::new(alloc), *per_call, 55, Refusal::Failed);
     let mut input = Giver::new(JOINED);
-    let answer = run::<_, Giver<'_>, _>(alloc, &CHECK, &mut input, None, &mut out);
+    let answer = run::<_, Giver<'_>, _>(alloc, &CHECK, Mode::Lenient, &mut input, None, &mut out);
     answer == Ok(Outcome::No) && out.taken.as_slice() == REPORT
 }
 
@@ -251,7 +259,14 @@ fn keeps_the_order(alloc: Global, row: &Order) -> bool {
     let mut solution = Giver::new(row.solution);
     solution.failing_call = row.solution_fails;
     let mut out = ample(alloc);
-    let answer = run(alloc, &CHECK, &mut problem, Some(&mut solution), &mut out);
+    let answer = run(
+        alloc,
+        &CHECK,
+        Mode::Lenient,
+        &mut problem,
+        Some(&mut solution),
+        &mut out,
+    );
     answer == row.answer
         && (problem.turn, solution.turn) == row.turns
         && (answer.is_ok() || out.taken.is_empty())
@@ -272,6 +287,7 @@ fn reads_no_solution_behind_too_long_a_problem(rt: HostRuntime) {
     let answer = run(
         rt.alloc(),
         &CHECK,
+        Mode::Lenient,
         &mut problem,
         Some(&mut solution),
         &mut out,
@@ -289,6 +305,7 @@ fn lints_without_a_solution(rt: HostRuntime) {
     let answer = run(
         rt.alloc(),
         &Job::Lint,
+        Mode::Lenient,
         &mut problem,
         Some(&mut solution),
         &mut out,

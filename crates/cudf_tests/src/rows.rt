@@ -1,15 +1,18 @@
 //! Runs from documents to reports: what is printed, and how the run ends.
+mod aims;
 mod cases;
+mod contest;
 mod fronts;
 mod joined;
 mod lints;
 mod made;
 mod pages;
+mod rankings;
 mod scores;
 mod short;
 mod worked;
 
-use cudf_check::{Device, Job, Outcome, run};
+use cudf_check::{Device, Job, Mode, Outcome, run};
 use std::alloc::Global;
 
 /// A problem, a solution, the report, and the outcome.
@@ -33,7 +36,14 @@ fn is_checked_for(alloc: Global, problem: &[u8], row: &Pair) -> bool {
     let mut problem = Device::new(problem);
     let mut solution = Device::new(row.1);
     let mut out = Device::new(Vec::new(alloc));
-    match run(alloc, &CHECK, &mut problem, Some(&mut solution), &mut out) {
+    match run(
+        alloc,
+        &CHECK,
+        Mode::Lenient,
+        &mut problem,
+        Some(&mut solution),
+        &mut out,
+    ) {
         Ok(outcome) => outcome == row.3 && out.into_inner().as_slice() == row.2,
         Err(_) => false,
     }
@@ -51,7 +61,7 @@ fn is_linted(alloc: Global, row: &Whole) -> bool {
 fn is_answered(alloc: Global, job: &Job, row: &Whole) -> bool {
     let mut input = Device::new(row.0);
     let mut out = Device::new(Vec::new(alloc));
-    match run::<_, Device<&[u8]>, _>(alloc, job, &mut input, None, &mut out) {
+    match run::<_, Device<&[u8]>, _>(alloc, job, Mode::Lenient, &mut input, None, &mut out) {
         Ok(outcome) => outcome == row.2 && out.into_inner().as_slice() == row.1,
         Err(_) => false,
     }

@@ -1,7 +1,7 @@
 -- The kinds of faults as texts.
 use Rattle.std.specs.Prelude.{ℕ, List, codes}
 use Rattle.cudf_text.specs.declared.fault.Kind.{Kind}
-use Rattle.cudf_text.specs.declared.fault.Kind.TheVariants.{E1, E2, E3, E4, E5, E6, E7, E8, E9, E10, E11, E12, E13}
+use Rattle.cudf_text.specs.declared.fault.Kind.TheVariants.{E1, E2, E3, E4, E5, E6, E7, E8, E9, E10, E11, E12, E13, E14, E15}
 
 -- a kind's name and what is wrong
 abbrev pub fault_text : Kind → List ℕ
@@ -18,3 +18,5 @@ fault_text E10 = codes "E10 bad declaration"
 fault_text E11 = codes "E11 package repeated"
 fault_text E12 = codes "E12 no version"
 fault_text E13 = codes "E13 no request"
+fault_text E14 = codes "E14 declared property missing"
+fault_text E15 = codes "E15 pair repeated"

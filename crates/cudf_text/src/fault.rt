@@ -30,6 +30,10 @@ pub enum Kind {
     E12,
     /// A problem without a request.
     E13,
+    /// Strictly, a package without a declared property that has no default.
+    E14,
+    /// Strictly, a package of a solution with the name and version of an earlier one.
+    E15,
 }
 
 impl Kind {
@@ -51,6 +55,8 @@ impl Kind {
             Kind::E11 => "E11 package repeated",
             Kind::E12 => "E12 no version",
             Kind::E13 => "E13 no request",
+            Kind::E14 => "E14 declared property missing",
+            Kind::E15 => "E15 pair repeated",
         }
     }
 }

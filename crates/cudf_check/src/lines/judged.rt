@@ -10,24 +10,27 @@ ghost use Rattle.cudf_check.specs.Working.Printing.{Prints};
 
 use crate::buffer::ReportBuffer;
 use crate::device::Sink;
+use crate::lines::aims::print_aim_lines;
 use crate::lines::page::print_page;
 use crate::lines::print;
 use crate::lines::score::print_score;
 use crate::outcome::{Outcome, RunError};
-use cudf_referee::{Key, Referee};
+use cudf_referee::{Aim, Key, Referee};
 use cudf_universe::Package;
 use std::alloc::Global;
 
 /// What stands before the verdict.
 #[derive(Clone, Copy, Debug)]
-pub(crate) enum Found {
+pub(crate) enum Found<'x> {
     /// A page of the listing: the instances behind the key `after`, at most `limit` of them.
     Page {
         after: Option<Key>,
         limit: Option<u64>,
     },
-    /// The counts.
+    /// The counts of the competition.
     Score,
+    /// The counts that these aims name.
+    Aims(&'x [Aim]),
 }
 
 /// The verdict's line, and its outcome.
@@ -48,17 +51,18 @@ fn print_found<W: Sink>(
     out: &mut W,
     packages: &[Package<'_>],
     referee: &Referee<'_, '_>,
-    found: Found,
+    found: Found<'_>,
 ) -> Result<(), RunError>
     requires packages { map package_view packages.now ≡ referee.now.packages }
     requires ascending { Ascends referee.now }
-    ensures { Prints (W.state out.old) (W.state out.new) buffer.old buffer.new result (found_text found referee.entry.now) }
+    ensures { Prints (W.state out.old) (W.state out.new) buffer.old buffer.new result (found_text found.entry referee.entry.now) }
 {
     match found {
         // A solution's listing is empty, so no place is judged again for a page of it.
         Found::Page { .. } if referee.is_solution() => Ok(()),
         Found::Page { after, limit } => print_page(buffer, out, packages, referee, after, limit).1,
         Found::Score => print_score(buffer, out, referee.criteria()),
+        Found::Aims(aims) => print_aim_lines(buffer, out, &referee.criteria(), aims),
     }
 }
 
@@ -68,7 +72,7 @@ fn print_judged<W: Sink>(
     out: &mut W,
     packages: &[Package<'_>],
     referee: &Referee<'_, '_>,
-    found: Found,
+    found: Found<'_>,
     verdict: &str,
 ) -> Result<(), RunError>
     requires packages { map package_view packages.now ≡ referee.now.packages }
@@ -76,7 +80,7 @@ fn print_judged<W: Sink>(
     requires verdict { verdict.now ≡ verdict_text (is_solution referee.now) }
 
     ensures { Prints (W.state out.old) (W.state out.new) buffer.old buffer.new result
-        (judged_report (found_text found) referee.entry.now).text }
+        (judged_report (found_text found.entry) referee.entry.now).text }
 {
     print_found(buffer, out, packages, referee, found)?;
     print(buffer, out, &[verdict, "\n"])
@@ -88,11 +92,11 @@ pub(crate) fn answer_judged<W: Sink>(
     out: &mut W,
     packages: &[Package<'_>],
     referee: &Referee<'_, '_>,
-    found: Found,
+    found: Found<'_>,
 ) -> Result<Outcome, RunError>
     requires packages { map package_view packages.now ≡ referee.now.packages }
     requires ascending { Ascends referee.now }
-    ensures { Answers (W.state out.old) (W.state out.new) (judged_report (found_text found) referee.entry.now) result }
+    ensures { Answers (W.state out.old) (W.state out.new) (judged_report (found_text found.entry) referee.entry.now) result }
 {
     let (verdict, outcome) = verdict_of(referee.is_solution());
     let mut buffer = ReportBuffer::new(alloc)?;

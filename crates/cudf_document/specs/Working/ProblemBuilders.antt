@@ -4,7 +4,7 @@ use Rattle.std.specs.List.{list_any}
 use Rattle.indexmap.specs.IndexSet.{insert_key}
 use Rattle.cudf_text.specs.declared.fault.Fault.{Fault}
 use Rattle.cudf_text.specs.declared.fault.Kind.{Kind}
-use Rattle.cudf_text.specs.declared.fault.Kind.TheVariants.{E7, E10, E11, E12}
+use Rattle.cudf_text.specs.declared.fault.Kind.TheVariants.{E7, E10, E11, E12, E14}
 use Rattle.cudf_text.specs.Stanzas.{PlainProperty, PlainStanza}
 use Rattle.cudf_value.specs.Declarations.{PlainDeclaration}
 use Rattle.cudf_document.specs.declared.postmark.Postmark.{Postmark}
@@ -13,7 +13,7 @@ use Rattle.cudf_document.specs.Faults.{fault_if}
 use Rattle.cudf_document.specs.Documents.{has_name, line_of}
 use Rattle.cudf_document.specs.Ids.{Id, is_id, is_among, is_known, id_under, id_of, with_id}
 use Rattle.cudf_document.specs.Preamble.{declared_after, is_bad_declaration, declared, recommends_default}
-use Rattle.cudf_document.specs.ProblemFaults.{properties_faults, version_property}
+use Rattle.cudf_document.specs.ProblemFaults.{properties_faults, version_property, lacks_one}
 use Rattle.cudf_document.specs.Universe.{PlainPackage, package_id, PlainRequest, PlainProblem, or_default, no_request, request_of, packages_in, request_in}
 use Rattle.cudf_document.specs.Working.PackageFields.{package_fields_of, package_from}
 
@@ -50,18 +50,19 @@ with_stanza (Some Package) is_first s g = with_package s g
 with_stanza (Some Request) is_first s g = with_request s g
 with_stanza None is_first s g = g
 
--- the faults of a package's properties, and of its name and version among others
-abbrev pub package_faults : List PlainDeclaration → List Id → PlainStanza → List Fault
-package_faults ds ids s =
-    properties_faults ds (Some Package) s.properties
+-- the faults of a package that has to have these properties, and of its name and version among others
+abbrev pub package_faults : List (List ℕ) → List PlainDeclaration → List Id → PlainStanza → List Fault
+package_faults required ds ids s =
+    fault_if (lacks_one required s.properties) s.last E14
+    ++ properties_faults ds (Some Package) s.properties
     ++ fault_if (is_known ids (id_under (Some Package) s.properties)) (line_of (version_property s)) E11
     ++ fault_if (is_none (version_property s)) s.last E12
 
 -- the faults inside a stanza with a postmark
-abbrev pub faults_inside : Option Postmark → PlainBuilder → PlainStanza → List Fault
-faults_inside (Some Package) g s = package_faults g.declared g.ids s
-faults_inside (Some mark) g s = properties_faults [] (Some mark) s.properties
-faults_inside None g s = []
+abbrev pub faults_inside : Option Postmark → List (List ℕ) → PlainBuilder → PlainStanza → List Fault
+faults_inside (Some Package) required g s = package_faults required g.declared g.ids s
+faults_inside (Some mark) required g s = properties_faults [] (Some mark) s.properties
+faults_inside None required g s = []
 
 -- ---- what is known after some stanzas
 

@@ -1,6 +1,8 @@
 //! The first fault of a problem, of each kind and of several at once.
 use crate::table::assert_rows;
-use cudf_document::{Chosen, ReadError, Room, first_fault, problem_for, problem_of, read_problem};
+use cudf_document::{
+    Chosen, Mode, ReadError, Room, first_fault, problem_for, problem_of, read_problem,
+};
 use cudf_text::{Fault, Kind, read, stanzas};
 use std::alloc::{AllocError, Global};
 
@@ -10,7 +12,7 @@ type FaultRow<'t> = (&'t str, u64, Kind);
 /// The fault that reading answers.
 fn read_fault(alloc: Global, bytes: &[u8]) -> Option<Fault> {
     match read(alloc, bytes) {
-        Ok(text) => match read_problem(alloc, &text) {
+        Ok(text) => match read_problem(alloc, &text, Mode::Lenient) {
             Err(ReadError::Fault(fault)) => Some(fault),
             _ => None,
         },
@@ -22,7 +24,7 @@ fn read_fault(alloc: Global, bytes: &[u8]) -> Option<Fault> {
 fn walk_fault(alloc: Global, bytes: &[u8]) -> Option<Fault> {
     let mut room = Room::new(alloc);
     match stanzas(bytes) {
-        Ok(stanzas) => match problem_of(alloc, stanzas, &mut room) {
+        Ok(stanzas) => match problem_of(alloc, stanzas, &mut room, Mode::Lenient) {
             Err(ReadError::Fault(fault)) => Some(fault),
             _ => None,
         },
@@ -35,7 +37,7 @@ fn chosen_fault(alloc: Global, bytes: &[u8]) -> Option<Fault> {
     let mut room = Room::new(alloc);
     let chosen = Chosen::none(alloc);
     match stanzas(bytes) {
-        Ok(stanzas) => match problem_for(alloc, stanzas, &mut room, &chosen) {
+        Ok(stanzas) => match problem_for(alloc, stanzas, &mut room, &chosen, Mode::Lenient) {
             Err(ReadError::Fault(fault)) => Some(fault),
             _ => None,
         },
@@ -46,7 +48,7 @@ fn chosen_fault(alloc: Global, bytes: &[u8]) -> Option<Fault> {
 /// The fault that is found with no problem made.
 fn found_fault(alloc: Global, bytes: &[u8]) -> Option<Fault> {
     match stanzas(bytes) {
-        Ok(stanzas) => first_fault(alloc, stanzas).unwrap_or(None),
+        Ok(stanzas) => first_fault(alloc, stanzas, Mode::Lenient).unwrap_or(None),
         Err(fault) => Some(fault),
     }
 }

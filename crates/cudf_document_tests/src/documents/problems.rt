@@ -1,7 +1,7 @@
 //! What problems say.
 use crate::table::{Listed, assert_rows, prints};
 use cudf_document::{
-    Chosen, Keep, Package, Problem, ReadError, Room, problem_for, problem_of, read_problem,
+    Chosen, Keep, Mode, Package, Problem, ReadError, Room, problem_for, problem_of, read_problem,
 };
 use cudf_text::{Fault, Kind, Stanzas, read, stanzas};
 use std::alloc::{AllocError, Global};
@@ -60,7 +60,7 @@ fn reads_as(alloc: Global, row: &(&str, &str)) -> bool {
 
 fn text_reads_as(alloc: Global, source: &str, want: &str) -> bool {
     match read(alloc, source.as_bytes()) {
-        Ok(text) => match read_problem(alloc, &text) {
+        Ok(text) => match read_problem(alloc, &text, Mode::Lenient) {
             Ok(problem) => prints(alloc, &ShownProblem(&problem), want),
             Err(_) => false,
         },
@@ -71,7 +71,7 @@ fn text_reads_as(alloc: Global, source: &str, want: &str) -> bool {
 fn stanzas_read_as(alloc: Global, source: &str, want: &str) -> bool {
     let mut room = Room::new(alloc);
     match stanzas(source.as_bytes()) {
-        Ok(stanzas) => match problem_of(alloc, stanzas, &mut room) {
+        Ok(stanzas) => match problem_of(alloc, stanzas, &mut room, Mode::Lenient) {
             Ok(problem) => prints(alloc, &ShownProblem(&problem), want),
             Err(_) => false,
         },
@@ -164,7 +164,7 @@ fn recommends_in(alloc: Global, source: &str, want: Option<&str>) -> bool {
 
 fn text_recommends(alloc: Global, source: &str, want: Option<&str>) -> bool {
     match read(alloc, source.as_bytes()) {
-        Ok(text) => match read_problem(alloc, &text) {
+        Ok(text) => match read_problem(alloc, &text, Mode::Lenient) {
             Ok(problem) => recommends_second(alloc, &problem, want),
             Err(_) => false,
         },
@@ -175,7 +175,7 @@ fn text_recommends(alloc: Global, source: &str, want: Option<&str>) -> bool {
 fn stanzas_recommend(alloc: Global, source: &str, want: Option<&str>) -> bool {
     let mut room = Room::new(alloc);
     match stanzas(source.as_bytes()) {
-        Ok(stanzas) => match problem_of(alloc, stanzas, &mut room) {
+        Ok(stanzas) => match problem_of(alloc, stanzas, &mut room, Mode::Lenient) {
             Ok(problem) => recommends_second(alloc, &problem, want),
             Err(_) => false,
         },
@@ -236,7 +236,7 @@ fn reads_for(alloc: Global, row: &(&str, &str, &str)) -> bool {
 
 fn chosen_read_as(alloc: Global, problem: Stanzas<'_>, chosen: &Chosen<'_>, want: &str) -> bool {
     let mut room = Room::new(alloc);
-    match problem_for(alloc, problem, &mut room, chosen) {
+    match problem_for(alloc, problem, &mut room, chosen, Mode::Lenient) {
         Ok(problem) => prints(alloc, &ShownProblem(&problem), want),
         Err(_) => false,
     }

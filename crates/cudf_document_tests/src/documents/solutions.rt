@@ -1,7 +1,7 @@
 //! Statuses: what is installed, and what a solution proposes.
 use crate::table::{assert_rows, prints};
 use cudf_document::{
-    Problem, ReadError, Solution, Status, Unknown, initial, read_problem, read_solution,
+    Mode, Problem, ReadError, Solution, Status, Unknown, initial, read_problem, read_solution,
     solution_of,
 };
 use cudf_text::{Fault, Kind, Text, is_fail, read, stanzas};
@@ -55,15 +55,23 @@ impl fmt::Display for ShownSolution<'_, '_> {
 
 /// What is wanted of a solution of the doors: what it is shown as, or its first fault.
 #[derive(Clone, Copy)]
-enum Wanted<'t> {
+pub(crate) enum Wanted<'t> {
     Shown(&'t str),
     Fault(u64, Kind),
 }
 
 fn is_wanted(alloc: Global, row: &(&str, Wanted<'_>)) -> bool {
-    match (read(alloc, DOORS.as_bytes()), read(alloc, row.0.as_bytes())) {
-        (Ok(problem), Ok(solution)) => match read_problem(alloc, &problem) {
-            Ok(problem) => is_read_as(alloc, &problem, &solution, row.1),
+    is_wanted_in(alloc, row.0, Mode::Lenient, row.1)
+}
+
+/// Whether a solution of the doors is read in this mode as it is wanted.
+pub(crate) fn is_wanted_in(alloc: Global, solution: &str, mode: Mode, wanted: Wanted<'_>) -> bool {
+    match (
+        read(alloc, DOORS.as_bytes()),
+        read(alloc, solution.as_bytes()),
+    ) {
+        (Ok(problem), Ok(solution)) => match read_problem(alloc, &problem, Mode::Lenient) {
+            Ok(problem) => is_read_as(alloc, &problem, &solution, mode, wanted),
             Err(_) => false,
         },
         _ => false,
@@ -71,14 +79,20 @@ fn is_wanted(alloc: Global, row: &(&str, Wanted<'_>)) -> bool {
 }
 
 /// Whether the text is read as it is wanted, both from its stanzas and from its bytes.
-fn is_read_as(alloc: Global, problem: &Problem<'_>, text: &Text<'_>, wanted: Wanted<'_>) -> bool {
+fn is_read_as(
+    alloc: Global,
+    problem: &Problem<'_>,
+    text: &Text<'_>,
+    mode: Mode,
+    wanted: Wanted<'_>,
+) -> bool {
     if is_fail(text.source) {
         return false;
     }
     match stanzas(text.source.as_bytes()) {
         Ok(stanzas) => {
-            is_answer(alloc, read_solution(alloc, text, problem), wanted)
-                && is_answer(alloc, solution_of(alloc, stanzas, problem), wanted)
+            is_answer(alloc, read_solution(alloc, text, problem, mode), wanted)
+                && is_answer(alloc, solution_of(alloc, stanzas, problem, mode), wanted)
         }
         Err(_) => false,
     }
@@ -156,7 +170,7 @@ fn solutions(rt: HostRuntime) {
 /// Whether the packages that are installed in the problem have these places.
 fn is_initial(alloc: Global, row: &(&str, &str)) -> bool {
     match read(alloc, row.0.as_bytes()) {
-        Ok(text) => match read_problem(alloc, &text) {
+        Ok(text) => match read_problem(alloc, &text, Mode::Lenient) {
             Ok(problem) => initial_is(alloc, &problem, row.1),
             Err(_) => false,
         },

@@ -23,6 +23,10 @@ const CAR: &str =
 const SCORE: &str =
     "removed 0\nnew 1\nchanged 2\nnotuptodate 0\nunsat_recommends 0\nparanoid 0 2\ntrendy 0 0 0 1\nsolution yes\n";
 
+const SIZES: &str = "preamble:\nproperty: size: nat\n\npackage: a\nversion: 1\n\nrequest:\n";
+
+const TWICE: &str = "package: car\nversion: 1\ninstalled: true\n\npackage: car\nversion: 1\n";
+
 const FIRST_PAGE: &str =
     "p1.depends.1 user 1 line 1: needs a\nmore after p1.depends.1\nsolution no\n";
 
@@ -169,6 +173,29 @@ fn turns_pages(rt: HostRuntime) -> Result<(), Fail> {
             1,
             "solution no\n",
         ),
+    ];
+    assert_eq!(rt; first_failure(&rt, &cases)?, None);
+    Ok(())
+}
+
+/// What only a strict run refuses.
+#[test]
+fn refuses_strictly(rt: HostRuntime) -> Result<(), Fail> {
+    write_files(&rt)?;
+    let missing = "problem line 5: E14 declared property missing\n";
+    let repeated = "solution line 6: E15 pair repeated\n";
+    let cases = [
+        writes("lint -", SIZES, 0, "problem ok\n"),
+        writes("lint --strict -", SIZES, 2, missing),
+        writes("lint - --strict", SIZES, 2, missing),
+        writes("check -", SIZES, 0, "solution yes\n"),
+        writes("check - --strict", SIZES, 2, missing),
+        writes("check problem.cudf -", TWICE, 1, UNMET),
+        writes("check problem.cudf - --strict", TWICE, 2, repeated),
+        writes("score --strict problem.cudf -", TWICE, 2, repeated),
+        writes("check --strict problem.cudf solution.cudf", "", 1, UNMET),
+        writes("score --strict cars.cudf car.cudf", "", 0, SCORE),
+        writes("lint --strict problem.cudf", "", 0, "problem ok\n"),
     ];
     assert_eq!(rt; first_failure(&rt, &cases)?, None);
     Ok(())

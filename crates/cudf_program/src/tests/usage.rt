@@ -20,13 +20,14 @@ Options:
 
 const LINT_HELP: &str = "Says whether a file is a problem without fault
 
-Usage: cudf_check lint <P>
+Usage: cudf_check lint [OPTIONS] <P>
 
 Arguments:
   <P>  The file of the problem; - is standard input
 
 Options:
-  -h, --help  Print help
+      --strict  Refuses packages without a declared property that has no default, and pairs that a solution gives twice
+  -h, --help    Print help
 ";
 
 const CHECK_HELP: &str = "Checks a solution, and prints each rule that it breaks
@@ -40,6 +41,7 @@ Arguments:
 Options:
       --after <KEY>  Prints only the lines whose keys come after this one
       --limit <N>    Prints at most N of these lines, and after which key the next one comes
+      --strict       Refuses packages without a declared property that has no default, and pairs that a solution gives twice
   -h, --help         Print help
 ";
 
@@ -55,7 +57,7 @@ It prints these lines, and then whether the answer is a solution. They are count
   paranoid          is what the paranoid track minimises: removed, then changed.
   trendy            is what the trendy track minimises: removed, then notuptodate, unsat_recommends and new.
 
-Usage: cudf_check score <P> [S]
+Usage: cudf_check score [OPTIONS] <P> [S]
 
 Arguments:
   <P>
@@ -65,6 +67,9 @@ Arguments:
           The file of the solution; without it P holds the solution behind the problem
 
 Options:
+      --strict
+          Refuses packages without a declared property that has no default, and pairs that a solution gives twice
+
   -h, --help
           Print help (see a summary with '-h')
 ";
@@ -92,7 +97,7 @@ fn tells_usage_faults(rt: HostRuntime) -> Result<(), Fail> {
         fails(
             "lint p s",
             4,
-            "error: unexpected argument 's' found\n\nUsage: cudf_check lint <P>\n\nFor more information, try '--help'.\n",
+            "error: unexpected argument 's' found\n\nUsage: cudf_check lint [OPTIONS] <P>\n\nFor more information, try '--help'.\n",
         ),
         fails(
             "check",

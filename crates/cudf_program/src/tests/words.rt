@@ -1,6 +1,6 @@
 //! Words, the runs that they ask for, and the statuses of those that ask for none.
 use crate::command::{FileName, Order, command};
-use cudf_check::{Job, Key};
+use cudf_check::{Job, Key, Mode};
 use std::test::Fail;
 
 /// The words behind the program's name, parted at spaces.
@@ -24,10 +24,11 @@ fn file(word: &str) -> FileName<'_> {
     }
 }
 
-/// The order on these files.
+/// The order on these files, which are read leniently.
 fn order<'w>(job: Job, problem: &'w str, solution: Option<&'w str>) -> Order<'w> {
     Order {
         job,
+        mode: Mode::Lenient,
         problem: file(problem),
         solution: solution.map(|word| file(word)),
     }
@@ -46,20 +47,28 @@ fn page(after: Option<&str>, limit: Option<u64>) -> Job {
 
 #[test]
 fn asks_for_a_run(rt: HostRuntime) -> Result<(), Fail> {
-    let whole = page(None, None);
     let lines = [
         ("lint p", order(Job::Lint, "p", None)),
         ("lint -", order(Job::Lint, "-", None)),
-        ("check p", order(whole, "p", None)),
-        ("check -", order(whole, "-", None)),
-        ("check - s", order(whole, "-", Some("s"))),
-        ("check p s", order(whole, "p", Some("s"))),
-        ("check p -", order(whole, "p", Some("-"))),
-        ("check -- -p", order(whole, "-p", None)),
-        ("score p", order(Job::Score, "p", None)),
-        ("score p s", order(Job::Score, "p", Some("s"))),
-        ("score - s", order(Job::Score, "-", Some("s"))),
-        ("score p -", order(Job::Score, "p", Some("-"))),
+        ("check p", order(page(None, None), "p", None)),
+        ("check -", order(page(None, None), "-", None)),
+        ("check - s", order(page(None, None), "-", Some("s"))),
+        ("check p s", order(page(None, None), "p", Some("s"))),
+        ("check p -", order(page(None, None), "p", Some("-"))),
+        ("check -- -p", order(page(None, None), "-p", None)),
+        ("score p", order(Job::Score { aims: None }, "p", None)),
+        (
+            "score p s",
+            order(Job::Score { aims: None }, "p", Some("s")),
+        ),
+        (
+            "score - s",
+            order(Job::Score { aims: None }, "-", Some("s")),
+        ),
+        (
+            "score p -",
+            order(Job::Score { aims: None }, "p", Some("-")),
+        ),
     ];
     for (line, expected) in &lines {
         let words = words(&rt, line)?;
@@ -71,9 +80,9 @@ fn asks_for_a_run(rt: HostRuntime) -> Result<(), Fail> {
 
 #[test]
 fn asks_for_a_page(rt: HostRuntime) -> Result<(), Fail> {
-    let behind = page(Some("p2.keep.1"), None);
-    let first = page(None, Some(7));
-    let next = page(Some("r.upgrade.1.many"), Some(18446744073709551615));
+    let behind = (Some("p2.keep.1"), None);
+    let first = (None, Some(7));
+    let next = (Some("r.upgrade.1.many"), Some(18446744073709551615));
     let lines = [
         ("check --after p2.keep.1 p s", behind),
         ("check p --after p2.keep.1 s", behind),
@@ -96,11 +105,59 @@ fn asks_for_a_page(rt: HostRuntime) -> Result<(), Fail> {
             next,
         ),
     ];
-    for (line, job) in &lines {
+    for (line, (after, limit)) in &lines {
         let words = words(&rt, line)?;
         let asked = command(rt.alloc(), &words)?;
-        assert!(rt; asked == order(*job, "p", Some("s")), "{line}");
+        let expected = order(page(*after, *limit), "p", Some("s"));
+        assert!(rt; asked == expected, "{line}");
     }
+    Ok(())
+}
+
+#[test]
+fn asks_for_strictness(rt: HostRuntime) -> Result<(), Fail> {
+    let lines = [
+        ("lint --strict p", order(Job::Lint, "p", None)),
+        ("lint p --strict", order(Job::Lint, "p", None)),
+        ("lint --strict -", order(Job::Lint, "-", None)),
+        ("check --strict p", order(page(None, None), "p", None)),
+        (
+            "check --strict p s",
+            order(page(None, None), "p", Some("s")),
+        ),
+        (
+            "check p --strict s",
+            order(page(None, None), "p", Some("s")),
+        ),
+        (
+            "check p s --strict",
+            order(page(None, None), "p", Some("s")),
+        ),
+        (
+            "check p --limit 7 --strict s",
+            order(page(None, Some(7)), "p", Some("s")),
+        ),
+        (
+            "score --strict p -",
+            order(Job::Score { aims: None }, "p", Some("-")),
+        ),
+        (
+            "score p s --strict",
+            order(Job::Score { aims: None }, "p", Some("s")),
+        ),
+    ];
+    for (line, expected) in &lines {
+        let words = words(&rt, line)?;
+        let asked = command(rt.alloc(), &words)?;
+        assert!(rt; asked.mode == Mode::Strict, "{line}");
+        assert!(rt; asked.job == expected.job, "{line}");
+        assert!(rt; asked.problem == expected.problem, "{line}");
+        assert!(rt; asked.solution == expected.solution, "{line}");
+    }
+    // Behind `--` it is a file.
+    let words = words(&rt, "check p -- --strict")?;
+    let asked = command(rt.alloc(), &words)?;
+    assert!(rt; asked == order(page(None, None), "p", Some("--strict")));
     Ok(())
 }
 
@@ -139,6 +196,16 @@ fn answers_other_words_by_a_status(rt: HostRuntime) -> Result<(), Fail> {
         ("score p s --limit 1", 4),
         ("score p s --after=p1.keep.1", 4),
         ("--limit 1 check p s", 4),
+        ("--strict check p s", 4),
+        // A flag is given once, and takes no value.
+        ("lint --strict --strict p", 4),
+        ("check --strict p s --strict", 4),
+        ("score p --strict s --strict", 4),
+        ("lint p --strict=true", 4),
+        ("check p s --strict=false", 4),
+        ("score p s --strict=", 4),
+        ("check p s --strict t", 4),
+        ("lint p --stric", 4),
         // Repeated options and missing values.
         ("check p s --limit 1 --limit 1", 4),
         ("check p s --after p1.keep.1 --after=p1.keep.1", 4),

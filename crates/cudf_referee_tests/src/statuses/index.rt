@@ -1,7 +1,7 @@
 //! Answers of an index, worked out by hand.
 use crate::table::assert_rows;
 use cudf_text::read;
-use cudf_universe::{GreatestNumbers, Index, Problem, initial, laws, read_problem};
+use cudf_universe::{GreatestNumbers, Index, Mode, Problem, initial, laws, read_problem};
 use cudf_value::{read_formula, read_vpkg};
 use std::alloc::{AllocError, Global};
 
@@ -44,7 +44,7 @@ fn asks<F: Fn(&Index<'_, '_>) -> bool + Drop>(alloc: Global, source: &str, is_ri
     requires { F.IsAlwaysCallable is_right }
 {
     match read(alloc, source.as_bytes()) {
-        Ok(text) => match read_problem(alloc, &text) {
+        Ok(text) => match read_problem(alloc, &text, Mode::Lenient) {
             Ok(problem) => asks_in(alloc, &problem, is_right),
             Err(_) => false,
         },
@@ -248,7 +248,7 @@ fn has_greatest_in(alloc: Global, problem: &Problem<'_>, row: &EndsRow<'_>) -> b
 
 fn has_greatest(alloc: Global, row: &EndsRow<'_>) -> bool {
     match read(alloc, row.0.as_bytes()) {
-        Ok(text) => match read_problem(alloc, &text) {
+        Ok(text) => match read_problem(alloc, &text, Mode::Lenient) {
             Ok(problem) => has_greatest_in(alloc, &problem, row),
             Err(_) => false,
         },

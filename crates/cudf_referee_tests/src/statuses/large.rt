@@ -3,7 +3,7 @@
 use crate::table::assert_rows;
 use cudf_referee::Referee;
 use cudf_text::{Text, is_fail, read};
-use cudf_universe::{GreatestNumbers, Index, Problem, initial, read_problem, read_solution};
+use cudf_universe::{GreatestNumbers, Index, Mode, Problem, initial, read_problem, read_solution};
 use std::alloc::{AllocError, Global};
 
 /// How many versions of `p` there are, from 1 on; how many of `f`, from 1 on, each of them provides; whether they are
@@ -41,7 +41,7 @@ fn is_kept(alloc: Global, row: &Row) -> bool {
 }
 
 fn is_kept_of(alloc: Global, text: &Text<'_>, row: &Row) -> bool {
-    match read_problem(alloc, text) {
+    match read_problem(alloc, text, Mode::Lenient) {
         Ok(problem) => {
             is_indexed(alloc, &problem, row)
                 && is_numbered(alloc, &problem, row)
@@ -76,7 +76,7 @@ fn is_judged(alloc: Global, problem: &Problem<'_>, text: &Text<'_>) -> bool {
     if is_fail(text.source) {
         return false;
     }
-    match read_solution(alloc, text, problem) {
+    match read_solution(alloc, text, problem, Mode::Lenient) {
         Ok(solution) => match Referee::new(alloc, problem, &solution) {
             Ok(referee) => referee.is_solution(),
             Err(_) => false,

@@ -1,7 +1,7 @@
 //! Each answer of an index beside the plain scan, over all statuses of a small universe.
 use super::scan::Scan;
 use cudf_text::read;
-use cudf_universe::{Index, Problem, initial, read_problem};
+use cudf_universe::{Index, Mode, Problem, initial, read_problem};
 use cudf_value::{Relop, Vpkg};
 use std::alloc::{AllocError, Global};
 
@@ -139,7 +139,7 @@ fn agrees_in(alloc: Global, problem: &Problem<'_>) -> bool {
 fn agrees_at(alloc: Global, number: u64) -> bool {
     match source_of(alloc, number) {
         Ok(source) => match read(alloc, source.as_bytes()) {
-            Ok(text) => match read_problem(alloc, &text) {
+            Ok(text) => match read_problem(alloc, &text, Mode::Lenient) {
                 Ok(problem) => agrees_in(alloc, &problem),
                 Err(_) => false,
             },

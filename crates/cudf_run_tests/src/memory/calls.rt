@@ -3,8 +3,8 @@ use super::{Answer, Refused, expect, made};
 use cudf_referee::{Key, Referee, read_criterion};
 use cudf_text::{Text, TextError, is_fail, read, stanzas};
 use cudf_universe::{
-    Chosen, GreatestNumbers, Index, Problem, ReadError, Room, first_fault, initial, problem_for,
-    problem_of, read_problem, read_solution, solution_of,
+    Chosen, GreatestNumbers, Index, Mode, Problem, ReadError, Room, first_fault, initial,
+    problem_for, problem_of, read_problem, read_solution, solution_of,
 };
 use cudf_value::{
     ValueType, fits, read_declarations, read_formula, read_veqpkglist, read_vpkg, read_vpkglist,
@@ -82,7 +82,7 @@ fn reads_criterion(alloc: Global) -> Answer {
 
 fn reads_problem(alloc: Global) -> Answer {
     let text = made(read(alloc, PROBLEM))?;
-    match read_problem(alloc, &text) {
+    match read_problem(alloc, &text, Mode::Lenient) {
         Ok(problem) => Ok(problem.packages().len() == 2),
         Err(ReadError::Memory(_)) => Err(Refused::Here),
         Err(ReadError::Fault(_)) => Ok(false),
@@ -92,7 +92,7 @@ fn reads_problem(alloc: Global) -> Answer {
 /// Reads a problem stanza by stanza.
 fn reads_stanzas(alloc: Global, problem: &[u8], packages: usize) -> Answer {
     let mut room = Room::new(alloc);
-    match problem_of(alloc, made(stanzas(problem))?, &mut room) {
+    match problem_of(alloc, made(stanzas(problem))?, &mut room, Mode::Lenient) {
         Ok(problem) => Ok(problem.packages().len() == packages),
         Err(ReadError::Memory(_)) => Err(Refused::Here),
         Err(ReadError::Fault(_)) => Ok(false),
@@ -111,7 +111,13 @@ fn chooses(alloc: Global) -> Answer {
 fn reads_chosen(alloc: Global) -> Answer {
     let chosen = made(Chosen::of(alloc, made(stanzas(SOLUTION))?))?;
     let mut room = Room::new(alloc);
-    match problem_for(alloc, made(stanzas(PROBLEM))?, &mut room, &chosen) {
+    match problem_for(
+        alloc,
+        made(stanzas(PROBLEM))?,
+        &mut room,
+        &chosen,
+        Mode::Lenient,
+    ) {
         Ok(problem) => Ok(problem.packages().iter().all(|p| p.conflicts.len() == 2)),
         Err(ReadError::Memory(_)) => Err(Refused::Here),
         Err(ReadError::Fault(_)) => Ok(false),
@@ -119,7 +125,7 @@ fn reads_chosen(alloc: Global) -> Answer {
 }
 
 fn finds_no_fault(alloc: Global) -> Answer {
-    match first_fault(alloc, made(stanzas(PROBLEM))?) {
+    match first_fault(alloc, made(stanzas(PROBLEM))?, Mode::Lenient) {
         Ok(fault) => Ok(fault.is_none()),
         Err(_) => Err(Refused::Here),
     }
@@ -127,7 +133,7 @@ fn finds_no_fault(alloc: Global) -> Answer {
 
 fn finds_initial(alloc: Global) -> Answer {
     let text = made(read(alloc, PROBLEM))?;
-    let problem = made(read_problem(alloc, &text))?;
+    let problem = made(read_problem(alloc, &text, Mode::Lenient))?;
     match initial(alloc, &problem) {
         Ok(status) => Ok(!status.holds(1) && status.holds(2)),
         Err(_) => Err(Refused::Here),
@@ -136,7 +142,7 @@ fn finds_initial(alloc: Global) -> Answer {
 
 fn builds_index(alloc: Global) -> Answer {
     let text = made(read(alloc, PROBLEM))?;
-    let problem = made(read_problem(alloc, &text))?;
+    let problem = made(read_problem(alloc, &text, Mode::Lenient))?;
     let status = made(initial(alloc, &problem))?;
     match Index::build(alloc, &problem, &status) {
         Ok(index) => Ok(
@@ -149,7 +155,7 @@ fn builds_index(alloc: Global) -> Answer {
 
 fn builds_greatest_numbers(alloc: Global) -> Answer {
     let text = made(read(alloc, PROBLEM))?;
-    let problem = made(read_problem(alloc, &text))?;
+    let problem = made(read_problem(alloc, &text, Mode::Lenient))?;
     let status = made(initial(alloc, &problem))?;
     match GreatestNumbers::build(alloc, &problem, &status) {
         Ok(numbers) => Ok((numbers.greatest("g"), numbers.greatest("e")) == (Some(2), None)),
@@ -159,7 +165,7 @@ fn builds_greatest_numbers(alloc: Global) -> Answer {
 
 fn reads_solution(alloc: Global) -> Answer {
     let text = made(read(alloc, PROBLEM))?;
-    let problem = made(read_problem(alloc, &text))?;
+    let problem = made(read_problem(alloc, &text, Mode::Lenient))?;
     let proposed = made(read(alloc, SOLUTION))?;
     reads_proposed(alloc, &problem, &proposed)
 }
@@ -168,7 +174,7 @@ fn reads_proposed(alloc: Global, problem: &Problem<'_>, proposed: &Text<'_>) -> 
     if is_fail(proposed.source) {
         return Ok(false);
     }
-    match read_solution(alloc, proposed, problem) {
+    match read_solution(alloc, proposed, problem, Mode::Lenient) {
         Ok(solution) => Ok(solution.status.holds(2) && solution.unknown.len() == 1),
         Err(ReadError::Memory(_)) => Err(Refused::Here),
         Err(ReadError::Fault(_)) => Ok(false),
@@ -178,8 +184,8 @@ fn reads_proposed(alloc: Global, problem: &Problem<'_>, proposed: &Text<'_>) -> 
 /// Reads a solution stanza by stanza.
 fn reads_proposed_stanzas(alloc: Global) -> Answer {
     let text = made(read(alloc, PROBLEM))?;
-    let problem = made(read_problem(alloc, &text))?;
-    match solution_of(alloc, made(stanzas(SOLUTION))?, &problem) {
+    let problem = made(read_problem(alloc, &text, Mode::Lenient))?;
+    match solution_of(alloc, made(stanzas(SOLUTION))?, &problem, Mode::Lenient) {
         Ok(solution) => Ok(solution.status.holds(2) && solution.unknown.len() == 1),
         Err(ReadError::Memory(_)) => Err(Refused::Here),
         Err(ReadError::Fault(_)) => Ok(false),
@@ -191,7 +197,7 @@ fn judges<F: Fn(&Referee<'_, '_>) -> bool + Drop>(alloc: Global, is_right: F) ->
     requires { F.IsAlwaysCallable is_right }
 {
     let text = made(read(alloc, PROBLEM))?;
-    let problem = made(read_problem(alloc, &text))?;
+    let problem = made(read_problem(alloc, &text, Mode::Lenient))?;
     let proposed = made(read(alloc, SOLUTION))?;
     judges_proposed(alloc, &problem, &proposed, is_right)
 }
@@ -207,7 +213,7 @@ fn judges_proposed<F: Fn(&Referee<'_, '_>) -> bool + Drop>(
     if is_fail(proposed.source) {
         return Ok(false);
     }
-    match read_solution(alloc, proposed, problem) {
+    match read_solution(alloc, proposed, problem, Mode::Lenient) {
         Ok(solution) => match Referee::new(alloc, problem, &solution) {
             Ok(referee) => Ok(is_right(&referee)),
             Err(_) => Err(Refused::Here),

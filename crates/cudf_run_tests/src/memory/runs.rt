@@ -1,6 +1,6 @@
 //! Whole runs: where memory runs out nothing was written.
 use super::{Answer, Refused, expect, made};
-use cudf_check::{Device, Job, Outcome, RunError, run};
+use cudf_check::{Device, Job, Mode, Outcome, RunError, run};
 use std::alloc::Global;
 
 const CHECK: Job = Job::Check {
@@ -12,7 +12,7 @@ const CHECK: Job = Job::Check {
 const ROOM: usize = 1000;
 
 /// A job, its inputs, the report, and the outcome.
-#[derive(Clone, Copy)]
+#[derive(Drop)]
 struct Run {
     job: Job,
     input: &'static [u8],
@@ -50,7 +50,7 @@ const GHOSTS: Run = Run {
 };
 
 const RECOMMENDS: Run = Run {
-    job: Job::Score,
+    job: Job::Score { aims: None },
     input: b"preamble:\nproperty: recommends: vpkgformula = [true!], number: string = [\"\"],\n# between\n  colour: enum[red, green] = \"red\"\n\npackage: a\r\nversion: +01\nrecommends: b | c, d\nnumber: 1.0-2\ncolour: green\ninstalled: true\n\npackage: d\nversion: 1\n\nrequest: r",
     solution: Some(b"package: a\nversion: 1\ninstalled: true\n"),
     report: b"removed 0\nnew 0\nchanged 0\nnotuptodate 0\nunsat_recommends 2\nparanoid 0 0\ntrendy 0 0 2 0\nsolution yes\n",
@@ -63,9 +63,23 @@ fn runs(alloc: Global, row: &Run) -> Answer {
     let answer = match row.solution {
         Some(solution) => {
             let mut solution = Device::new(solution);
-            run(alloc, &row.job, &mut input, Some(&mut solution), &mut out)
+            run(
+                alloc,
+                &row.job,
+                Mode::Lenient,
+                &mut input,
+                Some(&mut solution),
+                &mut out,
+            )
         }
-        None => run::<_, Device<&[u8]>, _>(alloc, &row.job, &mut input, None, &mut out),
+        None => run::<_, Device<&[u8]>, _>(
+            alloc,
+            &row.job,
+            Mode::Lenient,
+            &mut input,
+            None,
+            &mut out,
+        ),
     };
     tell(answer, out.into_inner().as_slice(), row)
 }

@@ -1,7 +1,7 @@
 //! Runs on two inputs that give a byte a call, of which one fails at some call.
 use super::devices::Giver;
 use super::{CHECK, JOINED, REPORT, ample};
-use cudf_check::{Outcome, RunError, run};
+use cudf_check::{Mode, Outcome, RunError, run};
 use std::alloc::Global;
 
 /// The bytes of the joined input that are the problem.
@@ -30,7 +30,14 @@ fn is_broken_off(
     calls: (u32, u32),
 ) -> bool {
     let mut out = ample(alloc);
-    let answer = run(alloc, &CHECK, &mut problem, Some(&mut solution), &mut out);
+    let answer = run(
+        alloc,
+        &CHECK,
+        Mode::Lenient,
+        &mut problem,
+        Some(&mut solution),
+        &mut out,
+    );
     answer == Err(RunError::Read) && (problem.turn, solution.turn) == calls && out.taken.is_empty()
 }
 
@@ -64,6 +71,7 @@ fn both_are_interrupted(rt: HostRuntime) {
     let answer = run(
         rt.alloc(),
         &CHECK,
+        Mode::Lenient,
         &mut problem,
         Some(&mut solution),
         &mut out,

@@ -3,7 +3,7 @@ ghost use Rattle.std.specs.Prelude.{◌≤◌, IfOk};
 
 use super::{CHECK, JOINED, REPORT};
 use crate::table::assert_rows;
-use cudf_check::{Device, Outcome, RunError, Sink, Source, Trouble, run};
+use cudf_check::{Device, Mode, Outcome, RunError, Sink, Source, Trouble, run};
 use std::alloc::Global;
 use std::io::{self, ErrorKind};
 
@@ -95,7 +95,14 @@ fn reads_from(alloc: Global, call: u32, row: &Kind) -> bool {
         failing,
     });
     let mut out = Device::new(Vec::new(alloc));
-    let answer = run::<_, Device<Reader<'_>>, _>(alloc, &CHECK, &mut input, None, &mut out);
+    let answer = run::<_, Device<Reader<'_>>, _>(
+        alloc,
+        &CHECK,
+        Mode::Lenient,
+        &mut input,
+        None,
+        &mut out,
+    );
     answer == row.1 && out.into_inner().as_slice() == row.2
 }
 
@@ -124,7 +131,14 @@ fn writes_into(alloc: Global, row: &Row) -> bool {
         taken: Vec::new(alloc),
         failing,
     });
-    let answer = run::<_, Device<&[u8]>, _>(alloc, &CHECK, &mut input, None, &mut out);
+    let answer = run::<_, Device<&[u8]>, _>(
+        alloc,
+        &CHECK,
+        Mode::Lenient,
+        &mut input,
+        None,
+        &mut out,
+    );
     answer == row.2 && out.into_inner().taken.as_slice() == row.3
 }
 

@@ -2,7 +2,7 @@
 //! page by page from each printed key.
 use super::{Pair, cases, worked};
 use crate::table::assert_rows;
-use cudf_check::{Device, Job, Key, Outcome, run};
+use cudf_check::{Device, Job, Key, Mode, Outcome, run};
 use std::alloc::{AllocError, Global};
 use std::str;
 
@@ -33,7 +33,14 @@ fn page(
     let mut solution = Device::new(inputs.solution);
     let mut out = Device::new(Vec::new(alloc));
     let job = Job::Check { after, limit };
-    match run(alloc, &job, &mut problem, Some(&mut solution), &mut out) {
+    match run(
+        alloc,
+        &job,
+        Mode::Lenient,
+        &mut problem,
+        Some(&mut solution),
+        &mut out,
+    ) {
         Ok(outcome) if outcome == inputs.outcome => Some(out.into_inner()),
         _ => None,
     }

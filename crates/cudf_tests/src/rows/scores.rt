@@ -1,7 +1,7 @@
 //! Scores: the counts of a proposed status, and the verdict.
 use super::Pair;
 use crate::table::assert_rows;
-use cudf_check::{Device, Job, Outcome, run};
+use cudf_check::{Device, Job, Mode, Outcome, run};
 use std::alloc::Global;
 
 /// Whether the score of two inputs writes this report and ends so.
@@ -11,7 +11,8 @@ fn is_scored(alloc: Global, row: &Pair) -> bool {
     let mut out = Device::new(Vec::new(alloc));
     match run(
         alloc,
-        &Job::Score,
+        &Job::Score { aims: None },
+        Mode::Lenient,
         &mut problem,
         Some(&mut solution),
         &mut out,

@@ -22,5 +22,5 @@ pub returns-in-Err : goal.returns-in-Err
 returns-in-Err g c =
     let text = c.args.stanzas.text in
     let report = judged_report (found_text c.args.found) (proposal_of c.args.problem.now text) in
-    c.answer_refusal.ensures (faulty_or (codes "solution") (least (solution_faults text)) report)
-    (document_refused (codes "solution") (solution_faults text) report c.in-Err.error c.in-Err.ensures.fault)
+    c.answer_refusal.ensures (faulty_or (codes "solution") (least (solution_faults text c.args.mode)) report)
+    (document_refused (codes "solution") (solution_faults text c.args.mode) report c.in-Err.error c.in-Err.ensures.fault)

@@ -5,12 +5,12 @@ use Rattle.cudf_check.proofs.report.lint.Goals as goal
 
 pub returns-in-Ok : goal.returns-in-Ok
 returns-in-Ok g c =
-    answers_as _ _ _ _ _ (bytes_read (codes "problem") c.args.problem.now lint_text_report c.in-Ok.stanzas.text
+    answers_as _ _ _ _ _ (bytes_read (codes "problem") c.args.problem.now (lint_text_report c.args.mode) c.in-Ok.stanzas.text
     c.in-Ok.ensures.utf8.0 c.in-Ok.ensures.utf8.1)
     c.lint_stanzas.ensures
 
 pub returns-in-Err : goal.returns-in-Err
 returns-in-Err g c =
-    answers_as _ _ _ _ _ (bytes_not_utf8 (codes "problem") c.args.problem.now lint_text_report c.in-Err.fault
+    answers_as _ _ _ _ _ (bytes_not_utf8 (codes "problem") c.args.problem.now (lint_text_report c.args.mode) c.in-Err.fault
     c.in-Err.ensures.fault.0 c.in-Err.ensures.fault.1)
     c.answer_fault.ensures

@@ -10,19 +10,19 @@ pub loop-stanza-preserved : goal.loop-stanza-preserved
 loop-stanza-preserved c =
     let items = c.args.text.now.stanzas.items in
     let i = c.loop-stanza.stanza-index in
-    subst (λ l. IsSolutionRead c.args.problem.now l c.take.new.self)
+    subst (λ l. IsSolutionRead c.args.problem.now c.args.mode l c.take.new.self)
     (sym (map_next stanza_view items c.deref-stanza-items.result.now i c.stanza-item.result (omega arith) c.stanza-item.is c.deref-stanza-items.ensures.value))
-    (c.in_ok-take.ensures (map stanza_view (take i items)) c.loop-stanza.invariant)
+    (c.in_ok-take.ensures c.args.mode (map stanza_view (take i items)) c.loop-stanza.invariant)
 
-all_read : (c : goal.After-finish) → IsSolutionRead c.args.problem.now (text_view c.args.text.now).stanzas c.loop-stanza.reader
+all_read : (c : goal.After-finish) → IsSolutionRead c.args.problem.now c.args.mode (text_view c.args.text.now).stanzas c.loop-stanza.reader
 all_read c =
     let items = c.args.text.now.stanzas.items in
     let i = c.loop-stanza.stanza-index in
     let len = c.deref-stanza-items.ensures.len in
-    subst (λ l. IsSolutionRead c.args.problem.now (map stanza_view l) c.loop-stanza.reader) (take_all i items (omega arith)) c.loop-stanza.invariant
+    subst (λ l. IsSolutionRead c.args.problem.now c.args.mode (map stanza_view l) c.loop-stanza.reader) (take_all i items (omega arith)) c.loop-stanza.invariant
 
-solution : (c : goal.After-finish) → IfOk c.finish.result (IsSolutionOf c.args.problem.now (text_view c.args.text.now))
-solution c = c.finish.ensures.solution c.args.problem.now (text_view c.args.text.now) refl (all_read c)
+solution : (c : goal.After-finish) → IfOk c.finish.result (IsSolutionOf c.args.problem.now c.args.mode (text_view c.args.text.now))
+solution c = c.finish.ensures.solution c.args.problem.now c.args.mode (text_view c.args.text.now) refl (all_read c)
 
 pub returns-clause-sound : goal.returns-clause-sound
 returns-clause-sound c = IfOk-weaker c.finish.result _ _ (λ s is. is.sound) (solution c)
@@ -43,4 +43,4 @@ pub returns-clause-outside : goal.returns-clause-outside
 returns-clause-outside c = IfOk-weaker c.finish.result _ _ (λ s is. is.outside) (solution c)
 
 pub returns-clause-fault : goal.returns-clause-fault
-returns-clause-fault c = c.finish.ensures.fault c.args.problem.now (text_view c.args.text.now) refl (all_read c)
+returns-clause-fault c = c.finish.ensures.fault c.args.problem.now c.args.mode (text_view c.args.text.now) refl (all_read c)

@@ -4,4 +4,4 @@ use Rattle.cudf_document.specs.Working.SolutionReaders.{IsSolutionRead}
 use Rattle.cudf_document.proofs.solution.read_solution.Given as goal
 
 abbrev pub invariant-loop-stanza : goal.invariant-loop-stanza
-invariant-loop-stanza l = IsSolutionRead l.problem (map stanza_view (take l.stanza-index l.text.stanzas.items)) l.reader
+invariant-loop-stanza l = IsSolutionRead l.problem l.fn.mode (map stanza_view (take l.stanza-index l.text.stanzas.items)) l.reader

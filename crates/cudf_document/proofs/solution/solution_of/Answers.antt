@@ -10,17 +10,17 @@ use Rattle.cudf_document.proofs.solution.solution_of.Goals as goal
 pub stanzas-preserved : goal.stanzas-preserved
 stanzas-preserved c =
     let s : PlainStanza = record { line = c.in-Stanza.line; last = c.in-Stanza.last; properties = map property_view c.next.new.properties.items } in
-    SolutionGoesOn-next c.args.problem.now c.stanzas.reader c.take.new.self c.stanzas.stanzas.text c.next.new.self.text c.args.stanzas.text s c.stanzas.invariant
+    SolutionGoesOn-next c.args.problem.now c.args.mode c.stanzas.reader c.take.new.self c.stanzas.stanzas.text c.next.new.self.text c.args.stanzas.text s c.stanzas.invariant
     (ap (λ (l : Left). l.text) (c.in_ok-line.ensures.read ∙ ap (λ n. with_next n c.next.new.properties.items c.next.new.self) c.in-Stanza.is))
-    c.in_ok-take-in-Stanza.ensures
+    (c.in_ok-take-in-Stanza.ensures c.args.mode)
 
-whole : (c : goal.After-drop-stanza-in-End) → IsSolutionWhole c.args.problem.now c.stanzas.reader c.in-End.fault c.args.stanzas.text
+whole : (c : goal.After-drop-stanza-in-End) → IsSolutionWhole c.args.problem.now c.args.mode c.stanzas.reader c.in-End.fault c.args.stanzas.text
 whole c =
-    SolutionGoesOn-end c.args.problem.now c.stanzas.reader c.stanzas.stanzas.text c.args.stanzas.text c.in-End.fault c.in-End.lines c.stanzas.invariant
+    SolutionGoesOn-end c.args.problem.now c.args.mode c.stanzas.reader c.stanzas.stanzas.text c.args.stanzas.text c.in-End.fault c.in-End.lines c.stanzas.invariant
     (ap (λ (l : Left). l.text) (c.in_ok-line.ensures.read ∙ ap (λ n. with_next n c.next.new.properties.items c.next.new.self) c.in-End.is))
 
-solution : (c : goal.After-drop-stanza-in-End) → IfOk c.finish.result (IsSolutionOf c.args.problem.now c.args.stanzas.text)
-solution c = c.finish.ensures.solution c.args.problem.now c.args.stanzas.text (whole c).fault_is (whole c).read
+solution : (c : goal.After-drop-stanza-in-End) → IfOk c.finish.result (IsSolutionOf c.args.problem.now c.args.mode c.args.stanzas.text)
+solution c = c.finish.ensures.solution c.args.problem.now c.args.mode c.args.stanzas.text (whole c).fault_is (whole c).read
 
 pub returns-in-End-clause-sound : goal.returns-in-End-clause-sound
 returns-in-End-clause-sound c = IfOk-weaker c.finish.result _ _ (λ s is. is.sound) (solution c)
@@ -41,4 +41,4 @@ pub returns-in-End-clause-outside : goal.returns-in-End-clause-outside
 returns-in-End-clause-outside c = IfOk-weaker c.finish.result _ _ (λ s is. is.outside) (solution c)
 
 pub returns-in-End-clause-fault : goal.returns-in-End-clause-fault
-returns-in-End-clause-fault c = c.finish.ensures.fault c.args.problem.now c.args.stanzas.text (whole c).fault_is (whole c).read
+returns-in-End-clause-fault c = c.finish.ensures.fault c.args.problem.now c.args.mode c.args.stanzas.text (whole c).fault_is (whole c).read

@@ -1,7 +1,7 @@
 use Rattle.std.proofs.Common.{codes}
 use Rattle.std.proofs.lemmas.Result.{IfOk-weaker}
 use Rattle.clap.specs.Simple.{App, new_app, with_rule}
-use Rattle.cudf_program.specs.Grammar.{IsOf, after_option, limit_option, problem_word, solution_word}
+use Rattle.cudf_program.specs.Grammar.{IsOf, after_option, limit_option, problem_word, solution_word, strict_flag}
 use Rattle.cudf_program.proofs.GrammarLemmas.{described, with_word}
 use Rattle.cudf_program.proofs.grammar.check_command.Goals as goal
 
@@ -14,6 +14,9 @@ two = with_rule one solution_word
 abbrev three : App
 three = with_rule two after_option
 
+abbrev four : App
+four = with_rule three limit_option
+
 pub returns : goal.returns
 returns c =
     let plain : IsOf (new_app (codes "check")) c.about.result =
@@ -24,4 +27,6 @@ returns c =
     with_word one solution_word c.in_ok-arg.field-0 c.solution.result of_one c.solution.ensures.rule c.solution.ensures.local c.in_ok-arg-2.field-0 c.in_ok-arg-2.ensures in
     let of_three : IsOf three c.in_ok-arg-3.field-0 =
     with_word two after_option c.in_ok-arg-2.field-0 c.after.result of_two c.after.ensures.rule c.after.ensures.local c.in_ok-arg-3.field-0 c.in_ok-arg-3.ensures in
-    IfOk-weaker c.arg-4.result _ _ (with_word three limit_option c.in_ok-arg-3.field-0 c.limit.result of_three c.limit.ensures.rule c.limit.ensures.local) c.arg-4.ensures
+    let of_four : IsOf four c.in_ok-arg-4.field-0 =
+    with_word three limit_option c.in_ok-arg-3.field-0 c.limit.result of_three c.limit.ensures.rule c.limit.ensures.local c.in_ok-arg-4.field-0 c.in_ok-arg-4.ensures in
+    IfOk-weaker c.arg-5.result _ _ (with_word four strict_flag c.in_ok-arg-4.field-0 c.strict.result of_four c.strict.ensures.rule c.strict.ensures.local) c.arg-5.ensures

@@ -1,6 +1,5 @@
 use Rattle.std.proofs.Common.{option_map}
 use Rattle.cudf_referee.specs.KeyViews.{key_view}
-use Rattle.cudf_referee.specs.Walks.{left}
 use Rattle.cudf_check.specs.Report.{listed}
 use Rattle.cudf_check.proofs.PageLemmas.{left_listed}
 use Rattle.cudf_check.proofs.WalkLemmas.{price-page}

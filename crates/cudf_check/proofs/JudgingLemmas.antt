@@ -1,0 +1,130 @@
+-- One more solution is judged.
+use Rattle.std.proofs.Common.{◌≡◌, ℕ, zero, suc, ◌+◌, ◌<◌, ◌≤◌, Bool, true, false, if◌then◌else◌, List, [], ◌∷◌, ◌++◌, length, map, drop, get_or, codes, decimal, None, Some, option_map, slice_get, Result, Ok, Err, IfOk, IfErr, refl, sym, ap, ◌∙◌, append_assoc, append-nil, arith}
+use Rattle.std.specs.List.{filter_map, cons_option, enumerate_from}
+use Rattle.std.specs.Str.{IsUtf8, is_utf8}
+use Rattle.std.proofs.lemmas.Str.{IsUtf8-from_is_utf8}
+use Rattle.cudf_document.specs.declared.mode.Mode.{Mode}
+use Rattle.cudf_text.specs.declared.fault.Fault.{Fault}
+use Rattle.cudf_text.specs.Joined.{is_fail}
+use Rattle.cudf_text.specs.Stanzas.{PlainText, plain_text}
+use Rattle.cudf_text.specs.Views.{utf8_fault}
+use Rattle.cudf_document.specs.declared.error.ReadError.{ReadError}
+use Rattle.cudf_document.specs.declared.error.ReadError.TheVariants as read_error
+use Rattle.cudf_document.specs.Faults.{least, IsFirstFault}
+use Rattle.cudf_document.specs.SolutionFaults.{solution_faults}
+use Rattle.cudf_document.specs.Universe.{PlainProblem}
+use Rattle.cudf_check.specs.RankReport.{solution_fault, judgement_of, placed_fault, placed_faults, standing_of, standings, first_faulty_or}
+use Rattle.cudf_check.specs.Report.{Report, proposal_of, faulty}
+use Rattle.cudf_check.specs.Working.Judged.{IsJudged, IsFaultOf, AreJudged, IsFaultAt}
+use Rattle.cudf_check.specs.declared.ranking.Judgement.{Judgement}
+use Rattle.cudf_check.specs.declared.ranking.Judgement.TheVariants.{SaysFail}
+use Rattle.cudf_check.specs.declared.ranking.Standing.{Standing}
+
+-- those that are left, with their places
+abbrev pub left : {A : Type 0} → (A → List ℕ) → List A → ℕ → List (ℕ × List ℕ)
+left view xs n = enumerate_from (n + 1) (map view (drop n xs))
+
+-- those so far have no fault, and these are their standings
+pub record JudgedSoFar {A : Type 0} (mode : Mode) (problem : PlainProblem) (view : A → List ℕ) (xs : List A) (n : ℕ) (ss : List Standing) : Type 0 where
+  pub found : ss ++ map (standing_of problem) (left view xs n) ≡ standings problem (map view xs)
+  pub sound : placed_faults mode (map view xs) ≡ filter_map (placed_fault mode) (left view xs n)
+
+pub none_judged : {A : Type 0} (mode : Mode) (problem : PlainProblem) (view : A → List ℕ) (xs : List A) → JudgedSoFar mode problem view xs 0 []
+none_judged mode problem view xs = record { found = refl; sound = refl }
+
+module _ {A : Type 0} (mode : Mode) (problem : PlainProblem) (view : A → List ℕ) (xs : List A) (n : ℕ) (d : A) (ss : List Standing) (below : n < length xs) (m : JudgedSoFar mode problem view xs n ss) where
+  -- the one at the turn, and those behind it
+  behind : left view xs n ≡ (n + 1, view (get_or xs n d)) ∷ left view xs (n + 1)
+  behind = ap (λ ys. enumerate_from (n + 1) (map view ys)) (left_is xs n d below ∙ (λ k. get_or xs n d ∷ drop (next k) xs))
+    where
+      next : suc n ≡ n + 1
+      next = omega arith
+
+      left_is : {A : Type 0} (xs : List A) (n : ℕ) (d : A) → n < length xs → drop n xs ≡ get_or xs n d ∷ drop (suc n) xs
+      left_is [] n d below = absurd (omega arith)
+      left_is (x ∷ xs) zero d below = refl
+      left_is (x ∷ xs) (suc n) d below = left_is xs n d (omega arith)
+
+  pub judged_more : (j : Judgement) (new : List Standing) (place : ℕ) → place ≡ n + 1 → IsJudged mode problem (view (get_or xs n d)) j
+      → new ≡ ss ++ (record { place = place; judgement = j }) ∷ [] → JudgedSoFar mode problem view xs (n + 1) new
+  judged_more j new place at is pushed = record {
+    found =
+        ap (λ ys. ys ++ map (standing_of problem) (left view xs (n + 1))) (pushed ∙ (λ k. ss ++ (record { place = at k; judgement = is.found k }) ∷ []))
+        ∙ append_assoc ss (standing_of problem (n + 1, view (get_or xs n d)) ∷ []) (map (standing_of problem) (left view xs (n + 1)))
+        ∙ ap (λ ys. ss ++ map (standing_of problem) ys) (sym behind) ∙ m.found;
+    sound = m.sound ∙ ap (filter_map (placed_fault mode)) behind
+        ∙ ap (λ f. cons_option (option_map (λ f. (n + 1, f)) f) (filter_map (placed_fault mode) (left view xs (n + 1)))) is.sound;
+  }
+
+  pub refused_here : (place : ℕ) → place ≡ n + 1 → (f : Fault) → solution_fault mode (view (get_or xs n d)) ≡ Some f
+      → slice_get (placed_faults mode (map view xs)) 0 ≡ Some (place, f)
+  refused_here place at f is = ap (λ fs. slice_get fs 0) (m.sound ∙ ap (filter_map (placed_fault mode)) behind
+      ∙ ap (λ o. cons_option (option_map (λ f. (n + 1, f)) o) (filter_map (placed_fault mode) (left view xs (n + 1)))) is) ∙ (λ k. Some (sym at k, f))
+
+pub all_judged : {A : Type 0} (mode : Mode) (problem : PlainProblem) (view : A → List ℕ) (xs : List A) (n : ℕ) (ss : List Standing) → length xs ≤ n
+    → JudgedSoFar mode problem view xs n ss → AreJudged mode problem (map view xs) ss
+all_judged mode problem view xs n ss end m = record {
+  found = sym (append-nil ss) ∙ ap (λ ys. ss ++ map (standing_of problem) (enumerate_from (n + 1) (map view ys))) (sym (none_left xs n end)) ∙ m.found;
+  sound = m.sound ∙ ap (λ ys. filter_map (placed_fault mode) (enumerate_from (n + 1) (map view ys))) (none_left xs n end);
+}
+  where
+    none_left : {A : Type 0} (xs : List A) (n : ℕ) → length xs ≤ n → drop n xs ≡ []
+    none_left [] zero end = refl
+    none_left [] (suc n) end = refl
+    none_left (x ∷ xs) zero end = absurd (omega arith)
+    none_left (x ∷ xs) (suc n) end = none_left xs n (omega arith)
+
+-- the report where the first faulty one was found
+pub first_is : (faults : List (ℕ × Fault)) (report : Report) (place : ℕ) (f : Fault) → slice_get faults 0 ≡ Some (place, f)
+    → faulty (codes "solution " ++ decimal place) f ≡ first_faulty_or faults report
+first_is [] report place f is = absurd (cc is)
+first_is (first ∷ others) report place f is = let same : first ≡ (place, f) = cc in ap (λ x. faulty (codes "solution " ++ decimal x.0) x.1) (sym same)
+
+-- ---- one solution
+
+module _ (mode : Mode) (problem : PlainProblem) (bytes : List ℕ) where
+  -- its fault, as far as its bytes say
+  fault_is : (a b : Bool) → is_utf8 bytes ≡ a → is_fail bytes ≡ b
+      → solution_fault mode bytes ≡ (if a then (if b then None else least (solution_faults (plain_text bytes) mode)) else Some (utf8_fault bytes))
+  fault_is a b utf8 fails = λ k. if utf8 k then (if fails k then None else least (solution_faults (plain_text bytes) mode)) else Some (utf8_fault bytes)
+
+  -- a text that says FAIL
+  pub fail_judged : is_utf8 bytes ≡ true → is_fail bytes ≡ true → IsJudged mode problem bytes SaysFail
+  fail_judged utf8 fails = record {
+    found = ap (λ b. if b then SaysFail else judgement_of (proposal_of problem (plain_text bytes))) (sym fails);
+    sound = fault_is true true utf8 fails;
+  }
+
+  -- a text in stanzas
+  pub stanzas_judged : is_utf8 bytes ≡ true → is_fail bytes ≡ false → (text : PlainText) → text ≡ plain_text bytes → (result : Result Judgement ReadError)
+      → IfOk result (λ j. solution_faults text mode ≡ []) → IfOk result (λ j. j ≡ judgement_of (proposal_of problem text)) → IfOk result (IsJudged mode problem bytes)
+  stanzas_judged utf8 fails text same (Err e) sound found = tt
+  stanzas_judged utf8 fails text same (Ok j) sound found = record {
+    found = found ∙ ap (λ t. judgement_of (proposal_of problem t)) same ∙ ap (λ b. if b then SaysFail else judgement_of (proposal_of problem (plain_text bytes))) (sym fails);
+    sound = fault_is true false utf8 fails ∙ ap (λ t. least (solution_faults t mode)) (sym same) ∙ ap least sound;
+  }
+
+  pub stanzas_refused : is_utf8 bytes ≡ true → is_fail bytes ≡ false → (text : PlainText) → text ≡ plain_text bytes → (result : Result Judgement ReadError)
+      → IfErr result (IsFirstFault (solution_faults text mode)) → IfErr result (IsFaultOf mode bytes)
+  stanzas_refused utf8 fails text same (Ok j) first = tt
+  stanzas_refused utf8 fails text same (Err (read_error.Memory e)) first = tt
+  stanzas_refused utf8 fails text same (Err (read_error.Fault f)) first = fault_is true false utf8 fails ∙ ap (λ t. least (solution_faults t mode)) (sym same) ∙ first
+
+  -- bytes that are no text
+  pub no_text : is_utf8 bytes ≡ false → (f : Fault) → f ≡ utf8_fault bytes → solution_fault mode bytes ≡ Some f
+  no_text utf8 f same = fault_is false (is_fail bytes) utf8 refl ∙ ap Some (sym same)
+
+-- ---- the first that is refused
+
+pub refused_at : {A : Type 0} (mode : Mode) (problem : PlainProblem) (view : A → List ℕ) (xs : List A) (n : ℕ) (d : A) (ss : List Standing) → n < length xs → JudgedSoFar mode problem view xs n ss
+    → (bytes : List ℕ) → bytes ≡ view (get_or xs n d) → (e : ReadError) → IsFaultOf mode bytes e → IsFaultAt mode (map view xs) (n + 1) e
+refused_at mode problem view xs n d ss below m bytes same (read_error.Memory e) first = tt
+refused_at mode problem view xs n d ss below m bytes same (read_error.Fault f) first =
+    refused_here mode problem view xs n d ss below m (n + 1) refl f (ap (solution_fault mode) (sym same) ∙ first)
+
+pub not_utf8 : (bytes : List ℕ) → (IsUtf8 bytes → ⊥) → is_utf8 bytes ≡ false
+not_utf8 bytes other = by (is_utf8 bytes) refl
+  where
+    by : (b : Bool) → is_utf8 bytes ≡ b → is_utf8 bytes ≡ false
+    by true is = absurd (other (IsUtf8-from_is_utf8 bytes is))
+    by false is = is

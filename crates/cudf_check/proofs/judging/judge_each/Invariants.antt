@@ -1,0 +1,6 @@
+-- The solutions so far are judged.
+use Rattle.cudf_check.proofs.JudgingLemmas.{JudgedSoFar}
+use Rattle.cudf_check.proofs.judging.judge_each.Given as goal
+
+abbrev pub invariant-loop-index : goal.invariant-loop-index
+invariant-loop-index l = JudgedSoFar l.fn.mode l.problem (λ b. b.items) l.solutions l.index l.standings.items

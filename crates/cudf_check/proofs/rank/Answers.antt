@@ -1,0 +1,11 @@
+use Rattle.cudf_check.proofs.InputsLemmas.{behind_still}
+use Rattle.cudf_check.proofs.RankLemmas.{problem_stopped}
+use Rattle.cudf_check.proofs.rank.Goals as goal
+
+pub returns-in_err-first-clause-ranks : goal.returns-in_err-first-clause-ranks
+returns-in_err-first-clause-ranks g c =
+    problem_stopped _ c.args.mode g.S.Source.state _ _ _ c.read_all.result _ _ c.in_err-first.was
+    c.read_all.ensures.too_long c.read_all.ensures.read c.read_all.ensures.no_write c.from_residual.ensures
+
+pub returns-in_err-first-clause-behind : goal.returns-in_err-first-clause-behind
+returns-in_err-first-clause-behind g c = behind_still g.S.Source.state _

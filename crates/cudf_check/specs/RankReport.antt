@@ -1,0 +1,125 @@
+-- The report of a ranking: a function of the aims, the problem and its solutions to a text and an outcome. Own.
+use Rattle.std.specs.Prelude.{ℕ, Bool, true, false, List, [], ◌∷◌, ◌++◌, map, codes, decimal, Option, Some, None, option_map, if◌then◌else◌}
+use Rattle.std.specs.List.{flat_map, filter_map, list_any, enumerate_from}
+use Rattle.std.specs.Str.{is_utf8}
+use Rattle.cudf_document.specs.declared.mode.Mode.{Mode}
+use Rattle.cudf_text.specs.declared.fault.Fault.{Fault}
+use Rattle.cudf_text.specs.Joined.{is_fail}
+use Rattle.cudf_text.specs.Stanzas.{PlainText, plain_text}
+use Rattle.cudf_text.specs.Views.{utf8_fault}
+use Rattle.cudf_document.specs.Faults.{least}
+use Rattle.cudf_document.specs.ProblemFaults.{problem_faults}
+use Rattle.cudf_document.specs.SolutionFaults.{solution_faults}
+use Rattle.cudf_document.specs.Universe.{PlainProblem, plain_problem}
+use Rattle.cudf_referee.specs.Aims.{aim_text, count_of}
+use Rattle.cudf_referee.specs.Criteria.{criteria}
+use Rattle.cudf_referee.specs.Proposals.{Proposal}
+use Rattle.cudf_referee.specs.Solutions.{is_solution}
+use Rattle.cudf_referee.specs.declared.aims.Aim.{Aim}
+use Rattle.cudf_referee.specs.declared.criteria.Criteria.{Criteria}
+use Rattle.cudf_check.specs.Ranking.{ranking}
+use Rattle.cudf_check.specs.Report.{Report, line, faulty, faulty_or, of_bytes, proposal_of}
+use Rattle.cudf_check.specs.declared.outcome.Outcome.{Outcome}
+use Rattle.cudf_check.specs.declared.outcome.Outcome.TheVariants.{Yes, No, Fail}
+use Rattle.cudf_check.specs.declared.ranking.Judgement.{Judgement}
+use Rattle.cudf_check.specs.declared.ranking.Judgement.TheVariants.{Solution, NoSolution, SaysFail}
+use Rattle.cudf_check.specs.declared.ranking.Standing.{Standing}
+
+-- ---- one solution
+
+-- its first fault, if it has one; a text that says FAIL can have E1 alone
+abbrev pub solution_fault : Mode → List ℕ → Option Fault
+solution_fault mode bytes = if is_utf8 bytes then (if is_fail bytes then None else least (solution_faults (plain_text bytes) mode)) else Some (utf8_fault bytes)
+
+-- what is put forward is a solution, with these counts, or it is none
+abbrev pub judgement_of : Proposal → Judgement
+judgement_of s = if is_solution s then Solution (criteria s) else NoSolution
+
+-- it says FAIL, or else what it puts forward for the problem is judged
+abbrev pub judgement : PlainProblem → List ℕ → Judgement
+judgement problem bytes = if is_fail bytes then SaysFail else judgement_of (proposal_of problem (plain_text bytes))
+
+-- ---- the solutions, by their places from 1
+
+-- the fault of the solution at a place, if it has one, with the place
+abbrev pub placed_fault : Mode → ℕ × List ℕ → Option (ℕ × Fault)
+placed_fault mode solution = option_map (λ f. (solution.0, f)) (solution_fault mode solution.1)
+
+-- the faulty solutions in order: the place of each, with its first fault
+abbrev pub placed_faults : Mode → List (List ℕ) → List (ℕ × Fault)
+placed_faults mode solutions = filter_map (placed_fault mode) (enumerate_from 1 solutions)
+
+-- the solution at a place, judged
+abbrev pub standing_of : PlainProblem → ℕ × List ℕ → Standing
+standing_of problem solution = record { place = solution.0; judgement = judgement problem solution.1 }
+
+-- the solutions in order, each judged
+abbrev pub standings : PlainProblem → List (List ℕ) → List Standing
+standings problem solutions = map (standing_of problem) (enumerate_from 1 solutions)
+
+-- ---- lines
+
+-- ` -changed 2`
+abbrev pub aim_count : Criteria → Aim → List ℕ
+aim_count c aim = codes " " ++ aim_text aim ++ codes " " ++ decimal (count_of c aim.count)
+
+-- `yes -changed 1 -touched 1`, `no` or `FAIL`
+abbrev pub judgement_text : List Aim → Judgement → List ℕ
+judgement_text aims (Solution c) = codes "yes" ++ flat_map (aim_count c) aims
+judgement_text aims NoSolution = codes "no"
+judgement_text aims SaysFail = codes "FAIL"
+
+-- `2 solution 5 yes -changed 1 -touched 1`
+abbrev pub rank_line : List Aim → ℕ × Standing → List ℕ
+rank_line aims ranked = line (decimal ranked.0 ++ codes " solution " ++ decimal ranked.1.place ++ codes " " ++ judgement_text aims ranked.1.judgement)
+
+-- a line for each of the ranked standings, with its rank from 1
+abbrev pub ranking_text : List Aim → List Standing → List ℕ
+ranking_text aims ranked = flat_map (rank_line aims) (enumerate_from 1 ranked)
+
+-- ---- the outcome
+
+-- it was judged to be a solution
+abbrev pub solves : Standing → Bool
+solves s = is_yes s.judgement
+  where
+    is_yes : Judgement → Bool
+    is_yes (Solution c) = true
+    is_yes NoSolution = false
+    is_yes SaysFail = false
+
+-- it was judged to be none
+abbrev pub refuses : Standing → Bool
+refuses s = is_no s.judgement
+  where
+    is_no : Judgement → Bool
+    is_no (Solution c) = false
+    is_no NoSolution = true
+    is_no SaysFail = false
+
+-- `Yes` where one is a solution, or else `No` where one is none, or else `Fail`
+abbrev pub best_outcome : List Standing → Outcome
+best_outcome standings = if list_any solves standings then Yes else (if list_any refuses standings then No else Fail)
+
+-- ---- the report
+
+-- the lines of the ranking, and the best outcome
+abbrev pub ranked_report : List Aim → List Standing → Report
+ranked_report aims standings = record { text = ranking_text aims (ranking aims standings); outcome = best_outcome standings }
+
+-- `solution 2 line 1: E12 no version`, of the first faulty solution; or else, where none is, the report
+abbrev pub first_faulty_or : List (ℕ × Fault) → Report → Report
+first_faulty_or [] report = report
+first_faulty_or (first ∷ others) report = faulty (codes "solution " ++ decimal first.0) first.1
+
+-- solutions, beside a problem without fault
+abbrev pub solutions_report : List Aim → Mode → List (List ℕ) → PlainProblem → Report
+solutions_report aims mode solutions problem = first_faulty_or (placed_faults mode solutions) (ranked_report aims (standings problem solutions))
+
+-- a problem's text, and solutions
+abbrev pub problem_rank_report : List Aim → Mode → List (List ℕ) → PlainText → Report
+problem_rank_report aims mode solutions text = faulty_or (codes "problem") (least (problem_faults text mode)) (solutions_report aims mode solutions (plain_problem text))
+
+-- a problem and solutions
+unfoldable pub rank_report : List Aim → Mode → List ℕ → List (List ℕ) → Report
+rank_report aims mode problem solutions = of_bytes (codes "problem") problem (problem_rank_report aims mode solutions)

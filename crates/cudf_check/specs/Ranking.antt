@@ -1,0 +1,69 @@
+-- The ranking of the solutions of a problem: own.
+use Rattle.std.specs.Prelude.{◌≡◌, ℕ, Bool, true, ◌==◌, ◌&&◌, not, List, [], ◌∷◌, if◌then◌else◌, IsTrue, IsPermutation}
+use Rattle.std.specs.List.{list_all}
+use Rattle.std.specs.Ordering.{nat_cmp, ordering_then, is_lt}
+use Rattle.std.specs.declared.cmp.Ordering.{Ordering}
+use Rattle.std.specs.declared.cmp.Ordering.TheVariants.{Equal}
+use Rattle.cudf_referee.specs.Aims.{compare}
+use Rattle.cudf_referee.specs.declared.aims.Aim.{Aim}
+use Rattle.cudf_check.specs.declared.ranking.Judgement.{Judgement}
+use Rattle.cudf_check.specs.declared.ranking.Judgement.TheVariants.{Solution, NoSolution, SaysFail}
+use Rattle.cudf_check.specs.declared.ranking.Standing.{Standing}
+
+-- solutions come first, then those that are none, then those that say FAIL
+abbrev pub class : Judgement → ℕ
+class (Solution c) = 0
+class NoSolution = 1
+class SaysFail = 2
+
+-- two solutions are compared by the aims; the others tie
+abbrev pub compare_counts : List Aim → Judgement → Judgement → Ordering
+compare_counts aims (Solution c) (Solution d) = compare aims c d
+compare_counts aims (Solution c) NoSolution = Equal
+compare_counts aims (Solution c) SaysFail = Equal
+compare_counts aims NoSolution other = Equal
+compare_counts aims SaysFail other = Equal
+
+-- a comes before b: by class, then by the aims, then by place
+abbrev pub precedes : List Aim → Standing → Standing → Bool
+precedes aims a b = is_lt (ordering_then (nat_cmp (class a.judgement) (class b.judgement))
+    (ordering_then (compare_counts aims a.judgement b.judgement) (nat_cmp a.place b.place)))
+
+-- the standings with x put before the first that it precedes, or at the end
+abbrev pub put : List Aim → Standing → List Standing → List Standing
+put aims x [] = x ∷ []
+put aims x (y ∷ ys) = if precedes aims x y then x ∷ y ∷ ys else y ∷ put aims x ys
+
+-- the ranked standings with the others put among them, one after another
+abbrev pub put_all : List Aim → List Standing → List Standing → List Standing
+put_all aims ranked [] = ranked
+put_all aims ranked (x ∷ xs) = put_all aims (put aims x ranked) xs
+
+-- the standings in the order of their rank, the best first
+unfoldable pub ranking : List Aim → List Standing → List Standing
+ranking aims standings = put_all aims [] standings
+
+-- ---- what makes it the ranking
+
+-- no place stands twice
+abbrev pub have_own_places : List Standing → Bool
+have_own_places [] = true
+have_own_places (x ∷ xs) = list_all (λ y. not (x.place == y.place)) xs && have_own_places xs
+
+-- each precedes all later ones
+abbrev pub ascend : List Aim → List Standing → Bool
+ascend aims [] = true
+ascend aims (x ∷ xs) = list_all (precedes aims x) xs && ascend aims xs
+
+-- the ranking is its list in another order: none is left out, and none stands twice
+abbrev pub RankingPermutes : Type 0
+RankingPermutes = (aims : List Aim) (xs : List Standing) → IsPermutation xs (ranking aims xs)
+
+-- where no place stands twice, each precedes all that are ranked behind it
+abbrev pub RankingAscends : Type 0
+RankingAscends = (aims : List Aim) (xs : List Standing) → IsTrue (have_own_places xs) → IsTrue (ascend aims (ranking aims xs))
+
+-- and no other list of the same standings ascends so
+abbrev pub RankingIsAlone : Type 0
+RankingIsAlone = (aims : List Aim) (xs ys : List Standing) → IsTrue (have_own_places xs) → IsPermutation xs ys → IsTrue (ascend aims ys)
+    → ys ≡ ranking aims xs

@@ -1,0 +1,101 @@
+//! Decides which report a problem and its solutions have.
+ghost use Rattle.std.specs.Prelude.{map};
+ghost use Rattle.cudf_check.specs.RankReport.{ranked_report, solutions_report, problem_rank_report, rank_report, placed_faults, first_faulty_or};
+ghost use Rattle.cudf_check.specs.Report.{Report};
+ghost use Rattle.cudf_check.specs.Working.Answering.{Answers};
+ghost use Rattle.cudf_check.specs.Working.Judged.{IsFirstRefused};
+
+use crate::device::Sink;
+use crate::judging::{Refused, judge_each};
+use crate::lines::{answer_fault, answer_faulty_solution, answer_ranked};
+use crate::outcome::{Outcome, RunError};
+use crate::ranking::{Standing, best_outcome, ranked};
+use crate::report::answer_refusal;
+use cudf_referee::Aim;
+use cudf_text::{Stanzas, stanzas};
+use cudf_universe::{Mode, Problem, ReadError, Room, problem_of};
+use std::alloc::Global;
+
+/// Ranks the solutions that were judged.
+fn answer_standings<W: Sink>(
+    alloc: Global,
+    out: &mut W,
+    aims: &[Aim],
+    standings: &[Standing],
+) -> Result<Outcome, RunError>
+    ensures { Answers (W.state out.old) (W.state out.new) (ranked_report aims.now standings.now) result }
+{
+    let outcome = best_outcome(standings);
+    match ranked(alloc, aims, standings) {
+        Ok(ranked) => answer_ranked(alloc, out, aims, &ranked, outcome),
+        Err(_) => Err(RunError::Memory),
+    }
+}
+
+/// Answers a solution that isn't judged.
+fn answer_refused<W: Sink>(
+    alloc: Global,
+    out: &mut W,
+    refused: Refused,
+) -> Result<Outcome, RunError>
+    ensures { (mode : Mode) → (solutions : _) → (report : Report) → IsFirstRefused mode solutions refused
+        → Answers (W.state out.old) (W.state out.new) (first_faulty_or (placed_faults mode solutions) report) result }
+{
+    match refused.error {
+        ReadError::Fault(fault) => answer_faulty_solution(alloc, out, refused.place, fault),
+        ReadError::Memory(_) => Err(RunError::Memory),
+    }
+}
+
+/// Judges the solutions of a problem, and ranks them.
+fn answer_solutions<W: Sink>(
+    alloc: Global,
+    out: &mut W,
+    aims: &[Aim],
+    mode: Mode,
+    problem: &Problem<'_>,
+    solutions: &[Vec<u8>],
+) -> Result<Outcome, RunError>
+    ensures { Answers (W.state out.old) (W.state out.new) (solutions_report aims.now mode (map (λ b. b.items) solutions.now) problem.now) result }
+{
+    match judge_each(alloc, problem, solutions, mode) {
+        Ok(standings) => answer_standings(alloc, out, aims, &standings),
+        Err(refused) => answer_refused(alloc, out, refused),
+    }
+}
+
+/// Reads a problem, and ranks its solutions. Of the problem all is kept.
+fn answer_problem<W: Sink>(
+    alloc: Global,
+    out: &mut W,
+    aims: &[Aim],
+    mode: Mode,
+    stanzas: Stanzas<'_>,
+    solutions: &[Vec<u8>],
+) -> Result<Outcome, RunError>
+    ensures { Answers (W.state out.old) (W.state out.new) (problem_rank_report aims.now mode (map (λ b. b.items) solutions.now) stanzas.entry.text) result }
+{
+    let mut room = Room::new(alloc);
+    match problem_of(alloc, stanzas, &mut room, mode) {
+        Ok(problem) => answer_solutions(alloc, out, aims, mode, &problem, solutions),
+        Err(error) => answer_refusal(alloc, out, "problem", error),
+    }
+}
+
+/// Ranks the solutions of a problem.
+#[tactic(auto, unfolding(crate::specs::RankReport::rank_report))]
+pub(crate) fn answer_ranking<W: Sink>(
+    alloc: Global,
+    aims: &[Aim],
+    mode: Mode,
+    problem: &[u8],
+    solutions: &[Vec<u8>],
+    out: &mut W,
+) -> Result<Outcome, RunError>
+    ensures { Answers (W.state out.old) (W.state out.new) (rank_report aims.now mode problem.now (map (λ b. b.items) solutions.now)) result }
+{
+    match stanzas(problem) {
+        Ok(stanzas) => answer_problem(alloc, out, aims, mode, stanzas, solutions),
+        Err(fault) => answer_fault(alloc, out, "problem", fault),
+    }
+}

@@ -1,0 +1,186 @@
+-- The faults of a document in both modes.
+use Rattle.std.proofs.Common.{◌≡◌, ◌⊎◌, ℕ, Bool, true, false, not, ◌&&◌, max, List, [], ◌∷◌, ◌++◌, Option, None, Some, is_none, is_some, Contains, All, inl, inr, refl, subst, option_to_list, filter_map}
+use Rattle.std.proofs.lemmas.List.Elements.{All-nil, All-cons, All-append, All-contains, Contains-append_cases, Contains-append_left, Contains-append_right}
+use Rattle.std.specs.List.{list_any, flat_map}
+use Rattle.cudf_text.specs.declared.fault.Fault.{Fault}
+use Rattle.cudf_text.specs.declared.fault.Kind.{Kind}
+use Rattle.cudf_text.specs.declared.fault.Kind.TheVariants.{E4, E5, E6, E7, E8, E9, E10, E11, E12, E13, E14, E15}
+use Rattle.cudf_text.specs.Stanzas.{PlainProperty, PlainStanza, PlainText}
+use Rattle.cudf_value.specs.Declarations.{PlainDeclaration}
+use Rattle.cudf_document.specs.declared.mode.Mode.TheVariants.{Lenient, Strict}
+use Rattle.cudf_document.specs.declared.postmark.Postmark.{Postmark}
+use Rattle.cudf_document.specs.declared.postmark.Postmark.TheVariants.{Preamble, Package, Request}
+use Rattle.cudf_document.specs.Faults.{fault_if}
+use Rattle.cudf_document.specs.Documents.{is_empty, with_earlier, postmark, marks_preamble, marks_package, is_request, same_name, line_of}
+use Rattle.cudf_document.specs.Ids.{id_of, is_known}
+use Rattle.cudf_document.specs.Preamble.{declared, declared_after, is_bad_declaration}
+use Rattle.cudf_document.specs.Values.{solution_tests, test_of, fails}
+use Rattle.cudf_document.specs.ProblemFaults.{tests, is_repeatable, property_faults, properties_faults, place_faults, version_property, repeated_package_faults, unversioned_faults, required_names, lacks_one, missing_faults, inner_faults, faults_or, stanza_faults, requestless_faults, problem_faults}
+use Rattle.cudf_document.specs.SolutionFaults.{value_faults, values_faults, solution_stanza_faults, repeated_pair_faults, repeated_pairs_faults, solution_faults}
+use Rattle.cudf_document.specs.Laws.{is_strict, StrictAdds, StrictAddsOneKind}
+use Rattle.cudf_document.proofs.LawLemmas.{head_or_after, none_in_nil, at_head}
+
+-- ---- faults of one kind besides
+
+record Adds (kind : Kind) (fs gs : List Fault) : Type 0 where
+  kept : (f : Fault) → Contains fs f → Contains gs f
+  added : (f : Fault) → Contains gs f → Contains fs f ⊎ (f.kind ≡ kind)
+
+Adds-same : (kind : Kind) (fs : List Fault) → Adds kind fs fs
+Adds-same kind fs = record { kept = λ f there. there; added = λ f there. inl there }
+
+Adds-append : (kind : Kind) (fs gs more others : List Fault) → Adds kind fs gs → Adds kind more others → Adds kind (fs ++ more) (gs ++ others)
+Adds-append kind fs gs more others front back = record {
+  kept = λ f there. elim (Contains-append_cases fs more f there) [
+    | inl here ↦ Contains-append_left gs others f (front.kept f here)
+    | inr behind ↦ Contains-append_right gs others f (back.kept f behind)
+  ];
+  added = λ f there. elim (Contains-append_cases gs others f there) [
+    | inl here ↦ elim (front.added f here) [ inl old ↦ inl (Contains-append_left fs more f old) | inr new ↦ inr new ]
+    | inr behind ↦ elim (back.added f behind) [ inl old ↦ inl (Contains-append_right fs more f old) | inr new ↦ inr new ]
+  ];
+}
+
+Adds-flat_map : {A : Type 0} (kind : Kind) (faults others : A → List Fault) → ((x : A) → Adds kind (faults x) (others x))
+    → (xs : List A) → Adds kind (flat_map faults xs) (flat_map others xs)
+Adds-flat_map kind faults others adds [] = Adds-same kind []
+Adds-flat_map kind faults others adds (x ∷ xs) =
+    Adds-append kind (faults x) (others x) (flat_map faults xs) (flat_map others xs) (adds x) (Adds-flat_map kind faults others adds xs)
+
+-- faults of the kind, where there were none
+Adds-kind : (kind : Kind) (test : Bool) (line : ℕ) → Adds kind [] (fault_if test line kind)
+Adds-kind kind false line = Adds-same kind []
+Adds-kind kind true line = record {
+  kept = λ f there. absurd (none_in_nil f there);
+  added = λ f there. elim (head_or_after (record { line = line; kind = kind }) f [] there) [
+    | inl one ↦ inr (λ i. (one i).kind)
+    | inr more ↦ absurd (none_in_nil f more)
+  ];
+}
+
+Adds-faults_or : (kind : Kind) (place fs gs : List Fault) → Adds kind fs gs → Adds kind (faults_or place fs) (faults_or place gs)
+Adds-faults_or kind [] fs gs adds = adds
+Adds-faults_or kind (f ∷ place) fs gs adds = Adds-same kind (f ∷ place)
+
+-- ---- faults that are told in both modes
+
+-- the fault of the line, or one of a kind that is told in both modes
+abbrev IsTold : Option Fault → Fault → Type 0
+IsTold line f = (line ≡ Some f) ⊎ (is_strict f.kind ≡ false)
+
+module _ (line : Option Fault) where
+  told_if : (kind : Kind) → is_strict kind ≡ false → (test : Bool) (n : ℕ) → All (IsTold line) (fault_if test n kind)
+  told_if kind told false n = All-nil (IsTold line)
+  told_if kind told true n = All-cons (IsTold line) (record { line = n; kind = kind }) [] (inr told) (All-nil (IsTold line))
+
+  both_told : (fs gs : List Fault) → All (IsTold line) fs → All (IsTold line) gs → All (IsTold line) (fs ++ gs)
+  both_told fs gs front back = All-append (IsTold line) fs gs front back
+
+  told-flat_map : {A : Type 0} (faults : A → List Fault) → ((x : A) → All (IsTold line) (faults x)) → (xs : List A) → All (IsTold line) (flat_map faults xs)
+  told-flat_map faults told [] = All-nil (IsTold line)
+  told-flat_map faults told (x ∷ xs) = both_told (faults x) (flat_map faults xs) (told x) (told-flat_map faults told xs)
+
+  told-faults_or : (place fs : List Fault) → All (IsTold line) place → All (IsTold line) fs → All (IsTold line) (faults_or place fs)
+  told-faults_or [] fs place inner = inner
+  told-faults_or (f ∷ fs) gs place inner = place
+
+  line_told : All (IsTold line) (option_to_list line)
+  line_told = by line refl
+    where
+      by : (o : Option Fault) → line ≡ o → All (IsTold line) (option_to_list o)
+      by None is = All-nil (IsTold line)
+      by (Some f) is = All-cons (IsTold line) f [] (inl is) (All-nil (IsTold line))
+
+  property_told : (ds : List PlainDeclaration) (mark : Option Postmark) (x : List PlainProperty × PlainProperty) → All (IsTold line) (property_faults ds mark x)
+  property_told ds mark (before, p) =
+      let repeated = told_if E7 refl (list_any (same_name p) before && not (is_repeatable mark p)) p.line in
+      let undeclared = told_if E8 refl (marks_package mark && is_none (test_of p.name (tests ds mark))) p.line in
+      let mistyped = told_if E9 refl (fails (test_of p.name (tests ds mark)) p.value) p.line in
+      let misdeclared = told_if E10 refl (marks_preamble mark && is_bad_declaration (declared_after [] before) p) p.line in
+      both_told _ _ (both_told _ _ (both_told _ _ repeated undeclared) mistyped) misdeclared
+
+  unversioned_told : (s : PlainStanza) → All (IsTold line) (unversioned_faults s)
+  unversioned_told s = told_if E12 refl (marks_package (postmark s) && is_none (version_property s)) s.last
+
+  unmarked_told : (mark : Option Postmark) (n : ℕ) → All (IsTold line) (fault_if (is_none mark) n E4)
+  unmarked_told mark n = told_if E4 refl (is_none mark) n
+
+  stanza_told : (x : List PlainStanza × PlainStanza) → All (IsTold line) (stanza_faults Lenient x)
+  stanza_told (before, s) =
+      let late_preamble = told_if E5 refl (marks_preamble (postmark s) && not (is_empty before)) s.line in
+      let late = told_if E6 refl (list_any is_request before) s.line in
+      let properties = told-flat_map (property_faults (declared before) (postmark s)) (property_told (declared before) (postmark s)) (with_earlier [] s.properties) in
+      let repeated = told_if E11 refl (is_known (filter_map id_of before) (id_of s)) (line_of (version_property s)) in
+      told-faults_or (place_faults (is_empty before) (list_any is_request before) (postmark s) s.line) (inner_faults Lenient before s)
+      (both_told _ _ (both_told _ _ (unmarked_told (postmark s) s.line) late_preamble) late)
+      (both_told _ _ (both_told _ _ properties repeated) (unversioned_told s))
+
+  value_told : (x : List PlainProperty × PlainProperty) → All (IsTold line) (value_faults x)
+  value_told (before, p) =
+      both_told _ _ (told_if E7 refl (list_any (same_name p) before && is_some (test_of p.name solution_tests)) p.line)
+      (told_if E9 refl (fails (test_of p.name solution_tests) p.value) p.line)
+
+  values_told : (mark : Option Postmark) (ps : List PlainProperty) → All (IsTold line) (values_faults mark ps)
+  values_told None ps = All-nil (IsTold line)
+  values_told (Some Preamble) ps = All-nil (IsTold line)
+  values_told (Some Package) ps = told-flat_map value_faults value_told (with_earlier [] ps)
+  values_told (Some Request) ps = All-nil (IsTold line)
+
+  solution_stanza_told : (s : PlainStanza) → All (IsTold line) (solution_stanza_faults s)
+  solution_stanza_told s = both_told _ _ (both_told _ _ (unmarked_told (postmark s) s.line) (values_told (postmark s) s.properties)) (unversioned_told s)
+
+-- ---- a document
+
+-- what is told in both modes, with faults of one kind besides
+adds-told : (kind : Kind) (line : Option Fault) (lenient strict : List Fault) → Adds kind lenient strict → All (IsTold line) lenient → StrictAdds kind line lenient strict
+adds-told kind line lenient strict adds told = record {
+  kept = adds.kept;
+  added = adds.added;
+  lenient_kinds = λ f there. All-contains (IsTold line) lenient f told there;
+  faultless = λ none. by lenient (λ f there. none_in_nil f (subst (λ l. Contains l f) none (adds.kept f there)));
+}
+  where
+    by : (fs : List Fault) → ((f : Fault) → Contains fs f → ⊥) → fs ≡ []
+    by [] none = refl
+    by (f ∷ fs) none = absurd (none f (at_head f fs))
+
+stanza_adds : (x : List PlainStanza × PlainStanza) → Adds E14 (stanza_faults Lenient x) (stanza_faults Strict x)
+stanza_adds (before, s) =
+    let ds = declared before in
+    let missing = Adds-kind E14 (lacks_one (required_names Strict ds) s.properties && marks_package (postmark s)) s.last in
+    Adds-faults_or E14 (place_faults (is_empty before) (list_any is_request before) (postmark s) s.line) (inner_faults Lenient before s) (inner_faults Strict before s)
+    (Adds-append E14 _ _ (unversioned_faults s) (unversioned_faults s)
+    (Adds-append E14 _ _ (repeated_package_faults (filter_map id_of before) s) (repeated_package_faults (filter_map id_of before) s)
+    (Adds-append E14 [] (missing_faults (required_names Strict ds) s) (properties_faults ds (postmark s) s.properties) (properties_faults ds (postmark s) s.properties) missing
+    (Adds-same E14 _)) (Adds-same E14 _)) (Adds-same E14 _))
+
+problem_adds : (text : PlainText) → StrictAdds E14 text.fault (problem_faults text Lenient) (problem_faults text Strict)
+unfolding problem_faults
+problem_adds text =
+    let each = with_earlier [] text.stanzas in
+    adds-told E14 text.fault _ _
+    (Adds-append E14 _ _ (requestless_faults text) (requestless_faults text)
+    (Adds-append E14 (option_to_list text.fault) (option_to_list text.fault) (flat_map (stanza_faults Lenient) each) (flat_map (stanza_faults Strict) each)
+    (Adds-same E14 _) (Adds-flat_map E14 (stanza_faults Lenient) (stanza_faults Strict) stanza_adds each)) (Adds-same E14 _))
+    (both_told text.fault _ _ (both_told text.fault _ _ (line_told text.fault) (told-flat_map text.fault (stanza_faults Lenient) (stanza_told text.fault) each))
+    (told_if text.fault E13 refl (not (list_any is_request text.stanzas)) (max 1 text.lines)))
+
+-- a pair that stands again, where none counts
+pairs_add : (xs : List (List PlainStanza × PlainStanza)) → Adds E15 [] (flat_map repeated_pair_faults xs)
+pairs_add [] = Adds-same E15 []
+pairs_add ((before, s) ∷ xs) =
+    Adds-append E15 [] (repeated_pair_faults (before, s)) [] (flat_map repeated_pair_faults xs)
+    (Adds-kind E15 (is_known (filter_map id_of before) (id_of s)) (line_of (version_property s))) (pairs_add xs)
+
+solution_adds : (text : PlainText) → StrictAdds E15 text.fault (solution_faults text Lenient) (solution_faults text Strict)
+unfolding solution_faults
+solution_adds text =
+    let stanzas = flat_map solution_stanza_faults text.stanzas in
+    adds-told E15 text.fault _ _
+    (Adds-append E15 _ _ stanzas stanzas
+    (Adds-append E15 [] (repeated_pairs_faults Strict text.stanzas) (option_to_list text.fault) (option_to_list text.fault)
+    (pairs_add (with_earlier [] text.stanzas)) (Adds-same E15 _)) (Adds-same E15 _))
+    (both_told text.fault _ _ (line_told text.fault) (told-flat_map text.fault solution_stanza_faults (solution_stanza_told text.fault) text.stanzas))
+
+pub strict_adds_one_kind : StrictAddsOneKind
+strict_adds_one_kind text = (problem_adds text, solution_adds text)

@@ -1,0 +1,11 @@
+//! How strictly documents are read.
+
+/// How strictly a document is read (own).
+#[derive(Clone, Copy, Debug, PartialEq, Eq)]
+pub enum Mode {
+    /// A package may leave out a declared property that has no default, and a solution may give a pair of name and
+    /// version twice: then both mean the same pair.
+    Lenient,
+    /// The first of these is E14, the second E15. A document without fault says the same in both modes.
+    Strict,
+}

@@ -1,0 +1,220 @@
+//! Rankings on devices of which one fails, never ends, or gives or takes too much.
+use super::devices::{FOREVER, Giver, Refusal, Taker};
+use super::{BYTES, TURNS, WRITES, ample};
+use crate::table::assert_rows;
+use cudf_check::{Aim, Count, Mode, Outcome, RunError, Sign, rank};
+use std::alloc::{AllocError, Global};
+use std::cmp::Ordering;
+
+const AIMS: &[Aim] = &[Aim {
+    sign: Sign::Least,
+    count: Count::Changed,
+}];
+
+const PROBLEM: &[u8] =
+    b"package: car\nversion: 1\ninstalled: true\n\npackage: car\nversion: 2\n\npackage: bus\nversion: 1\n\nrequest: r\n";
+
+const SOLUTIONS: [&[u8]; 3] = [b"FAIL", b"", b"package: car\nversion: 1\ninstalled: true\n"];
+
+const REPORT: &[u8] =
+    b"1 solution 3 yes -changed 0\n2 solution 2 yes -changed 1\n3 solution 1 FAIL\n";
+
+/// The place of each reader, that of the problem being 0, and the calls in which it is given a byte a call, with the
+/// one that tells its end.
+const READERS: [(usize, u32); 4] = [(0, 103), (1, 5), (2, 1), (3, 41)];
+
+/// What is wrong with a reader.
+#[derive(Clone, Copy)]
+enum Illness {
+    /// This call fails.
+    Fails(u32),
+    /// It is interrupted for ever.
+    IsEndless,
+    /// It gives a byte more than it may.
+    IsTooLong,
+}
+
+/// A reader that is ill, and how `rank` answers that.
+#[derive(Clone, Copy)]
+struct Patient {
+    place: usize,
+    illness: Illness,
+    answer: RunError,
+}
+
+fn ill(bytes: &'static [u8], illness: Illness) -> Giver<'static> {
+    let mut giver = Giver::new(bytes);
+    match illness {
+        Illness::Fails(call) => {
+            giver.per_call = 1;
+            giver.failing_call = call;
+        }
+        Illness::IsEndless => giver.interruptions = FOREVER,
+        Illness::IsTooLong => giver.length = BYTES.saturating_add(1),
+    }
+    giver
+}
+
+/// The reader at this place. Those behind the patient fail at their first call.
+fn giver(bytes: &'static [u8], place: usize, patient: Patient) -> Giver<'static> {
+    match place.cmp(&patient.place) {
+        Ordering::Less => {
+            let mut giver = Giver::new(bytes);
+            giver.per_call = 1;
+            giver
+        }
+        Ordering::Equal => ill(bytes, patient.illness),
+        Ordering::Greater => ill(bytes, Illness::Fails(1)),
+    }
+}
+
+fn givers(alloc: Global, patient: Patient) -> Result<Vec<Giver<'static>>, AllocError> {
+    let mut givers = Vec::new(alloc);
+    for (before, bytes) in SOLUTIONS.iter().enumerate() {
+        givers.push(giver(bytes, before.saturating_add(1), patient))?;
+    }
+    Ok(givers)
+}
+
+/// Whether the ill reader was called until its illness showed, and no further.
+fn is_called_so_far(giver: &Giver<'_>, illness: Illness) -> bool {
+    match illness {
+        Illness::Fails(call) => giver.turn == call,
+        Illness::IsEndless => giver.turn == TURNS,
+        Illness::IsTooLong => giver.position == BYTES.saturating_add(1),
+    }
+}
+
+/// Whether the reader at the row's place was called as often as it is to be.
+fn is_called(giver: &Giver<'_>, row: &(usize, u32), patient: Patient) -> bool {
+    match row.0.cmp(&patient.place) {
+        Ordering::Less => giver.turn == row.1,
+        Ordering::Equal => is_called_so_far(giver, patient.illness),
+        Ordering::Greater => giver.turn == 0,
+    }
+}
+
+/// Whether those ahead of the patient are read to their ends, those behind it aren't called, and nothing is written.
+fn is_broken_off(alloc: Global, patient: Patient) -> bool {
+    let Ok(mut solutions) = givers(alloc, patient) else {
+        return false;
+    };
+    let mut problem = giver(PROBLEM, 0, patient);
+    let mut out = ample(alloc);
+    let answer = rank(
+        alloc,
+        AIMS,
+        Mode::Lenient,
+        &mut problem,
+        &mut solutions,
+        &mut out,
+    );
+    let [first, others @ ..] = &READERS;
+    answer == Err(patient.answer)
+        && out.taken.is_empty()
+        && is_called(&problem, first, patient)
+        && solutions
+            .iter()
+            .zip(others)
+            .all(|(solution, row)| is_called(solution, row, patient))
+}
+
+fn fails_at_each_call(alloc: Global, row: &(usize, u32)) -> bool {
+    (1..=row.1).all(|call| {
+        let patient = Patient {
+            place: row.0,
+            illness: Illness::Fails(call),
+            answer: RunError::Read,
+        };
+        is_broken_off(alloc, patient)
+    })
+}
+
+fn gives_up(alloc: Global, place: usize) -> bool {
+    let patient = Patient {
+        place,
+        illness: Illness::IsEndless,
+        answer: RunError::Read,
+    };
+    is_broken_off(alloc, patient)
+}
+
+fn refuses_one_byte_too_many(alloc: Global, row: &(usize, u32)) -> bool {
+    let patient = Patient {
+        place: row.0,
+        illness: Illness::IsTooLong,
+        answer: RunError::TooLong,
+    };
+    is_broken_off(alloc, patient)
+}
+
+/// Nobody is ill.
+const NOBODY: Patient = Patient {
+    place: 4,
+    illness: Illness::IsEndless,
+    answer: RunError::Read,
+};
+
+/// Whether the answer is so, and as much of the report is written as the sink has room for.
+fn is_written(alloc: Global, out: &mut Taker, want: Result<Outcome, RunError>) -> bool {
+    let Ok(mut solutions) = givers(alloc, NOBODY) else {
+        return false;
+    };
+    let mut problem = giver(PROBLEM, 0, NOBODY);
+    let answer = rank(
+        alloc,
+        AIMS,
+        Mode::Lenient,
+        &mut problem,
+        &mut solutions,
+        out,
+    );
+    answer == want
+}
+
+fn leaves_prefix(
+    alloc: Global,
+    row: &(usize, Refusal),
+    room: usize,
+    want: Result<Outcome, RunError>,
+) -> bool {
+    let mut out = Taker::new(Vec::new(alloc), row.0, room, row.1);
+    is_written(alloc, &mut out, want) && out.taken.len() == room && REPORT.starts_with(&out.taken)
+}
+
+/// Whether the sink is left with as much of the report as it takes, for each number of bytes.
+fn leaves_each_prefix(alloc: Global, row: &(usize, Refusal)) -> bool {
+    (0..REPORT.len()).all(|room| leaves_prefix(alloc, row, room, Err(RunError::Write)))
+        && leaves_prefix(alloc, row, REPORT.len(), Ok(Outcome::Yes))
+}
+
+#[test]
+fn each_reader_fails(rt: HostRuntime) {
+    assert_rows(&rt, rt.alloc(), &READERS, fails_at_each_call);
+}
+
+#[test]
+fn the_problem_is_endless(rt: HostRuntime) {
+    assert!(rt; gives_up(rt.alloc(), 0));
+}
+
+#[test]
+fn the_first_solution_is_endless(rt: HostRuntime) {
+    assert!(rt; gives_up(rt.alloc(), 1));
+}
+
+#[test]
+fn the_last_solution_is_endless(rt: HostRuntime) {
+    assert!(rt; gives_up(rt.alloc(), 3));
+}
+
+#[test]
+fn each_reader_is_too_long(rt: HostRuntime) {
+    assert_rows(&rt, rt.alloc(), &READERS, refuses_one_byte_too_many);
+}
+
+#[test]
+fn each_write_fails(rt: HostRuntime) {
+    assert_eq!(rt; REPORT.len(), 74);
+    assert_rows(&rt, rt.alloc(), &WRITES, leaves_each_prefix);
+}
