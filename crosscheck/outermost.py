@@ -40,9 +40,7 @@ NO_REQUEST = "problem line 1: E13 no request\n"
 MISSING = "problem line 5: E14 declared property missing\n"
 REPEATED = "solution line 6: E15 pair repeated\n"
 NO_VERSION = "solution line 1: E12 no version\n"
-SCORED = (
-    "removed 1\nnew 1\nchanged 2\nnotuptodate 0\nunsat_recommends 0\nparanoid 1 2\ntrendy 1 0 0 1\nsolution yes\n"
-)
+SCORED = "removed 1\nnew 1\nchanged 2\nnotuptodate 0\nunsat_recommends 0\nparanoid 1 2\ntrendy 1 0 0 1\nsolution yes\n"
 LISTED = "-removed 1\n+new 1\n-changed 2\n+notuptodate 0\n-unsat_recommends 0\n+touched 2\nsolution yes\n"
 
 UNREAD = "cudf_check: an input could not be read to its end; check that it is a file that can be read, and run again\n"
@@ -82,6 +80,7 @@ def of_solution(place, fault):
     return fault.replace("solution", f"solution {place}", 1)
 
 
+EQUAL = ranked("1 yes -removed 1", "3 yes -removed 1", "4 yes -removed 1", "2 no")
 RANKED = ranked("2 yes -removed 1", "1 no", "3 FAIL")
 
 
@@ -144,9 +143,17 @@ def statuses(trial):
     ]
     for words, status, output in rows:
         trial.expect(words, status, output, [""] if status == 4 else "")
-    for words in ("--help", "-h", "help"):
-        given = trial.run([words])
-        trial.note(words, (given[0], "help" if "Checks solutions" in given[1] else given[1], given[2]), 0, "help", "")
+
+
+def helps(trial):
+    """A part of each help."""
+    for words, part in (
+        ("--help", "Checks solutions"), ("-h", "Checks solutions"), ("help", "Checks solutions"), ("--help", " rank "),
+        ("score --help", "--criteria"), ("rank --help", "--criteria"), ("rank -h", "--criteria"),
+        ("help rank", "--criteria"), ("rank p good --help", "--criteria"),
+    ):
+        status, output, errors = trial.run(words.split())
+        trial.note(words, (status, part in output or output, errors), 0, True, "")
 
 
 def scores_by_lists(trial):
@@ -177,7 +184,7 @@ def rankings(trial):
         ("rank p good empty --criteria=-new,+new,-new", 0, ranked("2 yes -new 0 +new 0 -new 0", "1 yes -new 1 +new 1 -new 1")),
         ("rank p good empty --criteria=-removed,-new", 0, ranked("2 yes -removed 1 -new 0", "1 yes -removed 1 -new 1")),
         ("rank p good empty --criteria=-notuptodate", 0, ranked("1 yes -notuptodate 0", "2 yes -notuptodate 0")),
-        ("rank --criteria=-removed p good bad empty twice", 0, ranked(*(f"{k} yes -removed 1" for k in (1, 3, 4)), "2 no")),
+        ("rank --criteria=-removed p good bad empty twice", 0, EQUAL),
         ("rank --criteria=-new p fail bad fail good", 0, ranked("4 yes -new 1", "2 no", "1 FAIL", "3 FAIL")),
         ("rank --criteria=-new p fail bad fail bad", 1, ranked("2 no", "4 no", "1 FAIL", "3 FAIL")),
         ("rank --criteria=-new p bad bad bad", 1, ranked("1 no", "2 no", "3 no")),
@@ -441,7 +448,7 @@ def texts(trial):
 
 
 ROWS = (
-    statuses, scores_by_lists, rankings, faults_in_rankings, first_refusals, refused_lists, refused_rankings, unopened,
+    statuses, helps, scores_by_lists, rankings, faults_in_rankings, first_refusals, refused_lists, refused_rankings, unopened,
     too_many_files, closed_input, standard_input, empty_words, many_solutions, shown, texts,
 )
 
