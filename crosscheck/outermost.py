@@ -7,8 +7,8 @@ usage: outermost.py PROGRAM
 - Which refusal comes first where two things are wrong.
 - Standard input that is a folder, and one that fails after its first bytes.
 - Empty words.
-- A thousand solutions in one command.
-- Each command that README.md and examples/README.md show with what it prints.
+- Lists of criteria and rankings: answers, refusals, and a thousand solutions in one command.
+- Each command that README.md, examples/README.md and docs/COMPETITION.md show, with what it prints.
 - The text of each error, to the byte. Of a usage fault found by the words' parser, and of the system's own part of a
   text, only what README.md, docs/FORMAT.md and the man page fix.
 
@@ -39,7 +39,9 @@ FAULTY_SOLUTION = "solution line 1: E2 not a property, continuation, comment or 
 NO_REQUEST = "problem line 1: E13 no request\n"
 MISSING = "problem line 5: E14 declared property missing\n"
 REPEATED = "solution line 6: E15 pair repeated\n"
-RANKED = "1 solution 2 yes -removed 1\n2 solution 1 no\n3 solution 3 FAIL\n"
+NO_VERSION = "solution line 1: E12 no version\n"
+SCORED = "removed 1\nnew 1\nchanged 2\nnotuptodate 0\nunsat_recommends 0\nparanoid 1 2\ntrendy 1 0 0 1\nsolution yes\n"
+LISTED = "-removed 1\n+new 1\n-changed 2\n+notuptodate 0\n-unsat_recommends 0\n+touched 2\nsolution yes\n"
 
 UNREAD = "cudf_check: an input could not be read to its end; check that it is a file that can be read, and run again\n"
 LONG = "cudf_check: an input is longer than 268435456 bytes; give a shorter one\n"
@@ -50,14 +52,36 @@ NOT_UTF8 = ("cudf_check: the words can't be read: ", "; give them as UTF-8\n")
 TWICE = "- can stand for one file only"
 NO_KEY = "invalid value '{}' for '--after <KEY>': a key is written as in a report, as p1.depends.2"
 NO_NUMBER = "invalid value '{}' for '--limit <N>': it is no number from 1 to 18446744073709551615"
+APART = "equal sign is needed when assigning values to '--criteria=<LIST>'"
 NO_LIST = "invalid value '{}' for '--criteria=<LIST>': a list is written without blanks, as -removed,+new"
 
 FILES = {
     "p": PROBLEM, "good": GOOD, "bad": BAD, "fail": "FAIL\n", "faulty": "?\n", "empty": "", "both": PROBLEM + "\n" + BAD,
-    "sized": SIZED, "twice": GOOD + "\n" + GOOD,
+    "sized": SIZED, "twice": GOOD + "\n" + GOOD, "cut": "package: a\n", "--criteria": GOOD,
 }
+NO_LISTS = (
+    "", "- new", " -new", "-new ", "-new, +removed", "-new\t", "-new,,+removed", ",-new", "-new,", ",", "-size",
+    "-removed,+size", "-paranoid", "-New", "-NEW", "new", "-removed,new", "-", "+", "--new", "+-new", "-new+removed",
+    "-new;+removed", "-new=1", "\u2212new",
+)
 ROOT = os.path.dirname(os.path.dirname(os.path.abspath(__file__)))
-DOCUMENTS = ("README.md", "examples/README.md")
+DOCUMENTS = ("README.md", "examples/README.md", "docs/COMPETITION.md")
+# the lines of a block, and its end
+BLOCK = r"((?:(?!```).*\n)*)```$"
+
+
+def ranked(*standings):
+    """The report of a ranking, of what is told of each solution behind its rank, the best first."""
+    return "".join(f"{rank} solution {told}\n" for rank, told in enumerate(standings, 1))
+
+
+def of_solution(place, fault):
+    """The fault of a solution as a ranking tells it."""
+    return fault.replace("solution", f"solution {place}", 1)
+
+
+EQUAL = ranked("1 yes -removed 1", "3 yes -removed 1", "4 yes -removed 1", "2 no")
+RANKED = ranked("2 yes -removed 1", "1 no", "3 FAIL")
 
 
 def missing(name):
@@ -68,16 +92,7 @@ class Trial:
     """Runs the program in a folder with the files, counts the rows, and prints the wrong ones."""
 
     def __init__(self, path):
-        self.path, self.rows, self.wrong, self.left_out = os.path.abspath(path), 0, 0, 0
-        told = self.run(["--help"])[1] + self.run(["score", "--help"])[1]
-        self.unknown = [word for word in ("rank", "--criteria") if not re.search(rf"^ +{word}\b", told, re.MULTILINE)]
-
-    def leaves_out(self, words):
-        """Whether a word is one that the program doesn't know yet; such rows are counted."""
-        given = [word.decode(errors="replace") if isinstance(word, bytes) else word for word in words]
-        asks = any(word == one or word.startswith(one + "=") for word in given for one in self.unknown)
-        self.left_out += asks
-        return asks
+        self.path, self.rows, self.wrong = os.path.abspath(path), 0, 0
 
     def run(self, words, before=None, **places):
         """The status and the bytes on both outputs; `before` is called in the child."""
@@ -100,8 +115,6 @@ class Trial:
 
     def expect(self, words, status, output, errors="", **places):
         words = words.split() if isinstance(words, str) else words
-        if self.leaves_out(words):
-            return
         self.note(words, self.run(words, **places), status, output, errors)
 
 
@@ -126,25 +139,90 @@ def statuses(trial):
         ("lint sized", 0, "problem ok\n"), ("lint sized --strict", 2, MISSING), ("lint --strict p", 0, "problem ok\n"),
         ("check p twice", 0, ANSWERED), ("check --strict p twice", 2, REPEATED), ("score p --strict twice", 2, REPEATED),
         ("check sized twice --strict", 2, MISSING), ("check p bad --limit 1 --strict", 1, UNMET),
-        ("score p good --criteria=-removed,+new", 0, "-removed 1\n+new 1\nsolution yes\n"),
-        ("score --criteria=-new both --strict", 1, "-new 0\nsolution no\n"),
-        ("score p fail --criteria=-new", 3, "solution FAIL\n"), ("rank --criteria=-removed p bad good fail", 0, RANKED),
-        ("rank p bad --strict good --criteria=-removed fail", 0, RANKED),
-        ("rank --criteria=+new p fail bad", 1, "1 solution 2 no\n2 solution 1 FAIL\n"),
-        ("rank --criteria=+new p fail", 3, "1 solution 1 FAIL\n"), ("rank --criteria=+new faulty faulty", 2, FAULTY),
-        ("rank --criteria=+new p fail faulty good", 2, FAULTY_SOLUTION.replace("solution", "solution 2", 1)),
-        ("rank --criteria=+new p good twice", 0, "1 solution 1 yes +new 1\n2 solution 2 yes +new 1\n"),
-        ("rank --criteria=+new p good twice --strict", 2, REPEATED.replace("solution", "solution 2")),
+        ("check p -- --criteria", 0, ANSWERED), ("score p good", 0, SCORED),
     ]
     for words, status, output in rows:
         trial.expect(words, status, output, [""] if status == 4 else "")
-    for words in ("--help", "-h", "help"):
-        given = trial.run([words])
-        trial.note(words, (given[0], "help" if "Checks solutions" in given[1] else given[1], given[2]), 0, "help", "")
+
+
+def helps(trial):
+    """A part of each help."""
+    for words, part in (
+        ("--help", "Checks solutions"), ("-h", "Checks solutions"), ("help", "Checks solutions"), ("--help", " rank "),
+        ("score --help", "--criteria"), ("rank --help", "--criteria"), ("rank -h", "--criteria"),
+        ("help rank", "--criteria"), ("rank p good --help", "--criteria"),
+    ):
+        status, output, errors = trial.run(words.split())
+        trial.note(words, (status, part in output or output, errors), 0, True, "")
+
+
+def scores_by_lists(trial):
+    rows = [
+        ("score p good --criteria=-removed,+new,-changed,+notuptodate,-unsat_recommends,+touched", 0, LISTED),
+        ("score p --criteria=+new,-new,+new good", 0, "+new 1\n-new 1\n+new 1\nsolution yes\n"),
+        ("score --criteria=-touched p empty", 0, "-touched 1\nsolution yes\n"),
+        ("score p bad --criteria=-touched", 1, "-touched 0\nsolution no\n"),
+        ("score p --criteria=-new", 0, "-new 0\nsolution yes\n"),
+        ("score --criteria=-new both --strict", 1, "-new 0\nsolution no\n"),
+        ("score p fail --criteria=-new", 3, "solution FAIL\n"), ("score p cut --criteria=-new", 2, NO_VERSION),
+        ("score faulty fail --criteria=-new", 2, FAULTY), ("score p twice --strict --criteria=-new", 2, REPEATED),
+        ("score p twice --criteria=-new", 0, "-new 1\nsolution yes\n"), ("score -- p --criteria", 0, SCORED),
+        ("score --criteria=-new -- p --criteria", 0, "-new 1\nsolution yes\n"),
+    ]
+    for words, status, output in rows:
+        trial.expect(words, status, output)
+
+
+def rankings(trial):
+    """The verdicts come before the counts, these before the places; options stand before, between and behind the files."""
+    rows = [
+        ("rank --criteria=+new p good", 0, ranked("1 yes +new 1")), ("rank p --criteria=-new empty", 0, ranked("1 yes -new 0")),
+        ("rank p bad --criteria=-new", 1, ranked("1 no")), ("rank --criteria=+new p fail", 3, ranked("1 FAIL")),
+        ("rank --criteria=-new p good empty", 0, ranked("2 yes -new 0", "1 yes -new 1")),
+        ("rank p --criteria=+new good empty", 0, ranked("1 yes +new 1", "2 yes +new 0")),
+        ("rank p empty good --criteria=+new,-new", 0, ranked("2 yes +new 1 -new 1", "1 yes +new 0 -new 0")),
+        ("rank p good empty --criteria=-new,+new,-new", 0, ranked("2 yes -new 0 +new 0 -new 0", "1 yes -new 1 +new 1 -new 1")),
+        ("rank p good empty --criteria=-removed,-new", 0, ranked("2 yes -removed 1 -new 0", "1 yes -removed 1 -new 1")),
+        ("rank p good empty --criteria=-notuptodate", 0, ranked("1 yes -notuptodate 0", "2 yes -notuptodate 0")),
+        ("rank --criteria=-removed p good bad empty twice", 0, EQUAL),
+        ("rank --criteria=-new p fail bad fail good", 0, ranked("4 yes -new 1", "2 no", "1 FAIL", "3 FAIL")),
+        ("rank --criteria=-new p fail bad fail bad", 1, ranked("2 no", "4 no", "1 FAIL", "3 FAIL")),
+        ("rank --criteria=-new p bad bad bad", 1, ranked("1 no", "2 no", "3 no")),
+        ("rank --criteria=-new p fail fail fail", 3, ranked("1 FAIL", "2 FAIL", "3 FAIL")),
+        ("rank --criteria=-removed p bad good fail", 0, RANKED),
+        ("rank p bad --strict good --criteria=-removed fail", 0, RANKED),
+        ("rank p bad good fail --strict --criteria=-removed", 0, RANKED),
+        ("rank --criteria=-removed --strict -- p bad --criteria fail", 0, RANKED),
+        ("rank p --criteria=-removed bad -- --criteria fail", 0, RANKED),
+        ("rank --criteria=+new sized empty", 0, ranked("1 yes +new 0")),
+    ]
+    for words, status, output in rows:
+        trial.expect(words, status, output)
+
+
+def faults_in_rankings(trial):
+    """The problem's fault is told before the solutions', and of these the first one's; FAIL is no fault."""
+    rows = [
+        ("rank --criteria=+new faulty faulty", FAULTY), ("rank --criteria=+new faulty good cut", FAULTY),
+        ("rank --criteria=+new faulty fail", FAULTY), ("rank --criteria=+new empty good", NO_REQUEST),
+        ("rank --criteria=+new both good", "problem line 11: E6 stanza after the request\n"),
+        ("rank --criteria=+new p cut", of_solution(1, NO_VERSION)),
+        ("rank --criteria=+new p fail faulty good", of_solution(2, FAULTY_SOLUTION)),
+        ("rank --criteria=+new p fail fail cut", of_solution(3, NO_VERSION)),
+        ("rank --criteria=+new p cut faulty", of_solution(1, NO_VERSION)),
+        ("rank --criteria=+new p good faulty bad cut", of_solution(2, FAULTY_SOLUTION)),
+        ("rank --criteria=+new p good twice --strict", of_solution(2, REPEATED)),
+        ("rank --criteria=+new p --strict twice cut", of_solution(1, REPEATED)),
+        ("rank --criteria=+new p cut twice --strict", of_solution(1, NO_VERSION)),
+        ("rank --criteria=+new p twice cut", of_solution(2, NO_VERSION)),
+        ("rank --strict --criteria=+new sized twice", MISSING),
+    ]
+    for words, output in rows:
+        trial.expect(words, 2, output)
 
 
 def first_refusals(trial):
-    """Usage before opening, the key before the limit, both and a list before the files, and these from the first on."""
+    """Usage before opening, the key before the limit, and both before the files."""
     rows = [
         ("check p bad --after x --limit y", NO_KEY.format("x")), ("check p bad --limit y --after x", NO_KEY.format("x")),
         ("check p bad --limit 0", NO_NUMBER.format("0")), ("check none --limit y", NO_NUMBER.format("y")),
@@ -152,34 +230,84 @@ def first_refusals(trial):
         ("check - - --limit y", NO_NUMBER.format("y")), ("check - -", TWICE), ("score - -", TWICE),
         ("lint", ""), ("check", ""), ("score", ""), ("", ""), ("judge p", ""), ("lint p bad", ""), ("lint none -x", ""),
         ("check none none none", ""), ("lint p --limit 1", ""), ("check p --limit 1 --limit 1", ""), ("check p --limit", ""),
-        ("lint p --strict --strict", ""), ("rank --strict --criteria=-new p good --strict", ""), ("judge p --strict", ""),
-        ("--strict", ""), ("--strict lint p", ""), ("check p --strict=true", ""), ("lint --strict", ""),
-        ("score p --criteria", ""), ("score p --criteria -new", ""), ("score p --criteria=", ""),
-        ("rank --criteria -new p good", ""), ("rank --criteria p good", ""), ("score p --criteria=-new --criteria=-new", ""),
-        ("lint p --criteria=-new", ""), ("check p --criteria=-new", ""), ("judge p --criteria=-new", ""),
-        ("rank p good", ""), ("rank", ""), ("rank --criteria=-new", ""), ("rank --criteria=-new p", ""),
-        ("rank --criteria=-new p good --limit 1", ""), ("rank --criteria=-new p good --after r.install.1", ""),
-        ("score p good --criteria=-size", NO_LIST.format("-size")), ("rank --criteria=-size p good", NO_LIST.format("-size")),
-        ("score none --criteria=removed", NO_LIST.format("removed")), ("rank none other --criteria=-", NO_LIST.format("-")),
-        ("score - - --criteria=-New", NO_LIST.format("-New")), ("rank --criteria=-new, - -", NO_LIST.format("-new,")),
-        ("rank --criteria=-new - -", TWICE), ("rank --criteria=-new - good -", TWICE), ("rank --criteria=-new none - -", TWICE),
-        ("score - - --criteria=-new", TWICE),
+        ("lint p --strict --strict", ""), ("judge p --strict", ""), ("--strict", ""), ("--strict lint p", ""),
+        ("check p --strict=true", ""), ("lint --strict", ""),
     ]
     for words, text in rows:
         trial.expect(words, 4, "", ["error: " + text])
+
+
+def refused_lists(trial):
+    """Blanks, empty pieces, unknown names, capital letters, and aims without a sign or with too many."""
+    for text in NO_LISTS:
+        told = ["error: " + NO_LIST.format(text)]
+        trial.expect(["score", "p", f"--criteria={text}"], 4, "", told)
+        trial.expect(["rank", f"--criteria={text}", "p", "good"], 4, "", told)
+
+
+def refused_rankings(trial):
+    """The list is judged before the files, and before it whether it stands behind `=`; no file is opened before."""
+    rows = [
+        ("score none --criteria=removed", NO_LIST.format("removed")), ("rank none other --criteria=-", NO_LIST.format("-")),
+        ("score - - --criteria=-New", NO_LIST.format("-New")), ("rank --criteria=-new, - -", NO_LIST.format("-new,")),
+        ("score - - --criteria=-new", TWICE), ("rank --criteria=-new - -", TWICE), ("rank --criteria=-new - good -", TWICE),
+        ("rank --criteria=-new none - -", TWICE), ("rank --criteria=-new - - good", TWICE),
+        ("rank - good bad - --criteria=-new", TWICE), ("rank p - good --criteria=-new -", TWICE),
+        ("rank --criteria=-new - - -", TWICE),
+        ("score p good --criteria +new", APART), ("score p --criteria +new good", APART),
+        ("score --criteria +new p good", APART), ("score none --criteria +new", APART),
+        ("rank p good --criteria +new", APART), ("rank p --criteria +new good", APART), ("rank --criteria +new p good", APART),
+        ("rank --criteria +size none other", APART), ("rank - - --criteria +new", APART),
+        ("rank --criteria new -- p good", APART),
+        ("score --criteria=", ""), ("score p --criteria", ""), ("score p --criteria -new", ""),
+        ("rank p good --criteria", ""), ("rank p good --criteria -new", ""),
+        ("rank --criteria -new p good", ""), ("rank --criteria p good", ""), ("rank --criteria -- p good", ""),
+        ("score p --criteria=-new --criteria=-new", ""), ("rank --criteria=-new --criteria=-new p good", ""),
+        ("rank --criteria=-new p good --criteria=+new", ""), ("rank --criteria=-new p good --criteria +new", ""),
+        ("rank p good", ""), ("rank p good --strict", ""), ("rank p good -- --criteria=-new", ""),
+        ("rank -- --criteria=-new p good", ""), ("rank", ""), ("rank --criteria=-new", ""), ("rank --criteria=-new p", ""),
+        ("rank p --criteria=-new", ""), ("rank --criteria=-new -", ""), ("rank --criteria=-new -- p", ""),
+        ("rank --strict --criteria=-new p good --strict", ""), ("rank --criteria=-new p good --limit 1", ""),
+        ("rank --criteria=-new p good --after r.install.1", ""),
+        ("rank --criteria=-new p good --strict=true", ""), ("--criteria=-new rank p good", ""), ("lint p --criteria=-new", ""),
+        ("check p --criteria=-new", ""), ("judge p --criteria=-new", ""),
+    ]
+    for words, text in rows:
+        trial.expect(words, 4, "", ["error: " + text])
+
+
+def unopened(trial):
+    """The first file that can't be opened is told, and nothing is read before all are open."""
     for words, name in (
         ("lint none", "none"), ("check none other", "none"), ("check p other", "other"), ("score none p", "none"),
         ("check faulty other", "other"), ("check none faulty", "none"), ("check - other", "other"),
         ("rank --criteria=-new none good", "none"), ("rank --criteria=-new none other", "none"),
-        ("rank --criteria=-new p good other fail", "other"), ("rank --criteria=-new p good other none", "other"),
+        ("rank --criteria=-new p none good fail", "none"), ("rank --criteria=-new p good other fail", "other"),
+        ("rank --criteria=-new p good fail other", "other"), ("rank --criteria=-new p good other none", "other"),
         ("rank --criteria=-new faulty faulty other", "other"), ("rank --criteria=-new p - other", "other"),
-        ("score none --criteria=-new --strict", "none"), ("lint none --strict", "none"),
+        ("rank p --criteria=-new good -- --criteria=-new", "--criteria=-new"), ("lint none --strict", "none"),
+        ("score none --criteria=-new --strict", "none"), ("score p other --criteria=-new", "other"),
     ):
         trial.expect(words, 5, "", missing(name))
-    for words in ("check - none", "check none -", "lint -", "score p -", "check -", "rank --criteria=-new none good -"):
-        trial.expect(words, 5, "", CLOSED, before=lambda: os.close(0), stdin=None)
-    for words in ("check - -", "check - --limit y", "lint"):
-        trial.expect(words, 4, "", ["error: "], before=lambda: os.close(0), stdin=None)
+
+
+def too_many_files(trial):
+    """More files than may be open: the first that is too many is told."""
+    told = ["cudf_check: good can't be opened: Too many open files (os error 24); check the name, and run again\n"]
+    words = ["rank", "--criteria=-new", "p"] + ["good"] * 20
+    trial.expect(words, 5, "", told, before=lambda: resource.setrlimit(resource.RLIMIT_NOFILE, (20, 20)))
+
+
+def closed_input(trial):
+    """Where the words name standard input and it is closed, no file is opened; the words are judged before."""
+    opening = (
+        "check - none", "check none -", "lint -", "score p -", "check -", "score - --criteria=-new",
+        "rank --criteria=-new - good", "rank --criteria=-new none good -",
+    )
+    refused = ("check - -", "check - --limit y", "lint", "rank --criteria=-new - -", "rank - good", "rank - good --criteria=-")
+    for words in opening + refused:
+        status, told = (5, CLOSED) if words in opening else (4, ["error: "])
+        trial.expect(words, status, "", told, before=lambda: os.close(0), stdin=None)
 
 
 def standard_input(trial):
@@ -202,8 +330,13 @@ def standard_input(trial):
     for words, data, status, output in (
         ("check -", FILES["both"], 1, UNMET), ("lint -", "?\n", 2, FAULTY), ("check p -", "FAIL\n", 3, "solution FAIL\n"),
         ("rank --criteria=-removed - bad good fail", PROBLEM, 0, RANKED), ("lint - --strict", SIZED, 2, MISSING),
-        ("rank --criteria=-removed p bad - fail", GOOD, 0, RANKED),
+        ("rank --criteria=-removed p bad - fail", GOOD, 0, RANKED), ("rank --criteria=-removed p - good fail", BAD, 0, RANKED),
         ("rank --criteria=-removed p bad good -", "FAIL\n", 0, RANKED),
+        ("rank p --criteria=-new good -", "", 0, ranked("2 yes -new 0", "1 yes -new 1")),
+        ("rank --criteria=-new - faulty", "?\n", 2, FAULTY),
+        ("rank --criteria=-new p fail -", "?\n", 2, of_solution(2, FAULTY_SOLUTION)),
+        ("score - --criteria=-new", FILES["both"], 1, "-new 0\nsolution no\n"),
+        ("score p - --criteria=-new", GOOD, 0, "-new 1\nsolution yes\n"),
     ):
         trial.expect(words, status, output, stdin=held(data))
     for words, front in (
@@ -258,12 +391,11 @@ def many_solutions(trial):
         with open(name, "w", encoding="ascii") as file:
             file.write(FILES[kinds[place]])
     told = {"good": "yes +new 1", "empty": "yes +new 0", "bad": "no", "fail": "FAIL"}
-    ranked = [(place, text) for kind, text in told.items() for place in kinds if kinds[place] == kind]
-    lines = [f"{at} solution {place} {text}\n" for at, (place, text) in enumerate(ranked, 1)]
+    standings = [f"{place} {text}" for kind, text in told.items() for place in kinds if kinds[place] == kind]
     words = ["rank", "--criteria=+new", "p"]
-    trial.expect(words + names, 0, "".join(lines))
+    trial.expect(words + names, 0, ranked(*standings))
     trial.expect(words + names[:-1] + ["none"], 5, "", missing("none"))
-    trial.expect(words + names[:-1] + ["faulty"], 2, FAULTY_SOLUTION.replace("solution", "solution 1000", 1))
+    trial.expect(words + names[:-1] + ["faulty"], 2, of_solution(1000, FAULTY_SOLUTION))
 
 
 def shown(trial):
@@ -273,8 +405,8 @@ def shown(trial):
     for name in DOCUMENTS:
         with open(os.path.join(ROOT, name), encoding="utf-8") as file:
             text = file.read()
-        scripts = re.findall(r"^```sh\n(.*?)^```\n\n```\n(.*?)^```$", text, re.MULTILINE | re.DOTALL)
-        for block in re.findall(r"^```\n(\$ .*?)^```$", text, re.MULTILINE | re.DOTALL):
+        scripts = re.findall(rf"^```sh\n{BLOCK}\n\n```\n{BLOCK}", text, re.MULTILINE)
+        for block in re.findall(rf"^```\n(?=\$ ){BLOCK}", text, re.MULTILINE):
             lines = block.splitlines(keepends=True)
             commands = "".join(line[2:] for line in lines if line.startswith("$ "))
             scripts.append((commands, "".join(line for line in lines if not line.startswith("$ "))))
@@ -315,6 +447,12 @@ def texts(trial):
         trial.expect(words, 6, "", NO_ROOM, before=lambda: resource.setrlimit(resource.RLIMIT_AS, (limit, limit)))
 
 
+ROWS = (
+    statuses, helps, scores_by_lists, rankings, faults_in_rankings, first_refusals, refused_lists, refused_rankings, unopened,
+    too_many_files, closed_input, standard_input, empty_words, many_solutions, shown, texts,
+)
+
+
 def main(path):
     trial = Trial(path)
     with tempfile.TemporaryDirectory() as folder:
@@ -322,11 +460,10 @@ def main(path):
         for name, text in FILES.items():
             with open(name, "w", encoding="ascii") as file:
                 file.write(text)
-        for rows in (statuses, first_refusals, standard_input, empty_words, many_solutions, shown, texts):
+        for rows in ROWS:
             rows(trial)
         os.chdir("/")
-    left_out = f"; left out, since it doesn't know them: {trial.left_out} of {', '.join(trial.unknown)}" if trial.unknown else ""
-    print(f"{trial.rows} rows, {trial.wrong} wrong{left_out}")
+    print(f"{trial.rows} rows, {trial.wrong} wrong")
     return 1 if trial.wrong else 0
 
 
