@@ -94,6 +94,16 @@ fn is_called(giver: &Giver<'_>, row: &(usize, u32), patient: Patient) -> bool {
     }
 }
 
+/// Whether each reader of a solution was called as often as it is to be.
+fn are_called(solutions: &[Giver<'_>], patient: Patient) -> bool {
+    for (solution, row) in solutions.iter().zip(READERS.iter().skip(1)) {
+        if !is_called(solution, row, patient) {
+            return false;
+        }
+    }
+    solutions.len() == 3
+}
+
 /// Whether those ahead of the patient are read to their ends, those behind it aren't called, and nothing is written.
 fn is_broken_off(alloc: Global, patient: Patient) -> bool {
     let Ok(mut solutions) = givers(alloc, patient) else {
@@ -109,14 +119,10 @@ fn is_broken_off(alloc: Global, patient: Patient) -> bool {
         &mut solutions,
         &mut out,
     );
-    let [first, others @ ..] = &READERS;
     answer == Err(patient.answer)
         && out.taken.is_empty()
-        && is_called(&problem, first, patient)
-        && solutions
-            .iter()
-            .zip(others)
-            .all(|(solution, row)| is_called(solution, row, patient))
+        && is_called(&problem, &READERS[0], patient)
+        && are_called(&solutions, patient)
 }
 
 fn fails_at_each_call(alloc: Global, row: &(usize, u32)) -> bool {
