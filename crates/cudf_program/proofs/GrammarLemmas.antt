@@ -11,6 +11,9 @@ use Rattle.clap.specs.declared.builder.command.Command.{Command}
 pub described : (app : App) (old new : Command) (text : Bor (List ℕ)) → out-Command new ≡ record (out-Command old) { about = Some text } → IsOf app old → IsOf app new
 described app old new text is of = (ap app_of_fields is ∙ of.0, ap (λ f. f.has_globals) is ∙ of.1)
 
+pub long_described : (app : App) (old new : Command) (text : Bor (List ℕ)) → out-Command new ≡ record (out-Command old) { long_about = Some text } → IsOf app old → IsOf app new
+long_described app old new text is of = (ap app_of_fields is ∙ of.0, ap (λ f. f.has_globals) is ∙ of.1)
+
 pub versioned : (app : App) (old new : Command) (text : Bor (List ℕ)) → out-Command new ≡ record (out-Command old) { version = Some text } → IsOf app old
     → IsOf (record app { top = record app.top { has_version = true } }) new
 versioned app old new text is of =

@@ -1,26 +1,37 @@
 -- What the words of a command are, by the rows that a parse has of it.
-use Rattle.std.proofs.Common.{◌≡◌, ◌∙◌, ℕ, List, Option, Some, None, Result, ap, subst, codes, option_map, unwrap_or}
+use Rattle.std.proofs.Common.{◌≡◌, ◌∙◌, ℕ, List, Option, Some, None, Result, Ok, Err, MatchResult, ap, subst, inr, codes, option_map, unwrap_or, false}
 use Rattle.clap.specs.declared.parser.matches.Found.{Found}
 use Rattle.clap.specs.Matches.{first_value}
-use Rattle.clap.specs.Words.{Row, rows_of, first_of}
-use Rattle.clap.proofs.WalkLemmas.{first_value-rows}
+use Rattle.clap.specs.Words.{Row, rows_of, first_of, all_of}
+use Rattle.clap.proofs.WalkLemmas.{first_value-rows, raw_values-rows}
 use Rattle.cudf_program.specs.declared.command.Order.{Order}
 use Rattle.cudf_program.specs.declared.command.Refusal.{Refusal}
-use Rattle.cudf_program.specs.Command.{Words, words_of, words_in, Asks, AsksOf}
+use Rattle.cudf_program.specs.Command.{Words, words_of, words_in, Asks, AsksOf, IsAskedBy, IsRefusedBy, has_list_apart}
 
-abbrev five : (problem solution after limit strict : Option (List ℕ)) → Words
-five problem solution after limit strict = record { problem = problem; solution = solution; after = after; limit = limit; strict = strict }
+abbrev all_words : (problem solution : Option (List ℕ)) (solutions : Option (List (List ℕ))) (after limit criteria strict : Option (List ℕ)) → Words
+all_words problem solution solutions after limit criteria strict = record {
+  problem = problem;
+  solution = solution;
+  solutions = solutions;
+  after = after;
+  limit = limit;
+  criteria = criteria;
+  strict = strict;
+}
 
 words-rows : (found : Found) → words_of found ≡ words_in (rows_of found)
 words-rows found =
     let old = λ (id : List ℕ). first_value found id in
     let new = λ (id : List ℕ). first_of id (rows_of found) in
     let same = first_value-rows found in
-    ap (λ (w : Option (List ℕ)). five w (old (codes "solution")) (old (codes "after")) (old (codes "limit")) (old (codes "strict"))) (same (codes "problem"))
-    ∙ (ap (λ (w : Option (List ℕ)). five (new (codes "problem")) w (old (codes "after")) (old (codes "limit")) (old (codes "strict"))) (same (codes "solution"))
-    ∙ (ap (λ (w : Option (List ℕ)). five (new (codes "problem")) (new (codes "solution")) w (old (codes "limit")) (old (codes "strict"))) (same (codes "after"))
-    ∙ (ap (λ (w : Option (List ℕ)). five (new (codes "problem")) (new (codes "solution")) (new (codes "after")) w (old (codes "strict"))) (same (codes "limit"))
-    ∙ ap (λ (w : Option (List ℕ)). five (new (codes "problem")) (new (codes "solution")) (new (codes "after")) (new (codes "limit")) w) (same (codes "strict")))))
+    let several : Option (List (List ℕ)) = all_of (codes "solutions") (rows_of found) in
+    ap (λ (ws : Option (List (List ℕ))). all_words (old (codes "problem")) (old (codes "solution")) ws (old (codes "after")) (old (codes "limit")) (old (codes "criteria")) (old (codes "strict"))) (raw_values-rows found (codes "solutions"))
+    ∙ (ap (λ (w : Option (List ℕ)). all_words w (old (codes "solution")) several (old (codes "after")) (old (codes "limit")) (old (codes "criteria")) (old (codes "strict"))) (same (codes "problem"))
+    ∙ (ap (λ (w : Option (List ℕ)). all_words (new (codes "problem")) w several (old (codes "after")) (old (codes "limit")) (old (codes "criteria")) (old (codes "strict"))) (same (codes "solution"))
+    ∙ (ap (λ (w : Option (List ℕ)). all_words (new (codes "problem")) (new (codes "solution")) several w (old (codes "limit")) (old (codes "criteria")) (old (codes "strict"))) (same (codes "after"))
+    ∙ (ap (λ (w : Option (List ℕ)). all_words (new (codes "problem")) (new (codes "solution")) several (new (codes "after")) w (old (codes "criteria")) (old (codes "strict"))) (same (codes "limit"))
+    ∙ (ap (λ (w : Option (List ℕ)). all_words (new (codes "problem")) (new (codes "solution")) several (new (codes "after")) (new (codes "limit")) w (old (codes "strict"))) (same (codes "criteria"))
+    ∙ ap (λ (w : Option (List ℕ)). all_words (new (codes "problem")) (new (codes "solution")) several (new (codes "after")) (new (codes "limit")) (new (codes "criteria")) w) (same (codes "strict")))))))
 
 -- what is asked of the entries is asked of the name and the rows
 pub asked : {B : Type 0} (f : B → List ℕ × List Row) (sub : Option B) (name : List ℕ) (found : Found) (result : Result Order Refusal)
@@ -30,3 +41,9 @@ asked f (Some b) name found result is_name is_rows asks =
     subst (λ n. Asks n (words_in (f b).1) result) (ap (λ (o : Option (List ℕ)). unwrap_or o name) is_name)
     (subst (λ w. Asks name w result) (words-rows found ∙ ap (λ (o : Option (List Row)). words_in (unwrap_or o (rows_of found))) is_rows) asks)
 asked f None name found result is_name is_rows asks = absurd cc
+
+-- what the command asks for or refuses, where no list stands apart
+pub by_words : (words : List (List ℕ)) (met : Option (List ℕ × List Row)) (result : Result Order Refusal) → has_list_apart words ≡ false → AsksOf met result
+    → MatchResult result (IsAskedBy words met) (IsRefusedBy words met)
+by_words words met (Ok order) together asks = record { together = together; asks = asks }
+by_words words met (Err refusal) together asks = inr (together, asks)

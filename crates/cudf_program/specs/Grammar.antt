@@ -1,6 +1,7 @@
 -- The grammar of the command line: the commands, the words that each takes, and its options.
 use Rattle.std.specs.Prelude.{◌≡◌, [], true, false, codes, Some}
 use Rattle.clap.specs.Words.{App, Rule, app_of, new_app, new_rule, with_rule, with_subcommand}
+use Rattle.clap.specs.Lexer.{usize_max}
 use Rattle.clap.specs.Simple.{new_shape}
 use Rattle.clap.specs.declared.builder.action.ArgAction.TheVariants.{SetTrue}
 use Rattle.clap.specs.declared.builder.command.Command.{Command}
@@ -14,6 +15,14 @@ problem_word = record (new_rule (codes "problem")) { value_names = 1; required =
 abbrev pub solution_word : Rule
 solution_word = record (new_rule (codes "solution")) { value_names = 1 }
 
+-- the files of the solutions, one at least
+abbrev pub solutions_word : Rule
+solutions_word = record (new_rule (codes "solutions")) {
+  value_names = 1;
+  range = Some (record { start_inclusive = 1; end_inclusive = usize_max });
+  required = true;
+}
+
 -- `--after KEY`
 abbrev pub after_option : Rule
 after_option = record (new_rule (codes "after")) { long = Some (codes "after"); value_names = 1 }
@@ -21,6 +30,14 @@ after_option = record (new_rule (codes "after")) { long = Some (codes "after"); 
 -- `--limit N`
 abbrev pub limit_option : Rule
 limit_option = record (new_rule (codes "limit")) { long = Some (codes "limit"); value_names = 1 }
+
+-- `--criteria=LIST`
+abbrev pub criteria_option : Rule
+criteria_option = record (new_rule (codes "criteria")) { long = Some (codes "criteria"); value_names = 1 }
+
+-- `--criteria=LIST`, which has to be given
+abbrev pub needed_criteria : Rule
+needed_criteria = record criteria_option { required = true }
 
 -- `--strict`
 abbrev pub strict_flag : Rule
@@ -33,7 +50,10 @@ abbrev pub check_grammar : App
 check_grammar = with_rule (with_rule (with_rule (with_rule (with_rule (new_app (codes "check")) problem_word) solution_word) after_option) limit_option) strict_flag
 
 abbrev pub score_grammar : App
-score_grammar = with_rule (with_rule (with_rule (new_app (codes "score")) problem_word) solution_word) strict_flag
+score_grammar = with_rule (with_rule (with_rule (with_rule (new_app (codes "score")) problem_word) solution_word) criteria_option) strict_flag
+
+abbrev pub rank_grammar : App
+rank_grammar = with_rule (with_rule (with_rule (with_rule (new_app (codes "rank")) problem_word) solutions_word) needed_criteria) strict_flag
 
 -- the program has a version, and one of its commands has to be named
 abbrev pub plain_grammar : App
@@ -43,7 +63,7 @@ plain_grammar = record {
 }
 
 abbrev pub grammar : App
-grammar = with_subcommand (with_subcommand (with_subcommand plain_grammar lint_grammar.top) check_grammar.top) score_grammar.top
+grammar = with_subcommand (with_subcommand (with_subcommand (with_subcommand plain_grammar lint_grammar.top) check_grammar.top) score_grammar.top) rank_grammar.top
 
 -- the command is of this grammar, and no argument of it is one of other commands too
 abbrev pub IsOf : App → Command → Type 0

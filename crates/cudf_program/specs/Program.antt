@@ -1,8 +1,12 @@
 -- What the program prints on standard output, and its exit status.
-use Rattle.std.specs.Prelude.{◌≡◌, ◌≢◌, ◌⊎◌, ℕ, List, Option, Some, None, Result, Ok, Err, option_map}
+use Rattle.std.specs.Prelude.{◌≡◌, ◌≢◌, ◌⊎◌, ℕ, List, map, Option, Some, None, Result, Ok, Err, option_map}
 use Rattle.std.specs.Io.KnownBytes.{Appends, Keeps}
 use Rattle.cudf_document.specs.declared.mode.Mode.{Mode}
+use Rattle.cudf_check.specs.DeviceInside.{device_inner}
+use Rattle.cudf_check.specs.ManyRuns.{OfEach}
+use Rattle.cudf_check.specs.RankReport.{rank_report}
 use Rattle.cudf_check.specs.Report.{report}
+use Rattle.cudf_check.specs.declared.device.Device.{Device}
 use Rattle.cudf_check.specs.declared.job.Job.{Job}
 use Rattle.cudf_check.specs.declared.job.Job.TheVariants.{Lint}
 use Rattle.cudf_check.specs.declared.outcome.Outcome.{Outcome}
@@ -10,14 +14,21 @@ use Rattle.cudf_check.specs.declared.outcome.RunError.{RunError}
 use Rattle.cudf_check.specs.declared.outcome.RunError.TheVariants.{Write, Memory}
 use Rattle.cudf_program.specs.Failure.{IsStatusOf, answer_status, failure_status}
 use Rattle.cudf_program.specs.Orders.{IsAskedFor, IsUnasked}
+use Rattle.cudf_program.specs.declared.RunTask.{RunTask}
 use Rattle.cudf_program.specs.declared.Task.{Task}
+use Rattle.cudf_program.specs.declared.Task.TheVariants as task
 use Rattle.cudf_program.specs.declared.command.FileName.{FileName}
 use Rattle.cudf_program.specs.declared.command.FileName.TheVariants.{Path, Standard}
 use Rattle.cudf_program.specs.declared.command.Order.{Order}
+use Rattle.cudf_program.specs.declared.command.Order.TheVariants.{Run as RunOf, Rank as RankOf}
+use Rattle.cudf_program.specs.declared.command.RankOrder.{RankOrder}
+use Rattle.cudf_program.specs.declared.command.RunOrder.{RunOrder}
 use Rattle.cudf_program.specs.declared.failure.Failure.{Failure}
 use Rattle.cudf_program.specs.declared.failure.Failure.TheVariants.{Words, Usage, Open, Run}
 use Rattle.cudf_program.specs.declared.file.Input.{Input}
 use Rattle.cudf_program.specs.declared.file.Input.TheVariants as input
+use Rattle.cudf_program.specs.declared.ranking.RankTask.{RankTask}
+use Rattle.cudf_referee.specs.declared.aims.Aim.{Aim}
 
 -- ---- inputs
 
@@ -39,10 +50,37 @@ MayBeOpened standard None (Some opened) = ⊥
 MayBeOpened standard (Some name) None = ⊥
 MayBeOpened standard (Some name) (Some opened) = IsOpened standard name opened
 
+-- the input under a device is that of the name
+abbrev pub IsOpenedAs : {I : Type 0} → I → FileName → Device (Input I) → Type 0
+IsOpenedAs standard name device = IsOpened standard name (device_inner device)
+
+-- the inputs under the devices are those of the names, in order
+abbrev pub AreOpened : {I : Type 0} → I → List FileName → List (Device (Input I)) → Type 0
+AreOpened standard names devices = OfEach (IsOpenedAs standard) names devices
+
+-- the task is the run, on its files
+pub record IsRunTask {I : Type 0} (standard : I) (order : RunOrder) (task : RunTask I) : Type 0 where
+  pub job_is : task.job ≡ order.job
+  pub mode_is : task.mode ≡ order.mode
+  pub problem_is : IsOpened standard order.problem task.problem
+  pub solution_is : MayBeOpened standard order.solution task.solution
+
+-- the task is the ranking, on its files
+pub record IsRankTask {I : Type 0} (standard : I) (order : RankOrder) (task : RankTask I) : Type 0 where
+  pub aims_are : task.aims ≡ order.aims
+  pub mode_is : task.mode ≡ order.mode
+  pub problem_is : IsOpenedAs standard order.problem task.problem
+  pub solutions_are : AreOpened standard order.solutions.items task.solutions.items
+
+abbrev pub IsTask : {I : Type 0} → I → Order → Task I → Type 0
+IsTask standard (RunOf order) (task.Run opened) = IsRunTask standard order opened
+IsTask standard (RunOf order) (task.Rank opened) = ⊥
+IsTask standard (RankOf order) (task.Run opened) = ⊥
+IsTask standard (RankOf order) (task.Rank opened) = IsRankTask standard order opened
+
 -- the task is what the words ask for, on the files that they name
 abbrev pub IsPrepared : {I : Type 0} → List (List ℕ) → I → Task I → Type 0
-IsPrepared words standard task = (order : Order) × IsAskedFor words order × (task.job ≡ order.job) × (task.mode ≡ order.mode)
-    × IsOpened standard order.problem task.problem × MayBeOpened standard order.solution task.solution
+IsPrepared words standard opened = (order : Order) × IsAskedFor words order × IsTask standard order opened
 
 -- ---- a run
 
@@ -77,6 +115,31 @@ abbrev pub Ran : Job → Mode → Option (List ℕ) → Option (Option (List ℕ
 Ran job mode problem solution before after (Ok outcome) = Prints job mode problem solution before after outcome
 Ran job mode problem solution before after (Err error) = error ≢ Write → Keeps before after
 
+-- ---- a ranking
+
+-- the bytes that the input under a device will still give, where it tells them
+abbrev pub left_of : {I : Type 0} → (I → Option (List ℕ)) → Device (Input I) → Option (List ℕ)
+left_of left device = bytes_left left (device_inner device)
+
+-- the whole ranking of inputs of these bytes was printed, and this is its outcome
+pub record PrintsRanking (aims : List Aim) (mode : Mode) (problem : Option (List ℕ)) (solutions : List (Option (List ℕ))) (before after : Option (List ℕ)) (outcome : Outcome) : Type 0 where
+  pub first : List ℕ
+  pub others : List (List ℕ)
+  pub first_is : IsKnownAs problem first
+  pub others_are : OfEach IsKnownAs solutions others
+  pub printed : Appends before after (rank_report aims mode first others).text
+  pub answered : outcome ≡ (rank_report aims mode first others).outcome
+
+-- what a ranking of these inputs printed: all of it, or nothing unless a write failed
+abbrev pub Ranked : List Aim → Mode → Option (List ℕ) → List (Option (List ℕ)) → Option (List ℕ) → Option (List ℕ) → Result Outcome RunError → Type 0
+Ranked aims mode problem solutions before after (Ok outcome) = PrintsRanking aims mode problem solutions before after outcome
+Ranked aims mode problem solutions before after (Err error) = error ≢ Write → Keeps before after
+
+-- what a task on these inputs printed
+abbrev pub Performed : {I : Type 0} → (I → Option (List ℕ)) → Task I → Option (List ℕ) → Option (List ℕ) → Result Outcome RunError → Type 0
+Performed left (task.Run run) before after answer = Ran run.job run.mode (bytes_left left run.problem) (option_map (bytes_left left) run.solution) before after answer
+Performed left (task.Rank ranking) before after answer = Ranked ranking.aims.items ranking.mode (left_of left ranking.problem) (map (left_of left) ranking.solutions.items) before after answer
+
 -- ---- the program
 
 -- what is known of the bytes of a file: those of standard input, where it tells them
@@ -84,12 +147,17 @@ abbrev pub known_of : Option (List ℕ) → FileName → Option (List ℕ)
 known_of standard (Path path) = None
 known_of standard Standard = standard
 
--- a run that the words ask for printed what it did, and the status is that of its answer
+-- what an order printed, and its answer
+abbrev pub Did : Order → Option (List ℕ) → Option (List ℕ) → Option (List ℕ) → Result Outcome RunError → Type 0
+Did (RunOf order) standard before after answer = Ran order.job order.mode (known_of standard order.problem) (option_map (known_of standard) order.solution) before after answer
+Did (RankOf order) standard before after answer = Ranked order.aims.items order.mode (known_of standard order.problem) (map (known_of standard) order.solutions.items) before after answer
+
+-- what the words ask for printed what it did, and the status is that of its answer
 pub record Answers (words : List (List ℕ)) (standard before after : Option (List ℕ)) (status : ℕ) : Type 0 where
   pub order : Order
   pub asked : IsAskedFor words order
   pub answer : Result Outcome RunError
-  pub ran : Ran order.job order.mode (known_of standard order.problem) (option_map (known_of standard) order.solution) before after answer
+  pub did : Did order standard before after answer
   pub status_is : status ≡ answer_status answer
 
 -- such a failure comes of these words before anything is read

@@ -2,17 +2,20 @@
 ghost use Rattle.std.specs.Prelude.{◌≡◌, None, IfOk, MatchResult, codes, map, option_map, string_bytes, false};
 ghost use Rattle.clap.specs.Matches.{first_value, found_of};
 ghost use Rattle.clap.specs.Words.{subcommand_rows_of};
-ghost use Rattle.cudf_check.specs.declared.job.Job.TheVariants.{Lint, Score};
-ghost use Rattle.cudf_program.specs.Command.{IsNamedBy, IsOrder, RefusesFiles, IsAfter, RefusesAfter, IsLimit, RefusesLimit, words_of, IsCheck, RefusesCheck, Asks, AsksOf, mode_of, takes_standard_twice};
+ghost use Rattle.cudf_check.specs.declared.job.Job.TheVariants.{Lint};
+ghost use Rattle.cudf_program.specs.Command.{IsNamedBy, AreNamedBy, IsOrder, RefusesFiles, IsAfter, RefusesAfter, IsLimit, RefusesLimit, IsList, RefusesList, words_of, IsCheck, RefusesCheck, IsScore, RefusesScore, IsRanking, RefusesRanking, Asks, IsAskedBy, IsRefusedBy, has_list_apart, mode_of, takes_standard_twice};
 ghost use Rattle.cudf_program.specs.Orders.{IsAskedFor, IsUnasked};
 
-use crate::grammar::{AFTER, CHECK, LIMIT, LINT, PROBLEM, SCORE, SOLUTION, STRICT, program};
+use crate::grammar::{
+    AFTER, CHECK, CRITERIA, LIMIT, LINT, PROBLEM, RANK, SCORE, SOLUTION, SOLUTIONS, STRICT, program,
+};
 use crate::usage::Usage;
 use clap::ArgMatches;
 use clap::error::ErrorKind;
-use cudf_check::{Job, Key, Mode};
+use cudf_check::{Aim, Job, Key, Mode};
+use cudf_referee::read_criterion;
 use cudf_value::read_posint;
-use std::alloc::Global;
+use std::alloc::{AllocError, Global};
 use std::fmt;
 
 /// A file as the words name it.
@@ -24,9 +27,29 @@ pub(crate) enum FileName<'w> {
     Standard,
 }
 
+impl FileName<'_> {
+    ghost use Rattle.std.specs.Prelude.{◌≡◌};
+    ghost use Rattle.cudf_program.specs.Command.{is_standard};
+
+    fn is_standard(&self) -> bool
+        ensures { result ≡ is_standard self.now }
+    {
+        *self == FileName::Standard
+    }
+}
+
+/// What the words ask for.
+#[derive(Debug, PartialEq, Eq, Drop)]
+pub(crate) enum Order<'w> {
+    /// One run.
+    Run(RunOrder<'w>),
+    /// A ranking of several solutions.
+    Rank(RankOrder<'w>),
+}
+
 /// One run, as the words ask for it.
 #[derive(Debug, PartialEq, Eq, Drop)]
-pub(crate) struct Order<'w> {
+pub(crate) struct RunOrder<'w> {
     /// What to do.
     pub job: Job,
     /// How strictly to read the files.
@@ -37,17 +60,36 @@ pub(crate) struct Order<'w> {
     pub solution: Option<FileName<'w>>,
 }
 
+/// A ranking, as the words ask for it.
+#[derive(Debug, PartialEq, Eq, Drop)]
+pub(crate) struct RankOrder<'w> {
+    /// What the solutions are compared by.
+    pub aims: Vec<Aim>,
+    /// How strictly to read the files.
+    pub mode: Mode,
+    /// The file of the problem.
+    pub problem: FileName<'w>,
+    /// The files of the solutions.
+    pub solutions: Vec<FileName<'w>>,
+}
+
 /// Why the words of a command ask for no run.
 #[derive(Clone, Copy)]
 pub(crate) enum Refusal<'w> {
     /// A word is missing.
     Missing,
-    /// Both files are standard input.
+    /// Two files are standard input.
     Twice,
     /// The word of `--after` is no key.
     NoKey(&'w str),
     /// The word of `--limit` is no positive integer.
     NoNumber(&'w str),
+    /// The word of `--criteria` is no list of aims.
+    NoList(&'w str),
+    /// `--criteria` and its list are two words.
+    Apart,
+    /// Memory ran out.
+    Memory,
 }
 
 impl Refusal<'_> {
@@ -55,7 +97,11 @@ impl Refusal<'_> {
     fn kind(self) -> ErrorKind {
         match self {
             Refusal::Missing => ErrorKind::MissingRequiredArgument,
-            Refusal::Twice | Refusal::NoKey(_) | Refusal::NoNumber(_) => ErrorKind::ValueValidation,
+            Refusal::Apart => ErrorKind::NoEquals,
+            Refusal::Memory => ErrorKind::OutOfMemory,
+            Refusal::Twice | Refusal::NoKey(_) | Refusal::NoNumber(_) | Refusal::NoList(_) => {
+                ErrorKind::ValueValidation
+            }
         }
     }
 }
@@ -73,6 +119,15 @@ impl fmt::Display for Refusal<'_> {
                 f,
                 "invalid value '{word}' for '--limit <N>': it is no number from 1 to 18446744073709551615"
             ),
+            Refusal::NoList(word) => write!(
+                f,
+                "invalid value '{word}' for '--criteria=<LIST>': a list is written without blanks, as -removed,+new"
+            ),
+            Refusal::Apart => write!(
+                f,
+                "equal sign is needed when assigning values to '--criteria=<LIST>'"
+            ),
+            Refusal::Memory => write!(f, "there is not enough memory"),
         }
     }
 }
@@ -84,8 +139,9 @@ pub(crate) fn command<'w>(alloc: Global, words: &'w [String]) -> Result<Order<'w
 {
     let mut program = program(alloc)?;
     let matches = program.try_get_matches_from_mut(words)?;
-    match asked_order(&matches) {
+    match asked_order(alloc, words, &matches) {
         Ok(order) => Ok(order),
+        Err(Refusal::Memory) => Err(Usage::Memory),
         Err(refusal) => {
             let text = format!(in alloc; "{refusal}")?;
             Err(Usage::Mistake(program.error(refusal.kind(), &text)?))
@@ -93,60 +149,101 @@ pub(crate) fn command<'w>(alloc: Global, words: &'w [String]) -> Result<Order<'w
     }
 }
 
-/// The run that the words of the command ask for.
-fn asked_order<'w>(matches: &ArgMatches<'w>) -> Result<Order<'w>, Refusal<'w>>
-    ensures asks { AsksOf (subcommand_rows_of matches.now) result }
+/// What the words ask for, of which a parse met these matches.
+fn asked_order<'w>(
+    alloc: Global,
+    words: &[String],
+    matches: &ArgMatches<'w>,
+) -> Result<Order<'w>, Refusal<'w>>
+    ensures asks { MatchResult result
+        (IsAskedBy (map (λ word. string_bytes word) words.now) (subcommand_rows_of matches.now))
+        (IsRefusedBy (map (λ word. string_bytes word) words.now) (subcommand_rows_of matches.now)) }
     ensures once { IfOk result (λ order. takes_standard_twice order ≡ false) }
 {
+    if has_list_apart(words) {
+        return Err(Refusal::Apart);
+    }
     match matches.subcommand() {
-        Some((name, found)) => order_of(name, found),
+        Some((name, found)) => order_of(alloc, name, found),
         None => Err(Refusal::Missing),
     }
 }
 
-/// The run that the words of the command `name` ask for.
-fn order_of<'w>(name: &str, found: &ArgMatches<'w>) -> Result<Order<'w>, Refusal<'w>>
+/// Whether `--criteria` is a word without its list. Behind `--` all words are files.
+fn has_list_apart(words: &[String]) -> bool
+    ensures { result ≡ has_list_apart (map (λ word. string_bytes word) words.now) }
+{
+    for word in words {
+        let is_last = word.as_str() == "--";
+        let is_apart = word.as_str() == "--criteria";
+        if is_last || is_apart {
+            return is_apart;
+        }
+    }
+    false
+}
+
+/// What the words of the command `name` ask for.
+fn order_of<'w>(alloc: Global, name: &str, found: &ArgMatches<'w>) -> Result<Order<'w>, Refusal<'w>>
     ensures asks { Asks name.now (words_of (found_of found.now)) result }
     ensures once { IfOk result (λ order. takes_standard_twice order ≡ false) }
 {
     match name {
-        LINT => lint_order(found),
-        CHECK => check_order(found),
-        SCORE => score_order(found),
+        LINT => Ok(Order::Run(lint_order(found)?)),
+        CHECK => Ok(Order::Run(check_order(found)?)),
+        SCORE => Ok(Order::Run(score_order(alloc, found)?)),
+        RANK => Ok(Order::Rank(rank_order(alloc, found)?)),
         _ => Err(Refusal::Missing),
     }
 }
 
-fn lint_order<'w>(found: &ArgMatches<'w>) -> Result<Order<'w>, Refusal<'w>>
+fn lint_order<'w>(found: &ArgMatches<'w>) -> Result<RunOrder<'w>, Refusal<'w>>
     ensures { MatchResult result (IsOrder Lint (mode_of (first_value (found_of found.now) (codes "strict"))) (first_value (found_of found.now) (codes "problem")) None)
         (RefusesFiles (first_value (found_of found.now) (codes "problem")) None) }
 {
     let mode = mode(found.get_str(STRICT));
-    Order::new(Job::Lint, mode, found.get_str(PROBLEM), None)
+    RunOrder::new(Job::Lint, mode, found.get_str(PROBLEM), None)
 }
 
-fn check_order<'w>(found: &ArgMatches<'w>) -> Result<Order<'w>, Refusal<'w>>
+fn check_order<'w>(found: &ArgMatches<'w>) -> Result<RunOrder<'w>, Refusal<'w>>
     ensures { MatchResult result (IsCheck (words_of (found_of found.now))) (RefusesCheck (words_of (found_of found.now))) }
 {
     let after = read_after(found.get_str(AFTER))?;
     let limit = read_limit(found.get_str(LIMIT))?;
     let job = Job::Check { after, limit };
     let mode = mode(found.get_str(STRICT));
-    Order::new(job, mode, found.get_str(PROBLEM), found.get_str(SOLUTION))
+    RunOrder::new(job, mode, found.get_str(PROBLEM), found.get_str(SOLUTION))
 }
 
-fn score_order<'w>(found: &ArgMatches<'w>) -> Result<Order<'w>, Refusal<'w>>
-    ensures { MatchResult result
-        (IsOrder (Score None) (mode_of (first_value (found_of found.now) (codes "strict"))) (first_value (found_of found.now) (codes "problem")) (first_value (found_of found.now) (codes "solution")))
-        (RefusesFiles (first_value (found_of found.now) (codes "problem")) (first_value (found_of found.now) (codes "solution"))) }
+fn score_order<'w>(alloc: Global, found: &ArgMatches<'w>) -> Result<RunOrder<'w>, Refusal<'w>>
+    ensures { MatchResult result (IsScore (words_of (found_of found.now))) (RefusesScore (words_of (found_of found.now))) }
 {
+    let aims = read_list(alloc, found.get_str(CRITERIA))?;
     let mode = mode(found.get_str(STRICT));
-    Order::new(
-        Job::Score { aims: None },
+    RunOrder::new(
+        Job::Score { aims },
         mode,
         found.get_str(PROBLEM),
         found.get_str(SOLUTION),
     )
+}
+
+fn rank_order<'w>(alloc: Global, found: &ArgMatches<'w>) -> Result<RankOrder<'w>, Refusal<'w>>
+    ensures { MatchResult result (IsRanking (words_of (found_of found.now))) (RefusesRanking (words_of (found_of found.now))) }
+{
+    match read_list(alloc, found.get_str(CRITERIA))? {
+        Some(aims) => {
+            let mode = mode(found.get_str(STRICT));
+            RankOrder::new(
+                alloc,
+                aims,
+                mode,
+                found.get_str(PROBLEM),
+                found.get_strs(SOLUTIONS),
+            )
+        }
+        None => Err(Refusal::Missing),
+    }
 }
 
 /// How strictly to read, by the value of `--strict`.
@@ -185,9 +282,48 @@ fn read_limit(word: Option<&str>) -> Result<Option<u64>, Refusal<'_>>
     }
 }
 
-impl<'w> Order<'w> {
+/// The aims of the word of `--criteria`.
+fn read_list<'w>(alloc: Global, word: Option<&'w str>) -> Result<Option<Vec<Aim>>, Refusal<'w>>
+    ensures { MatchResult result (λ r. IsList (option_map (λ w. w.now) word.entry) (option_map (λ aims. aims.items) r)) (RefusesList (option_map (λ w. w.now) word.entry)) }
+{
+    match word {
+        Some(word) => match read_criterion(alloc, word)? {
+            Some(aims) => Ok(Some(aims)),
+            None => Err(Refusal::NoList(word)),
+        },
+        None => Ok(None),
+    }
+}
+
+impl From<AllocError> for Refusal<'_> {
+    ghost use Rattle.std.specs.Prelude.{◌≡◌};
+    ghost use Rattle.cudf_program.specs.declared.command.Refusal.TheVariants.{Memory};
+
+    ghost from_gives = { λ _ refusal. refusal ≡ Memory };
+
+    fn from(_error: AllocError) -> Self {
+        Refusal::Memory
+    }
+}
+
+impl Order<'_> {
+    ghost use Rattle.std.specs.Prelude.{◌≡◌};
+    ghost use Rattle.cudf_program.specs.Command.{takes_standard};
+
+    /// Whether one of the files is standard input.
+    pub(crate) fn takes_standard(&self) -> bool
+        ensures { result ≡ takes_standard self.now }
+    {
+        match self {
+            Order::Run(order) => order.takes_standard(),
+            Order::Rank(order) => order.has_standard(),
+        }
+    }
+}
+
+impl<'w> RunOrder<'w> {
     ghost use Rattle.std.specs.Prelude.{◌≡◌, MatchResult, option_map};
-    ghost use Rattle.cudf_program.specs.Command.{takes_standard, takes_standard_twice, IsOrder, RefusesFiles};
+    ghost use Rattle.cudf_program.specs.Command.{run_takes_standard, run_takes_standard_twice, IsOrder, RefusesFiles};
 
     /// A job in a mode on the files that these words name. The first word has to be there, and `-` can stand for one file only.
     fn new(
@@ -195,12 +331,12 @@ impl<'w> Order<'w> {
         mode: Mode,
         problem: Option<&'w str>,
         solution: Option<&'w str>,
-    ) -> Result<Order<'w>, Refusal<'w>>
+    ) -> Result<RunOrder<'w>, Refusal<'w>>
         ensures { MatchResult result
             (IsOrder job mode (option_map (λ w. w.now) problem.entry) (option_map (λ w. w.now) solution.entry))
             (RefusesFiles (option_map (λ w. w.now) problem.entry) (option_map (λ w. w.now) solution.entry)) }
     {
-        let order = Order {
+        let order = RunOrder {
             job,
             mode,
             problem: file_name(problem.ok_or(Refusal::Missing)?),
@@ -217,18 +353,80 @@ impl<'w> Order<'w> {
     }
 
     /// Whether one of the files is standard input.
-    pub(crate) fn takes_standard(&self) -> bool
-        ensures { result ≡ takes_standard self.now }
+    fn takes_standard(&self) -> bool
+        ensures { result ≡ run_takes_standard self.now }
     {
-        self.problem == FileName::Standard || self.solution == Some(FileName::Standard)
+        self.problem.is_standard() || self.solution == Some(FileName::Standard)
     }
 
     /// Whether both files are standard input.
     fn takes_standard_twice(&self) -> bool
-        ensures { result ≡ takes_standard_twice self.now }
+        ensures { result ≡ run_takes_standard_twice self.now }
     {
-        self.problem == FileName::Standard && self.solution == Some(FileName::Standard)
+        self.problem.is_standard() && self.solution == Some(FileName::Standard)
     }
+}
+
+impl<'w> RankOrder<'w> {
+    ghost use Rattle.std.specs.Prelude.{◌≡◌, MatchResult, count_by, map, option_map};
+    ghost use Rattle.cudf_program.specs.Command.{is_standard, rank_takes_standard, rank_takes_standard_twice, AreOfRanking, RefusesRankedFiles};
+
+    /// A ranking by these aims, of the files that these words name. They have to be there, and `-` can stand for one file only.
+    fn new(
+        alloc: Global,
+        aims: Vec<Aim>,
+        mode: Mode,
+        problem: Option<&'w str>,
+        solutions: Option<&[&'w str]>,
+    ) -> Result<RankOrder<'w>, Refusal<'w>>
+        ensures { MatchResult result
+            (AreOfRanking aims.items mode (option_map (λ w. w.now) problem.entry) (option_map (λ ws. map (λ w. w.now) ws.now) solutions.entry))
+            (RefusesRankedFiles (option_map (λ w. w.now) problem.entry) (option_map (λ ws. map (λ w. w.now) ws.now) solutions.entry)) }
+    {
+        let order = RankOrder {
+            aims,
+            mode,
+            problem: file_name(problem.ok_or(Refusal::Missing)?),
+            solutions: file_names(alloc, solutions.ok_or(Refusal::Missing)?)?,
+        };
+        if order.has_standard_twice() {
+            Err(Refusal::Twice)
+        } else {
+            Ok(order)
+        }
+    }
+
+    /// Whether one of the files is standard input.
+    fn has_standard(&self) -> bool
+        ensures { result ≡ rank_takes_standard self.now }
+    {
+        self.problem.is_standard() || self.standard_solutions() > 0
+    }
+
+    /// Whether two of the files are standard input.
+    fn has_standard_twice(&self) -> bool
+        ensures { result ≡ rank_takes_standard_twice self.now }
+    {
+        self.standard_solutions() > usize::from(!self.problem.is_standard())
+    }
+
+    /// How many of the files of solutions are standard input.
+    fn standard_solutions(&self) -> usize
+        ensures { result ≡ count_by is_standard self.now.solutions.items }
+    {
+        let solutions = self.solutions.iter();
+        solutions.filter(|name| name.is_standard()).count()
+    }
+}
+
+fn file_names<'w>(alloc: Global, words: &[&'w str]) -> Result<Vec<FileName<'w>>, AllocError>
+    ensures { IfOk result (λ names. AreNamedBy (map (λ w. w.now) words.now) names.items) }
+{
+    let mut names = Vec::new(alloc);
+    for word in words {
+        names.push(file_name(word))?;
+    }
+    Ok(names)
 }
 
 fn file_name(word: &str) -> FileName<'_>

@@ -1,7 +1,7 @@
 //! The commands, their options and the texts of help.
 ghost use Rattle.std.specs.Prelude.{◌≡◌, IfOk, false};
 ghost use Rattle.clap.specs.Words.{rule_of};
-ghost use Rattle.cudf_program.specs.Grammar.{problem_word, solution_word, after_option, limit_option, strict_flag, lint_grammar, check_grammar, score_grammar, grammar, IsOf};
+ghost use Rattle.cudf_program.specs.Grammar.{problem_word, solution_word, after_option, limit_option, solutions_word, criteria_option, needed_criteria, strict_flag, lint_grammar, check_grammar, score_grammar, rank_grammar, grammar, IsOf};
 
 use clap::{Arg, ArgAction, Command};
 use std::alloc::{AllocError, Global};
@@ -15,13 +15,19 @@ pub(crate) const CHECK: &str = "check";
 
 pub(crate) const SCORE: &str = "score";
 
+pub(crate) const RANK: &str = "rank";
+
 pub(crate) const PROBLEM: &str = "problem";
 
 pub(crate) const SOLUTION: &str = "solution";
 
+pub(crate) const SOLUTIONS: &str = "solutions";
+
 pub(crate) const AFTER: &str = "after";
 
 pub(crate) const LIMIT: &str = "limit";
+
+pub(crate) const CRITERIA: &str = "criteria";
 
 pub(crate) const STRICT: &str = "strict";
 
@@ -40,6 +46,17 @@ It prints these lines, and then whether the answer is a solution. They are count
   paranoid          is what the paranoid track minimises: removed, then changed.
   trendy            is what the trendy track minimises: removed, then notuptodate, unsat_recommends and new.";
 
+const ABOUT_RANK: &str = "Ranks several solutions of a problem by a list of criteria";
+
+const ABOUT_RANK_LINES: &str = "Ranks several solutions of a problem by a list of criteria.
+
+It prints a line for each solution, the best first: its rank, its place among the files of solutions, and yes with its
+counts, or no where it is none, or FAIL. The list is one aim or more with a comma between each two, without blanks. An
+aim is - for the lesser count or + for the greater one, and then removed, new, changed, notuptodate, unsat_recommends
+or touched. Solutions are compared by the first aim whose counts differ. Those that tie stand in the order of their
+files.
+  touched  counts the packages that are installed before or after, and not both.";
+
 /// The program with its commands.
 pub(crate) fn program<'w>(alloc: Global) -> Result<Command<'w>, AllocError>
     ensures { IfOk result (IsOf grammar) }
@@ -50,7 +67,8 @@ pub(crate) fn program<'w>(alloc: Global) -> Result<Command<'w>, AllocError>
         .subcommand_required(true)
         .subcommand(lint_command(alloc)?)?
         .subcommand(check_command(alloc)?)?
-        .subcommand(score_command(alloc)?)
+        .subcommand(score_command(alloc)?)?
+        .subcommand(rank_command(alloc)?)
 }
 
 fn lint_command<'w>(alloc: Global) -> Result<Command<'w>, AllocError>
@@ -82,6 +100,19 @@ fn score_command<'w>(alloc: Global) -> Result<Command<'w>, AllocError>
         .long_about(ABOUT_SCORE_LINES)
         .arg(problem(alloc))?
         .arg(solution(alloc))?
+        .arg(criteria(alloc))?
+        .arg(strict(alloc))
+}
+
+fn rank_command<'w>(alloc: Global) -> Result<Command<'w>, AllocError>
+    ensures { IfOk result (IsOf rank_grammar) }
+{
+    Command::new(alloc, RANK)
+        .about(ABOUT_RANK)
+        .long_about(ABOUT_RANK_LINES)
+        .arg(problem(alloc))?
+        .arg(solutions(alloc))?
+        .arg(needed_criteria(alloc))?
         .arg(strict(alloc))
 }
 
@@ -104,6 +135,17 @@ fn solution<'w>(alloc: Global) -> Arg<'w>
     )
 }
 
+fn solutions<'w>(alloc: Global) -> Arg<'w>
+    ensures rule { rule_of result ≡ solutions_word }
+    ensures local { result.global ≡ false }
+{
+    Arg::new(alloc, SOLUTIONS)
+        .value_name("S")
+        .help("The files of the solutions")
+        .num_args(1..)
+        .required(true)
+}
+
 fn after<'w>(alloc: Global) -> Arg<'w>
     ensures rule { rule_of result ≡ after_option }
     ensures local { result.global ≡ false }
@@ -121,6 +163,26 @@ fn limit<'w>(alloc: Global) -> Arg<'w>
     Arg::new(alloc, LIMIT).long(LIMIT).value_name("N").help(
         "Prints at most N of these lines, and after which key the next one comes",
     )
+}
+
+fn criteria<'w>(alloc: Global) -> Arg<'w>
+    ensures rule { rule_of result ≡ criteria_option }
+    ensures local { result.global ≡ false }
+{
+    Arg::new(alloc, CRITERIA)
+        .long(CRITERIA)
+        .value_name("LIST")
+        .help("The counts to print, as -removed,+new; the list is written after =")
+}
+
+fn needed_criteria<'w>(alloc: Global) -> Arg<'w>
+    ensures rule { rule_of result ≡ needed_criteria }
+    ensures local { result.global ≡ false }
+{
+    let list = criteria(alloc).help(
+        "The counts to compare by, as -removed,+new; the list is written after =",
+    );
+    list.required(true)
 }
 
 fn strict<'w>(alloc: Global) -> Arg<'w>

@@ -4,20 +4,22 @@
 ghost use Rattle.std.specs.Prelude.{◌≡◌, ◌≢◌, None, Some, IfOk, IfErr, MatchResult, map, option_map, string_bytes};
 ghost use Rattle.std.specs.Vec.Iter.{into_iter_items};
 ghost use Rattle.cudf_program.specs.Failure.{IsStatusOf, answer_status, failure_status};
-ghost use Rattle.cudf_program.specs.Program.{IsPrepared, IsFailureOf, IsOfFile, IsOpened, MayBeOpened, Ran, Responds, bytes_left};
+ghost use Rattle.cudf_program.specs.Program.{IsPrepared, IsFailureOf, IsOfFile, IsOpened, IsRunTask, MayBeOpened, Performed, Ran, Responds, bytes_left};
 
 mod command;
 mod failure;
 mod file;
 mod grammar;
+mod ranking;
 #[cfg(test)]
 mod tests;
 mod usage;
 
-use command::{FileName, command as order_of};
+use command::{FileName, Order, RunOrder, command as order_of};
 use cudf_check::{Device, Job, Mode, Outcome, RunError, Sink, run};
 use failure::Failure;
 use file::{Input, open};
+use ranking::{RankTask, prepare_ranking, run_ranking};
 use std::alloc::{AllocError, Global};
 use std::env;
 use std::fs::File;
@@ -65,7 +67,7 @@ fn respond<I: Read + Copy + Drop, O: Write + Drop, E: Write>(
 {
     match prepare(rt, words, standard) {
         Ok(task) => {
-            let (answer, mut output) = run_task(rt, task, output);
+            let (answer, mut output) = perform(rt, task, output);
             let status = close(answer, &mut output, errors);
             (status, output)
         }
@@ -91,9 +93,18 @@ fn close<O: Write, E: Write>(
     }
 }
 
+/// What the words ask for, on open files.
+#[derive(Drop)]
+enum Task<I> {
+    /// One run.
+    Run(RunTask<I>),
+    /// A ranking.
+    Rank(RankTask<I>),
+}
+
 /// A job on open files.
 #[derive(Drop)]
-struct Task<I> {
+struct RunTask<I> {
     job: Job,
     mode: Mode,
     problem: Input<I>,
@@ -113,9 +124,23 @@ fn prepare<'w, I: Read + Copy + Drop>(
     if order.takes_standard() {
         expect_open(standard)?;
     }
+    match order {
+        Order::Run(order) => Ok(Task::Run(prepare_run(rt, order, standard)?)),
+        Order::Rank(order) => Ok(Task::Rank(prepare_ranking(rt, order, standard)?)),
+    }
+}
+
+/// Opens the files of a run, that of the problem first.
+fn prepare_run<'w, I: Copy + Drop>(
+    rt: &HostRuntime,
+    order: RunOrder<'w>,
+    standard: I,
+) -> Result<RunTask<I>, Failure<'w>>
+    ensures { MatchResult result (IsRunTask standard order.entry) IsOfFile }
+{
     let problem = open_named(rt, order.problem, standard)?;
     let solution = open_solution(rt, order.solution, standard)?;
-    Ok(Task {
+    Ok(RunTask {
         job: order.job,
         mode: order.mode,
         problem,
@@ -134,7 +159,7 @@ fn expect_open<'w, I: Read + Drop>(mut standard: I) -> Result<(), Failure<'w>>
 }
 
 /// Opens a file that the words name.
-fn open_named<'w, I: Drop>(
+pub(crate) fn open_named<'w, I: Drop>(
     rt: &HostRuntime,
     name: FileName<'w>,
     standard: I,
@@ -161,28 +186,31 @@ fn open_solution<'w, I: Drop>(
     }
 }
 
-/// Runs on open files, and gives standard output back.
-fn run_task<I: Read + Drop, O: Write + Drop>(
+/// Does it on open files, and gives standard output back.
+fn perform<I: Read + Drop, O: Write + Drop>(
     rt: &HostRuntime,
     task: Task<I>,
     output: O,
 ) -> (Result<Outcome, RunError>, O)
-    ensures { Ran task.job task.mode (bytes_left I.remaining task.problem) (option_map (bytes_left I.remaining) task.solution) (O.contents output) (O.contents result.1) result.0 }
+    ensures { Performed I.remaining task (O.contents output) (O.contents result.1) result.0 }
 {
     let mut out = Device::new(output);
-    let answer = run_inputs(rt.alloc(), task, &mut out);
+    let answer = match task {
+        Task::Run(task) => run_inputs(rt.alloc(), task, &mut out),
+        Task::Rank(task) => run_ranking(rt.alloc(), task, &mut out),
+    };
     (answer, out.into_inner())
 }
 
 /// Runs on one file or on two.
 fn run_inputs<I: Read + Drop, W: Sink>(
     alloc: Global,
-    task: Task<I>,
+    task: RunTask<I>,
     out: &mut W,
 ) -> Result<Outcome, RunError>
     ensures { Ran task.job task.mode (bytes_left I.remaining task.problem) (option_map (bytes_left I.remaining) task.solution) (W.state out.old).contents (W.state out.new).contents result }
 {
-    let Task {
+    let RunTask {
         job,
         mode,
         problem,

@@ -1,4 +1,5 @@
 //! From the words to the bytes on both outputs, over files that the tests write.
+mod contests;
 mod failures;
 mod output;
 mod usage;

@@ -27,10 +27,18 @@ const SIZES: &str = "preamble:\nproperty: size: nat\n\npackage: a\nversion: 1\n\
 
 const TWICE: &str = "package: car\nversion: 1\ninstalled: true\n\npackage: car\nversion: 1\n";
 
+const GHOST: &str = "package: ghost\nversion: 1\ninstalled: true\n";
+
 const FIRST_PAGE: &str =
     "p1.depends.1 user 1 line 1: needs a\nmore after p1.depends.1\nsolution no\n";
 
 const LAST_PAGE: &str = "p1.depends.2 user 1 line 1: needs a\nsolution no\n";
+
+const FIVE: &str =
+    "1 solution 4 yes -changed 0 -touched 0\n2 solution 5 yes -changed 1 -touched 1\n3 solution 2 yes -changed 2 -touched 3\n4 solution 3 no\n5 solution 1 FAIL\n";
+
+const FIVE_BY_NEW: &str =
+    "1 solution 2 yes +new 1\n2 solution 4 yes +new 0\n3 solution 5 yes +new 0\n4 solution 3 no\n5 solution 1 FAIL\n";
 
 pub(super) const UNMET: &str = "p1.depends.1 car 1 line 1: needs wheel > 2\nsolution no\n";
 
@@ -114,6 +122,10 @@ pub(super) fn write_files(rt: &HostRuntime) -> Result<(), Fail> {
     )?;
     fs::write(rt, "cars.cudf", CARS)?;
     fs::write(rt, "car.cudf", CAR)?;
+    fs::write(rt, "kept.cudf", SOLUTION)?;
+    fs::write(rt, "ghost.cudf", GHOST)?;
+    fs::write(rt, "fail.cudf", "FAIL\n")?;
+    fs::write(rt, "empty.cudf", "")?;
     Ok(())
 }
 
@@ -222,6 +234,76 @@ fn counts(rt: HostRuntime) -> Result<(), Fail> {
     Ok(())
 }
 
+/// Scores and rankings by a list.
+#[test]
+fn compares_by_lists(rt: HostRuntime) -> Result<(), Fail> {
+    write_files(&rt)?;
+    let cases = [
+        writes(
+            "score cars.cudf car.cudf --criteria=-removed,+new,-touched",
+            "",
+            0,
+            "-removed 0\n+new 1\n-touched 3\nsolution yes\n",
+        ),
+        writes(
+            "score --criteria=+new cars.cudf -",
+            "FAIL\n",
+            3,
+            "solution FAIL\n",
+        ),
+        writes(
+            "rank --criteria=-changed,-touched cars.cudf fail.cudf car.cudf ghost.cudf kept.cudf empty.cudf",
+            "",
+            0,
+            FIVE,
+        ),
+        writes(
+            "rank cars.cudf fail.cudf car.cudf - kept.cudf empty.cudf --criteria=-changed,-touched",
+            GHOST,
+            0,
+            FIVE,
+        ),
+        writes(
+            "rank - fail.cudf car.cudf ghost.cudf --criteria=+new kept.cudf empty.cudf",
+            CARS,
+            0,
+            FIVE_BY_NEW,
+        ),
+        writes(
+            "rank --criteria=+new cars.cudf fail.cudf ghost.cudf",
+            "",
+            1,
+            "1 solution 2 no\n2 solution 1 FAIL\n",
+        ),
+        writes(
+            "rank --criteria=+new cars.cudf fail.cudf",
+            "",
+            3,
+            "1 solution 1 FAIL\n",
+        ),
+        writes(
+            "rank --criteria=+new cars.cudf kept.cudf -",
+            "package: a\n",
+            2,
+            "solution 2 line 1: E12 no version\n",
+        ),
+        writes(
+            "rank --criteria=+new cars.cudf kept.cudf -",
+            TWICE,
+            0,
+            "1 solution 1 yes +new 0\n2 solution 2 yes +new 0\n",
+        ),
+        writes(
+            "rank --criteria=+new --strict cars.cudf kept.cudf -",
+            TWICE,
+            2,
+            "solution 2 line 6: E15 pair repeated\n",
+        ),
+    ];
+    assert_eq!(rt; first_failure(&rt, &cases)?, None);
+    Ok(())
+}
+
 #[test]
 fn tells_what_went_wrong(rt: HostRuntime) -> Result<(), Fail> {
     write_files(&rt)?;
@@ -241,6 +323,11 @@ fn tells_what_went_wrong(rt: HostRuntime) -> Result<(), Fail> {
             "score absent.cudf missing.cudf",
             5,
             "cudf_check: absent.cudf can't be opened: No such file or directory (os error 2); check the name, and run again\n",
+        ),
+        fails(
+            "rank --criteria=-new cars.cudf car.cudf missing.cudf absent.cudf",
+            5,
+            "cudf_check: missing.cudf can't be opened: No such file or directory (os error 2); check the name, and run again\n",
         ),
         // All files are opened before one is read: a faulty problem isn't told beside a missing solution.
         fails(

@@ -1,5 +1,5 @@
 //! Words, the runs that they ask for, and the statuses of those that ask for none.
-use crate::command::{FileName, Order, command};
+use crate::command::{FileName, Order, RunOrder, command};
 use cudf_check::{Job, Key, Mode};
 use std::test::Fail;
 
@@ -16,7 +16,7 @@ pub(super) fn words(rt: &HostRuntime, line: &str) -> Result<Vec<String>, Fail> {
 }
 
 /// The file that a word names.
-fn file(word: &str) -> FileName<'_> {
+pub(super) fn file(word: &str) -> FileName<'_> {
     if word == "-" {
         FileName::Standard
     } else {
@@ -24,13 +24,39 @@ fn file(word: &str) -> FileName<'_> {
     }
 }
 
-/// The order on these files, which are read leniently.
-fn order<'w>(job: Job, problem: &'w str, solution: Option<&'w str>) -> Order<'w> {
-    Order {
+/// The run on these files, which are read in this mode.
+pub(super) fn run_in<'w>(
+    mode: Mode,
+    job: Job,
+    problem: &'w str,
+    solution: Option<&'w str>,
+) -> Order<'w> {
+    Order::Run(RunOrder {
         job,
-        mode: Mode::Lenient,
+        mode,
         problem: file(problem),
         solution: solution.map(|word| file(word)),
+    })
+}
+
+/// The run on these files, which are read leniently.
+fn order<'w>(job: Job, problem: &'w str, solution: Option<&'w str>) -> Order<'w> {
+    run_in(Mode::Lenient, job, problem, solution)
+}
+
+/// The command of a line, without a page and a list.
+#[derive(Clone, Copy)]
+enum Asked {
+    Lint,
+    Check,
+    Score,
+}
+
+fn job_of(asked: Asked) -> Job {
+    match asked {
+        Asked::Lint => Job::Lint,
+        Asked::Check => page(None, None),
+        Asked::Score => Job::Score { aims: None },
     }
 }
 
@@ -48,32 +74,24 @@ fn page(after: Option<&str>, limit: Option<u64>) -> Job {
 #[test]
 fn asks_for_a_run(rt: HostRuntime) -> Result<(), Fail> {
     let lines = [
-        ("lint p", order(Job::Lint, "p", None)),
-        ("lint -", order(Job::Lint, "-", None)),
-        ("check p", order(page(None, None), "p", None)),
-        ("check -", order(page(None, None), "-", None)),
-        ("check - s", order(page(None, None), "-", Some("s"))),
-        ("check p s", order(page(None, None), "p", Some("s"))),
-        ("check p -", order(page(None, None), "p", Some("-"))),
-        ("check -- -p", order(page(None, None), "-p", None)),
-        ("score p", order(Job::Score { aims: None }, "p", None)),
-        (
-            "score p s",
-            order(Job::Score { aims: None }, "p", Some("s")),
-        ),
-        (
-            "score - s",
-            order(Job::Score { aims: None }, "-", Some("s")),
-        ),
-        (
-            "score p -",
-            order(Job::Score { aims: None }, "p", Some("-")),
-        ),
+        ("lint p", Asked::Lint, "p", None),
+        ("lint -", Asked::Lint, "-", None),
+        ("check p", Asked::Check, "p", None),
+        ("check -", Asked::Check, "-", None),
+        ("check - s", Asked::Check, "-", Some("s")),
+        ("check p s", Asked::Check, "p", Some("s")),
+        ("check p -", Asked::Check, "p", Some("-")),
+        ("check -- -p", Asked::Check, "-p", None),
+        ("score p", Asked::Score, "p", None),
+        ("score p s", Asked::Score, "p", Some("s")),
+        ("score - s", Asked::Score, "-", Some("s")),
+        ("score p -", Asked::Score, "p", Some("-")),
     ];
-    for (line, expected) in &lines {
+    for (line, asked, problem, solution) in lines {
         let words = words(&rt, line)?;
-        let order = command(rt.alloc(), &words)?;
-        assert!(rt; order == *expected, "{line}");
+        let answer = command(rt.alloc(), &words)?;
+        let expected = order(job_of(asked), problem, solution);
+        assert!(rt; answer == expected, "{line}");
     }
     Ok(())
 }
@@ -117,43 +135,25 @@ fn asks_for_a_page(rt: HostRuntime) -> Result<(), Fail> {
 #[test]
 fn asks_for_strictness(rt: HostRuntime) -> Result<(), Fail> {
     let lines = [
-        ("lint --strict p", order(Job::Lint, "p", None)),
-        ("lint p --strict", order(Job::Lint, "p", None)),
-        ("lint --strict -", order(Job::Lint, "-", None)),
-        ("check --strict p", order(page(None, None), "p", None)),
-        (
-            "check --strict p s",
-            order(page(None, None), "p", Some("s")),
-        ),
-        (
-            "check p --strict s",
-            order(page(None, None), "p", Some("s")),
-        ),
-        (
-            "check p s --strict",
-            order(page(None, None), "p", Some("s")),
-        ),
-        (
-            "check p --limit 7 --strict s",
-            order(page(None, Some(7)), "p", Some("s")),
-        ),
-        (
-            "score --strict p -",
-            order(Job::Score { aims: None }, "p", Some("-")),
-        ),
-        (
-            "score p s --strict",
-            order(Job::Score { aims: None }, "p", Some("s")),
-        ),
+        ("lint --strict p", Asked::Lint, "p", None),
+        ("lint p --strict", Asked::Lint, "p", None),
+        ("lint --strict -", Asked::Lint, "-", None),
+        ("check --strict p", Asked::Check, "p", None),
+        ("check --strict p s", Asked::Check, "p", Some("s")),
+        ("check p --strict s", Asked::Check, "p", Some("s")),
+        ("check p s --strict", Asked::Check, "p", Some("s")),
+        ("score --strict p -", Asked::Score, "p", Some("-")),
+        ("score p s --strict", Asked::Score, "p", Some("s")),
     ];
-    for (line, expected) in &lines {
+    for (line, asked, problem, solution) in lines {
         let words = words(&rt, line)?;
-        let asked = command(rt.alloc(), &words)?;
-        assert!(rt; asked.mode == Mode::Strict, "{line}");
-        assert!(rt; asked.job == expected.job, "{line}");
-        assert!(rt; asked.problem == expected.problem, "{line}");
-        assert!(rt; asked.solution == expected.solution, "{line}");
+        let answer = command(rt.alloc(), &words)?;
+        let expected = run_in(Mode::Strict, job_of(asked), problem, solution);
+        assert!(rt; answer == expected, "{line}");
     }
+    let words_of_page = words(&rt, "check p --limit 7 --strict s")?;
+    let paged = command(rt.alloc(), &words_of_page)?;
+    assert!(rt; paged == run_in(Mode::Strict, page(None, Some(7)), "p", Some("s")));
     // Behind `--` it is a file.
     let words = words(&rt, "check p -- --strict")?;
     let asked = command(rt.alloc(), &words)?;
@@ -221,7 +221,7 @@ fn answers_other_words_by_a_status(rt: HostRuntime) -> Result<(), Fail> {
 }
 
 /// The status of words that ask for no run.
-fn status_of(rt: &HostRuntime, line: &str) -> Result<Option<u8>, Fail> {
+pub(super) fn status_of(rt: &HostRuntime, line: &str) -> Result<Option<u8>, Fail> {
     let words = words(rt, line)?;
     let usage = command(rt.alloc(), &words).err();
     Ok(usage.map(|usage| usage.status()))

@@ -1,7 +1,10 @@
+use Rattle.std.proofs.Common.{map, string_bytes, sym, ◌∙◌}
 use Rattle.clap.specs.Matches.{found_of}
-use Rattle.cudf_program.proofs.MatchLemmas.{asked}
+use Rattle.clap.specs.Words.{subcommand_rows_of}
+use Rattle.cudf_program.proofs.MatchLemmas.{asked, by_words}
 use Rattle.cudf_program.proofs.command.asked_order.Goals as goal
 
 pub returns-in-Some-clause-asks : goal.returns-in-Some-clause-asks
 returns-in-Some-clause-asks c =
-    asked _ _ _ (found_of c.in-Some.found.now) _ c.in-Some.ensures.name c.in-Some.ensures.rows c.order_of.ensures.asks
+    by_words (map string_bytes c.args.words.now) (subcommand_rows_of c.args.matches.now) c.order_of.result (sym c.has_list_apart.ensures ∙ c.if-has_list_apart.false)
+    (asked _ _ _ (found_of c.in-Some.found.now) _ c.in-Some.ensures.name c.in-Some.ensures.rows c.order_of.ensures.asks)

@@ -1,6 +1,6 @@
-use Rattle.std.proofs.Common.{ℕ, List, Option, Ok, Err, map, string_bytes, inr, refl, subst}
+use Rattle.std.proofs.Common.{ℕ, List, Option, map, string_bytes, inr, refl, subst}
 use Rattle.clap.specs.Words.{Row, app_of}
-use Rattle.cudf_program.specs.Command.{AsksOf}
+use Rattle.cudf_program.specs.Command.{IsAskedBy, IsRefusedBy}
 use Rattle.cudf_program.proofs.OrderLemmas.{fits-by-grammar, kind-by-grammar, met, told}
 use Rattle.cudf_program.proofs.command.command.Goals as goal
 
@@ -16,7 +16,7 @@ returns-in-Ok-clause-asks c =
     let of_grammar = c.in_ok-program.ensures.0 in
     record {
       fits = fits-by-grammar words (app_of c.in_ok-program.program) of_grammar c.in_ok-matches.ensures.kinds;
-      asks = subst (λ (rows : Option (List ℕ × List Row)). AsksOf rows (Ok c.in-Ok.order))
+      asks = subst (λ (rows : Option (List ℕ × List Row)). IsAskedBy words rows c.in-Ok.order)
           (met words (app_of c.in_ok-program.program) c.in_ok-matches.matches of_grammar c.in_ok-matches.ensures.ok.2) c.in-Ok.ensures.asks;
     }
 
@@ -29,7 +29,7 @@ returns-clause-asks c =
       record {
         fits = fits-by-grammar words (app_of c.in_ok-program.program) of_grammar c.in_ok-matches.ensures.kinds;
         refusal = c.in-Err.refusal;
-        refuses = subst (λ (rows : Option (List ℕ × List Row)). AsksOf rows (Err c.in-Err.refusal))
+        refuses = subst (λ (rows : Option (List ℕ × List Row)). IsRefusedBy words rows c.in-Err.refusal)
             (met words (app_of c.in_ok-program.program) c.in_ok-matches.matches of_grammar c.in_ok-matches.ensures.ok.2) c.in-Err.ensures.asks;
       },
     ))
