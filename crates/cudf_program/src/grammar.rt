@@ -139,11 +139,10 @@ fn solutions<'w>(alloc: Global) -> Arg<'w>
     ensures rule { rule_of result ≡ solutions_word }
     ensures local { result.global ≡ false }
 {
-    Arg::new(alloc, SOLUTIONS)
+    let files = Arg::new(alloc, SOLUTIONS)
         .value_name("S")
-        .help("The files of the solutions")
-        .num_args(1..)
-        .required(true)
+        .help("The files of the solutions");
+    files.num_args(1..).required(true)
 }
 
 fn after<'w>(alloc: Global) -> Arg<'w>
