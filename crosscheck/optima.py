@@ -5,8 +5,9 @@ usage: optima.py PROGRAM SEED COUNT
 
 mccs and aspcud (Debian has both) answer each random problem once for each list of criteria. Both claim an optimum, so
 the counts of `PROGRAM score` in the order of the list are to be the same for both answers; and the objective value that
-mccs writes behind its answer is to be the last count of the list. Each that isn't is printed with its problem and the
-answers.
+mccs writes behind its answer is to be the last count of the list. `PROGRAM rank` puts all answers to a problem, whatever
+list they are for, in order by each list: an answer for the list is to have the counts of the first, and the solutions are
+to stand in the order of the counts that `score` gives them. Each that isn't is printed with its problem and the answers.
 
 What mccs 1.1 and aspcud 1.9.6 count in ways of their own isn't in the problems, or isn't compared:
 
@@ -95,26 +96,67 @@ class Answer:
     """A solver's answer for a list of criteria, and the program's counts of it."""
 
     def __init__(self, program, solver, room, criteria):
-        problem, place = os.path.join(room, "problem"), os.path.join(room, solver)
-        words = words_of(solver, problem, place, criteria)
+        self.solver, self.criteria = solver, criteria
+        self.path = os.path.join(room, "-".join([solver, *criteria]))
+        problem = os.path.join(room, "problem")
+        words = words_of(solver, problem, self.path, criteria)
         ran = subprocess.run(words, stdout=subprocess.DEVNULL, stderr=subprocess.DEVNULL, check=False)
-        self.text = read(place) if ran.returncode == 0 else None
-        lines = ["broken off"] if self.text is None else program.run(["score", problem, place])[0]
+        self.text = read(self.path) if ran.returncode == 0 else None
+        lines = ["broken off"] if self.text is None else program.run(["score", problem, self.path])[0]
         self.verdict = lines[-1]
         self.is_compared = self.verdict == "solution yes" and (solver != "mccs" or "\npackage: " in self.text)
-        counts = dict(line.split(" ", 1) for line in lines[:-1])
-        self.counts = [int(counts[name]) for name in criteria] if counts else None
+        self.counted = dict(line.split(" ", 1) for line in lines[:-1])
+        self.counts = self.counts_by(criteria)
         told = OBJECTIVE.search(self.text or "")
         self.objective = float(told[1]) if told else None
 
+    def counts_by(self, criteria):
+        return [int(self.counted[name]) for name in criteria] if self.counted else None
 
-def differences(answers, criteria):
-    """What the program counts otherwise, of answers that are solutions."""
-    mccs, aspcud = answers["mccs"], answers["aspcud"]
+    def is_optimal(self):
+        """Whether it is compared, and counts as the program does what it is for."""
+        return self.is_compared and (self.solver == "mccs" or "changed" not in self.criteria)
+
+
+def differences(mccs, aspcud):
+    """What the program counts otherwise, of answers for one list that are solutions."""
     if mccs.is_compared and mccs.objective != mccs.counts[-1]:
         yield f"mccs {mccs.counts}, its objective value {mccs.objective}"
-    if mccs.is_compared and aspcud.is_compared and "changed" not in criteria and mccs.counts != aspcud.counts:
+    if mccs.is_optimal() and aspcud.is_optimal() and mccs.counts != aspcud.counts:
         yield f"mccs {mccs.counts}, aspcud {aspcud.counts}"
+
+
+def ranked(program, room, answers, criteria):
+    """The solutions among the answers in the order of the ranking by the list, each with its counts there."""
+    words = [f"--criteria={','.join('-' + name for name in criteria)}", os.path.join(room, "problem")]
+    lines = [line.split(" ") for line in program.run(["rank", *words, *(answer.path for answer in answers)])[0]]
+    return [(answers[int(line[2]) - 1], [int(count) for count in line[5::2]]) for line in lines if line[3] == "yes"]
+
+
+def misplaced(program, room, answers, criteria):
+    """What is wrong with the ranking by the list, of answers for this list and for others."""
+    given = [answer for answer in answers if answer.text is not None]
+    found = ranked(program, room, given, criteria)
+    solutions = [answer for answer in given if answer.verdict == "solution yes"]
+    if [answer for answer, _ in found] != sorted(solutions, key=lambda answer: answer.counts_by(criteria)):
+        yield f"ranked {[answer.path for answer, _ in found]}"
+    for answer, counts in found:
+        if counts != answer.counts_by(criteria):
+            yield f"{answer.path} ranked with {counts}, scored {answer.counts_by(criteria)}"
+        if answer.criteria == criteria and answer.is_optimal() and counts != found[0][1]:
+            yield f"{answer.path} {counts}, but the first has {found[0][1]}"
+
+
+def compare(program, room, told):
+    """What differs of one problem, by all lists."""
+    answers = {criteria: [Answer(program, solver, room, criteria) for solver in ("mccs", "aspcud")] for criteria in LISTS}
+    every = [answer for pair in answers.values() for answer in pair]
+    told.update((answer.solver, answer.verdict) for answer in every)
+    for criteria, pair in answers.items():
+        told["compared", ""] += all(answer.is_compared for answer in pair)
+        found = [*differences(*pair), *(misplaced(program, room, every, criteria) if program.has_rank else ())]
+        if found:
+            yield "\n".join([*criteria, *found, *(f"---- {answer.path}\n{answer.text}" for answer in every)])
 
 
 def main(path, seed, count):
@@ -123,17 +165,14 @@ def main(path, seed, count):
         for _ in range(int(count)):
             text = read_alike(with_recommends(dice, solvers.problem(dice, True)))
             programs.write(room, "problem", text.encode())
-            for criteria in LISTS:
-                answers = {solver: Answer(program, solver, room, criteria) for solver in ("mccs", "aspcud")}
-                told.update((solver, answer.verdict) for solver, answer in answers.items())
-                told["compared", ""] += all(answer.is_compared for answer in answers.values())
-                found = list(differences(answers, criteria))
-                odd += bool(found)
-                if found:
-                    print(text, *criteria, *found, *(f"---- {s}\n{a.text}" for s, a in answers.items()), sep="\n")
+            found = list(compare(program, room, told))
+            odd += len(found)
+            for difference in found:
+                print(text, difference, sep="\n")
     for key, number in sorted(told.items()):
         print(*key, number)
-    print(f"problems {count}, lists of criteria {len(LISTS)}, differing {odd}")
+    rankings = int(count) * len(LISTS) * program.has_rank
+    print(f"problems {count}, lists of criteria {len(LISTS)}, rankings {rankings}, differing {odd}")
     return 1 if odd else 0
 
 

@@ -32,6 +32,12 @@ JOBS = [
     ["check", "car-and-wheel.cudf"],
     ["score", "producer.problem.cudf", "producer.solution.cudf"],
     ["score", "car.problem.cudf", "car.broken.cudf"],
+    ["score", "--criteria=-removed,+new,-touched", "car.problem.cudf", "car.broken.cudf"],
+    ["check", "--strict", "car.problem.cudf", "car.good.cudf"],
+    ["check", "--strict", "car.problem.cudf", "car.twice.cudf"],
+    ["lint", "--strict", "strict.problem.cudf"],
+    ["rank", "--criteria=-changed,-touched", "car.problem.cudf", "car.fail.cudf", "car.broken.cudf", "car.good.cudf", "car.twice.cudf"],
+    ["rank", "--criteria=-changed", "--strict", "car.problem.cudf", "car.good.cudf", "car.twice.cudf"],
 ]
 NO_MEMORY = (6, b"")
 IN_CALL, BEFORE_CALL = b"refused in the call", b"refused before the call"
