@@ -181,7 +181,8 @@ class Inputs:
     def pairs(self):
         """Names and versions of packages."""
         known = [(name, version) for name in NAMES for version in range(1, 500 if self.is_long else 4)]
-        pairs = self.chance.sample(known, self.chance.randrange(300, 2000) if self.is_long else self.chance.randrange(7))
+        wanted = self.chance.randrange(300, 2000) if self.is_long else self.chance.randrange(7)
+        pairs = self.chance.sample(known, min(wanted, len(known)))
         return pairs + pairs[:1] * self.oddly(0.03) + [("a", self.pick(ODD_NUMBERS))] * self.oddly(0.03)
 
     def key(self):

@@ -324,18 +324,22 @@ def try_all(trials, lanes):
     waiting, numbers = PriorityQueue(), count()
     pool = ThreadPoolExecutor(lanes)
 
-    def submit(weight, act):
-        waiting.put((-weight, next(numbers), act))
-        return pool.submit(lambda: waiting.get_nowait()[2]())
+    def next_done():
+        _, _, trial, act = waiting.get_nowait()
+        return trial, act()
+
+    def submit(trial, weight, act):
+        # (a thread does what then waits at the front, which may be of another crate)
+        waiting.put((-weight, next(numbers), trial, act))
+        return pool.submit(next_done)
 
     try:
         # (without its crate as it stands no group is known, so these come before all groups)
-        running = {submit(1000 * sizes[it], partial(it.begin, jobs)): it for it in trials}
+        running = {submit(it, 1000 * sizes[it], partial(it.begin, jobs)) for it in trials}
         while running:
-            for it in wait(running, return_when="FIRST_COMPLETED").done:
-                trial = running.pop(it)
-                for group in it.result():
-                    running[submit(len(group) * sizes[trial], partial(trial.settle, group))] = trial
+            done, running = wait(running, return_when="FIRST_COMPLETED")
+            for trial, groups in (it.result() for it in done):
+                running |= {submit(trial, len(it) * sizes[trial], partial(trial.settle, it)) for it in groups}
     finally:
         # (after an error the checks that run are still waited for, so that their folders go)
         pool.shutdown(cancel_futures=True)
