@@ -163,18 +163,18 @@ fn builds_greatest_numbers(alloc: Global) -> Answer {
     }
 }
 
-fn reads_solution(alloc: Global) -> Answer {
+fn reads_solution(alloc: Global, mode: Mode) -> Answer {
     let text = made(read(alloc, PROBLEM))?;
     let problem = made(read_problem(alloc, &text, Mode::Lenient))?;
     let proposed = made(read(alloc, SOLUTION))?;
-    reads_proposed(alloc, &problem, &proposed)
+    reads_proposed(alloc, &problem, &proposed, mode)
 }
 
-fn reads_proposed(alloc: Global, problem: &Problem<'_>, proposed: &Text<'_>) -> Answer {
+fn reads_proposed(alloc: Global, problem: &Problem<'_>, proposed: &Text<'_>, mode: Mode) -> Answer {
     if is_fail(proposed.source) {
         return Ok(false);
     }
-    match read_solution(alloc, proposed, problem, Mode::Lenient) {
+    match read_solution(alloc, proposed, problem, mode) {
         Ok(solution) => Ok(solution.status.holds(2) && solution.unknown.len() == 1),
         Err(ReadError::Memory(_)) => Err(Refused::Here),
         Err(ReadError::Fault(_)) => Ok(false),
@@ -326,7 +326,13 @@ fn greatest_numbers(rt: HostRuntime) {
 
 #[test]
 fn solution(rt: HostRuntime) {
-    expect(&rt, reads_solution(rt.alloc()));
+    expect(&rt, reads_solution(rt.alloc(), Mode::Lenient));
+}
+
+/// Its pairs are kept, of which none is repeated.
+#[test]
+fn strict_solution(rt: HostRuntime) {
+    expect(&rt, reads_solution(rt.alloc(), Mode::Strict));
 }
 
 #[test]

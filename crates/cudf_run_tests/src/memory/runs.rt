@@ -11,10 +11,11 @@ const CHECK: Job = Job::Check {
 /// Room for each of the reports, which is taken before the run.
 const ROOM: usize = 1000;
 
-/// A job, its inputs, the report, and the outcome.
+/// A job in a mode, its inputs, the report, and the outcome.
 #[derive(Drop)]
 struct Run {
     job: Job,
+    mode: Mode,
     input: &'static [u8],
     solution: Option<&'static [u8]>,
     report: &'static [u8],
@@ -23,6 +24,7 @@ struct Run {
 
 const JOINED: Run = Run {
     job: CHECK,
+    mode: Mode::Lenient,
     input: b"package: car\nversion: 1\ndepends: wheel > 2\ninstalled: true\n\npackage: wheel\nversion: 2\ninstalled: true\n\nrequest: r\n\npackage: car\nversion: 1\ninstalled: true\n",
     solution: None,
     report: b"p1.depends.1 car 1 line 1: needs wheel > 2\nsolution no\n",
@@ -31,6 +33,7 @@ const JOINED: Run = Run {
 
 const CONFLICTS: Run = Run {
     job: CHECK,
+    mode: Mode::Lenient,
     input: b"package: g\nversion: 1\nprovides: e, g = 1\nconflicts: e, g\n\npackage: g\nversion: 2\nprovides: e, g = 1\nconflicts: e, g\n\nrequest: r\n",
     solution: Some(
         b"package: g\nversion: 1\ninstalled: true\n\npackage: g\nversion: 2\ninstalled: true\n",
@@ -41,6 +44,7 @@ const CONFLICTS: Run = Run {
 
 const GHOSTS: Run = Run {
     job: CHECK,
+    mode: Mode::Lenient,
     input: b"package: car\nversion: 1\ninstalled: true\n\nrequest: r\nremove: car\n",
     solution: Some(
         b"package: ghost\nversion: 9\ninstalled: true\n\npackage: car\nversion: 1\ninstalled: true\n\npackage: ghost\nversion: 9\n\npackage: ghost\nversion: 9\ninstalled: true\n",
@@ -51,9 +55,22 @@ const GHOSTS: Run = Run {
 
 const RECOMMENDS: Run = Run {
     job: Job::Score { aims: None },
+    mode: Mode::Lenient,
     input: b"preamble:\nproperty: recommends: vpkgformula = [true!], number: string = [\"\"],\n# between\n  colour: enum[red, green] = \"red\"\n\npackage: a\r\nversion: +01\nrecommends: b | c, d\nnumber: 1.0-2\ncolour: green\ninstalled: true\n\npackage: d\nversion: 1\n\nrequest: r",
     solution: Some(b"package: a\nversion: 1\ninstalled: true\n"),
     report: b"removed 0\nnew 0\nchanged 0\nnotuptodate 0\nunsat_recommends 2\nparanoid 0 0\ntrendy 0 0 2 0\nsolution yes\n",
+    outcome: Outcome::Yes,
+};
+
+/// Each package has what is declared without a default, and each pair of the solution stands once.
+const STRICT: Run = Run {
+    job: CHECK,
+    mode: Mode::Strict,
+    input: b"preamble:\nproperty: size: nat, colour: string\n\npackage: a\nversion: 1\nsize: 2\ncolour: red\n\npackage: b\nversion: 1\ncolour: blue\nsize: 3\n\nrequest: r\n",
+    solution: Some(
+        b"package: a\nversion: 1\ninstalled: true\n\npackage: b\nversion: 1\n\npackage: a\nversion: 2\n",
+    ),
+    report: b"solution yes\n",
     outcome: Outcome::Yes,
 };
 
@@ -66,20 +83,13 @@ fn runs(alloc: Global, row: &Run) -> Answer {
             run(
                 alloc,
                 &row.job,
-                Mode::Lenient,
+                row.mode,
                 &mut input,
                 Some(&mut solution),
                 &mut out,
             )
         }
-        None => run::<_, Device<&[u8]>, _>(
-            alloc,
-            &row.job,
-            Mode::Lenient,
-            &mut input,
-            None,
-            &mut out,
-        ),
+        None => run::<_, Device<&[u8]>, _>(alloc, &row.job, row.mode, &mut input, None, &mut out),
     };
     tell(answer, out.into_inner().as_slice(), row)
 }
@@ -119,6 +129,24 @@ fn recommends_without_fault(rt: HostRuntime) {
         solution: None,
         report: b"problem ok\n",
         ..RECOMMENDS
+    };
+    expect(&rt, runs(rt.alloc(), &row));
+}
+
+#[test]
+fn strict(rt: HostRuntime) {
+    expect(&rt, runs(rt.alloc(), &STRICT));
+}
+
+#[test]
+fn repeated_pair(rt: HostRuntime) {
+    let row = Run {
+        solution: Some(
+            b"package: a\nversion: 1\ninstalled: true\n\npackage: b\nversion: 1\n\npackage: a\nversion: 01\n",
+        ),
+        report: b"solution line 9: E15 pair repeated\n",
+        outcome: Outcome::Faulty,
+        ..STRICT
     };
     expect(&rt, runs(rt.alloc(), &row));
 }

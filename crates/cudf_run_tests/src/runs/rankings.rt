@@ -210,6 +210,11 @@ fn the_first_solution_is_endless(rt: HostRuntime) {
 }
 
 #[test]
+fn the_second_solution_is_endless(rt: HostRuntime) {
+    assert!(rt; gives_up(rt.alloc(), 2));
+}
+
+#[test]
 fn the_last_solution_is_endless(rt: HostRuntime) {
     assert!(rt; gives_up(rt.alloc(), 3));
 }
