@@ -31,6 +31,8 @@ Problems for judging, each with its solution of the same COUNT. A solution witho
     own-entries (count)    a package with so many versions of a feature and a conflict with each: own
     own-names (count)      a package with so many features and a conflict with each: own
     own-and-other (count)  own-entries, and a second package with one version of that feature more: own-two
+    own-bounds (count)     the same with conflicts of each operator and of none, and each eighth entry given at all
+                           versions, a line of report for most: own-two
     kept                   packages with keep: package: chosen-all
 
 Solutions:
@@ -265,6 +267,14 @@ def own_and_other(out, count):
     own(out, count, lambda number: f"feature = {number}", other)
 
 
+def own_bounds(out, count):
+    operators = (" = {}", " != {}", " >= {}", " > {}", " <= {}", " < {}", "")
+    entries = ", ".join(f"feature = {number}" if number % 8 else "feature" for number in range(1, count + 1))
+    conflicts = ", ".join("feature" + operators[number % 7].format(number) for number in range(1, count + 1))
+    out.add(f"package: own\nversion: 1\nprovides: {entries}\nconflicts: {conflicts}\n\n")
+    out.add(f"package: other\nversion: 1\nprovides: feature = {count // 2}\n\nrequest: none\n")
+
+
 def unknown(out, stanzas):
     for number in range(1, stanzas + 1):
         out.add(f"package: ghost-{number}\nversion: 1\ninstalled: true\n\n")
@@ -307,6 +317,7 @@ KINDS = {
     "own-entries": lambda out, count: own(out, count, lambda number: f"feature = {number}"),
     "own-names": lambda out, count: own(out, count, lambda number: f"feature-{number}"),
     "own-and-other": own_and_other,
+    "own-bounds": own_bounds,
     "own": lambda out, count: out.add("package: own\nversion: 1\ninstalled: true\n"),
     "own-two": lambda out, count: out.add(
         "package: own\nversion: 1\ninstalled: true\n\npackage: other\nversion: 1\ninstalled: true\n"

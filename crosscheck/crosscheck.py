@@ -4,13 +4,14 @@
 usage: crosscheck.py PROGRAM SEED COUNT [WORKERS]
 
 Each input is a random problem with a random solution, spoilt ones and, of a thousand inputs one, long ones among them;
-every second problem has a long comment behind it, beside which its solution is short. Of each the program is asked for
-`lint`; `check` of two files, one of which may be standard input, and of both in one input; `score` of both forms, also
-with a random list of criteria; `rank` of one to six solutions by another list; the whole listing in pages of 1, 2 and 3,
-each continued from the key that the page before printed (of a faulty document one page); two pages behind random keys,
-which may name no instance; and two behind random words, many of which are no keys or no limits. Every second input is
-asked about with `--strict`. Options stand before, between or behind the files. What a program doesn't know (`score`,
-pages, `--strict`, `--criteria`, `rank`) is left out, and the last line says so.
+in one of seven some packages give 64 entries and more; every second problem has a long comment behind it, beside which
+its solution is short. Of each the program is asked for `lint`; `check` of two files, one of which may be standard input,
+and of both in one input; `score` of both forms, also with a random list of criteria; `rank` of one to six solutions by
+another list; the whole listing in pages of 1, 2 and 3, each continued from the key that the page before printed (of a
+faulty document one page); two pages behind random keys, which may name no instance; and two behind random words, many of
+which are no keys or no limits. Every second input is asked about with `--strict`. Options stand before, between or behind
+the files. What a program doesn't know (`score`, pages, `--strict`, `--criteria`, `rank`) is left out, and the last line
+says so.
 
 Prints each input that the two answer differently, how often each kind of line came, and how often the program was run.
 The status is 1 where an answer differed. Inputs are numbered from 1, and input N of a seed is the same whatever COUNT and

@@ -50,6 +50,8 @@ class Inputs:
         self.recommends = self.pick(RECOMMENDS) if self.now_and_then(0.3) else None
         # a long input is without fault, so that it has a long listing
         self.is_long = self.now_and_then(0.001)
+        # in a wide input some packages give 64 entries and more
+        self.is_wide = not self.is_long and self.now_and_then(0.15)
         # names declared without default, how often a package lacks one, and how often a solution tells a pair again
         self.needed = self.chance.sample(list(NEEDED), self.pick((1, 1, 2, 4))) if self.now_and_then(0.25) else []
         self.gap = 0 if self.is_long else self.pick((0, 0, 0.1, 0.5))
@@ -59,7 +61,7 @@ class Inputs:
         return self.chance.random() < share
 
     def oddly(self, share):
-        return self.now_and_then(share) and not self.is_long
+        return self.now_and_then(share) and not (self.is_long or self.is_wide)
 
     def name(self):
         return self.pick(ODD_NAMES) if self.oddly(0.03) else self.pick(NAMES)
@@ -84,11 +86,16 @@ class Inputs:
     def entries(self, entry, most=3):
         return self.pick((", ", ",", " ,\t")).join(entry() for _ in range(self.chance.randrange(most + 1)))
 
+    def provisions(self):
+        if self.is_wide and self.now_and_then(0.7):
+            return self.pick((", ", ",")).join(self.veqpkg() for _ in range(self.chance.randrange(62, 80)))
+        return self.entries(self.veqpkg)
+
     def package(self, name, version):
         lines = [f"version: {version}"]
         lines += [f"depends: {self.entries(self.clause)}"] * self.now_and_then(0.4)
         lines += [f"conflicts: {self.entries(self.vpkg)}"] * self.now_and_then(0.4)
-        lines += [f"provides: {self.entries(self.veqpkg)}"] * self.now_and_then(0.4)
+        lines += [f"provides: {self.provisions()}"] * self.now_and_then(0.8 if self.is_wide else 0.4)
         lines += ["keep: " + self.pick(("version", "package", "feature", "none"))] * self.now_and_then(0.4)
         lines += ["installed: " + self.pick(("true", "true", "false"))] * self.now_and_then(0.6)
         lines += ["was-installed: x"] * self.now_and_then(0.05)

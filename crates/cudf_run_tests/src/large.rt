@@ -187,6 +187,33 @@ fn entries(rt: HostRuntime) {
     }
 }
 
+/// A package that gives a feature in ten thousand versions and conflicts with each, beside another
+/// one that gives it in one of them.
+fn own_versions(alloc: Global) -> Result<String, AllocError> {
+    let mut problem = String::from_str(alloc, "package: g\nversion: 1\nprovides: e = 1")?;
+    numbered(alloc, &mut problem, 2..10_001, ", e = ", "")?;
+    problem.push_str("\nconflicts: e = 1")?;
+    numbered(alloc, &mut problem, 2..10_001, ", e = ", "")?;
+    problem.push_str("\n\npackage: h\nversion: 1\nprovides: e = 5000\n\nrequest:\n")?;
+    Ok(problem)
+}
+
+#[test]
+fn conflicts_beside_own_entries(rt: HostRuntime) -> Result<(), Fail> {
+    let problem = own_versions(rt.alloc())?;
+    assert!(rt;
+        reports(
+            rt.alloc(),
+            &CHECK,
+            problem.as_str(),
+            "package: g\nversion: 1\ninstalled: true\n\npackage: h\nversion: 1\ninstalled: true\n",
+            b"p1.conflicts.5000 g 1 line 1: conflicts with e = 5000, met by h 1\nsolution no\n",
+            Outcome::No,
+        )
+    );
+    Ok(())
+}
+
 /// A clause for each number, and an atom for each number, the last of which is met.
 #[test]
 fn clauses(rt: HostRuntime) {

@@ -5,19 +5,50 @@ use cudf_universe::{Index, Mode, Problem, initial, read_problem};
 use cudf_value::{Relop, Vpkg};
 use std::alloc::{AllocError, Global};
 
+/// A package of the universe.
+struct Row {
+    /// Its stanza without `provides`.
+    stanza: &'static str,
+    provides: &'static str,
+}
+
 /// Names that give each other as features, one the prefix of another; a number twice; a feature
 /// with and without a number; the greatest number.
-const PACKAGES: [&str; 7] = [
-    "package: e\nversion: 1\nprovides: f = 2\n",
-    "package: e\nversion: 3\nprovides: e = 3, e\n",
-    "package: ee\nversion: 2\nprovides: e = 18446744073709551615, e = 1, e = 1\n",
-    "package: g\nversion: 1\nprovides: f, f, ee = 2\n",
-    "package: h\nversion: 2\nprovides: g, e = 2, h = 2, f = 2\nconflicts: h\n",
-    "package: f\nversion: 5\nprovides: f = 1, f = 5, g = 1\n",
-    "package: h\nversion: 18446744073709551615\nprovides: g = 18446744073709551615\n",
+const PACKAGES: [Row; 7] = [
+    Row {
+        stanza: "package: e\nversion: 1\n",
+        provides: "f = 2",
+    },
+    Row {
+        stanza: "package: e\nversion: 3\n",
+        provides: "e = 3, e",
+    },
+    Row {
+        stanza: "package: ee\nversion: 2\n",
+        provides: "e = 18446744073709551615, e = 1, e = 1",
+    },
+    Row {
+        stanza: "package: g\nversion: 1\n",
+        provides: "f, f, ee = 2",
+    },
+    Row {
+        stanza: "package: h\nversion: 2\nconflicts: h\n",
+        provides: "g, e = 2, h = 2, f = 2",
+    },
+    Row {
+        stanza: "package: f\nversion: 5\n",
+        provides: "f = 1, f = 5, g = 1",
+    },
+    Row {
+        stanza: "package: h\nversion: 18446744073709551615\n",
+        provides: "g = 18446744073709551615",
+    },
 ];
 
 const STATUSES: u64 = 128;
+
+/// How often the entries of `provides` stand in a long list, so that most packages have 64 and more.
+const LONG: u64 = 32;
 
 const NAMES: [&str; 7] = ["e", "ee", "eee", "f", "g", "h", "i"];
 
@@ -33,21 +64,32 @@ const RELOPS: [Relop; 6] = [
 const NUMBERS: [u64; 7] = [1, 2, 3, 4, 5, 18446744073709551614, 18446744073709551615];
 
 /// The problem whose packages are installed where the binary digits of the number are 1, the
-/// lowest digit the first package's.
-fn source_of(alloc: Global, number: u64) -> Result<String, AllocError> {
+/// lowest digit the first package's; the entries of `provides` stand there so often.
+fn source_of(alloc: Global, number: u64, times: u64) -> Result<String, AllocError> {
     let mut digits = number;
     let mut source = String::new(alloc);
     for package in PACKAGES {
-        source.push_str(package)?;
+        source.push_str(package.stanza)?;
+        push_provides(&mut source, package.provides, times)?;
         source.push_str(if digits % 2 == 1 {
-            "installed: true\n\n"
+            "\ninstalled: true\n\n"
         } else {
-            "\n"
+            "\n\n"
         })?;
         digits /= 2;
     }
     source.push_str("request:\n")?;
     Ok(source)
+}
+
+fn push_provides(source: &mut String, entries: &str, times: u64) -> Result<(), AllocError> {
+    source.push_str("provides: ")?;
+    source.push_str(entries)?;
+    for _ in 1..times {
+        source.push_str(", ")?;
+        source.push_str(entries)?;
+    }
+    Ok(())
 }
 
 /// An index and the plain scan of the same status.
@@ -136,8 +178,8 @@ fn agrees_in(alloc: Global, problem: &Problem<'_>) -> bool {
     }
 }
 
-fn agrees_at(alloc: Global, number: u64) -> bool {
-    match source_of(alloc, number) {
+fn agrees_at(alloc: Global, number: u64, times: u64) -> bool {
+    match source_of(alloc, number, times) {
         Ok(source) => match read(alloc, source.as_bytes()) {
             Ok(text) => match read_problem(alloc, &text, Mode::Lenient) {
                 Ok(problem) => agrees_in(alloc, &problem),
@@ -152,6 +194,16 @@ fn agrees_at(alloc: Global, number: u64) -> bool {
 #[test]
 fn index_agrees_with_the_scan(rt: HostRuntime) {
     for number in 0..STATUSES {
-        assert!(rt; agrees_at(rt.alloc(), number), "status {number}");
+        assert!(rt; agrees_at(rt.alloc(), number, 1), "status {number}");
+    }
+}
+
+/// Statuses that hold the first three packages.
+#[test]
+fn index_agrees_with_the_scan_of_long_lists(rt: HostRuntime) {
+    for number in 0..STATUSES {
+        if number % 8 == 7 {
+            assert!(rt; agrees_at(rt.alloc(), number, LONG), "status {number}");
+        }
     }
 }
