@@ -1,5 +1,5 @@
 -- The row of a key.
-use Rattle.std.proofs.Common.{◌≡◌, ℕ, ◌+◌, ◌<◌, suc, Bool, true, false, cond, List, [], ◌∷◌, ◌++◌, length, get_or, Option, Some, None, refl, sym, ap, ◌∙◌, arith, nat_lt, bytes_eq, not, Bor}
+use Rattle.std.proofs.Common.{◌≡◌, ℕ, ◌+◌, ◌<◌, suc, Bool, true, false, cond, List, [], ◌∷◌, ◌++◌, length, get_or, Option, Some, None, refl, sym, ap, ◌∙◌, arith, nat_lt, bytes_eq, not, Bor, subst}
 use Rattle.std.proofs.Math.ListN.{set}
 use Rattle.std.specs.Prelude.{option_and_then, position, slice_get}
 use Rattle.std.specs.List.{position_or_len, list_any}
@@ -9,8 +9,10 @@ use Rattle.std.proofs.lemmas.Bool.{lt-ltb, true≢false, false_from_ne_true, not
 use Rattle.std.proofs.lemmas.Bool.Decides.{nat_tests}
 use Rattle.std.proofs.lemmas.List.{append-nil}
 use Rattle.std.proofs.lemmas.Slice.Eq.{bytes_eq-Decides}
+use Rattle.cudf_universe.specs.Satisfaction.{Placed}
+use Rattle.cudf_universe.specs.declared.index.entries.Entries.{Entries}
 use Rattle.cudf_universe.specs.declared.index.gathered_names.Provision.{Provision}
-use Rattle.cudf_universe.specs.Working.Kept.{found}
+use Rattle.cudf_universe.specs.Working.Kept.{Keeps, found}
 use Rattle.cudf_universe.specs.Working.Gathering.{row_items}
 
 module _ {K R : Type 0} (test : K → Bool) where
@@ -44,6 +46,13 @@ module _ {K R : Type 0} (test : K → Bool) where
   found_push [] (r' ∷ rs) k r same other = absurd (omega arith)
   found_push (k' ∷ ks) [] k r same other = absurd (omega arith)
   found_push (k' ∷ ks) (r' ∷ rs) k r same other = ap (λ o. cond (test k') (Some r') o) (found_push ks rs k r (omega arith) other)
+
+-- what is read at the place of a name is what is kept of it
+pub keeps_read : (name : List ℕ) (status now : List Placed) (keys : List (Bor (List ℕ))) (entries : List Entries) (at : Option ℕ) (kept : Option Entries)
+    → status ≡ now → at ≡ position (λ k. bytes_eq name k.now) keys → kept ≡ option_and_then (slice_get entries) at
+    → Keeps name status (found (λ k. bytes_eq name k.now) keys entries) → Keeps name now kept
+keeps_read name status now keys entries at kept view same read keeps =
+    subst (λ s. Keeps name s kept) view (subst (Keeps name status) (found_at (λ k. bytes_eq name k.now) keys entries ∙ sym (read ∙ ap (option_and_then (slice_get entries)) same)) keeps)
 
 -- a row without provisions is as none
 pub row_push : (test : Bor (List ℕ) → Bool) (keys : List (Bor (List ℕ))) (rows : List (Vec Provision)) (k : Bor (List ℕ)) (r : Vec Provision) → length rows ≡ length keys → r.items ≡ []

@@ -9,6 +9,7 @@ pub mod FoundLemmas
 pub mod FirstLemmas
 pub mod TreeLemmas
 pub mod PriceLemmas
+pub mod ShareLemmas
 pub mod SearchedLemmas
 pub mod GreatestLemmas
 mod SatisfactionExamples

@@ -1,5 +1,5 @@
--- Binary digits of halves.
-use Rattle.std.proofs.Common.{◌≡◌, ℕ, zero, suc, ◌+◌, ◌<◌, ◌≤◌, ◌/◌, refl, ap, arith}
+-- Binary digits.
+use Rattle.std.proofs.Common.{◌≡◌, ℕ, zero, suc, ◌+◌, ◌*◌, ◌<◌, ◌≤◌, ◌/◌, refl, ap, arith}
 use Rattle.cudf_universe.specs.Prices.{digits_within, digits}
 
 digits_within-fuel : (f g n : ℕ) → n ≤ f → n ≤ g → digits_within f n ≡ digits_within g n
@@ -23,3 +23,27 @@ pub digits-halved : (m n : ℕ) → 0 < n → m + m ≤ n → digits m + 1 ≤ d
 unfolding digits digits_within
 digits-halved m zero positive h = absurd (omega arith)
 digits-halved m (suc k) positive h = omega (arith, digits_within-fuel m k m (omega arith) (omega arith), digits_within-mono k m (suc k / 2) (omega arith))
+
+digits-step : (k : ℕ) → digits (suc k) ≡ digits (suc k / 2) + 1
+unfolding digits digits_within
+digits-step k = ap (λ d. d + 1) (digits_within-fuel k (suc k / 2) (suc k / 2) (omega arith) (omega arith))
+
+digits-whole : (fuel n : ℕ) → n ≤ fuel → digits n ≤ n
+unfolding digits digits_within
+digits-whole fuel zero h = omega arith
+digits-whole zero (suc k) h = absurd (omega arith)
+digits-whole (suc fuel) (suc k) h = omega (arith, digits-step k, digits-whole fuel (suc k / 2) (omega arith))
+
+digits-half : (n : ℕ) → digits n ≤ n / 2 + 1
+unfolding digits digits_within
+digits-half zero = omega arith
+digits-half (suc k) = omega (arith, digits-step k, digits-whole (suc k / 2) (suc k / 2) (omega arith))
+
+digits-quarter : (n : ℕ) → digits n ≤ n / 2 / 2 + 2
+unfolding digits digits_within
+digits-quarter zero = omega arith
+digits-quarter (suc k) = omega (arith, digits-step k, digits-half (suc k / 2))
+
+-- two searches among many numbers cost less than to go through them
+pub digits-of_many : (n m : ℕ) → 64 ≤ m → n ≤ m + 1 → 2 * digits n ≤ m
+digits-of_many n m many fits = omega (arith, digits-quarter n)

@@ -6,3 +6,4 @@ pub mod FirstPlaces
 pub mod Trees
 pub mod TreeFalls
 pub mod Greatest
+pub mod Shares

@@ -1,5 +1,5 @@
 //! What a status gives and satisfies: CUDF 2.0, installations and features.
-ghost use Rattle.std.specs.Prelude.{◌≡◌, ◌≤◌, ◌+◌, ◌&&◌, ◌==◌, ◌*◌, ℕ, List, Some, length, bytes_eq, option_map, find, IfOk};
+ghost use Rattle.std.specs.Prelude.{◌≡◌, ◌≤◌, ◌+◌, ◌&&◌, ◌==◌, ◌*◌, ℕ, List, Some, length, bytes_eq, option_map, find, IfOk, IfSome};
 ghost use Rattle.std.specs.List.{count_by, list_any};
 ghost use Rattle.std.specs.FinSet as set;
 ghost use Rattle.cudf_value.specs.Formulas.{atom_view, clause_view};
@@ -16,6 +16,7 @@ mod gathered_names;
 mod member;
 pub(crate) mod metered;
 mod numbers;
+mod share;
 mod sorted;
 mod tree;
 
@@ -27,6 +28,7 @@ use gathered_names::{GatheredNames, entries_of};
 use indexmap::IndexSet;
 use member::Member;
 use metered::Metered;
+use share::{Share, shares_of};
 use std::alloc::{AllocError, Global};
 use std::marker::Model;
 use tree::{ProvisionTree, trees_of};
@@ -43,6 +45,8 @@ pub struct Index<'p, 't> {
     entries: Vec<Entries>,
     /// The same, in the order of the places.
     trees: Vec<ProvisionTree>,
+    /// What each package with many provisions gives, in the order of the places.
+    shares: Vec<Share<'p, 't>>,
 }
 
 impl<'p, 't> Model for Index<'p, 't> {
@@ -52,12 +56,13 @@ impl<'p, 't> Model for Index<'p, 't> {
     ghost use Rattle.cudf_universe.specs.Working.Gathering.{given_of};
     ghost use Rattle.cudf_universe.specs.Working.Kept.{Keeps, found};
     ghost use Rattle.cudf_universe.specs.Working.FirstPlaces.{tree_items};
+    ghost use Rattle.cudf_universe.specs.Working.Shares.{AreShares};
 
     ghost Value = { List Placed };
 
     ghost view = { λ i. members (set.contains i.status) i.problem.now.packages };
 
-    ghost invariant = { λ i. (name : List ℕ) → (Keeps name (members (set.contains i.status) i.problem.now.packages) (found (λ k. bytes_eq name k.now) i.names.keys i.entries.items)) × (tree_items (found (λ k. bytes_eq name k.now) i.names.keys i.trees.items) ≡ given_of name (members (set.contains i.status) i.problem.now.packages)) };
+    ghost invariant = { λ i. ((name : List ℕ) → (Keeps name (members (set.contains i.status) i.problem.now.packages) (found (λ k. bytes_eq name k.now) i.names.keys i.entries.items)) × (tree_items (found (λ k. bytes_eq name k.now) i.names.keys i.trees.items) ≡ given_of name (members (set.contains i.status) i.problem.now.packages))) × AreShares (members (set.contains i.status) i.problem.now.packages) i.shares.items };
 }
 
 impl<'p, 't> Index<'p, 't> {
@@ -76,12 +81,14 @@ impl<'p, 't> Index<'p, 't> {
         let gathered = gathered(alloc, problem, status)?;
         let entries = entries_of(alloc, &gathered.rows)?;
         let trees = trees_of(alloc, gathered.rows)?;
+        let shares = shares_of(alloc, problem, status)?;
         Ok(Index {
             problem,
             status: status.copy(alloc)?,
             names: gathered.names,
             entries,
             trees,
+            shares,
         })
     }
 
@@ -302,7 +309,21 @@ impl<'p, 't> Index<'p, 't> {
         }
     }
 
-    /// How many of the entries that meet the vpkg are those of the package at this place.
+    /// What the package at this place gives, if that is kept by name.
+    fn share(&self, place: u64) -> Option<&Share<'p, 't>>
+        ensures { IfSome result (λ s. Some s.now ≡ find (λ p. p.0 == place) self.now) }
+    {
+        let _ = &self.problem;
+        let near = self.shares.partition_point(|share| share.place() < place);
+        let share = self.shares.get(near)?;
+        if share.place() != place {
+            return None;
+        }
+        Some(share)
+    }
+
+    /// How many of the entries that meet the vpkg are those of the package at this place. Many
+    /// provisions are searched by name, few are gone through.
     fn own(&self, vpkg: &Vpkg<'_>, place: u64, steps: &mut Steps) -> Met
         ensures numbers { count_by (meets vpkg.now.bound) (numbers_of vpkg.now.name.now self.now)
             ≡ count_by (meets vpkg.now.bound) (numbers_of vpkg.now.name.now (without place self.now)) + result.numbers }
@@ -312,6 +333,9 @@ impl<'p, 't> Index<'p, 't> {
         ensures grows { steps.old ≤ steps.new }
     {
         let _ = &self.problem;
+        if let Some(share) = self.share(place) {
+            return share.met(vpkg, steps);
+        }
         match self.member(place) {
             Some(member) => {
                 steps.grow_by(1);

@@ -1,9 +1,9 @@
-use Rattle.std.proofs.Common.{◌≡◌, ℕ, Option, Some, None, [], ap, sym, ◌∙◌, length, get_or}
+use Rattle.std.proofs.Common.{◌≡◌, ℕ, Some, None, [], ap, sym, ◌∙◌, length, get_or}
 use Rattle.std.specs.Prelude.{option_map}
 use Rattle.cudf_value.specs.declared.relop.Relop.{Relop}
 use Rattle.cudf_value.specs.declared.vpkg.Vpkg.{Vpkg}
 use Rattle.cudf_value.specs.Vpkgs.{vpkg_view}
-use Rattle.cudf_universe.specs.Satisfaction.{Pair, entry_pair}
+use Rattle.cudf_universe.specs.Satisfaction.{entry_pair}
 use Rattle.cudf_universe.specs.Working.Greatest.{kept_greatest}
 use Rattle.cudf_universe.proofs.GreatestLemmas.{pairs_none, pairs_one, entries-more}
 use Rattle.cudf_universe.proofs.greatest.NumberedNames.add_entries.Goals as goal

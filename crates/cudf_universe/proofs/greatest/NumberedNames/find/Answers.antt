@@ -1,4 +1,4 @@
-use Rattle.std.proofs.Common.{◌≡◌, None, Some, ap, sym, ◌∙◌, bytes_eq}
+use Rattle.std.proofs.Common.{ap, sym, ◌∙◌, bytes_eq}
 use Rattle.std.specs.Prelude.{option_and_then, slice_get}
 use Rattle.cudf_universe.proofs.FoundLemmas.{found_at}
 use Rattle.cudf_universe.proofs.TakenOffLemmas.{got}

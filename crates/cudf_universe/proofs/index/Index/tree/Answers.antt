@@ -21,10 +21,10 @@ returns-in-Some c =
     tree_read c.args.name.now _ c.args.self.now c.self.inside.names.keys c.self.inside.trees.items (Some c.in-Some.number) _
     c.self.view_is (sym c.in-Some.is ∙ c.get_index_of.ensures.index)
     (got c.deref.result.now c.in-Some.number c.get.result c.get.ensures.lookup.0 c.get.ensures.lookup.1 ∙ ap (λ ts. slice_get ts c.in-Some.number) c.deref.ensures.value)
-    (c.self.invariant c.args.name.now).1
+    (c.self.invariant.0 c.args.name.now).1
 
 pub returns-in-None : goal.returns-in-None
 returns-in-None c =
     tree_read c.args.name.now _ c.args.self.now c.self.inside.names.keys c.self.inside.trees.items None _
     c.self.view_is (sym c.in-None.is ∙ c.get_index_of.ensures.index) refl
-    (c.self.invariant c.args.name.now).1
+    (c.self.invariant.0 c.args.name.now).1
