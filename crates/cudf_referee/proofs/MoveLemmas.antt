@@ -130,7 +130,7 @@ pub cost-first : (s : Proposal) (old : PlainPosition) → ascend_above 0 s.unkno
 cost-first s old h = sum-ahead (stop_cost s.proposed) s old h
 
 least-first : (s : Proposal) (old : PlainPosition) → ascend_above 0 s.unknown ≡ true → least_to_first s (ahead s old) ≡ least_between s old (at_instance (first_given s (ahead s old)))
-least-first s old h = sum-ahead least_cost s old h
+least-first s old h = sum-ahead (least_cost s.proposed) s old h
 
 -- ---- what is left there
 

@@ -208,18 +208,18 @@ twice_stops : length (stops_between twice at_start at_end) ≡ 3
 unfolding walk
 twice_stops = refl
 
--- 1 + 1 + 1, since a conjunct may be of constants
-twice_least : least_between twice at_start at_end ≡ 3
+-- 2 + 2 + 1
+twice_least : least_between twice at_start at_end ≡ 5
 unfolding walk
 twice_least = refl
 
--- behind the first one: 1 + 1
-twice_left : least_between twice (at_key (record { part = part.Package 1; rule = rule.Depends; place = 1; aspect = None })) at_end ≡ 2
+-- behind the first one: 2 + 1
+twice_left : least_between twice (at_key (record { part = part.Package 1; rule = rule.Depends; place = 1; aspect = None })) at_end ≡ 3
 unfolding walk
 twice_left = refl
 
--- to it: 1
-twice_to : least_between twice at_start (at_key (record { part = part.Package 1; rule = rule.Depends; place = 1; aspect = None })) ≡ 1
+-- to it: 2
+twice_to : least_between twice at_start (at_key (record { part = part.Package 1; rule = rule.Depends; place = 1; aspect = None })) ≡ 2
 unfolding walk
 twice_to = refl
 
@@ -238,8 +238,8 @@ kept_least : least_between kept at_start at_end ≡ 9
 unfolding walk
 kept_least = refl
 
--- three conjuncts, the ends of three packages: 3 + 3
-mixed_least : least_between mixed at_start at_end ≡ 6
+-- e and g are looked up, nothing, e; the ends of three packages: 3 + 1 + 2 + 3
+mixed_least : least_between mixed at_start at_end ≡ 9
 unfolding walk
 mixed_least = refl
 

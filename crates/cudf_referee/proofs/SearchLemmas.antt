@@ -31,7 +31,7 @@ unless_found-zero (Some i) = refl
 
 -- what a stop gives, for its price
 pub Finds-one : (s : Proposal) (stop : Stop) (found : Option PlainInstance) (old new : ℕ)
-    → found ≡ given_at s stop → new ≤ old + stop_cost s.proposed stop → old + least_cost stop ≤ new → Finds s (stop ∷ []) found old new
+    → found ≡ given_at s stop → new ≤ old + stop_cost s.proposed stop → old + least_cost s.proposed stop ≤ new → Finds s (stop ∷ []) found old new
 Finds-one s stop found old new given price grows = record {
   given = given ∙ sym (or_later-none (given_at s stop));
   price = omega (arith, unless_found-zero (given_at s stop));
@@ -62,7 +62,7 @@ cost-append : (s : Proposal) (xs ys : List Stop) → cost_to_first s (xs ++ ys) 
 cost-append s xs ys = sum-append (stop_cost s.proposed) s xs ys
 
 least-append : (s : Proposal) (xs ys : List Stop) → least_to_first s (xs ++ ys) ≡ least_to_first s xs + unless_found (first_given s xs) (least_to_first s ys)
-least-append s xs ys = sum-append least_cost s xs ys
+least-append s xs ys = sum-append (least_cost s.proposed) s xs ys
 
 -- ---- a search goes on
 

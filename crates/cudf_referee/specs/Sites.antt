@@ -8,7 +8,7 @@ use Rattle.cudf_document.specs.declared.package.Keep.{Keep}
 use Rattle.cudf_document.specs.declared.package.Keep.TheVariants.{Version, Package, Feature, Nothing}
 use Rattle.cudf_document.specs.Universe.{PlainRequest}
 use Rattle.cudf_document.specs.Statuses.{PlainUnknown}
-use Rattle.cudf_universe.specs.Prices.{search_cost, clause_cost}
+use Rattle.cudf_universe.specs.Prices.{search_cost, clause_cost, clause_lookups}
 use Rattle.cudf_universe.specs.Satisfaction.{Placed}
 use Rattle.cudf_referee.specs.declared.key.Part.{Part}
 use Rattle.cudf_referee.specs.declared.key.Part.TheVariants as part
@@ -70,7 +70,7 @@ site_price status (remove_entry place v) = search_cost status v.name
 site_price status (upgrade_entry place v aspect) = aspect_price status v aspect
 site_price status (unknown_stanza u) = 0
 
--- ---- and what it costs at least, whatever the status
+-- ---- and what it costs at least
 
 -- the least and the greatest number take a look-up each
 abbrev pub aspect_look_ups : Aspect → ℕ
@@ -78,17 +78,17 @@ aspect_look_ups Unsatisfied = 1
 aspect_look_ups Many = 2
 aspect_look_ups Lower = 2
 
--- the look-ups by name that judging a site takes at least: none of a conjunct, since a constant may decide it
-abbrev pub look_ups : Site → ℕ
-look_ups (conjunct p place clause) = 0
-look_ups (conflicts_entry p place v) = 1
-look_ups (kept_version p) = 0
-look_ups (kept_package p) = 0
-look_ups (kept_feature p place v) = 1
-look_ups (install_entry place v) = 1
-look_ups (remove_entry place v) = 1
-look_ups (upgrade_entry place v aspect) = aspect_look_ups aspect
-look_ups (unknown_stanza u) = 0
+-- the look-ups by name that judging a site takes at least: of a conjunct those up to its first satisfied atom
+abbrev pub look_ups : List Placed → Site → ℕ
+look_ups status (conjunct p place clause) = clause_lookups status clause
+look_ups status (conflicts_entry p place v) = 1
+look_ups status (kept_version p) = 0
+look_ups status (kept_package p) = 0
+look_ups status (kept_feature p place v) = 1
+look_ups status (install_entry place v) = 1
+look_ups status (remove_entry place v) = 1
+look_ups status (upgrade_entry place v aspect) = aspect_look_ups aspect
+look_ups status (unknown_stanza u) = 0
 
 -- ---- the sites of a proposal, in key order
 
@@ -141,9 +141,9 @@ stop_cost status (at_site site) = site_price status site + 1
 stop_cost status (package_end place) = 1
 
 -- and at least
-abbrev pub least_cost : Stop → ℕ
-least_cost (at_site site) = look_ups site + 1
-least_cost (package_end place) = 1
+abbrev pub least_cost : List Placed → Stop → ℕ
+least_cost status (at_site site) = look_ups status site + 1
+least_cost status (package_end place) = 1
 
 -- ---- positions in the walk
 
@@ -182,4 +182,4 @@ abbrev pub cost_between : Proposal → PlainPosition → PlainPosition → ℕ
 cost_between s old new = sum_by (stop_cost s.proposed) (stops_between s old new)
 
 abbrev pub least_between : Proposal → PlainPosition → PlainPosition → ℕ
-least_between s old new = sum_by least_cost (stops_between s old new)
+least_between s old new = sum_by (least_cost s.proposed) (stops_between s old new)

@@ -45,7 +45,7 @@ abbrev pub cost_to_first : Proposal → List Stop → ℕ
 cost_to_first s stops = sum_to_first (stop_cost s.proposed) s stops
 
 abbrev pub least_to_first : Proposal → List Stop → ℕ
-least_to_first s stops = sum_to_first least_cost s stops
+least_to_first s stops = sum_to_first (least_cost s.proposed) s stops
 
 -- a search of these stops found this, and its steps went from one number to another
 pub record Finds (s : Proposal) (stops : List Stop) (found : Option PlainInstance) (old new : ℕ) : Type 0 where

@@ -2,7 +2,7 @@
 ghost use Rattle.std.specs.Prelude.{◌≡◌, ◌+◌, [], ◌∷◌, option_map, if◌then◌else◌};
 ghost use Rattle.cudf_referee.specs.KeyViews.{key_view};
 ghost use Rattle.cudf_referee.specs.Proposals.{Proposal};
-ghost use Rattle.cudf_referee.specs.Sites.{Site, site_price};
+ghost use Rattle.cudf_referee.specs.Sites.{Site, site_price, look_ups};
 ghost use Rattle.cudf_referee.specs.Views.{instance_view, what_view};
 ghost use Rattle.cudf_referee.specs.Violations.{at_package};
 ghost use Rattle.cudf_referee.specs.Working.Behind.{kept_stops};
@@ -29,6 +29,7 @@ fn judge<'p, 't>(
     ensures { (s : Proposal) (site : Site)
         → judged s site ≡ (if is_violated then Some (at_package (placed_view candidate.entry) Rule.Keep 1 (what_view what.entry)) else None)
         → site_price s.proposed site ≡ 0
+        → look_ups s.proposed site ≡ 0
         → Finds s (entry_stops (λ x. site) passed (placed_view candidate.entry ∷ [])) (option_map instance_view result) steps.old steps.new }
 {
     if count_passed(passed, 1) > 0 {

@@ -21,7 +21,7 @@ returns-in-Version-clause-found c = λ s same fits.
     let judged = ap (λ b. cond (not b) (Some (at_package p rule.Keep 1 keep_version)) None) fits.is in
     let stops = ap (λ (n : Option ℕ). entry_stops (λ x. kept_version p) n (p ∷ [])) c.passed-passed.ensures
     ∙ kept-installed s (option_map key_view c.args.key) p Version (fits.was ∙ held) c.in-Version.is in
-    Finds-at s _ _ _ _ _ stops (Finds-beside s _ _ c.args.now.now.steps _ _ (c.judge.ensures s (kept_version p) judged refl))
+    Finds-at s _ _ _ _ _ stops (Finds-beside s _ _ c.args.now.now.steps _ _ (c.judge.ensures s (kept_version p) judged refl refl))
 
 pub returns-in-Package-clause-found : goal.returns-in-Package-clause-found
 returns-in-Package-clause-found c = λ s same fits.
@@ -30,7 +30,7 @@ returns-in-Package-clause-found c = λ s same fits.
     let judged = ap (λ b. cond (not b) (Some (at_package p rule.Keep 1 keep_package)) None) (ap (λ k. keeps_name k && has_package s.proposed p.1.name) (sym c.in-Package.is) ∙ fits.named) in
     let stops = ap (λ (n : Option ℕ). entry_stops (λ x. kept_package p) n (p ∷ [])) c.passed-passed.ensures
     ∙ kept-installed s (option_map key_view c.args.key) p Package (fits.was ∙ held) c.in-Package.is in
-    Finds-at s _ _ _ _ _ stops (Finds-beside s _ _ c.args.now.now.steps _ _ (c.judge-in-Package.ensures s (kept_package p) judged refl))
+    Finds-at s _ _ _ _ _ stops (Finds-beside s _ _ c.args.now.now.steps _ _ (c.judge-in-Package.ensures s (kept_package p) judged refl refl))
 
 pub returns-in-Feature-clause-found : goal.returns-in-Feature-clause-found
 returns-in-Feature-clause-found c = λ s same fits.
