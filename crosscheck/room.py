@@ -98,6 +98,14 @@ def provisions(count, order=1):
     return one_package(f"provides: {text}\nconflicts: " + entries(count, f"f = {count + 1}"))
 
 
+def beside_another(count):
+    """A package that gives so many numbers of a feature and conflicts with each, beside one that gives one number more."""
+    text = entries(count, "f = {}")
+    own = f"package: a\nversion: 1\nprovides: {text}\nconflicts: {text}\n\n"
+    other = f"package: b\nversion: 1\nprovides: f = {count + 1}\n\n"
+    return check(own + other + "request:\n", installed(["a", "b"], name="{}"))
+
+
 def met_by_the_last(count):
     """Each package provides one number of a feature, and conflicts with that of the last one."""
     numbers = range(1, count + 1)
@@ -157,6 +165,7 @@ CASES = (
     Case("provisions of one name, ascending", 50_000, provisions),
     Case("provisions of one name, descending", 50_000, lambda n: provisions(n, -1)),
     Case("provisions of many names", 50_000, names_of_features),
+    Case("provisions of one name, beside another's", 20_000, beside_another),
     Case("met by the last of many packages", 20_000, met_by_the_last),
     Case("a clause of many atoms", 100_000, lambda n: one_package(f"depends: {entries(n, 'x', ' | ')} | a")),
     Case("many clauses of an atom", 100_000, lambda n: one_package(f"depends: {entries(n)}")),
