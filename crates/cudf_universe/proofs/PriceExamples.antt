@@ -96,3 +96,8 @@ own_of_third = refl
 ten_thousand : 1 + 2 * digits 10000 ≡ 29
 unfolding digits digits_within
 ten_thousand = refl
+
+-- a package that gives one name in its version and 64 entries: the entries are searched, at no more than 15 steps, where to go through them takes 65
+sixty_five : 1 + 2 * digits 65 ≡ 15
+unfolding digits digits_within
+sixty_five = refl
