@@ -1,5 +1,5 @@
 -- Searches along the walk: one stop, one search after another, and a loop over entries.
-use Rattle.std.proofs.Common.{◌≡◌, ℕ, ◌+◌, ◌-◌, ◌<◌, ◌≤◌, List, [], ◌∷◌, ◌++◌, length, map, take, drop, min, get_or, Bor, Option, Some, None, refl, ap, sym, ◌∙◌, add_assoc, subst, arith}
+use Rattle.std.proofs.Common.{◌≡◌, ℕ, ◌+◌, ◌-◌, ◌<◌, ◌≤◌, zero, suc, List, [], ◌∷◌, ◌++◌, length, map, take, drop, min, get_or, Bor, Option, Some, None, refl, ap, sym, ◌∙◌, add_assoc, subst, arith}
 use Rattle.std.specs.List.{All, enumerate_from}
 use Rattle.std.specs.Prelude.{option_map, slice_get}
 use Rattle.std.specs.Slice.{IsItemAt}
@@ -113,45 +113,16 @@ read_rest : {B : Type 0} (ys : List B) (first i : ℕ) (d : B) → i < length ys
 read_rest ys first i d below = grind (arith, Rattle.std.proofs.lemmas.Grind.common_steps, get_or-drop first ys i d)
 
 -- the entry with its place
-pub numbered : {A B : Type 0} (view : B → A) (xs : List B) (n : ℕ) (d : B) → n < length xs
-    → get_or (enumerate_from 1 (map view xs)) n (0, view d) ≡ (n + 1, view (get_or xs n d))
-numbered view xs n d below = get_or-enumerate_from 1 (map view xs) n (0, view d) within ∙ (λ i. (place i, get_or-map view xs n d i))
+numbered-one : {A : Type 0} (xs : List A) (n : ℕ) (d : A) → n < length xs → get_or (enumerate_from 1 xs) n (0, d) ≡ (n + 1, get_or xs n d)
+numbered-one xs n d below = get_or-enumerate_from 1 xs n (0, d) below ∙ (λ i. (place i, get_or xs n d))
   where
-    within : n < length (map view xs)
-    within = omega (arith, length-map xs view)
-
     place : 1 + n ≡ n + 1
     place = omega arith
 
--- the next stop
-stops-next : {A B : Type 0} (view : B → A) (make : ℕ × A → Site) (xs : List B) (n : ℕ) (d : B) → n < length xs
-    → stops_from make (map view xs) n ≡ at_site (make (n + 1, view (get_or xs n d))) ∷ stops_from make (map view xs) (n + 1)
-stops-next view make xs n d below = at_drop_more (λ l. map at_site (map make l)) (enumerate_from 1 (map view xs)) n (0, view d) within
-    ∙ ap (λ e. at_site (make e) ∷ stops_from make (map view xs) (n + 1)) (numbered view xs n d below)
-  where
-    within : n < length (enumerate_from 1 (map view xs))
-    within = omega (arith, length-map xs view, length-enumerate_from 1 (map view xs))
-
-left-drop : {A : Type 0} (passed : Option ℕ) (xs : List A) → entries_left passed xs ≡ drop (count_passed passed (length xs)) (enumerate_from 1 xs)
-left-drop None xs = sym (at_drop_all (λ l. l) (enumerate_from 1 xs) (length xs) within)
-  where
-    within : length (enumerate_from 1 xs) ≤ length xs
-    within = omega (arith, length-enumerate_from 1 xs)
-left-drop (Some n) xs = sym (ap (λ m. drop (min n m) (enumerate_from 1 xs)) (sym (length-enumerate_from 1 xs)) ∙ drop_min n (enumerate_from 1 xs))
-
-pub entries-start : {A B : Type 0} (s : Proposal) (view : B → A) (make : ℕ × A → Site) (passed : Option ℕ) (xs : List B) (n old : ℕ)
-    → n ≡ count_passed passed (length xs) → EntriesPass s make passed (map view xs) n old old
-entries-start s view make passed xs n old is = record {
-  given = ap (first_given s) same;
-  price = omega (arith, ap (cost_to_first s) same);
-  grows = omega (arith, ap (least_to_first s) same);
-}
-  where
-    number : count_passed passed (length (map view xs)) ≡ n
-    number = ap (count_passed passed) (length-map xs view) ∙ sym is
-
-    same : entry_stops make passed (map view xs) ≡ stops_from make (map view xs) n
-    same = ap (λ l. map at_site (map make l)) (left-drop passed (map view xs) ∙ ap (λ m. drop m (enumerate_from 1 (map view xs))) number)
+-- the same of an entry as it is seen
+pub numbered : {A B : Type 0} (view : B → A) (xs : List B) (n : ℕ) (d : B) → n < length xs
+    → get_or (enumerate_from 1 (map view xs)) n (0, view d) ≡ (n + 1, view (get_or xs n d))
+numbered view xs n d below = numbered-one (map view xs) n (view d) (omega (arith, length-map xs view)) ∙ (λ i. (n + 1, get_or-map view xs n d i))
 
 pub passes-at : (s : Proposal) (all left left' : List Stop) (old now : ℕ) → left ≡ left' → Passes s all left old now → Passes s all left' old now
 passes-at s all left left' old now same passes = record {
@@ -160,31 +131,21 @@ passes-at s all left left' old now same passes = record {
   grows = omega (arith, passes.grows, ap (least_to_first s) same);
 }
 
--- behind an entry that gave nothing
-pub entries-more : {A B : Type 0} (s : Proposal) (view : B → A) (make : ℕ × A → Site) (passed : Option ℕ) (xs : List B) (n : ℕ) (d item : B) (old now new : ℕ)
-    → n < length xs → item ≡ get_or xs n d → Finds s (at_site (make (n + 1, view item)) ∷ []) None now new
-    → EntriesPass s make passed (map view xs) n old now → EntriesPass s make passed (map view xs) (n + 1) old new
-entries-more s view make passed xs n d item old now new below is finds passes =
-    Passes-more s (entry_stops make passed (map view xs)) (at_site (make (n + 1, view item)) ∷ []) (stops_from make (map view xs) (n + 1)) old now new
-    (passes-at s _ _ _ old now (stops-next view make xs n d below ∙ ap (λ x. at_site (make (n + 1, view x)) ∷ stops_from make (map view xs) (n + 1)) (sym is)) passes) finds
-
--- to an entry that gave an instance
-pub entries-found : {A B : Type 0} (s : Proposal) (view : B → A) (make : ℕ × A → Site) (passed : Option ℕ) (xs : List B) (n : ℕ) (d item : B) (i : PlainInstance) (old now new : ℕ)
-    → n < length xs → item ≡ get_or xs n d → Finds s (at_site (make (n + 1, view item)) ∷ []) (Some i) now new
-    → EntriesPass s make passed (map view xs) n old now → Finds s (entry_stops make passed (map view xs)) (Some i) old new
-entries-found s view make passed xs n d item i old now new below is finds passes =
-    Passes-found s (entry_stops make passed (map view xs)) (at_site (make (n + 1, view item)) ∷ []) (stops_from make (map view xs) (n + 1)) i old now new
-    (passes-at s _ _ _ old now (stops-next view make xs n d below ∙ ap (λ x. at_site (make (n + 1, view x)) ∷ stops_from make (map view xs) (n + 1)) (sym is)) passes) finds
-
--- to the end of the entries
-pub entries-end : {A B : Type 0} (s : Proposal) (view : B → A) (make : ℕ × A → Site) (passed : Option ℕ) (xs : List B) (n old now : ℕ)
-    → length xs ≤ n → EntriesPass s make passed (map view xs) n old now → Finds s (entry_stops make passed (map view xs)) None old now
-entries-end s view make passed xs n old now end passes =
-    Passes-end s (entry_stops make passed (map view xs)) old now
-    (passes-at s _ _ _ old now (at_drop_all (λ l. map at_site (map make l)) (enumerate_from 1 (map view xs)) n within) passes)
+-- the next stop
+stops-next : {A : Type 0} (make : ℕ × A → Site) (xs : List A) (n : ℕ) (d : A) → n < length xs
+    → stops_from make xs n ≡ at_site (make (n + 1, get_or xs n d)) ∷ stops_from make xs (n + 1)
+stops-next make xs n d below = at_drop_more (λ l. map at_site (map make l)) (enumerate_from 1 xs) n (0, d) within
+    ∙ ap (λ e. at_site (make e) ∷ stops_from make xs (n + 1)) (numbered-one xs n d below)
   where
-    within : length (enumerate_from 1 (map view xs)) ≤ n
-    within = omega (arith, length-map xs view, length-enumerate_from 1 (map view xs))
+    within : n < length (enumerate_from 1 xs)
+    within = omega (arith, length-enumerate_from 1 xs)
+
+left-drop : {A : Type 0} (passed : Option ℕ) (xs : List A) → entries_left passed xs ≡ drop (count_passed passed (length xs)) (enumerate_from 1 xs)
+left-drop None xs = sym (at_drop_all (λ l. l) (enumerate_from 1 xs) (length xs) within)
+  where
+    within : length (enumerate_from 1 xs) ≤ length xs
+    within = omega (arith, length-enumerate_from 1 xs)
+left-drop (Some n) xs = sym (ap (λ m. drop (min n m) (enumerate_from 1 xs)) (sym (length-enumerate_from 1 xs)) ∙ drop_min n (enumerate_from 1 xs))
 
 -- ---- the turns of a loop over the entries behind the first ones
 
@@ -194,35 +155,50 @@ read-rest ys xs first i d item same below is = is ∙ read_rest ys first i d (om
 within-rest : {B : Type 0} (ys xs : List B) (first i : ℕ) → ys ≡ xs → i < length (rest_of ys first) → first + i < length xs
 within-rest ys xs first i same below = omega (arith, length-rest ys first, ap length same)
 
-pub loop-more : {A B : Type 0} (s : Proposal) (view : B → A) (make : ℕ × A → Site) (passed : Option ℕ) (ys xs : List B) (first i : ℕ) (d item : B) (old now new : ℕ)
-    → ys ≡ xs → i < length (rest_of ys first) → item ≡ get_or (rest_of ys first) i d → Finds s (at_site (make (first + i + 1, view item)) ∷ []) None now new
-    → EntriesPass s make passed (map view xs) (first + i) old now → EntriesPass s make passed (map view xs) (first + (i + 1)) old new
-loop-more s view make passed ys xs first i d item old now new same below is finds passes =
-    passes-at s (entry_stops make passed (map view xs)) (stops_from make (map view xs) (first + i + 1)) (stops_from make (map view xs) (first + (i + 1))) old new
-    (ap (stops_from make (map view xs)) next)
-    (entries-more s view make passed xs (first + i) d item old now new (within-rest ys xs first i same below) (read-rest ys xs first i d item same below is) finds passes)
+pub loop-start : {A : Type 0} (s : Proposal) (make : ℕ × A → Site) (passed : Option ℕ) (xs : List A) (first old : ℕ)
+    → first ≡ count_passed passed (length xs) → EntriesPass s make passed xs (first + 0) old old
+loop-start s make passed xs first old is = passes-at s (entry_stops make passed xs) _ _ old old same (Passes-start s (entry_stops make passed xs) old)
+  where
+    number : count_passed passed (length xs) ≡ first + 0
+    number = omega (arith, is)
+
+    same : entry_stops make passed xs ≡ stops_from make xs (first + 0)
+    same = ap (λ l. map at_site (map make l)) (left-drop passed xs ∙ ap (λ m. drop m (enumerate_from 1 xs)) number)
+
+-- the stop that is next in the loop
+loop-next : {A : Type 0} (make : ℕ × A → Site) (xs : List A) (first i : ℕ) (d item : A)
+    → i < length (rest_of xs first) → item ≡ get_or (rest_of xs first) i d
+    → stops_from make xs (first + i) ≡ at_site (make (first + i + 1, item)) ∷ stops_from make xs (first + (i + 1))
+loop-next make xs first i d item below is =
+    stops-next make xs (first + i) d (within-rest xs xs first i refl below)
+    ∙ ap (λ x. at_site (make (first + i + 1, x)) ∷ stops_from make xs (first + i + 1)) (sym (read-rest xs xs first i d item refl below is))
+    ∙ ap (λ n. at_site (make (first + i + 1, item)) ∷ stops_from make xs n) next
   where
     next : first + i + 1 ≡ first + (i + 1)
     next = omega arith
 
-pub loop-found : {A B : Type 0} (s : Proposal) (view : B → A) (make : ℕ × A → Site) (passed : Option ℕ) (ys xs : List B) (first i : ℕ) (d item : B) (instance : PlainInstance) (old now new : ℕ)
-    → ys ≡ xs → i < length (rest_of ys first) → item ≡ get_or (rest_of ys first) i d → Finds s (at_site (make (first + i + 1, view item)) ∷ []) (Some instance) now new
-    → EntriesPass s make passed (map view xs) (first + i) old now → Finds s (entry_stops make passed (map view xs)) (Some instance) old new
-loop-found s view make passed ys xs first i d item instance old now new same below is finds passes =
-    entries-found s view make passed xs (first + i) d item instance old now new (within-rest ys xs first i same below) (read-rest ys xs first i d item same below is) finds passes
+-- behind an entry that gave nothing
+pub loop-more : {A : Type 0} (s : Proposal) (make : ℕ × A → Site) (passed : Option ℕ) (xs : List A) (first i : ℕ) (d item : A) (old now new : ℕ)
+    → i < length (rest_of xs first) → item ≡ get_or (rest_of xs first) i d → Finds s (at_site (make (first + i + 1, item)) ∷ []) None now new
+    → EntriesPass s make passed xs (first + i) old now → EntriesPass s make passed xs (first + (i + 1)) old new
+loop-more s make passed xs first i d item old now new below is finds passes =
+    Passes-more s _ _ _ old now new (passes-at s _ _ _ old now (loop-next make xs first i d item below is) passes) finds
 
-pub loop-end : {A B : Type 0} (s : Proposal) (view : B → A) (make : ℕ × A → Site) (passed : Option ℕ) (ys xs : List B) (first i : ℕ) (old now : ℕ)
-    → ys ≡ xs → length (rest_of ys first) ≤ i → EntriesPass s make passed (map view xs) (first + i) old now → Finds s (entry_stops make passed (map view xs)) None old now
-loop-end s view make passed ys xs first i old now same end passes =
-    entries-end s view make passed xs (first + i) old now (omega (arith, length-rest ys first, ap length same)) passes
+-- to an entry that gave an instance
+pub loop-found : {A : Type 0} (s : Proposal) (make : ℕ × A → Site) (passed : Option ℕ) (xs : List A) (first i : ℕ) (d item : A) (instance : PlainInstance) (old now new : ℕ)
+    → i < length (rest_of xs first) → item ≡ get_or (rest_of xs first) i d → Finds s (at_site (make (first + i + 1, item)) ∷ []) (Some instance) now new
+    → EntriesPass s make passed xs (first + i) old now → Finds s (entry_stops make passed xs) (Some instance) old new
+loop-found s make passed xs first i d item instance old now new below is finds passes =
+    Passes-found s _ _ _ instance old now new (passes-at s _ _ _ old now (loop-next make xs first i d item below is) passes) finds
 
-pub loop-start : {A B : Type 0} (s : Proposal) (view : B → A) (make : ℕ × A → Site) (passed : Option ℕ) (ys xs : List B) (first old : ℕ)
-    → ys ≡ xs → first ≡ count_passed passed (length ys) → EntriesPass s make passed (map view xs) (first + 0) old old
-loop-start s view make passed ys xs first old same is =
-    entries-start s view make passed xs (first + 0) old (number ∙ is ∙ ap (λ l. count_passed passed (length l)) same)
+-- to the end of the entries
+pub loop-end : {A : Type 0} (s : Proposal) (make : ℕ × A → Site) (passed : Option ℕ) (xs : List A) (first i : ℕ) (old now : ℕ)
+    → length (rest_of xs first) ≤ i → EntriesPass s make passed xs (first + i) old now → Finds s (entry_stops make passed xs) None old now
+loop-end s make passed xs first i old now end passes =
+    Passes-end s _ old now (passes-at s _ _ _ old now (at_drop_all (λ l. map at_site (map make l)) (enumerate_from 1 xs) (first + i) within) passes)
   where
-    number : first + 0 ≡ first
-    number = omega arith
+    within : length (enumerate_from 1 xs) ≤ first + i
+    within = omega (arith, length-rest xs first, length-enumerate_from 1 xs)
 
 -- ---- what a call answered
 
@@ -261,6 +237,24 @@ Finds-at s stops stops' found old new same finds = record {
   price = omega (arith, finds.price, ap (cost_to_first s) same);
   grows = omega (arith, finds.grows, ap (least_to_first s) same);
 }
+
+-- what is found of entries is found of what is seen of them
+map-seen : {A B : Type 0} (view : B → A) (make : ℕ × A → Site) (k n : ℕ) (xs : List B)
+    → map (λ e. make (e.0, view e.1)) (drop k (enumerate_from n xs)) ≡ map make (drop k (enumerate_from n (map view xs)))
+map-seen view make zero n [] = refl
+map-seen view make zero n (x ∷ xs) = ap (λ l. make (n, view x) ∷ l) (map-seen view make zero (n + 1) xs)
+map-seen view make (suc k) n [] = refl
+map-seen view make (suc k) n (x ∷ xs) = map-seen view make k (n + 1) xs
+
+stops-seen : {A B : Type 0} (view : B → A) (make : ℕ × A → Site) (passed : Option ℕ) (xs : List B)
+    → entry_stops (λ e. make (e.0, view e.1)) passed xs ≡ entry_stops make passed (map view xs)
+stops-seen view make None xs = refl
+stops-seen view make (Some k) xs = ap (map at_site) (map-seen view make k 1 xs)
+
+pub Finds-seen : {A B : Type 0} (s : Proposal) (view : B → A) (make : ℕ × A → Site) (n m : Option ℕ) (ys xs : List B) (found : Option PlainInstance) (old new : ℕ)
+    → n ≡ m → ys ≡ xs → Finds s (entry_stops (λ e. make (e.0, view e.1)) n ys) found old new → Finds s (entry_stops make m (map view xs)) found old new
+Finds-seen s view make n m ys xs found old new passed same finds =
+    Finds-at s _ _ found old new (stops-seen view make n ys ∙ ap (λ k. entry_stops make k (map view ys)) passed ∙ ap (λ l. entry_stops make m (map view l)) same) finds
 
 -- beside steps that others took
 pub Finds-beside : (s : Proposal) (stops : List Stop) (found : Option PlainInstance) (n old new : ℕ) → Finds s stops found old new → Finds s stops found (n + old) (n + new)

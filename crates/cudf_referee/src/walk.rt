@@ -9,6 +9,7 @@ ghost use Rattle.cudf_referee.specs.Working.Searches.{Finds, packages_left};
 mod candidate;
 mod conflicts;
 mod depends;
+mod entries;
 mod features;
 mod ground;
 mod install;

@@ -1,5 +1,5 @@
 -- The numbers of keys: places in lists that memory holds, and numbers of stanzas.
-use Rattle.std.specs.Prelude.{ℕ, ◌<◌, ◌^◌, All, length}
+use Rattle.std.specs.Prelude.{◌<◌, ◌^◌, All, length}
 use Rattle.cudf_document.specs.Universe.{PlainPackage}
 use Rattle.cudf_referee.specs.Proposals.{Proposal}
 

@@ -18,7 +18,7 @@ pub(crate) struct Candidate<'p, 't> {
     ghost placed: { 0 < place },
 }
 
-impl<'p, 't> Candidate<'p, 't> {
+impl<'c, 't> Candidate<'c, 't> {
     ghost use Rattle.std.specs.Prelude.{◌≡◌, ◌<◌, IsTrue};
     ghost use Rattle.cudf_referee.specs.Keys.{is_package_rule};
     ghost use Rattle.cudf_referee.specs.Views.{instance_view, what_view};
@@ -26,7 +26,7 @@ impl<'p, 't> Candidate<'p, 't> {
     ghost use Rattle.cudf_referee.specs.Working.Candidates.{placed_view};
 
     /// The instance of a rule at an entry's place.
-    pub(super) fn instance(self, rule: Rule, entry: u64, what: What<'p, 't>) -> Instance<'p, 't>
+    pub(super) fn instance<'p>(self, rule: Rule, entry: u64, what: What<'p, 't>) -> Instance<'p, 't>
         requires counted { 0 < entry }
         requires fits { IsTrue (is_package_rule rule) }
         ensures { instance_view result ≡ at_package (placed_view self.entry) rule entry (what_view what.entry) }

@@ -14,7 +14,8 @@ ghost use Rattle.cudf_referee.specs.Working.Searches.{Finds};
 use crate::instance::{Instance, What};
 use crate::key::{Key, Rule};
 use crate::walk::candidate::Candidate;
-use crate::walk::features::search_features;
+use crate::walk::entries::search_entries;
+use crate::walk::features::Features;
 use crate::walk::left::{count_passed, passed};
 use cudf_universe::{Keep, Metered, Steps};
 
@@ -73,7 +74,10 @@ pub(super) fn search_keep<'p, 't>(
             !candidate.is_named,
             What::KeepPackage,
         ),
-        Keep::Feature => search_features(now, steps, candidate, passed),
+        Keep::Feature => {
+            let provides = &candidate.package.provides;
+            search_entries(now, steps, Features { candidate }, provides, passed)
+        }
         Keep::Nothing => None,
     }
 }

@@ -10,8 +10,9 @@ ghost use Rattle.cudf_referee.specs.Working.Searches.{Finds};
 use crate::instance::Instance;
 use crate::key::{Key, Rule};
 use crate::walk::candidate::Candidate;
-use crate::walk::conflicts::search_conflicts;
-use crate::walk::depends::search_depends;
+use crate::walk::conflicts::Conflicts;
+use crate::walk::depends::Depends;
+use crate::walk::entries::search_entries;
 use crate::walk::keep::search_keep;
 use crate::walk::left::passed;
 use cudf_universe::{Metered, Steps};
@@ -31,11 +32,14 @@ fn search_needs<'p, 't>(
     if !candidate.is_installed {
         return None;
     }
-    let passed_depends = passed(key, Rule::Depends);
-    if let Some(instance) = search_depends(now, steps, candidate, passed_depends) {
+    let rule = Depends { candidate };
+    let clauses = &candidate.package.depends.clauses;
+    if let Some(instance) = search_entries(now, steps, rule, clauses, passed(key, Rule::Depends)) {
         return Some(instance);
     }
-    search_conflicts(now, steps, candidate, passed(key, Rule::Conflicts))
+    let rule = Conflicts { candidate };
+    let conflicts = &candidate.package.conflicts;
+    search_entries(now, steps, rule, conflicts, passed(key, Rule::Conflicts))
 }
 
 /// The first instance of the package behind a key of it, or behind none.

@@ -9,9 +9,10 @@ ghost use Rattle.cudf_referee.specs.Working.Searches.{Finds};
 
 use crate::instance::Instance;
 use crate::key::{Key, Rule};
-use crate::walk::install::search_install;
+use crate::walk::entries::search_entries;
+use crate::walk::install::Install;
 use crate::walk::left::passed;
-use crate::walk::remove::search_remove;
+use crate::walk::remove::Remove;
 use crate::walk::upgrade::search_upgrade;
 use cudf_universe::{Metered, MeteredNumbers, Request, Steps};
 
@@ -29,12 +30,14 @@ pub(super) fn search_request<'p, 't>(
     ensures now { now.new.status ≡ now.old.status }
     ensures before { before.new.status ≡ before.old.status }
 {
+    let install = Install { request };
     let passed_install = passed(key, Rule::Install);
-    if let Some(instance) = search_install(now, steps, request, passed_install) {
+    if let Some(instance) = search_entries(now, steps, install, &request.install, passed_install) {
         return Some(instance);
     }
+    let remove = Remove { request };
     let passed_remove = passed(key, Rule::Remove);
-    if let Some(instance) = search_remove(now, steps, request, passed_remove) {
+    if let Some(instance) = search_entries(now, steps, remove, &request.remove, passed_remove) {
         return Some(instance);
     }
     search_upgrade(now, before, steps, request, key)

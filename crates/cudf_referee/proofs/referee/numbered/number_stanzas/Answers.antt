@@ -1,4 +1,4 @@
-use Rattle.std.proofs.Common.{◌-◌, length, map, arith}
+use Rattle.std.proofs.Common.{◌-◌, length, arith}
 use Rattle.std.proofs.lemmas.List.{length-map}
 use Rattle.cudf_document.specs.Statuses.{unknown_view}
 use Rattle.cudf_referee.proofs.WritableLemmas.{numbers_small}

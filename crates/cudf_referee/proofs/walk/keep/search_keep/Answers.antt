@@ -1,6 +1,6 @@
 use Rattle.std.proofs.Common.{◌≡◌, ℕ, true, [], ◌∷◌, Option, Some, None, ◌&&◌, cond, not, refl, ap, sym, ◌∙◌}
 use Rattle.std.specs.Prelude.{option_map}
-use Rattle.cudf_value.specs.Vpkgs.{PlainVpkg}
+use Rattle.cudf_value.specs.Vpkgs.{PlainVpkg, vpkg_view}
 use Rattle.cudf_document.specs.declared.package.Keep.TheVariants.{Version, Package, Feature}
 use Rattle.cudf_referee.specs.declared.key.Rule.TheVariants as rule
 use Rattle.cudf_referee.specs.KeyViews.{key_view}
@@ -11,7 +11,7 @@ use Rattle.cudf_referee.specs.Working.Named.{keeps_name}
 use Rattle.cudf_referee.specs.Working.Candidates.{placed_view}
 use Rattle.cudf_referee.specs.Working.Passes.{entry_stops}
 use Rattle.cudf_referee.proofs.BehindLemmas.{kept-installed}
-use Rattle.cudf_referee.proofs.SearchLemmas.{Finds-at, Finds-beside}
+use Rattle.cudf_referee.proofs.SearchLemmas.{Finds-at, Finds-beside, Finds-seen}
 use Rattle.cudf_referee.proofs.walk.keep.search_keep.Goals as goal
 
 pub returns-in-Version-clause-found : goal.returns-in-Version-clause-found
@@ -36,6 +36,5 @@ pub returns-in-Feature-clause-found : goal.returns-in-Feature-clause-found
 returns-in-Feature-clause-found c = λ s same fits.
     let p = placed_view c.args.candidate in
     let held : c.args.candidate.package.now.installed ≡ true = c.if-not-candidate.false in
-    let stops = ap (λ (n : Option ℕ). entry_stops (λ (v : ℕ × PlainVpkg). kept_feature p v.0 v.1) n p.1.provides) c.passed-passed.ensures
-    ∙ kept-installed s (option_map key_view c.args.key) p Feature (fits.was ∙ held) c.in-Feature.is in
-    Finds-at s _ _ _ _ _ stops (c.search_features.ensures.found s same)
+    let features = Finds-seen s vpkg_view (λ (v : ℕ × PlainVpkg). kept_feature p v.0 v.1) _ _ _ _ _ _ _ c.passed-passed.ensures c.deref.ensures.value (c.search_entries.ensures.found s same tt) in
+    Finds-at s _ _ _ _ _ (kept-installed s (option_map key_view c.args.key) p Feature (fits.was ∙ held) c.in-Feature.is) features

@@ -1,6 +1,6 @@
 use Rattle.std.proofs.Common.{arith}
 use Rattle.std.proofs.lemmas.Grind.{common_steps}
-use Rattle.cudf_referee.proofs.walk.conflicts.judge.Goals as goal
+use Rattle.cudf_referee.proofs.walk.conflicts.ConflictsEntryRule.judge.Goals as goal
 
 pub returns-then-not-satisfies_without_counted-clause-found : goal.returns-then-not-satisfies_without_counted-clause-found
 returns-then-not-satisfies_without_counted-clause-found c = grind (arith, common_steps)

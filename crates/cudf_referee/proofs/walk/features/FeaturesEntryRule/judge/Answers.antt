@@ -1,6 +1,6 @@
 use Rattle.std.proofs.Common.{arith}
 use Rattle.std.proofs.lemmas.Grind.{common_steps}
-use Rattle.cudf_referee.proofs.walk.features.judge.Goals as goal
+use Rattle.cudf_referee.proofs.walk.features.FeaturesEntryRule.judge.Goals as goal
 
 pub returns-then-satisfies_counted-clause-found : goal.returns-then-satisfies_counted-clause-found
 returns-then-satisfies_counted-clause-found c = grind (arith, common_steps)
