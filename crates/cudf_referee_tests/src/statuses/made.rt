@@ -6,6 +6,7 @@ use cudf_value::{Relop, Vpkg};
 use std::alloc::{AllocError, Global};
 
 /// A package of the universe.
+#[derive(Clone, Copy)]
 struct Row {
     /// Its stanza without `provides`.
     stanza: &'static str,
