@@ -27,29 +27,10 @@ use Rattle.cudf_referee.specs.Proposals.{Proposal, holds_place}
 use Rattle.cudf_referee.specs.Sites.{Site, conjunct, conflicts_entry, kept_version, kept_package, kept_feature, install_entry, remove_entry, upgrade_entry, unknown_stanza, site_key, package_key, needed_sites, kept_sites, package_sites, upgrade_sites, request_sites, Stop, at_site, package_end, package_stops, walk, precedes, is_after}
 use Rattle.cudf_referee.specs.Working.Searches.{passed, entries_left, needed_left, kept_left, package_sites_left, package_left, aspects_after, aspects_left, upgrade_left, request_left, unknown_left, packages_left, stops_left}
 use Rattle.cudf_referee.proofs.AscentLemmas.{Below, same_first, less_first, Climbs, from_lower, to_higher, climbs-over, site_ranks, package_climbs, packages_climb, entry_climbs, entries_climb, request_climbs}
-use Rattle.cudf_referee.proofs.ListLemmas.{and_left, and_right}
+use Rattle.cudf_referee.proofs.ListLemmas.{and_left, and_right, filter-map, filter-same, all_kept, none_kept}
 use Rattle.cudf_referee.proofs.PositionLemmas.{stop_ranks, is_after-ranks}
 
 -- ---- what is kept of a list
-
-made_case : {A B : Type 0} (b : Bool) (f : A → B) (x : A) (xs : List A) (ys : List B) → ys ≡ map f xs → cond b (f x ∷ ys) ys ≡ map f (cond b (x ∷ xs) xs)
-made_case true f x xs ys h = ap (λ zs. f x ∷ zs) h
-made_case false f x xs ys h = h
-
-pub filter-made : {A B : Type 0} (test : B → Bool) (f : A → B) (xs : List A) → filter test (map f xs) ≡ map f (filter (λ x. test (f x)) xs)
-filter-made test f [] = refl
-filter-made test f (x ∷ xs) = made_case (test (f x)) f x (filter (λ y. test (f y)) xs) (filter test (map f xs)) (filter-made test f xs)
-
-filter-same : {A : Type 0} (p q : A → Bool) → ((x : A) → p x ≡ q x) → (xs : List A) → filter p xs ≡ filter q xs
-filter-same p q same xs = ap (λ test. filter test xs) (λ i x. same x i)
-
-pub all_kept : {A : Type 0} (test : A → Bool) → ((x : A) → test x ≡ true) → (xs : List A) → filter test xs ≡ xs
-all_kept test h [] = refl
-all_kept test h (x ∷ xs) = (λ i. cond (h x i) (x ∷ all_kept test h xs i) (all_kept test h xs i))
-
-none_kept : {A : Type 0} (test : A → Bool) → ((x : A) → test x ≡ false) → (xs : List A) → filter test xs ≡ []
-none_kept test h [] = refl
-none_kept test h (x ∷ xs) = (λ i. cond (h x i) (x ∷ none_kept test h xs i) (none_kept test h xs i))
 
 filter-if : {A : Type 0} (test : A → Bool) (b : Bool) (xs : List A) → filter test (cond b xs []) ≡ cond b (filter test xs) []
 filter-if test true xs = refl
@@ -150,7 +131,7 @@ entries_after key r xs = by_ranks (rule_rank key.rule) (rule_rank r) key.place (
 made_after : {A : Type 0} (key : PlainKey) (r : Rule) (make : ℕ × A → Site) (xs : List A) → ((x : ℕ × A) → precedes key (site_key (make x)) ≡ entry_after key r x.0)
     → filter (λ x. precedes key (site_key x)) (map make (enumerate_from 1 xs)) ≡ map make (entries_left (passed key r) xs)
 made_after key r make xs same =
-    filter-made (λ x. precedes key (site_key x)) make (enumerate_from 1 xs)
+    filter-map (λ x. precedes key (site_key x)) make (enumerate_from 1 xs)
     ∙ ap (map make) (filter-same (λ x. precedes key (site_key (make x))) (λ x. entry_after key r x.0) same (enumerate_from 1 xs) ∙ entries_after key r xs)
 
 -- ---- a key's package
@@ -170,7 +151,7 @@ module _ (r : Rule) (place : ℕ) (aspect : Option Aspect) where
   alone_after : (p : Placed) (site : Site) → precedes (of_package p.0) (site_key site) ≡ entry_after (of_package p.0) rule.Keep 1
       → filter (λ x. precedes (of_package p.0) (site_key x)) (site ∷ []) ≡ map (λ x. site) (entries_left (passed (of_package p.0) rule.Keep) (p ∷ []))
   alone_after p site same =
-      filter-made (λ x. precedes (of_package p.0) (site_key x)) (λ x. site) (enumerate_from 1 (p ∷ []))
+      filter-map (λ x. precedes (of_package p.0) (site_key x)) (λ x. site) (enumerate_from 1 (p ∷ []))
       ∙ ap (map (λ x. site)) (ap (λ b. cond b ((1, p) ∷ []) []) same ∙ entries_after (of_package p.0) rule.Keep (p ∷ []))
 
   kept_after : (k : Keep) (p : Placed) → filter (λ x. precedes (of_package p.0) (site_key x)) (kept_sites k p) ≡ kept_left (passed (of_package p.0) rule.Keep) k p
@@ -197,7 +178,7 @@ module _ (r : Rule) (place : ℕ) (aspect : Option Aspect) where
   own_after : (s : Proposal) (p : Placed) → filter (is_after (of_package p.0)) (package_stops s p) ≡ package_left s (of_package p.0) (Some p)
   own_after s p =
       filter-append (is_after (of_package p.0)) (map at_site (package_sites s p)) (package_end p.0 ∷ [])
-      ∙ (λ i. (filter-made (is_after (of_package p.0)) at_site (package_sites s p) ∙ ap (map at_site) (sites_after s p)) i ++ cond (itself i) (package_end p.0 ∷ []) [])
+      ∙ (λ i. (filter-map (is_after (of_package p.0)) at_site (package_sites s p) ∙ ap (map at_site) (sites_after s p)) i ++ cond (itself i) (package_end p.0 ∷ []) [])
     where
       itself : nat_le p.0 p.0 ≡ true
       itself = grind (arith, nat_tests)
@@ -358,7 +339,7 @@ request_after r place aspect request h =
 pub unknown_after : (place : ℕ) (aspect : Option Aspect) (unknown : List PlainUnknown)
     → filter (λ x. precedes (key_of part.Solution rule.Unknown place aspect) (site_key x)) (map unknown_stanza unknown) ≡ map unknown_stanza (unknown_left place unknown)
 unknown_after place aspect unknown =
-    filter-made (λ x. precedes (key_of part.Solution rule.Unknown place aspect) (site_key x)) unknown_stanza unknown
+    filter-map (λ x. precedes (key_of part.Solution rule.Unknown place aspect) (site_key x)) unknown_stanza unknown
     ∙ ap (map unknown_stanza) (filter-same (λ u. precedes (key_of part.Solution rule.Unknown place aspect) (site_key (unknown_stanza u))) (λ u. nat_lt place u.stanza)
     (λ u. place_decides place u.stanza (aspect_rank aspect)) unknown)
 
@@ -366,7 +347,7 @@ unknown_after place aspect unknown =
 pub all_unknown_after : (key : PlainKey) → ((u : PlainUnknown) → precedes key (site_key (unknown_stanza u)) ≡ true) → (unknown : List PlainUnknown)
     → filter (λ x. precedes key (site_key x)) (map unknown_stanza unknown) ≡ map unknown_stanza unknown
 all_unknown_after key h unknown =
-    filter-made (λ x. precedes key (site_key x)) unknown_stanza unknown
+    filter-map (λ x. precedes key (site_key x)) unknown_stanza unknown
     ∙ ap (map unknown_stanza) (all_kept (λ u. precedes key (site_key (unknown_stanza u))) h unknown)
 
 -- ---- the walk
@@ -375,7 +356,7 @@ others_after : (key : PlainKey) (request left : List Site) (unknown more : List 
     → filter (λ x. precedes key (site_key x)) request ≡ left → filter (λ x. precedes key (site_key x)) unknown ≡ more
     → filter (is_after key) (map at_site (request ++ unknown)) ≡ map at_site (left ++ more)
 others_after key request left unknown more h k =
-    filter-made (is_after key) at_site (request ++ unknown)
+    filter-map (is_after key) at_site (request ++ unknown)
     ∙ ap (map at_site) (filter-append (λ x. precedes key (site_key x)) request unknown ∙ (λ i. h i ++ k i))
 
 by_part : (s : Proposal) (p : Part) (r : Rule) (place : ℕ) (aspect : Option Aspect) → is_key p r place aspect ≡ true

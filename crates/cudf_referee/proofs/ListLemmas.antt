@@ -1,7 +1,8 @@
--- Lists that are empty, and tests of lists.
+-- Tests, and lists: what passes, how many do, and which are empty.
 use Rattle.std.proofs.Common.{◌≡◌, ℕ, ◌+◌, ◌<◌, Bool, true, false, not, ◌&&◌, ◌||◌, List, [], ◌∷◌, ◌++◌, length, take, get_or, map, filter, cond, refl, ap, sym, ◌∙◌}
 use Rattle.std.proofs.lemmas.List.{map-append, take_more}
-use Rattle.std.specs.List.{list_all, list_any, flat_map, enumerate_from}
+use Rattle.std.proofs.lemmas.List.Sums.{sum_by-cons}
+use Rattle.std.specs.List.{count_by, list_all, list_any, flat_map, enumerate_from}
 use Rattle.cudf_referee.specs.Entries.{is_empty}
 
 pub and_true : (a : Bool) → (a && true) ≡ a
@@ -11,6 +12,10 @@ and_true false = refl
 pub and_false : (a : Bool) → (a && false) ≡ false
 and_false true = refl
 and_false false = refl
+
+pub or_true : (a : Bool) → (a || true) ≡ true
+or_true true = refl
+or_true false = refl
 
 pub and_left : (a b : Bool) → (a && b) ≡ true → a ≡ true
 and_left true b h = refl
@@ -30,6 +35,43 @@ and_swap false b c d = refl
 pub not_not : (a : Bool) → not (not a) ≡ a
 not_not true = refl
 not_not false = refl
+
+pub false_from_not : (a : Bool) → not a ≡ true → a ≡ false
+false_from_not true h = sym h
+false_from_not false h = refl
+
+-- ---- what is kept of a list
+
+kept_case : {A B : Type 0} (b : Bool) (f : A → B) (x : A) (xs : List A) (ys : List B) → ys ≡ map f xs → cond b (f x ∷ ys) ys ≡ map f (cond b (x ∷ xs) xs)
+kept_case true f x xs ys h = ap (λ zs. f x ∷ zs) h
+kept_case false f x xs ys h = h
+
+-- a test of what is made is a test of what it is made of
+pub filter-map : {A B : Type 0} (test : B → Bool) (f : A → B) (xs : List A) → filter test (map f xs) ≡ map f (filter (λ x. test (f x)) xs)
+filter-map test f [] = refl
+filter-map test f (x ∷ xs) = kept_case (test (f x)) f x (filter (λ y. test (f y)) xs) (filter test (map f xs)) (filter-map test f xs)
+
+pub filter-same : {A : Type 0} (p q : A → Bool) → ((x : A) → p x ≡ q x) → (xs : List A) → filter p xs ≡ filter q xs
+filter-same p q same xs = ap (λ test. filter test xs) (λ i x. same x i)
+
+pub all_kept : {A : Type 0} (test : A → Bool) → ((x : A) → test x ≡ true) → (xs : List A) → filter test xs ≡ xs
+all_kept test h [] = refl
+all_kept test h (x ∷ xs) = (λ i. cond (h x i) (x ∷ all_kept test h xs i) (all_kept test h xs i))
+
+pub none_kept : {A : Type 0} (test : A → Bool) → ((x : A) → test x ≡ false) → (xs : List A) → filter test xs ≡ []
+none_kept test h [] = refl
+none_kept test h (x ∷ xs) = (λ i. cond (h x i) (x ∷ none_kept test h xs i) (none_kept test h xs i))
+
+-- ---- how many pass
+
+pub count-cons : {A : Type 0} (test : A → Bool) (x : A) (xs : List A) → count_by test (x ∷ xs) ≡ cond (test x) 1 0 + count_by test xs
+count-cons test x xs = sum_by-cons (λ y. cond (test y) 1 0) x xs
+
+pub count-map : {A B : Type 0} (test : B → Bool) (f : A → B) (xs : List A) → count_by test (map f xs) ≡ count_by (λ x. test (f x)) xs
+count-map test f [] = refl
+count-map test f (x ∷ xs) = count-cons test (f x) (map f xs) ∙ ap (λ n. cond (test (f x)) 1 0 + n) (count-map test f xs) ∙ sym (count-cons (λ y. test (f y)) x xs)
+
+-- ---- tests of all elements
 
 -- tests that agree everywhere
 pub list_all-same : {A : Type 0} (p q : A → Bool) → ((x : A) → p x ≡ q x) → (xs : List A) → list_all p xs ≡ list_all q xs

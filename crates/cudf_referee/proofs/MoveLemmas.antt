@@ -21,7 +21,8 @@ use Rattle.cudf_referee.specs.Working.Judged.{instance_at, is_violated, given_at
 use Rattle.cudf_referee.specs.Working.Places.{IsFitting, ahead}
 use Rattle.cudf_referee.specs.Working.Searches.{or_later, first_given, unless_found, sum_to_first, cost_to_first, least_to_first, Finds}
 use Rattle.cudf_referee.specs.Working.Walkers.{stops_behind}
-use Rattle.cudf_referee.proofs.AheadLemmas.{all_kept, not_below, kept_above, after-ranks, after-left}
+use Rattle.cudf_referee.proofs.AheadLemmas.{not_below, kept_above, after-ranks, after-left}
+use Rattle.cudf_referee.proofs.ListLemmas.{all_kept, none_kept}
 use Rattle.cudf_referee.proofs.AscentLemmas.{Below, chained, Climbs, from_lower, climbs-filter, walk-climbs}
 use Rattle.cudf_referee.proofs.PositionLemmas.{stop_ranks, is_after-ranks, IsLater, later-key, later-start}
 use Rattle.cudf_referee.proofs.SiteLemmas.{key_at, left-walk}
@@ -182,14 +183,10 @@ found_after s key i (x ∷ xs) h = by (is_after key x) refl (given_at s x) refl 
         ap (λ r. is_lt (slice_cmp nat_cmp (key_ranks key) r)) (sym (given_ranks s x i (e ∙ sym (first_case s x more (Some j) e) ∙ sym (ap (λ b. first_given s (cond b (x ∷ more) more)) later) ∙ h)))
         ∙ sym (is_after-ranks key x) ∙ later
 
-pub none_ahead : (xs : List Stop) → filter (is_ahead at_end) xs ≡ []
-none_ahead [] = refl
-none_ahead (x ∷ xs) = none_ahead xs
-
 found_later : (s : Proposal) (old : PlainPosition) (i : PlainInstance) → first_given s (ahead s old) ≡ Some i → IsLater old (at_key i.key)
 found_later s at_start i h = later-start (at_key i.key)
 found_later s (at_key key) i h = later-key key i.key (found_after s key i (walk s) h)
-found_later s at_end i h = absurd (cc (sym (ap (first_given s) (none_ahead (walk s))) ∙ h))
+found_later s at_end i h = absurd (cc (sym (ap (first_given s) (none_kept (is_ahead at_end) (λ x. refl) (walk s))) ∙ h))
 
 weaker_case : (a b : Bool) → (b ≡ true → a ≡ true) → (a && b) ≡ b
 weaker_case true b h = refl
@@ -229,7 +226,7 @@ moves s old found n m h finds = record {
 -- at the end there is nothing to be found
 pub finds-end : (s : Proposal) (position : PlainPosition) (n : ℕ) → position ≡ at_end → Finds s (ahead s position) None n n
 finds-end s position n same =
-    let none : ahead s position ≡ [] = ap (ahead s) same ∙ none_ahead (walk s) in
+    let none : ahead s position ≡ [] = ap (ahead s) same ∙ none_kept (is_ahead at_end) (λ x. refl) (walk s) in
     record { given = ap (first_given s) (sym none); price = omega arith; grows = omega (arith, ap (least_to_first s) none) }
 
 all_ahead : (s : Proposal) (key : Option PlainKey) → IsFitting (behind key) → stops_behind s key ≡ ahead s (behind key)

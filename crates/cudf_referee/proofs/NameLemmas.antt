@@ -7,9 +7,8 @@ use Rattle.std.proofs.lemmas.List.{append-nil}
 use Rattle.std.proofs.lemmas.List.Elements.{filter-append}
 use Rattle.std.proofs.lemmas.Slice.Eq.{bytes_eq-Decides}
 use Rattle.indexmap.specs.IndexSet.{insert_key}
-use Rattle.cudf_universe.proofs.CountLemmas.{count-cons}
 use Rattle.cudf_referee.specs.Criteria.{each_once}
-use Rattle.cudf_referee.proofs.ListLemmas.{and_left, and_right}
+use Rattle.cudf_referee.proofs.ListLemmas.{and_left, and_right, false_from_not, count-cons}
 
 abbrev Name : Type 0
 Name = List ℕ
@@ -101,12 +100,8 @@ distinct-filter : (q : Name → Bool) (xs : List Name) → distinct xs ≡ true 
 distinct-filter q [] h = refl
 distinct-filter q (x ∷ xs) h = by (q x) (and_left (not (list_any (bytes_eq x) xs)) (distinct xs) h) (distinct-filter q xs (and_right (not (list_any (bytes_eq x) xs)) (distinct xs) h))
   where
-    no : (b : Bool) → not b ≡ true → b ≡ false
-    no true e = sym e
-    no false e = refl
-
     by : (b : Bool) → not (list_any (bytes_eq x) xs) ≡ true → distinct (filter q xs) ≡ true → distinct (cond b (x ∷ filter q xs) (filter q xs)) ≡ true
-    by true fresh rest = λ i. not (any_less (bytes_eq x) q xs (no (list_any (bytes_eq x) xs) fresh) i) && rest i
+    by true fresh rest = λ i. not (any_less (bytes_eq x) q xs (false_from_not (list_any (bytes_eq x) xs) fresh) i) && rest i
     by false fresh rest = rest
 
 pub distinct-once : (xs : List Name) → distinct (each_once xs) ≡ true
@@ -124,10 +119,6 @@ others_kept x (y ∷ ys) none = by (bytes_eq x y) refl none (others_kept x ys)
     by true e h rest = absurd (true≢false h)
     by false e h rest = ap (λ zs. y ∷ zs) (rest h)
 
-no-not : (b : Bool) → not b ≡ true → b ≡ false
-no-not true e = sym e
-no-not false e = refl
-
 -- without a name that passes there is one less
 count_less : (t : Name → Bool) (x : Name) (ys : List Name) → distinct ys ≡ true → list_any (bytes_eq x) ys ≡ true → t x ≡ true
     → count_by t ys ≡ 1 + count_by t (filter (λ o. not (bytes_eq x o)) ys)
@@ -142,7 +133,7 @@ count_less t x (y ∷ ys) apart there passes =
         → count_by t (y ∷ ys) ≡ 1 + count_by t (cond (not b) (y ∷ less) less)
     by true e h rest =
         let is : x ≡ y = same_text x y e in
-        let alone : list_any (bytes_eq x) ys ≡ false = ap (λ k. list_any (bytes_eq k) ys) is ∙ no-not (list_any (bytes_eq y) ys) (and_left (not (list_any (bytes_eq y) ys)) (distinct ys) apart) in
+        let alone : list_any (bytes_eq x) ys ≡ false = ap (λ k. list_any (bytes_eq k) ys) is ∙ false_from_not (list_any (bytes_eq y) ys) (and_left (not (list_any (bytes_eq y) ys)) (distinct ys) apart) in
         count-cons t y ys ∙ ap (λ b. cond b 1 0 + count_by t ys) (ap t (sym is) ∙ passes) ∙ ap (λ zs. 1 + count_by t zs) (sym (others_kept x ys alone))
     by false e h rest = count-cons t y ys ∙ ap (λ n. cond (t y) 1 0 + n) (rest h) ∙ swap (cond (t y) 1 0) (count_by t less) ∙ ap (λ n. 1 + n) (sym (count-cons t y less))
       where
@@ -169,7 +160,7 @@ same_count t [] ys apart_x apart_y same = sym (none_counted t ys (λ f passes. s
 same_count t (x ∷ xs) ys apart_x apart_y same = count-cons t x xs ∙ by (t x) refl (λ zs apart same_xs. same_count t xs zs below apart same_xs)
   where
     lone : list_any (bytes_eq x) xs ≡ false
-    lone = no-not (list_any (bytes_eq x) xs) (and_left (not (list_any (bytes_eq x) xs)) (distinct xs) apart_x)
+    lone = false_from_not (list_any (bytes_eq x) xs) (and_left (not (list_any (bytes_eq x) xs)) (distinct xs) apart_x)
 
     below : distinct xs ≡ true
     below = and_right (not (list_any (bytes_eq x) xs)) (distinct xs) apart_x
@@ -216,10 +207,6 @@ at_number F F' G n [] d apart there other here = absurd (true≢false (sym there
 at_number {R = R} F F' G n (m ∷ ns) d apart there other here =
     by (bytes_eq n m) refl there (λ h. at_number F F' G n ns d (and_right (not (list_any (bytes_eq m) ns)) (distinct ns) apart) h other here)
   where
-    no : (b : Bool) → not b ≡ true → b ≡ false
-    no true e = sym e
-    no false e = refl
-
     row : ℕ → R
     row k = get_or (map F (m ∷ ns)) k d
 
@@ -228,7 +215,7 @@ at_number {R = R} F F' G n (m ∷ ns) d apart there other here =
         → set (map F (m ∷ ns)) (cond (not (bytes_eq n m)) (1 + position_or_len (bytes_eq n) ns) 0) (G (get_or (map F (m ∷ ns)) (cond (not (bytes_eq n m)) (1 + position_or_len (bytes_eq n) ns) 0) d)) ≡ map F' (m ∷ ns)
     by true e h rest =
         let is : n ≡ m = same_text n m e in
-        let apart_n : list_any (bytes_eq n) ns ≡ false = ap (λ k. list_any (bytes_eq k) ns) is ∙ no (list_any (bytes_eq m) ns) (and_left (not (list_any (bytes_eq m) ns)) (distinct ns) apart) in
+        let apart_n : list_any (bytes_eq n) ns ≡ false = ap (λ k. list_any (bytes_eq k) ns) is ∙ false_from_not (list_any (bytes_eq m) ns) (and_left (not (list_any (bytes_eq m) ns)) (distinct ns) apart) in
         (λ i. set (map F (m ∷ ns)) (cond (not (e i)) (1 + position_or_len (bytes_eq n) ns) 0) (G (get_or (map F (m ∷ ns)) (cond (not (e i)) (1 + position_or_len (bytes_eq n) ns) 0) d)))
         ∙ (λ i. (ap (λ k. G (F k)) (sym is) ∙ sym here ∙ ap F' is) i ∷ kept_others F F' n ns other apart_n i)
     by false e h rest =

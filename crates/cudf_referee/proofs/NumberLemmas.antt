@@ -2,6 +2,7 @@
 use Rattle.std.proofs.Common.{◌≡◌, ℕ, zero, suc, ◌<◌, ◌≤◌, Bool, true, false, not, ◌||◌, ◌==◌, nat_lt, List, [], ◌∷◌, length, get_or, refl, ap, ◌∙◌, arith, eq-eqb, eqb-true, All, Contains}
 use Rattle.std.specs.List.{list_any}
 use Rattle.std.proofs.lemmas.Bool.{le-ltb, ltb-false}
+use Rattle.cudf_referee.proofs.ListLemmas.{or_true}
 
 -- none passes
 pub list_any-false : {A : Type 0} (p : A → Bool) (xs : List A) → All (λ x. p x ≡ false) xs → list_any p xs ≡ false
@@ -10,10 +11,6 @@ list_any-false p (x ∷ xs) h = λ i. h 0 x first i || list_any-false p xs (λ k
   where
     first : 0 < length (x ∷ xs)
     first = omega arith
-
-or_true : (a : Bool) → (a || true) ≡ true
-or_true true = refl
-or_true false = refl
 
 passes_at : {A : Type 0} (p : A → Bool) (xs : List A) (d : A) (k : ℕ) → k < length xs → p (get_or xs k d) ≡ true → list_any p xs ≡ true
 passes_at p [] d k below h = absurd (omega arith)

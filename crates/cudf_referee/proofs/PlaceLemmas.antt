@@ -5,9 +5,7 @@ use Rattle.std.proofs.lemmas.List.{map-append, length-drop}
 use Rattle.std.proofs.lemmas.List.Elements.{filter-append}
 use Rattle.std.specs.Cmp.Lexicographic.{slice_cmp}
 use Rattle.std.specs.List.{flat_map, enumerate_from}
-use Rattle.std.specs.Ordering.{nat_cmp, is_lt}
-use Rattle.std.specs.declared.cmp.Ordering.{Ordering}
-use Rattle.std.specs.declared.cmp.Ordering.TheVariants.{Less, Equal, Greater}
+use Rattle.std.specs.Ordering.{nat_cmp}
 use Rattle.cudf_document.specs.Statuses.{PlainUnknown, ascend_above}
 use Rattle.cudf_referee.specs.declared.key.Part.{Part}
 use Rattle.cudf_referee.specs.declared.key.Part.TheVariants as part
@@ -23,11 +21,12 @@ use Rattle.cudf_referee.specs.Violations.{unknown_instance}
 use Rattle.cudf_referee.specs.Working.Judged.{given_at}
 use Rattle.cudf_referee.specs.Working.Places.{ahead, IsFitting, unknown_behind, unknown_ahead, BeginsAt, place_behind, next_place}
 use Rattle.cudf_referee.specs.Working.Searches.{or_later, first_given, unknown_left}
-use Rattle.cudf_referee.proofs.AheadLemmas.{filter-made, all_kept, key_of, unknown_after, all_unknown_after}
+use Rattle.cudf_referee.proofs.AheadLemmas.{key_of, unknown_after, all_unknown_after}
 use Rattle.cudf_referee.proofs.AscentLemmas.{Below, chained, Climbs, from_lower, climbs-append, climbs-map, climbs-filter, climbs-over, packages_climb, request_climbs}
-use Rattle.cudf_referee.proofs.ListLemmas.{and_left, and_right}
-use Rattle.cudf_referee.proofs.MoveLemmas.{given_ranks, first_case, found_after, none_ahead}
-use Rattle.cudf_referee.proofs.PositionLemmas.{stop_ranks}
+use Rattle.cudf_referee.proofs.ListLemmas.{and_left, and_right, filter-map, all_kept, none_kept}
+use Rattle.cudf_referee.proofs.MoveLemmas.{given_ranks, first_case, found_after}
+use Rattle.cudf_referee.proofs.PositionLemmas.{stop_ranks, lt_less}
+use Rattle.cudf_referee.proofs.SearchLemmas.{first_given-append}
 
 -- ---- numbers above one
 
@@ -39,15 +38,15 @@ kept_above_all n m (u ∷ us) h ascends =
     let more = kept_above_all n u.stanza us (omega arith) (and_right (nat_lt m u.stanza) (ascend_above u.stanza us) ascends) in
     (λ i. cond (here i) (u ∷ more i) (more i))
 
+the_first : (x : PlainUnknown) (us : List PlainUnknown) (u : PlainUnknown) (more : List PlainUnknown) → x ∷ us ≡ u ∷ more → x ≡ u
+the_first x us u more h = cc
+
 behind_first : (m : ℕ) (unknown : List PlainUnknown) (n : ℕ) (u : PlainUnknown) (more : List PlainUnknown) → ascend_above m unknown ≡ true → drop n unknown ≡ u ∷ more → m < u.stanza
 behind_first m [] zero u more ascends h = absurd (cc h)
 behind_first m [] (suc n) u more ascends h = absurd (cc h)
 behind_first m (x ∷ us) zero u more ascends h =
     let same : x.stanza ≡ u.stanza = ap (λ (y : PlainUnknown). y.stanza) (the_first x us u more h) in
     omega (arith, ltb-true m x.stanza (and_left (nat_lt m x.stanza) (ascend_above x.stanza us) ascends), same)
-  where
-    the_first : (x : PlainUnknown) (us : List PlainUnknown) (u : PlainUnknown) (more : List PlainUnknown) → x ∷ us ≡ u ∷ more → x ≡ u
-    the_first x us u more h = cc
 behind_first m (x ∷ us) (suc n) u more ascends h =
     omega (arith, ltb-true m x.stanza (and_left (nat_lt m x.stanza) (ascend_above x.stanza us) ascends), behind_first x.stanza us n u more (and_right (nat_lt m x.stanza) (ascend_above x.stanza us) ascends) h)
 
@@ -61,9 +60,6 @@ left_behind m zero (x ∷ us) u more ascends h =
     let here = le-ltb u.stanza x.stanza (omega (arith, same)) in
     let left = kept_above_all u.stanza x.stanza us (omega (arith, same)) (and_right (nat_lt m x.stanza) (ascend_above x.stanza us) ascends) in
     (λ i. cond (here i) (x ∷ left i) (left i))
-  where
-    the_first : (x : PlainUnknown) (us : List PlainUnknown) (u : PlainUnknown) (more : List PlainUnknown) → x ∷ us ≡ u ∷ more → x ≡ u
-    the_first x us u more h = cc
 left_behind m (suc n) (x ∷ us) u more ascends h =
     let later = and_right (nat_lt m x.stanza) (ascend_above x.stanza us) ascends in
     let here = le-ltb u.stanza x.stanza (omega (arith, behind_first x.stanza us n u more later h)) in
@@ -98,26 +94,18 @@ first_below s low (x ∷ xs) high i h k = by (given_at s x) refl (first_below s 
     by None e later = later (sym (first_case s x xs None e) ∙ k)
     by (Some j) e later = subst (λ (r : List ℕ). Below r high) (given_ranks s x i (e ∙ sym (first_case s x xs (Some j) e) ∙ k)) (climbs-over stop_ranks (stop_ranks x) xs high h.1)
 
-first-append : (s : Proposal) (xs ys : List Stop) → first_given s (xs ++ ys) ≡ or_later (first_given s xs) (first_given s ys)
-first-append s [] ys = refl
-first-append s (x ∷ xs) ys = ap (or_later (given_at s x)) (first-append s xs ys) ∙ regroup (given_at s x) (first_given s xs) (first_given s ys)
-  where
-    regroup : (a b c : Option PlainInstance) → or_later a (or_later b c) ≡ or_later (or_later a b) c
-    regroup None b c = refl
-    regroup (Some i) b c = refl
-
 -- ---- the unknown stanzas ahead
 
 behind_key : (p : Part) (r : Rule) (place : ℕ) (aspect : Option Aspect) (unknown : List PlainUnknown) → is_key p r place aspect ≡ true
     → filter (is_after (key_of p r place aspect)) (unknown_stops unknown) ≡ unknown_stops (unknown_behind p place unknown)
 behind_key (part.Package n) r place aspect unknown h =
-    filter-made (is_after (key_of (part.Package n) r place aspect)) at_site (map unknown_stanza unknown)
+    filter-map (is_after (key_of (part.Package n) r place aspect)) at_site (map unknown_stanza unknown)
     ∙ ap (map at_site) (all_unknown_after (key_of (part.Package n) r place aspect) (λ u. refl) unknown)
 behind_key part.Request r place aspect unknown h =
-    filter-made (is_after (key_of part.Request r place aspect)) at_site (map unknown_stanza unknown)
+    filter-map (is_after (key_of part.Request r place aspect)) at_site (map unknown_stanza unknown)
     ∙ ap (map at_site) (all_unknown_after (key_of part.Request r place aspect) (λ u. refl) unknown)
 behind_key part.Solution rule.Unknown place aspect unknown h =
-    filter-made (is_after (key_of part.Solution rule.Unknown place aspect)) at_site (map unknown_stanza unknown)
+    filter-map (is_after (key_of part.Solution rule.Unknown place aspect)) at_site (map unknown_stanza unknown)
     ∙ ap (map at_site) (unknown_after place aspect unknown)
 behind_key part.Solution rule.Depends place aspect unknown h = absurd (cc h)
 behind_key part.Solution rule.Conflicts place aspect unknown h = absurd (cc h)
@@ -129,14 +117,9 @@ behind_key part.Solution rule.Upgrade place aspect unknown h = absurd (cc h)
 ahead_unknown : (old : PlainPosition) (unknown : List PlainUnknown) → IsFitting old → filter (is_ahead old) (unknown_stops unknown) ≡ unknown_stops (unknown_ahead old unknown)
 ahead_unknown at_start unknown fits = all_kept (is_ahead at_start) (λ x. refl) (unknown_stops unknown)
 ahead_unknown (at_key key) unknown fits = behind_key key.part key.rule key.place key.aspect unknown fits
-ahead_unknown at_end unknown fits = none_ahead (unknown_stops unknown)
+ahead_unknown at_end unknown fits = none_kept (is_ahead at_end) (λ x. refl) (unknown_stops unknown)
 
 -- ---- behind an instance
-
-less_is : (o : Ordering) → is_lt o ≡ true → o ≡ Less
-less_is Less h = refl
-less_is Equal h = absurd (cc h)
-less_is Greater h = absurd (cc h)
 
 -- behind a key that isn't of the solution all are left
 all_behind : (p : Part) (r : Rule) (place : ℕ) (aspect : Option Aspect) (n : ℕ) (unknown : List PlainUnknown) → Below (key_ranks (key_of p r place aspect)) (3 ∷ [])
@@ -150,8 +133,8 @@ module _ (s : Proposal) where
   known_found at_start i h below = refl
   known_found (at_key key) i h below =
       (all_behind key.part key.rule key.place key.aspect 0 s.unknown
-      (chained (key_ranks key) (key_ranks i.key) (3 ∷ []) (less_is (slice_cmp nat_cmp (key_ranks key) (key_ranks i.key)) (found_after s key i (known_stops s) h)) below)).0
-  known_found at_end i h below = absurd (cc (sym (ap (first_given s) (none_ahead (known_stops s))) ∙ h))
+      (chained (key_ranks key) (key_ranks i.key) (3 ∷ []) (lt_less (slice_cmp nat_cmp (key_ranks key) (key_ranks i.key)) (found_after s key i (known_stops s) h)) below)).0
+  known_found at_end i h below = absurd (cc (sym (ap (first_given s) (none_kept (is_ahead at_end) (λ x. refl) (known_stops s))) ∙ h))
 
   at_known : (old : PlainPosition) (n : ℕ) (i : PlainInstance) → BeginsAt old s.unknown n → first_given s (filter (is_ahead old) (known_stops s)) ≡ Some i
       → BeginsAt (at_key i.key) s.unknown (place_behind i.key.part n)
@@ -181,7 +164,7 @@ module _ (s : Proposal) where
   split old n fits begins =
       ap (λ xs. first_given s (filter (is_ahead old) xs)) (walk-split s)
       ∙ ap (first_given s) (filter-append (is_ahead old) (known_stops s) (unknown_stops s.unknown))
-      ∙ first-append s (filter (is_ahead old) (known_stops s)) (filter (is_ahead old) (unknown_stops s.unknown))
+      ∙ first_given-append s (filter (is_ahead old) (known_stops s)) (filter (is_ahead old) (unknown_stops s.unknown))
       ∙ ap (λ xs. or_later (first_given s (filter (is_ahead old) (known_stops s))) (first_given s xs)) (ahead_unknown old s.unknown fits ∙ ap unknown_stops begins.begins)
 
   -- the unknown stanzas that are left behind what a search finds begin at the next place, if it is one of them

@@ -20,7 +20,7 @@ use Rattle.cudf_referee.specs.Sites.{Stop, at_site, package_end, site_key, walk,
 
 -- ---- keys
 
-lt_less : (o : Ordering) → is_lt o ≡ true → o ≡ Less
+pub lt_less : (o : Ordering) → is_lt o ≡ true → o ≡ Less
 lt_less Less h = refl
 lt_less Equal h = absurd (cc h)
 lt_less Greater h = absurd (cc h)

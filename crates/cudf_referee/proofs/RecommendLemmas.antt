@@ -10,11 +10,11 @@ use Rattle.std.proofs.lemmas.List.Elements.{filter-append}
 use Rattle.cudf_document.specs.declared.package.Keep.TheVariants.{Nothing}
 use Rattle.cudf_document.specs.Universe.{PlainPackage, PlainProblem, recommends_at, package_at}
 use Rattle.cudf_universe.specs.Satisfaction.{Placed, members, satisfies_clause}
-use Rattle.cudf_universe.proofs.CountLemmas.{count-cons}
 use Rattle.cudf_referee.specs.Criteria.{at_most_max}
 use Rattle.cudf_referee.specs.Entries.{those}
 use Rattle.cudf_referee.specs.Proposals.{Proposal, recommended}
 use Rattle.cudf_referee.proofs.EntryLemmas.{enumerate-push}
+use Rattle.cudf_referee.proofs.ListLemmas.{count-cons}
 
 -- as many pass with their places as without
 length-those : {A : Type 0} (test : A → Bool) (n : ℕ) (xs : List A) → length (filter (λ (x : ℕ × A). test x.1) (enumerate_from n xs)) ≡ count_by test xs

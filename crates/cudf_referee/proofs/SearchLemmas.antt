@@ -172,10 +172,7 @@ loop-next : {A : Type 0} (make : ℕ × A → Site) (xs : List A) (first i : ℕ
 loop-next make xs first i d item below is =
     stops-next make xs (first + i) d (within-rest xs xs first i refl below)
     ∙ ap (λ x. at_site (make (first + i + 1, x)) ∷ stops_from make xs (first + i + 1)) (sym (read-rest xs xs first i d item refl below is))
-    ∙ ap (λ n. at_site (make (first + i + 1, item)) ∷ stops_from make xs n) next
-  where
-    next : first + i + 1 ≡ first + (i + 1)
-    next = omega arith
+    ∙ ap (λ n. at_site (make (first + i + 1, item)) ∷ stops_from make xs n) (add_assoc first i 1)
 
 -- behind an entry that gave nothing
 pub loop-more : {A : Type 0} (s : Proposal) (make : ℕ × A → Site) (passed : Option ℕ) (xs : List A) (first i : ℕ) (d item : A) (old now new : ℕ)
@@ -296,12 +293,9 @@ pub blocks-more : {A B : Type 0} (s : Proposal) (G : List (ℕ × A) → List St
     → ys ≡ xs → i < length (rest_of ys first) → item ≡ get_or (rest_of ys first) i d → Finds s (F (first + i + 1, view item)) None now new
     → Passes s all (G (drop (first + i) (enumerate_from 1 (map view xs)))) old now → Passes s all (G (drop (first + (i + 1)) (enumerate_from 1 (map view xs)))) old new
 blocks-more s G F view all ys xs first i d item old now new goes same below is finds passes =
-    passes-at s all _ _ old new (ap (λ n. G (drop n (enumerate_from 1 (map view xs)))) count)
+    passes-at s all _ _ old new (ap (λ n. G (drop n (enumerate_from 1 (map view xs)))) (add_assoc first i 1))
     (Passes-more s all (F (first + i + 1, view item)) (G (drop (first + i + 1) (enumerate_from 1 (map view xs)))) old now new
     (passes-at s all _ _ old now (block-next G F view xs (first + i) d goes (within-rest ys xs first i same below) ∙ ap (λ x. F (first + i + 1, view x) ++ G (drop (first + i + 1) (enumerate_from 1 (map view xs)))) (sym (read-rest ys xs first i d item same below is))) passes) finds)
-  where
-    count : first + i + 1 ≡ first + (i + 1)
-    count = omega arith
 
 pub blocks-found : {A B : Type 0} (s : Proposal) (G : List (ℕ × A) → List Stop) (F : ℕ × A → List Stop) (view : B → A) (all : List Stop) (ys xs : List B) (first i : ℕ) (d item : B) (instance : PlainInstance) (old now new : ℕ)
     → ((e : ℕ × A) (es : List (ℕ × A)) → G (e ∷ es) ≡ F e ++ G es)

@@ -15,6 +15,7 @@ use Rattle.cudf_referee.specs.Violations.{has_package, violated_depends, violate
 use Rattle.cudf_referee.specs.Sites.{Site, conjunct, conflicts_entry, kept_version, kept_package, kept_feature, install_entry, remove_entry, upgrade_entry, unknown_stanza, Stop, at_site, package_end, site_key, needed_sites, kept_sites, package_sites, upgrade_sites, request_sites, sites, package_stops, walk, PlainPosition, at_start, at_key, at_end, precedes, is_after, is_ahead}
 use Rattle.cudf_referee.specs.Pages.{left_at}
 use Rattle.cudf_referee.specs.Working.Judged.{instance_at, is_violated, judged, given_at, all_given}
+use Rattle.cudf_referee.proofs.ListLemmas.{all_kept, none_kept}
 
 -- ---- the listing is what is violated of the sites
 
@@ -156,19 +157,11 @@ later_stops s key (at_site x ∷ xs) = later_case (is_violated s x) (precedes ke
     (all_given s xs) (filter (is_after key) xs) refl (ap (precedes key) (key_at s x)) (later_stops s key xs)
 later_stops s key (package_end n ∷ xs) = later_stops s key xs ∙ later_end (is_after key (package_end n)) (given_at s) (package_end n) (filter (is_after key) xs) refl
 
-all_ahead : (xs : List Stop) → filter (is_ahead at_start) xs ≡ xs
-all_ahead [] = refl
-all_ahead (x ∷ xs) = ap (λ ys. x ∷ ys) (all_ahead xs)
-
-none_ahead : (xs : List Stop) → filter (is_ahead at_end) xs ≡ []
-none_ahead [] = refl
-none_ahead (x ∷ xs) = none_ahead xs
-
 pub listing-walk : (s : Proposal) → listing s ≡ all_given s (walk s)
 listing-walk s = listing-sites s ∙ sym (walk-sites s)
 
 -- what is left after a position is what the stops ahead give
 pub left-walk : (position : PlainPosition) (s : Proposal) → left_at position s ≡ all_given s (filter (is_ahead position) (walk s))
-left-walk at_start s = listing-walk s ∙ ap (all_given s) (sym (all_ahead (walk s)))
+left-walk at_start s = listing-walk s ∙ ap (all_given s) (sym (all_kept (is_ahead at_start) (λ x. refl) (walk s)))
 left-walk (at_key key) s = ap (filter (λ i. precedes key i.key)) (listing-walk s) ∙ later_stops s key (walk s)
-left-walk at_end s = ap (all_given s) (sym (none_ahead (walk s)))
+left-walk at_end s = ap (all_given s) (sym (none_kept (is_ahead at_end) (λ x. refl) (walk s)))

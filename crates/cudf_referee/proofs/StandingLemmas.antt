@@ -10,7 +10,6 @@ use Rattle.indexmap.specs.IndexSet.{insert_key}
 use Rattle.cudf_document.specs.Ids.{are_distinct, is_among as is_among_ids}
 use Rattle.cudf_document.specs.Universe.{PlainPackage, package_id}
 use Rattle.cudf_document.proofs.FaultlessLemmas.{distinct-at}
-use Rattle.cudf_universe.proofs.CountLemmas.{count-cons}
 use Rattle.cudf_universe.specs.Satisfaction.{Placed}
 use Rattle.cudf_referee.specs.declared.counting.standing.Standing.{Standing}
 use Rattle.cudf_referee.specs.declared.counting.standings.Standings.{Standings}
@@ -18,7 +17,7 @@ use Rattle.cudf_referee.specs.Criteria.{each_once, names_of, versions_of, is_amo
 use Rattle.cudf_referee.specs.Violations.{has_package}
 use Rattle.cudf_referee.specs.Working.Standings.{no_standing, differ, standing_with, held, names_held, standing_of, standings_of, StandsFor}
 use Rattle.cudf_referee.proofs.EntryLemmas.{enumerate-push}
-use Rattle.cudf_referee.proofs.ListLemmas.{and_false, and_true}
+use Rattle.cudf_referee.proofs.ListLemmas.{and_false, and_true, or_true, count-map}
 use Rattle.cudf_referee.proofs.NameLemmas.{text_same, other_way, any_once, once_push, distinct-once, kept_others, at_number, same_text, same_count}
 
 -- ---- truth
@@ -26,10 +25,6 @@ use Rattle.cudf_referee.proofs.NameLemmas.{text_same, other_way, any_once, once_
 or_false : (a : Bool) → (a || false) ≡ a
 or_false true = refl
 or_false false = refl
-
-or_true : (a : Bool) → (a || true) ≡ true
-or_true true = refl
-or_true false = refl
 
 -- ---- sets of numbers
 
@@ -307,10 +302,6 @@ same_length was is names packages s stands =
 
 -- ---- counting
 
-pub count-map : {A B : Type 0} (f : A → B) (test : B → Bool) (xs : List A) → count_by test (map f xs) ≡ count_by (λ x. test (f x)) xs
-count-map f test [] = refl
-count-map f test (y ∷ ys) = count-cons test (f y) (map f ys) ∙ ap (λ n. cond (test (f y)) 1 0 + n) (count-map f test ys) ∙ sym (count-cons (λ x. test (f x)) y ys)
-
 pub capped : (n : ℕ) → n < 2 ^ 64 → at_most_max n ≡ n
 capped n small = omega arith
 
@@ -445,5 +436,5 @@ pub names_counted : (was is : ℕ → Bool) (xs : List Placed) (rows : List Stan
     → ((f : List ℕ) → test (standing_of was is xs f) ≡ named f) → result ≡ count_by test rows → result < 2 ^ 64 → result ≡ at_most_max (count_by named (names_of xs))
 names_counted was is xs rows result test named quiet rows_are same counted small =
     sym (capped result small)
-    ∙ ap at_most_max (counted ∙ ap (count_by test) rows_are ∙ count-map (standing_of was is xs) test (names_held was is xs)
+    ∙ ap at_most_max (counted ∙ ap (count_by test) rows_are ∙ count-map test (standing_of was is xs) (names_held was is xs)
     ∙ sym (count_held was is xs test quiet) ∙ ap (λ p. count_by p (names_of xs)) (λ i f. same f i))

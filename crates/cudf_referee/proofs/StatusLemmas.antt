@@ -1,7 +1,7 @@
 -- Which places a list of packages with their places holds, where some of them were left out.
 use Rattle.std.proofs.Common.{◌≡◌, ℕ, zero, suc, ◌+◌, ◌<◌, Bool, true, false, ◌&&◌, ◌||◌, ◌==◌, List, [], ◌∷◌, ◌++◌, length, filter, cond, refl, ap, sym, ◌∙◌, arith, eq-eqb, eqb-true}
 use Rattle.std.specs.List.{list_any, list_all, flat_map, enumerate_from}
-use Rattle.cudf_referee.proofs.ListLemmas.{and_true, and_left, and_right}
+use Rattle.cudf_referee.proofs.ListLemmas.{and_true, or_true, and_left, and_right}
 
 -- the list has this place
 abbrev pub holds : {A : Type 0} → List (ℕ × A) → ℕ → Bool
@@ -19,10 +19,6 @@ pub holds-filter : {A : Type 0} (t : ℕ → Bool) (xs : List (ℕ × A)) (n : �
 holds-filter t [] n = elim (t n) as (λ b. false ≡ (b && false)) [ true ↦ refl | false ↦ refl ]
 holds-filter t (x ∷ xs) n = filter_case (t x.0) (t n) (x.0 == n) (holds xs n) n x (filter (λ p. t p.0) xs)
     (λ same. ap t (eqb-true x.0 n same)) refl (holds-filter t xs n)
-
-or_true : (a : Bool) → (a || true) ≡ true
-or_true true = refl
-or_true false = refl
 
 weaker : {A : Type 0} (q r : A → Bool) (xs : List A) → list_all q xs ≡ true → list_all (λ x. r x || q x) xs ≡ true
 weaker q r [] h = refl

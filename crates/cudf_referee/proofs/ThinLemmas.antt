@@ -11,7 +11,6 @@ use Rattle.cudf_document.specs.Ids.{Id}
 use Rattle.cudf_document.specs.Thin.{thinned, thin_package, thin_problem}
 use Rattle.cudf_document.specs.Universe.{PlainPackage, PlainProblem, PlainRequest, package_at, package_id}
 use Rattle.cudf_universe.specs.Satisfaction.{Pair, Placed, members, numbers_of, package_pairs, satisfies, satisfies_clause}
-use Rattle.cudf_universe.proofs.CountLemmas.{count-cons}
 use Rattle.cudf_universe.proofs.SearchLemmas.{list_any-map}
 use Rattle.cudf_referee.specs.declared.key.Aspect.TheVariants.{Unsatisfied, Many, Lower}
 use Rattle.cudf_referee.specs.Criteria.{universe, is_touched, each_once, names_of, versions_of, is_among, is_same_set, greatest, at_most_max, criteria}
@@ -19,6 +18,7 @@ use Rattle.cudf_referee.specs.Entries.{those, is_empty}
 use Rattle.cudf_referee.specs.Laws.{ThinIsEnough}
 use Rattle.cudf_referee.specs.Proposals.{Proposal, proposal, holds_place}
 use Rattle.cudf_referee.specs.Violations.{has_package, violated_keep, package_rules, package_instances, are_many, are_lower, upgrade_if, violated_install, violated_remove, violated_upgrade, unknown_instance, listing}
+use Rattle.cudf_referee.proofs.ListLemmas.{filter-map, count-map}
 use Rattle.cudf_referee.proofs.ListingLemmas.{rules_of_members}
 use Rattle.cudf_referee.proofs.SolutionLemmas.{solution_is_empty}
 
@@ -32,20 +32,6 @@ second f q = (q.0, f q.1)
 enumerate-map : {A : Type 0} (f : A → A) (n : ℕ) (xs : List A) → enumerate_from n (map f xs) ≡ map (second f) (enumerate_from n xs)
 enumerate-map f n [] = refl
 enumerate-map f n (x ∷ xs) = ap (λ ys. (n, f x) ∷ ys) (enumerate-map f (n + 1) xs)
-
-filter_step : {A B : Type 0} (f : A → B) (b : Bool) (x : A) (ys : List B) (xs : List A) → ys ≡ map f xs → cond b (f x ∷ ys) ys ≡ map f (cond b (x ∷ xs) xs)
-filter_step f true x ys xs below = ap (λ zs. f x ∷ zs) below
-filter_step f false x ys xs below = below
-
--- a test of what is made is a test of what it is made of
-filter-map : {A B : Type 0} (p : B → Bool) (f : A → B) (xs : List A) → filter p (map f xs) ≡ map f (filter (λ x. p (f x)) xs)
-filter-map p f [] = refl
-filter-map p f (x ∷ xs) = filter_step f (p (f x)) x (filter p (map f xs)) (filter (λ y. p (f y)) xs) (filter-map p f xs)
-
--- those that pass are counted of what is made as of what it is made of
-count-map : {A B : Type 0} (p : B → Bool) (f : A → B) (xs : List A) → count_by p (map f xs) ≡ count_by (λ x. p (f x)) xs
-count-map p f [] = refl
-count-map p f (x ∷ xs) = count-cons p (f x) (map f xs) ∙ ap (λ n. cond (p (f x)) 1 0 + n) (count-map p f xs) ∙ sym (count-cons (λ y. p (f y)) x xs)
 
 -- ---- packages without what they need
 

@@ -1,4 +1,4 @@
-//! The rules that judge the entries of a list one by one, and the search of these entries.
+//! The search of a list's entries, for any rule that judges them one by one.
 ghost use Rattle.std.specs.Prelude.{◌≡◌, ℕ, ◌+◌, ◌<◌, [], ◌∷◌, option_map};
 ghost use Rattle.cudf_referee.specs.Proposals.{Proposal};
 ghost use Rattle.cudf_referee.specs.Sites.{Site, at_site};
@@ -10,7 +10,7 @@ use crate::instance::Instance;
 use crate::walk::left::count_passed;
 use cudf_universe::{Metered, Steps};
 
-/// A rule that is violated, or isn't, at each entry of a list.
+/// A rule that each entry of a list may violate.
 pub(super) trait EntryRule<'t>: Copy {
     type Entry;
 
