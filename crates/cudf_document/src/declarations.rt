@@ -15,6 +15,10 @@ use indexmap::IndexMap;
 use std::alloc::{AllocError, Global};
 use std::marker::Model;
 
+/// How many declarations are looked through one by one at most, which is faster than a look-up by
+/// the name's hash.
+const MAX_FEW: usize = 8;
+
 /// Declarations by their names, in the order in which they came.
 #[derive(Drop)]
 pub(crate) struct Declarations<'t> {
@@ -53,6 +57,9 @@ impl<'t> Declarations<'t> {
         ensures { option_map (λ d. d.now) result
             ≡ find (λ d. bytes_eq name.now d.name) self.now }
     {
+        if self.known.len() <= MAX_FEW {
+            return self.known.values().find(|declared| declared.name() == name);
+        }
         self.known.get(name)
     }
 

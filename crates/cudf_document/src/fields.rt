@@ -162,6 +162,7 @@ pub(crate) fn judge_package<'a>(
 
 /// What is wrong with a property that stands once, if it has this place in a package, or else by its
 /// name.
+#[inline(always)]
 pub(crate) fn judge_property(
     declarations: &Declarations<'_>,
     named: Option<PackageProperty>,
@@ -174,6 +175,7 @@ pub(crate) fn judge_property(
 }
 
 /// What is wrong with a property that stands once, if it has this place in a package, or else this name.
+#[inline(always)]
 fn judge(
     declarations: &Declarations<'_>,
     named: Option<PackageProperty>,

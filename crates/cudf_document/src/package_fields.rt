@@ -63,6 +63,7 @@ impl<'t> PackageFields<'t> {
 
     /// Says what is wrong with a property, and keeps what it says, if it has a place here and its value
     /// is a part of the source.
+    #[inline(always)]
     pub(crate) fn read(
         &mut self,
         alloc: Global,
@@ -84,6 +85,7 @@ impl<'t> PackageFields<'t> {
     }
 
     /// Keeps what a property says, if it has a place here, and says what is wrong with it.
+    #[inline(always)]
     fn keep(
         &mut self,
         alloc: Global,

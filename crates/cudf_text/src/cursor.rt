@@ -1,4 +1,4 @@
-ghost use Rattle.std.specs.Prelude.{◌≡◌, [], map, IfOk, IsTrue};
+ghost use Rattle.std.specs.Prelude.{◌≡◌, [], map, string_bytes, IfOk, IsTrue};
 ghost use Rattle.cudf_text.specs.Cursor.{is_end};
 ghost use Rattle.cudf_text.specs.Lines.{class};
 ghost use Rattle.cudf_text.specs.Working.Left.{text_left, with_tracked, IsCounted};
@@ -254,8 +254,28 @@ fn with_text<'a>(alloc: Global, value: CowStr<'a>, text: &'a str) -> Result<CowS
     if value.is_empty() {
         return Ok(CowStr::Borrowed(text));
     }
-    let mut joined = value.into_owned(alloc)?;
+    let mut joined = match value {
+        CowStr::Owned(joined) => joined,
+        CowStr::Borrowed(first) => with_room(alloc, first, text.len())?,
+    };
     joined.push(' ')?;
     joined.push_str(text)?;
     Ok(CowStr::Owned(joined))
+}
+
+/// The text as one of its own, with room for a space and so many bytes more. There is as much room
+/// as if it had grown for each of them, but it grows only once.
+fn with_room(alloc: Global, text: &str, more: usize) -> Result<String, AllocError>
+    ensures { IfOk result (λ owned. string_bytes owned ≡ text.now) }
+{
+    let whole = text.len().saturating_add(1).saturating_add(more);
+    let twice = text.len().saturating_mul(2);
+    let room = if whole <= twice {
+        twice
+    } else {
+        whole.max(twice.saturating_mul(2))
+    };
+    let mut owned = String::with_capacity(alloc, room)?;
+    owned.push_str(text)?;
+    Ok(owned)
 }
