@@ -22,8 +22,8 @@ Each check starts from hard links to what a check of the crate as it stands prov
 rattle replaces such files, and doesn't write into them. Behind a passed rt ci (--behind-ci, as .ci/run says) the
 libraries below are those that rt ci proved and left in out/rlib, as for its own must-fail edits; else they are built.
 
-What it rests on, beside that: rt as a module, with `read_edit`, `must_fail` and its kinds of answers, `unread`,
-`processors` and `free`, and of rtlib `crates_below`, `lock`, `guarded`, `RATTLE`, `PARTS`, `Crate.words`, `below` and
+What it rests on, beside that: rt as a module, with `read_edit`, `must_fail` and what it answers (one of five kinds, or in
+other kits a truth, and the reason in words), `unread`, `processors` and `free`, and of rtlib `crates_below`, `lock`, `guarded`, `RATTLE`, `PARTS`, `Crate.words`, `below` and
 `build_rlib`; and rattle's wording: 'fn NAME: proved', "fn NAME: .. `search` did not prove `GOAL`", 'proofs/F/Answers.antt:
 L:C: error: ..', and a last line that begins with 'only='. Where a name is missing or no function is told as proved,
 it stops with status 2. Were a refusal worded otherwise, each edit would be tried alone.
@@ -59,6 +59,10 @@ MOST_TOGETHER = 24
 # bytes that one check may take
 MEMORY = 4_000_000_000
 
+# what is said of an edit: each name in rt, where it answers kinds
+KINDS = {"REFUSED": "refused", "AT_LIMIT": "at a limit", "BAD": "bad", "UNSURE": "unsure", "MISSED": "missed"}
+WELL = ("refused", "at a limit")
+
 # rt fmt lays out each function so that its head and the braces of its body begin at one column
 FUNCTION = re.compile(r"( *)(?:pub(?:\([\w: ]+\))? )?(const )?(?:unsafe )*fn (\w+)")
 IMPL = re.compile(r"( *)(?:unsafe )?impl(?:<.*?>)? (?:([\w:]+)(?:<.*>)? for )?([\w:]+)")
@@ -69,7 +73,7 @@ ANSWER = re.compile(r"^(?:\./)?proofs/(\S+)/(?:Answers|Invariants|Proof)\.antt:\
 UNPROVED_GOAL = "`search` did not prove `"
 INHERITED = re.compile(r"that depends? on|not admitted|not checked")
 
-IN_RT = ("read_edit", "must_fail", "unread", "processors", "free", "REFUSED", "AT_LIMIT", "BAD", "UNSURE", "MISSED")
+IN_RT = ("read_edit", "must_fail", "unread", "processors", "free")
 IN_RTLIB = ("crates_below", "lock", "guarded", "RATTLE", "PARTS", "Crate")
 OF_CRATE = ("words", "below", "build_rlib")
 
@@ -98,6 +102,16 @@ def toolchain():
 
 
 rt = toolchain()
+
+
+def kind_of(answer, text):
+    """What rt's answer says of an edit."""
+    if answer is True:
+        return "unsure" if "only because a proof file names" in text else "refused"
+    if answer is False:
+        return "missed" if "NOT REFUSED" in text else "bad"
+    told = [kind for name, kind in KINDS.items() if answer == getattr(rt, name, None)]
+    return told[0] if told else stop(f"this kit's rt.must_fail answers {answer!r}, which this script doesn't know: see its head")
 
 
 def check(crate, folder, kept, *flags):
@@ -292,7 +306,7 @@ class Trial:
         is_read = lines[-1].startswith("only=") and not any(rt.unread(it, texts) for it in lines)
         told = refused(self.crate, edits, ran.stdout) if is_read else {}
         for it, why in told.items():
-            self.kind[it], self.text[it] = rt.REFUSED, why
+            self.kind[it], self.text[it] = "refused", why
         left = [it for it in edits if it not in told]
         half = len(left) if told else (len(left) + 1) // 2
         return [part for part in (left[:half], left[half:]) if part]
@@ -300,11 +314,9 @@ class Trial:
     def alone(self, edit):
         """Tries an edit as rt does."""
         with room(self.crate) as folder:
-            kind, text = rt.must_fail(self.crate, str(edit.path), ["--jobs", "1"], f"{folder}/kept")
-        if kind not in (rt.REFUSED, rt.AT_LIMIT, rt.BAD, rt.UNSURE, rt.MISSED):
-            stop(f"this kit's rt.must_fail answers {kind!r}, which this script doesn't know: see its head")
+            answer, text = rt.must_fail(self.crate, str(edit.path), ["--jobs", "1"], f"{folder}/kept")
         self.runs["of one"] += 1
-        self.kind[edit], self.text[edit] = kind, text.partition(": ")[2]
+        self.kind[edit], self.text[edit] = kind_of(answer, text), text.partition(": ")[2]
 
 
 def libraries(trials, behind_ci, jobs):
@@ -352,10 +364,10 @@ def tell(trials, verbose):
         for edit in trial.edits:
             kind = trial.kind[edit]
             kinds[kind] += 1
-            if verbose or kind != rt.REFUSED:
+            if verbose or kind != "refused":
                 print(f"{edit.name(trial.crate)}: {kind}: {trial.text[edit][:400]}")
         print(f"{trial.crate.name}: {len(trial.edits)} wrong bodies, checks {', '.join(f'{it}: {n}' for it, n in trial.runs.items())}")
-    well = kinds[rt.REFUSED] + kinds[rt.AT_LIMIT]
+    well = sum(kinds[it] for it in WELL)
     used = resource.getrusage(resource.RUSAGE_CHILDREN)
     print(f"at most {used.ru_maxrss // 1024} MB a check, {(used.ru_utime + used.ru_stime) / 60:.1f} minutes of processor time")
     print(f"{well} passed, {kinds.total() - well} failed", flush=True)
