@@ -3,7 +3,7 @@
 
 usage: refusals.py PROGRAM [TESTS]
 
-PROGRAM runs on the documents of examples/. Growth 1, growth 2 and so on is refused, until none is: each in two runs of
+PROGRAM runs on the documents of examples/, and on a package that gives 80 entries. Growth 1, growth 2 and so on is refused, until none is: each in two runs of
 its own, in the second one with all later ones. Where a growth is refused the program has to end with status 6 and nothing
 on standard output; where memory that was to be given back is refused alone, the report is right as well.
 
@@ -39,6 +39,16 @@ JOBS = [
     ["rank", "--criteria=-changed,-touched", "car.problem.cudf", "car.fail.cudf", "car.broken.cudf", "car.good.cudf", "car.twice.cudf"],
     ["rank", "--criteria=-changed", "--strict", "car.problem.cudf", "car.good.cudf", "car.twice.cudf"],
 ]
+# a package that gives so many entries that they are kept by name, and conflicts with some, beside another one
+ENTRIES = ", ".join(f"f = {number}" for number in range(1, 81))
+MADE = {
+    "many.problem.cudf": f"package: a\nversion: 1\nprovides: {ENTRIES}, g\nconflicts: {ENTRIES}, g\n\n"
+                         "package: b\nversion: 1\nprovides: f = 7\n\nrequest:\n",
+    "many.answer.cudf": "package: a\nversion: 1\ninstalled: true\n\npackage: b\nversion: 1\ninstalled: true\n",
+}
+JOBS += [["check", *MADE], ["score", *MADE]]
+# the statuses of a report
+REPORTED = range(4)
 NO_MEMORY = (6, b"")
 IN_CALL, BEFORE_CALL = b"refused in the call", b"refused before the call"
 ALWAYS = 10**6
@@ -84,11 +94,21 @@ def in_turn(refuser, words):
                 return
 
 
-def programs(refuser, program):
+def word_of(word, folder):
+    """A document's path, or an option as it is."""
+    return word if word.startswith("-") else os.path.join(folder if word in MADE else EXAMPLES, word)
+
+
+def programs(refuser, program, folder):
+    for name, text in MADE.items():
+        with open(os.path.join(folder, name), "w", encoding="ascii") as file:
+            file.write(text)
     for job in JOBS:
-        words = [program, job[0]] + [os.path.join(EXAMPLES, name) for name in job[1:]]
+        words = [program, job[0]] + [word_of(word, folder) for word in job[1:]]
         ample = refuser.run(words, ALWAYS, "0")[:2]
         growths = 0
+        if ample[0] not in REPORTED:
+            refuser.note([job, "with ample memory", *ample], False, False)
         for growth, later, (status, output, _, marks) in in_turn(refuser, words):
             is_answered = (status, output) == NO_MEMORY
             is_fine = is_answered or b"g" not in marks and (status, output) == ample
@@ -120,7 +140,7 @@ def calls(refuser, tests):
 def main(program, tests=None):
     with tempfile.TemporaryDirectory() as folder:
         refuser = Refuser(folder)
-        programs(refuser, program)
+        programs(refuser, program, folder)
         if tests:
             calls(refuser, tests)
     print(f"refused {refuser.refused}, right answers {refuser.survived}, wrong {refuser.wrong}")
