@@ -21,8 +21,8 @@ from pathlib import Path
 ROOT = Path(__file__).resolve().parent.parent
 PAGE = ROOT / "docs" / "FIGURES.md"
 BLOCK = "<!-- figures: {} -->\n", "<!-- end of figures -->"
-PROVED = re.compile(r"^logic=proved functions=(\d+).*?^rt: (\w+) proved", re.M | re.S)
-TESTED = re.compile(r"^rt: (\w+)\b.*?^test result: ok\. (\d+) passed", re.M | re.S)
+PROVED = re.compile(r"^== (\w+)(?:: its tests)?\n(?:(?!^== ).*\n)*?logic=proved (?:tests=\d+ )?functions=(\d+)", re.M)
+TESTED = re.compile(r"^test result: ok\. (\d+) passed.*\nrt: (\w+): its tests passed", re.M)
 TOOK = re.compile(r"^real\s+(\S+)\s+user\s+(\d+)m([\d.]+)s\s+sys\s+(\d+)m([\d.]+)s", re.M)
 
 
@@ -36,13 +36,13 @@ def edits(crate, folder):
 
 
 def crates(gate):
-    """Functions and tests by crate, as rt ci told them last, and the wrong bodies that stand in the tree."""
-    proved, tested = {}, {}
-    for part in re.split(r"^(?=statements core|rt: chose)", gate, flags=re.M):
-        for functions, crate in PROVED.findall(part):
+    """Functions (of a crate of tests those of its tests) and tests by crate, and the wrong bodies that stand in the tree."""
+    proved = {}
+    for crate, functions in PROVED.findall(gate):
+        proved.setdefault(crate, functions)
+        if proved[crate] == "0":
             proved[crate] = functions
-    for crate, tests in TESTED.findall(gate):
-        tested[crate] = tests
+    tested = {crate: tests for tests, crate in TESTED.findall(gate)}
     names = [line.partition(":")[0].split()[0] for line in (ROOT / "crates.txt").read_text().splitlines() if line[:1].isalpha()]
     rows = [
         [name, proved.get(name, ""), tested.get(name, ""), edits(name, "wrong-bodies") or "", edits(name, "must-fail") or ""]
