@@ -10,7 +10,7 @@ BUILT := crates/cudf_program/out/cudf_program
 
 # The example is no solution, so the program's status is 1.
 run: toolchain
-	@echo "Everything is proved before it is built: the first time that takes about 20 minutes on four processors, later only what changed."
+	@echo "Everything is proved before it is built: the first time that takes about 25 minutes on four processors, later only what changed."
 	cd crates/cudf_program && rt run -- check ../../examples/car-and-wheel.cudf; test $$? -eq 1
 	install -D -m 755 $(BUILT) $(PROGRAM)
 	@echo "the program is $(PROGRAM)"
