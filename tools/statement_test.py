@@ -153,9 +153,9 @@ class Types(Copy):
                    "use crate::seen_names::{\n    SeenNames as Seen,\n};\nuse cudf_value::{Formula, Vpkg};")
         self.plant("cudf_document/src/package.rt", "    pub keep: Keep,",
                    "    pub keep: Keep,\n    pub(crate) seen: Option<Box<Seen<'t>>>,")
-        self.plant("cudf_document/src/seen_names.rt", "    ghost Value = { List (List ℕ) };",
+        self.plant("cudf_document/src/property/seen_names.rt", "    ghost Value = { List (List ℕ) };",
                    "    ghost use Rattle.cudf_document.specs.Working.SeenNames.{seen};\n\n    ghost Value = { List (List ℕ) };")
-        self.plant("cudf_document/src/seen_names.rt", "    ghost view = { λ n. map", "    ghost view = { λ n. seen map")
+        self.plant("cudf_document/src/property/seen_names.rt", "    ghost view = { λ n. map", "    ghost view = { λ n. seen map")
         self.assert_refused(1, "the headline rests on crates/cudf_document/specs/Working/SeenNames.antt")
 
     def test_type_of_a_field_not_found(self):

@@ -6,9 +6,10 @@ use Rattle.std.proofs.lemmas.Str.{IsUtf8-from_is_utf8, is_utf8-from_IsUtf8}
 use Rattle.cudf_text.specs.declared.fault.Fault.{Fault}
 use Rattle.cudf_document.specs.declared.error.ReadError.{ReadError}
 use Rattle.cudf_document.specs.declared.error.ReadError.TheVariants as read_error
-use Rattle.cudf_document.specs.Faults.{least, IsFirstFault}
+use Rattle.cudf_document.specs.Faults.{least}
+use Rattle.cudf_document.specs.Contracts.Faults.{IsFirstFault}
 use Rattle.cudf_text.specs.Stanzas.{PlainText, plain_text}
-use Rattle.cudf_text.specs.Views.{utf8_fault}
+use Rattle.cudf_text.specs.LineFaults.{utf8_fault}
 use Rattle.std.proofs.KnownBytes.{Keeps-refl}
 use Rattle.cudf_check.specs.declared.outcome.Outcome.{Outcome}
 use Rattle.cudf_check.specs.declared.outcome.RunError.{RunError}

@@ -7,10 +7,11 @@ use Rattle.cudf_document.specs.declared.mode.Mode.{Mode}
 use Rattle.cudf_text.specs.declared.fault.Fault.{Fault}
 use Rattle.cudf_text.specs.Joined.{is_fail}
 use Rattle.cudf_text.specs.Stanzas.{PlainText, plain_text}
-use Rattle.cudf_text.specs.Views.{utf8_fault}
+use Rattle.cudf_text.specs.LineFaults.{utf8_fault}
 use Rattle.cudf_document.specs.declared.error.ReadError.{ReadError}
 use Rattle.cudf_document.specs.declared.error.ReadError.TheVariants as read_error
-use Rattle.cudf_document.specs.Faults.{least, IsFirstFault}
+use Rattle.cudf_document.specs.Faults.{least}
+use Rattle.cudf_document.specs.Contracts.Faults.{IsFirstFault}
 use Rattle.cudf_document.specs.SolutionFaults.{solution_faults}
 use Rattle.cudf_document.specs.Universe.{PlainProblem}
 use Rattle.cudf_check.specs.RankReport.{solution_fault, judgement_of, placed_fault, placed_faults, standing_of, standings, first_faulty_or}

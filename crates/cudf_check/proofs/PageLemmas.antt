@@ -7,16 +7,15 @@ use Rattle.std.proofs.lemmas.Bool.{true≢false}
 use Rattle.std.proofs.lemmas.Cmp.{nat_list_cmp_total}
 use Rattle.std.proofs.lemmas.List.{take_more, drop_all, length-drop}
 use Rattle.cudf_referee.specs.Instances.{PlainInstance}
-use Rattle.cudf_referee.specs.Keys.{PlainKey, key_ranks, key_cmp, precedes_all, ascend}
+use Rattle.cudf_referee.specs.Keys.{PlainKey, key_ranks, key_cmp, precedes_all, ascend, key_text}
 use Rattle.cudf_referee.specs.declared.key.Key.{Key}
-use Rattle.cudf_referee.specs.Entries.{is_empty}
-use Rattle.cudf_referee.specs.Keys.{key_text}
+use Rattle.cudf_document.specs.Documents.{is_empty}
 use Rattle.cudf_referee.specs.KeyViews.{key_view}
 use Rattle.cudf_referee.specs.Proposals.{Proposal}
 use Rattle.cudf_referee.specs.Violations.{listing, rest}
 use Rattle.cudf_check.specs.Report.{line, listed, limited, last_key, more_text, page_text, check_text}
-use Rattle.cudf_referee.specs.Pages as pages
-use Rattle.cudf_referee.specs.Walks.{Walking, left}
+use Rattle.cudf_referee.specs.Contracts.Pages as pages
+use Rattle.cudf_referee.specs.Contracts.Walks.{Walking, left}
 use Rattle.cudf_check.specs.Working.Pages.{Ascends, IsPageEnd, more_behind}
 
 -- ---- the order of keys

@@ -5,7 +5,7 @@ use Rattle.std.specs.Str.{is_utf8}
 use Rattle.cudf_text.specs.declared.fault.Fault.{Fault}
 use Rattle.cudf_text.specs.Faults.{fault_text}
 use Rattle.cudf_text.specs.Stanzas.{PlainText, plain_text}
-use Rattle.cudf_text.specs.Views.{utf8_fault}
+use Rattle.cudf_text.specs.LineFaults.{utf8_fault}
 use Rattle.cudf_text.specs.Joined.{problem_part, solution_part, is_fail}
 use Rattle.cudf_value.specs.Vpkgs.{PlainVpkg}
 use Rattle.cudf_value.specs.Printing.{vpkg_text, clause_text}
@@ -15,14 +15,14 @@ use Rattle.cudf_document.specs.ProblemFaults.{problem_faults}
 use Rattle.cudf_document.specs.SolutionFaults.{solution_faults}
 use Rattle.cudf_document.specs.Universe.{PlainPackage, PlainProblem, plain_problem}
 use Rattle.cudf_document.specs.Statuses.{is_initial, is_proposed, unknown_stanzas}
-use Rattle.cudf_universe.specs.Satisfaction.{Pair}
+use Rattle.cudf_document.specs.Ids.{Id}
 use Rattle.cudf_referee.specs.Aims.{aim_text, count_of}
 use Rattle.cudf_referee.specs.declared.aims.Aim.{Aim}
 use Rattle.cudf_referee.specs.declared.key.Aspect.{Aspect}
 use Rattle.cudf_referee.specs.declared.key.Aspect.TheVariants.{Unsatisfied, Many, Lower}
 use Rattle.cudf_referee.specs.declared.criteria.Criteria.{Criteria}
 use Rattle.cudf_referee.specs.Criteria.{criteria, paranoid, trendy}
-use Rattle.cudf_referee.specs.Entries.{is_empty}
+use Rattle.cudf_document.specs.Documents.{is_empty}
 use Rattle.cudf_referee.specs.Keys.{PlainKey, key_text}
 use Rattle.cudf_referee.specs.KeyViews.{key_view}
 use Rattle.cudf_referee.specs.Instances.{PlainWhat, needs, conflicts_with, keep_version, keep_package, keep_feature, install, remove, upgrade, unknown, PlainInstance}
@@ -65,7 +65,7 @@ of_bytes whose bytes report = if is_utf8 bytes then report (plain_text bytes) el
 -- ---- instances
 
 -- ` NAME VERSION`, where there is one
-abbrev pub subject_text : Option Pair → List ℕ
+abbrev pub subject_text : Option Id → List ℕ
 subject_text None = []
 subject_text (Some (name, version)) = codes " " ++ name ++ codes " " ++ decimal version
 
@@ -100,7 +100,7 @@ what_text (upgrade v) aspect met = upgrade_text v aspect
 what_text unknown aspect met = codes "not in the universe"
 
 -- what an instance is about, and its line
-abbrev pub place_text : Option Pair → ℕ → List ℕ
+abbrev pub place_text : Option Id → ℕ → List ℕ
 place_text subject number = subject_text subject ++ codes " line " ++ decimal number ++ codes ": "
 
 -- the line of an instance that this package meets

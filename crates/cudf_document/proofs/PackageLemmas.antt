@@ -8,9 +8,9 @@ use Rattle.cudf_text.specs.Stanzas.{PlainProperty}
 use Rattle.cudf_text.specs.Chars.{trim}
 use Rattle.cudf_value.specs.Types.{PlainType, vpkgformula_type, is_of_type}
 use Rattle.cudf_value.specs.Declarations.{PlainDeclaration}
-use Rattle.cudf_document.specs.declared.postmark.Postmark.TheVariants.{Package as PackageMark}
-use Rattle.cudf_document.specs.declared.package_property.PackageProperty.{PackageProperty}
-use Rattle.cudf_document.specs.declared.package_property.PackageProperty.TheVariants.{Package, Version, Depends, Conflicts, Provides, Installed, Keep, WasInstalled, Recommends}
+use Rattle.cudf_document.specs.declared.stanza.postmark.Postmark.TheVariants.{Package as PackageMark}
+use Rattle.cudf_document.specs.declared.package.property.PackageProperty.{PackageProperty}
+use Rattle.cudf_document.specs.declared.package.property.PackageProperty.TheVariants.{Package, Version, Depends, Conflicts, Provides, Installed, Keep, WasInstalled, Recommends}
 use Rattle.cudf_document.specs.Faults.{lesser, least}
 use Rattle.cudf_document.specs.Documents.{with_earlier, same_name, value_of}
 use Rattle.cudf_document.specs.Values.{name_value, version_value, formula_value, list_value, exact_list_value, truth_value, keep_value, can_be, package_tests, declared_test, test_of}

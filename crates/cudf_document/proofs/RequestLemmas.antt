@@ -5,9 +5,9 @@ use Rattle.indexmap.specs.IndexSet.{insert_key}
 use Rattle.cudf_text.specs.declared.fault.Fault.{Fault}
 use Rattle.cudf_text.specs.declared.fault.Kind.TheVariants.{E7, E9}
 use Rattle.cudf_text.specs.Stanzas.{PlainProperty}
-use Rattle.cudf_document.specs.declared.postmark.Postmark.TheVariants.{Request as RequestMark}
-use Rattle.cudf_document.specs.declared.request_fields.RequestProperty.{RequestProperty}
-use Rattle.cudf_document.specs.declared.request_fields.RequestProperty.TheVariants.{Install, Remove, Upgrade}
+use Rattle.cudf_document.specs.declared.stanza.postmark.Postmark.TheVariants.{Request as RequestMark}
+use Rattle.cudf_document.specs.declared.request.fields.RequestProperty.{RequestProperty}
+use Rattle.cudf_document.specs.declared.request.fields.RequestProperty.TheVariants.{Install, Remove, Upgrade}
 use Rattle.cudf_document.specs.Faults.{lesser, least}
 use Rattle.cudf_document.specs.Documents.{with_earlier, same_name, value_of}
 use Rattle.cudf_document.specs.Values.{list_value, request_tests, test_of, fails}

@@ -5,8 +5,8 @@ use Rattle.std.specs.List.{list_any, flat_map}
 use Rattle.cudf_text.specs.declared.fault.Fault.{Fault}
 use Rattle.cudf_text.specs.declared.fault.Kind.TheVariants.{E7, E9}
 use Rattle.cudf_text.specs.Stanzas.{PlainProperty}
-use Rattle.cudf_document.specs.declared.solution_package.SolutionProperty.{SolutionProperty}
-use Rattle.cudf_document.specs.declared.solution_package.SolutionProperty.TheVariants.{Package, Version, Installed}
+use Rattle.cudf_document.specs.declared.solution.package.SolutionProperty.{SolutionProperty}
+use Rattle.cudf_document.specs.declared.solution.package.SolutionProperty.TheVariants.{Package, Version, Installed}
 use Rattle.cudf_document.specs.Faults.{lesser, least}
 use Rattle.cudf_document.specs.Documents.{with_earlier, has_name, same_name, value_of}
 use Rattle.cudf_document.specs.Values.{name_value, version_value, truth_value}

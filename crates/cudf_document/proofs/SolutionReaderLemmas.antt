@@ -7,12 +7,14 @@ use Rattle.cudf_text.specs.declared.fault.Fault.{Fault}
 use Rattle.cudf_text.specs.Stanzas.{PlainStanza, PlainText}
 use Rattle.cudf_document.specs.declared.mode.Mode.{Mode}
 use Rattle.cudf_document.specs.declared.solution.Solution.{Solution}
-use Rattle.cudf_document.specs.declared.solution_reader.SolutionReader.{SolutionReader}
+use Rattle.cudf_document.specs.declared.solution.reader.SolutionReader.{SolutionReader}
 use Rattle.cudf_document.specs.Faults.{lesser, least}
 use Rattle.cudf_document.specs.Ids.{is_among}
 use Rattle.cudf_document.specs.SolutionFaults.{solution_stanza_faults, repeated_pairs_faults, solution_faults}
 use Rattle.cudf_document.specs.Universe.{PlainProblem, package_id}
-use Rattle.cudf_document.specs.Statuses.{installed_ids, unknown_view, ascend_above, are_outside}
+use Rattle.cudf_document.specs.Statuses.{installed_ids, ascend_above}
+use Rattle.cudf_document.specs.Contracts.Views.{unknown_view}
+use Rattle.cudf_document.specs.Contracts.Statuses.{are_outside}
 use Rattle.cudf_document.specs.Working.Flags.{flag_at}
 use Rattle.cudf_document.specs.Working.SolutionBuilders.{ids_of}
 use Rattle.cudf_document.specs.Working.SolutionReaders.{IsSolutionRead, SolutionGoesOn, IsSolutionOf}

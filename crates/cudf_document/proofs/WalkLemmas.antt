@@ -9,15 +9,15 @@ use Rattle.std.proofs.lemmas.Bool.{eqb-true}
 use Rattle.std.proofs.lemmas.List.Folds.{list_any-append}
 use Rattle.cudf_text.specs.declared.fault.Fault.{Fault}
 use Rattle.cudf_text.specs.Chars.{is_blank}
-use Rattle.cudf_text.specs.Joins.{is_owned, IsJoined}
+use Rattle.cudf_text.specs.Contracts.Joins.{is_owned, IsJoined}
 use Rattle.cudf_text.specs.Stanzas.{PlainStanza, PlainText}
 use Rattle.cudf_value.specs.Chars.{is_pkgname_char}
 use Rattle.cudf_value.specs.Words.{is_pkgname}
 use Rattle.cudf_document.specs.declared.mode.Mode.{Mode}
 use Rattle.cudf_document.specs.declared.mode.Mode.TheVariants.{Lenient, Strict}
-use Rattle.cudf_document.specs.declared.walk.Walk.{Walk}
-use Rattle.cudf_document.specs.declared.postmark.Postmark.{Postmark}
-use Rattle.cudf_document.specs.declared.postmark.Postmark.TheVariants.{Preamble, Package, Request}
+use Rattle.cudf_document.specs.declared.problem.walk.Walk.{Walk}
+use Rattle.cudf_document.specs.declared.stanza.postmark.Postmark.{Postmark}
+use Rattle.cudf_document.specs.declared.stanza.postmark.Postmark.TheVariants.{Preamble, Package, Request}
 use Rattle.cudf_document.specs.Faults.{lesser, least, fault_if}
 use Rattle.cudf_text.specs.declared.fault.Kind.TheVariants.{E13}
 use Rattle.std.proofs.lemmas.List.{append_assoc, append-nil}

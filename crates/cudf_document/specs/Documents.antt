@@ -1,8 +1,8 @@
 -- Stanzas, by their first property, and the properties in them: CUDF 2.0, syntax of stanzas and properties.
 use Rattle.std.specs.Prelude.{ℕ, Bool, true, false, List, [], ◌∷◌, ◌++◌, Option, Some, None, find, option_and_then, bytes_eq, codes, if◌then◌else◌}
 use Rattle.cudf_text.specs.Stanzas.{PlainProperty, PlainStanza}
-use Rattle.cudf_document.specs.declared.postmark.Postmark.{Postmark}
-use Rattle.cudf_document.specs.declared.postmark.Postmark.TheVariants.{Preamble, Package, Request}
+use Rattle.cudf_document.specs.declared.stanza.postmark.Postmark.{Postmark}
+use Rattle.cudf_document.specs.declared.stanza.postmark.Postmark.TheVariants.{Preamble, Package, Request}
 
 -- ---- lists
 
@@ -42,12 +42,6 @@ marks_package _ = false
 abbrev pub marks_request : Option Postmark → Bool
 marks_request (Some Request) = true
 marks_request _ = false
-
-abbrev pub is_preamble : PlainStanza → Bool
-is_preamble s = marks_preamble (postmark s)
-
-abbrev pub is_package : PlainStanza → Bool
-is_package s = marks_package (postmark s)
 
 abbrev pub is_request : PlainStanza → Bool
 is_request s = marks_request (postmark s)

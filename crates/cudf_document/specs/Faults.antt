@@ -1,10 +1,8 @@
 -- Faults and their order: by line, then by kind.
-use Rattle.std.specs.Prelude.{◌≡◌, ℕ, Bool, ◌&&◌, ◌||◌, ◌==◌, nat_lt, List, [], ◌∷◌, Option, Some, None, if◌then◌else◌}
+use Rattle.std.specs.Prelude.{ℕ, Bool, ◌&&◌, ◌||◌, ◌==◌, nat_lt, List, [], ◌∷◌, Option, Some, None, if◌then◌else◌}
 use Rattle.cudf_text.specs.declared.fault.Fault.{Fault}
 use Rattle.cudf_text.specs.declared.fault.Kind.{Kind}
 use Rattle.cudf_text.specs.declared.fault.Kind.TheVariants.{E1, E2, E3, E4, E5, E6, E7, E8, E9, E10, E11, E12, E13, E14, E15}
-use Rattle.cudf_document.specs.declared.error.ReadError.{ReadError}
-use Rattle.cudf_document.specs.declared.error.ReadError.TheVariants as error
 
 -- a kind's number
 abbrev pub rank : Kind → ℕ
@@ -42,8 +40,3 @@ least (f ∷ fs) = lesser (Some f) (least fs)
 -- a fault of this kind on this line, where the test says so
 abbrev pub fault_if : Bool → ℕ → Kind → List Fault
 fault_if test n kind = if test then record { line = n; kind = kind } ∷ [] else []
-
--- a document is refused for the least of its faults, or for want of memory
-abbrev pub IsFirstFault : List Fault → ReadError → Type 0
-IsFirstFault faults (error.Fault f) = least faults ≡ Some f
-IsFirstFault faults (error.Memory e) = Unit {0}

@@ -1,11 +1,10 @@
 -- Name and version, which together identify a package: CUDF 2.0, universes.
-use Rattle.std.specs.Prelude.{ℕ, Bool, false, not, ◌&&◌, ◌==◌, List, [], Option, Some, None, option_and_then, option_map, bytes_eq, codes}
-use Rattle.std.specs.List.{list_any, list_all}
-use Rattle.indexmap.specs.IndexSet.{insert_key}
+use Rattle.std.specs.Prelude.{ℕ, Bool, false, ◌&&◌, ◌==◌, List, Option, Some, None, option_and_then, option_map, bytes_eq, codes}
+use Rattle.std.specs.List.{list_any}
 use Rattle.cudf_text.specs.Stanzas.{PlainProperty, PlainStanza}
-use Rattle.cudf_document.specs.declared.postmark.Postmark.{Postmark}
-use Rattle.cudf_document.specs.declared.postmark.Postmark.TheVariants.{Package}
-use Rattle.cudf_document.specs.Documents.{with_earlier, postmark, value_of}
+use Rattle.cudf_document.specs.declared.stanza.postmark.Postmark.{Postmark}
+use Rattle.cudf_document.specs.declared.stanza.postmark.Postmark.TheVariants.{Package}
+use Rattle.cudf_document.specs.Documents.{postmark, value_of}
 use Rattle.cudf_document.specs.Values.{name_value, version_value}
 
 abbrev pub Id : Type 0
@@ -34,12 +33,3 @@ id_under _ ps = None
 -- the name and the version of a package stanza, where both are of their types
 abbrev pub id_of : PlainStanza → Option Id
 id_of s = id_under (postmark s) s.properties
-
--- the pairs with one more, if there is one and it is new
-abbrev pub with_id : List Id → Option Id → List Id
-with_id ids None = ids
-with_id ids (Some id) = insert_key is_id ids id
-
--- no pair stands twice
-abbrev pub are_distinct : List Id → Bool
-are_distinct ids = list_all (λ x. not (is_among x.0 x.1)) (with_earlier [] ids)

@@ -7,6 +7,5 @@ pub mod ProblemFaults
 pub mod SolutionFaults
 pub mod Universe
 pub mod Statuses
-pub mod Thin
-pub mod Laws
+pub mod Contracts
 pub mod Working

@@ -6,8 +6,8 @@ use Rattle.cudf_text.specs.Chars.{trim}
 use Rattle.cudf_value.specs.Formulas.{PlainAtom}
 use Rattle.cudf_value.specs.Types.{PlainType, vpkgformula_type}
 use Rattle.cudf_value.specs.Declarations.{PlainDeclaration, declarations}
-use Rattle.cudf_document.specs.declared.postmark.Postmark.{Postmark}
-use Rattle.cudf_document.specs.declared.postmark.Postmark.TheVariants.{Preamble}
+use Rattle.cudf_document.specs.declared.stanza.postmark.Postmark.{Postmark}
+use Rattle.cudf_document.specs.declared.stanza.postmark.Postmark.TheVariants.{Preamble}
 use Rattle.cudf_document.specs.Documents.{with_earlier, has_name, postmark}
 use Rattle.cudf_document.specs.Values.{formula_value}
 

@@ -1,11 +1,8 @@
 -- The initial and the proposed status, and what is proposed but isn't in the universe: CUDF 2.0, installations.
-use Rattle.std.specs.Prelude.{ℕ, Bool, false, List, map, Option, Some, None, filter_map, option_and_then, codes, if◌then◌else◌, ◌<◌, ◌≤◌, nat_lt, true, not, ◌&&◌, [], ◌∷◌, length, IsTrue}
-use Rattle.std.specs.FinSet as set
-use Rattle.std.specs.Ordering.{nat_cmp}
-use Rattle.std.specs.List.{enumerate_from, list_all}
+use Rattle.std.specs.Prelude.{ℕ, Bool, false, List, map, Option, Some, None, filter_map, option_and_then, codes, if◌then◌else◌, nat_lt, true, ◌&&◌, [], ◌∷◌}
+use Rattle.std.specs.List.{enumerate_from}
 use Rattle.std.specs.Option.{option_map_or}
 use Rattle.cudf_text.specs.Stanzas.{PlainProperty, PlainStanza}
-use Rattle.cudf_document.specs.declared.solution.Unknown.{Unknown}
 use Rattle.cudf_document.specs.Documents.{value_of}
 use Rattle.cudf_document.specs.Ids.{Id, is_among, id_of}
 use Rattle.cudf_document.specs.Values.{truth_value}
@@ -36,9 +33,6 @@ pub record PlainUnknown : Type 0 where
   pub name : List ℕ
   pub version : ℕ
 
-abbrev pub unknown_view : Unknown → PlainUnknown
-unknown_view u = record { stanza = u.stanza; line = u.line; name = u.name.now; version = u.version }
-
 abbrev pub unknown_with : PlainProblem → ℕ → ℕ → Id → Option PlainUnknown
 unknown_with problem n line (name, version) = if is_among (map package_id problem.packages) (name, version) then None
     else Some (record { stanza = n; line = line; name = name; version = version })
@@ -51,15 +45,7 @@ unknown_stanzas problem stanzas = filter_map (unknown_of problem) (enumerate_fro
 
 -- ---- statuses and unknown stanzas of a problem
 
--- the status holds places of the universe alone
-abbrev pub IsStatusOf : PlainProblem → set.FinSet nat_cmp → Type 0
-IsStatusOf problem status = (place : ℕ) → IsTrue (set.contains status place) → (0 < place) × (place ≤ length problem.packages)
-
 -- the stanzas' numbers ascend, the first from above n
 abbrev pub ascend_above : ℕ → List PlainUnknown → Bool
 ascend_above n [] = true
 ascend_above n (u ∷ unknown) = nat_lt n u.stanza && ascend_above u.stanza unknown
-
--- the stanzas' pairs aren't in the universe
-abbrev pub are_outside : PlainProblem → List PlainUnknown → Bool
-are_outside problem unknown = list_all (λ u. not (is_among (map package_id problem.packages) (u.name, u.version))) unknown

@@ -1,17 +1,12 @@
 -- The packages and the request that a problem describes: CUDF 2.0, universes, package and request properties with their defaults.
 -- What these words say counts for a problem without fault; of any other they say something too.
-use Rattle.std.specs.Prelude.{ℕ, ◌-◌, ◌==◌, Bool, false, List, [], map, Option, None, is_some, find, filter_map, slice_get, unwrap_or, option_map, option_and_then, codes, Vec, if◌then◌else◌}
-use Rattle.std.specs.Option.{option_or}
-use Rattle.std.specs.declared.alloc.Global.{Global}
+use Rattle.std.specs.Prelude.{ℕ, ◌-◌, ◌==◌, Bool, false, List, [], Option, None, is_some, find, filter_map, slice_get, unwrap_or, option_map, codes, if◌then◌else◌}
 use Rattle.cudf_text.specs.Stanzas.{PlainProperty, PlainStanza, PlainText}
-use Rattle.cudf_value.specs.declared.vpkg.Vpkg.{Vpkg}
-use Rattle.cudf_value.specs.Vpkgs.{PlainVpkg, vpkg_view}
-use Rattle.cudf_value.specs.Formulas.{PlainAtom, formula_view}
+use Rattle.cudf_value.specs.Vpkgs.{PlainVpkg}
+use Rattle.cudf_value.specs.Formulas.{PlainAtom}
 use Rattle.cudf_value.specs.Declarations.{PlainDeclaration}
 use Rattle.cudf_document.specs.declared.package.Keep.{Keep}
 use Rattle.cudf_document.specs.declared.package.Keep.TheVariants.{Nothing}
-use Rattle.cudf_document.specs.declared.package.Package.{Package}
-use Rattle.cudf_document.specs.declared.request.Request.{Request}
 use Rattle.cudf_document.specs.Documents.{value_of, is_request}
 use Rattle.cudf_document.specs.Ids.{Id, id_of}
 use Rattle.cudf_document.specs.Values.{formula_value, list_value, exact_list_value, truth_value, keep_value}
@@ -30,22 +25,6 @@ pub record PlainPackage : Type 0 where
   pub installed : Bool
   pub keep : Keep
   pub recommends : Option (List (List PlainAtom))
-
-abbrev pub list_view : Vec Vpkg Global → List PlainVpkg
-list_view entries = map vpkg_view entries.items
-
-abbrev pub package_view : Package → PlainPackage
-package_view p = record {
-  line = p.line;
-  name = p.name.now;
-  version = p.version;
-  depends = formula_view p.depends;
-  conflicts = list_view p.conflicts;
-  provides = list_view p.provides;
-  installed = p.installed;
-  keep = p.keep;
-  recommends = option_map formula_view p.recommends;
-}
 
 abbrev pub package_id : PlainPackage → Id
 package_id p = (p.name, p.version)
@@ -83,9 +62,6 @@ pub record PlainRequest : Type 0 where
   pub install : List PlainVpkg
   pub remove : List PlainVpkg
   pub upgrade : List PlainVpkg
-
-abbrev pub request_view : Request → PlainRequest
-request_view r = record { line = r.line; install = list_view r.install; remove = list_view r.remove; upgrade = list_view r.upgrade }
 
 abbrev pub request_of : PlainStanza → PlainRequest
 request_of s = record {
@@ -126,7 +102,3 @@ plain_problem text = record {
 -- the package at a place, counted from 1
 abbrev pub package_at : PlainProblem → ℕ → Option PlainPackage
 package_at problem place = if place == 0 then None else slice_get problem.packages (place - 1)
-
--- what the package at a place recommends: by itself, or by the declared default
-abbrev pub recommends_at : PlainProblem → ℕ → Option (List (List PlainAtom))
-recommends_at problem place = option_or (option_and_then (λ p. p.recommends) (package_at problem place)) problem.recommends

@@ -1,4 +1,9 @@
 //! Packages: CUDF 2.0, package properties.
+pub(crate) mod bare;
+pub(crate) mod fields;
+pub(crate) mod ids;
+pub(crate) mod property;
+
 use cudf_value::{Formula, Vpkg};
 
 /// What a request has to keep of an installed package.

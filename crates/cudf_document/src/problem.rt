@@ -1,5 +1,12 @@
 //! Problems: a universe and a request.
-use crate::ids::Ids;
+pub(crate) mod chosen;
+pub(crate) mod lint;
+pub(crate) mod parts;
+pub(crate) mod reader;
+pub(crate) mod source;
+pub(crate) mod walk;
+
+use crate::package::ids::Ids;
 use crate::package::Package;
 use crate::request::Request;
 use cudf_value::Formula;
@@ -16,9 +23,10 @@ pub struct Problem<'t> {
 
 impl<'t> Model for Problem<'t> {
     ghost use Rattle.std.specs.Prelude.{◌≡◌, true, map, option_map};
-    ghost use Rattle.cudf_value.specs.Formulas.{formula_view};
-    ghost use Rattle.cudf_document.specs.Ids.{are_distinct};
-    ghost use Rattle.cudf_document.specs.Universe.{PlainProblem, package_view, request_view, package_id};
+    ghost use Rattle.cudf_value.specs.Contracts.Views.{formula_view};
+    ghost use Rattle.cudf_document.specs.Contracts.Packages.{are_distinct};
+    ghost use Rattle.cudf_document.specs.Universe.{PlainProblem, package_id};
+    ghost use Rattle.cudf_document.specs.Contracts.Views.{package_view, request_view};
 
     ghost Value = { PlainProblem };
 
@@ -33,9 +41,11 @@ impl<'t> Model for Problem<'t> {
 
 impl<'t> Problem<'t> {
     ghost use Rattle.std.specs.Prelude.{◌≡◌, ◌<◌, ◌≤◌, true, map, length, option_map, position, IfOk};
-    ghost use Rattle.cudf_value.specs.Formulas.{formula_view};
-    ghost use Rattle.cudf_document.specs.Ids.{is_id, are_distinct};
-    ghost use Rattle.cudf_document.specs.Universe.{package_view, request_view, package_id, recommends_at};
+    ghost use Rattle.cudf_value.specs.Contracts.Views.{formula_view};
+    ghost use Rattle.cudf_document.specs.Ids.{is_id};
+    ghost use Rattle.cudf_document.specs.Contracts.Packages.{are_distinct, recommends_at};
+    ghost use Rattle.cudf_document.specs.Contracts.Views.{package_view, request_view};
+    ghost use Rattle.cudf_document.specs.Universe.{package_id};
 
     /// The problem of these, where `ids` are the names and versions of the packages.
     pub(crate) fn new(

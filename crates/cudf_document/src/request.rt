@@ -1,4 +1,6 @@
 //! The request: CUDF 2.0, request properties.
+pub(crate) mod fields;
+
 use cudf_value::Vpkg;
 
 /// What is asked for; each list is empty by default.

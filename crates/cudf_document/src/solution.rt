@@ -1,17 +1,25 @@
 //! Proposed solutions: CUDF 2.0, installations.
 ghost use Rattle.std.specs.Prelude.{◌≡◌, ℕ, false, [], map, IsTrue, IfOk, IfErr};
 ghost use Rattle.std.specs.FinSet as set;
-ghost use Rattle.cudf_text.specs.Views.{text_view};
+ghost use Rattle.cudf_text.specs.Contracts.Views.{text_view};
 ghost use Rattle.cudf_text.specs.Joined.{is_fail};
-ghost use Rattle.cudf_document.specs.Faults.{IsFirstFault};
+ghost use Rattle.cudf_document.specs.Contracts.Faults.{IsFirstFault};
 ghost use Rattle.cudf_document.specs.SolutionFaults.{solution_faults};
-ghost use Rattle.cudf_document.specs.Statuses.{is_proposed, unknown_view, unknown_stanzas, IsStatusOf, ascend_above, are_outside};
+ghost use Rattle.cudf_document.specs.Statuses.{is_proposed, unknown_stanzas, ascend_above};
+ghost use Rattle.cudf_document.specs.Contracts.Views.{unknown_view};
+ghost use Rattle.cudf_document.specs.Contracts.Statuses.{IsStatusOf, are_outside};
+
+pub(crate) mod builder;
+pub(crate) mod package;
+pub(crate) mod pairs;
+pub(crate) mod reader;
+pub(crate) mod status;
 
 use crate::error::ReadError;
 use crate::mode::Mode;
 use crate::problem::Problem;
-use crate::solution_reader::SolutionReader;
-use crate::status::Status;
+use crate::solution::reader::SolutionReader;
+use crate::solution::status::Status;
 use cudf_text::{Next, Stanza, Stanzas, Text};
 use std::alloc::Global;
 

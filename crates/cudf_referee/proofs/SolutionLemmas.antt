@@ -9,7 +9,8 @@ use Rattle.cudf_document.specs.Statuses.{PlainUnknown}
 use Rattle.cudf_universe.specs.Satisfaction.{Placed, members, without, numbers_of, satisfies, satisfies_clause}
 use Rattle.cudf_referee.specs.declared.key.Aspect.{Aspect}
 use Rattle.cudf_referee.specs.declared.key.Aspect.TheVariants.{Unsatisfied, Many, Lower}
-use Rattle.cudf_referee.specs.Entries.{those, is_empty}
+use Rattle.cudf_referee.specs.Entries.{those}
+use Rattle.cudf_document.specs.Documents.{is_empty}
 use Rattle.cudf_referee.specs.Proposals.{Proposal, holds_place, proposal}
 use Rattle.cudf_referee.specs.Violations.{has_package, violated_depends, violated_conflicts, violated_keep, package_rules, package_instances, are_many, are_lower, upgrade_if, violated_entry, violated_upgrade, violated_install, violated_remove, request_instances, unknown_instance, listing}
 use Rattle.cudf_referee.specs.Solutions.{has_its_depends, has_no_conflict, is_kept, are_equal, are_at_least, is_upgraded, is_solution}

@@ -8,14 +8,15 @@ use Rattle.std.proofs.lemmas.Simd.{map-map}
 use Rattle.cudf_document.specs.declared.package.Keep.{Keep}
 use Rattle.cudf_document.specs.declared.package.Keep.TheVariants.{Version, Package, Feature, Nothing}
 use Rattle.cudf_document.specs.Ids.{Id}
-use Rattle.cudf_document.specs.Thin.{thinned, thin_package, thin_problem}
+use Rattle.cudf_document.specs.Contracts.Thin.{thinned, thin_package, thin_problem}
 use Rattle.cudf_document.specs.Universe.{PlainPackage, PlainProblem, PlainRequest, package_at, package_id}
-use Rattle.cudf_universe.specs.Satisfaction.{Pair, Placed, members, numbers_of, package_pairs, satisfies, satisfies_clause}
+use Rattle.cudf_universe.specs.Satisfaction.{Placed, members, numbers_of, package_pairs, satisfies, satisfies_clause}
 use Rattle.cudf_universe.proofs.SearchLemmas.{list_any-map}
 use Rattle.cudf_referee.specs.declared.key.Aspect.TheVariants.{Unsatisfied, Many, Lower}
 use Rattle.cudf_referee.specs.Criteria.{universe, is_touched, each_once, names_of, versions_of, is_among, is_same_set, greatest, at_most_max, criteria}
-use Rattle.cudf_referee.specs.Entries.{those, is_empty}
-use Rattle.cudf_referee.specs.Laws.{ThinIsEnough}
+use Rattle.cudf_referee.specs.Entries.{those}
+use Rattle.cudf_document.specs.Documents.{is_empty}
+use Rattle.cudf_referee.specs.Contracts.Laws.{ThinIsEnough}
 use Rattle.cudf_referee.specs.Proposals.{Proposal, proposal, holds_place}
 use Rattle.cudf_referee.specs.Violations.{has_package, violated_keep, package_rules, package_instances, are_many, are_lower, upgrade_if, violated_install, violated_remove, violated_upgrade, unknown_instance, listing}
 use Rattle.cudf_referee.proofs.ListLemmas.{filter-map, count-map}
@@ -38,7 +39,7 @@ enumerate-map f n (x ∷ xs) = ap (λ ys. (n, f x) ∷ ys) (enumerate-map f (n +
 -- a status of thin packages gives the same numbers, names and versions
 numbers_same : (k : Id → Bool) (name : List ℕ) (qs : List Placed) → numbers_of name (map (second (thin_package k)) qs) ≡ numbers_of name qs
 numbers_same k name qs =
-    ap (λ (pairs : List Pair). map (λ pair. pair.1) (filter (λ pair. bytes_eq pair.0 name) pairs))
+    ap (λ (pairs : List Id). map (λ pair. pair.1) (filter (λ pair. bytes_eq pair.0 name) pairs))
     (flat_map-map (λ p. package_pairs p.1) (second (thin_package k)) qs)
 
 has_same : (k : Id → Bool) (name : List ℕ) (qs : List Placed) → has_package (map (second (thin_package k)) qs) name ≡ has_package qs name

@@ -2,8 +2,9 @@
 use Rattle.std.proofs.Common.{◌≡◌, ℕ, zero, suc, ◌+◌, ◌-◌, ◌<◌, ◌≤◌, ◌/◌, true, nat_lt, List, [], ◌∷◌, length, get_or, map, drop, cond, refl, ap, arith}
 use Rattle.std.proofs.lemmas.Bool.{ltb-true, lt-ltb, le-ltb}
 use Rattle.cudf_document.specs.declared.solution.Unknown.{Unknown}
-use Rattle.cudf_document.specs.Statuses.{PlainUnknown, unknown_view, ascend_above}
-use Rattle.cudf_universe.specs.Prices.{digits_within, digits}
+use Rattle.cudf_document.specs.Statuses.{PlainUnknown, ascend_above}
+use Rattle.cudf_document.specs.Contracts.Views.{unknown_view}
+use Rattle.cudf_universe.specs.Contracts.Prices.{digits_within, digits}
 use Rattle.cudf_referee.specs.Working.Places.{stanza_numbers}
 use Rattle.cudf_referee.specs.Working.Searches.{unknown_left}
 use Rattle.cudf_referee.proofs.ListLemmas.{and_left, and_right}

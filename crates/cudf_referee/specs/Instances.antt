@@ -2,7 +2,7 @@
 use Rattle.std.specs.Prelude.{ℕ, List, Option}
 use Rattle.cudf_value.specs.Vpkgs.{PlainVpkg}
 use Rattle.cudf_value.specs.Formulas.{PlainAtom}
-use Rattle.cudf_universe.specs.Satisfaction.{Pair}
+use Rattle.cudf_document.specs.Ids.{Id}
 use Rattle.cudf_referee.specs.Keys.{PlainKey}
 
 -- what is wrong, with the document's own conjunct or entry
@@ -21,5 +21,5 @@ pub data PlainWhat : Type 0 where
 pub record PlainInstance : Type 0 where
   pub key : PlainKey
   pub line : ℕ
-  pub subject : Option Pair
+  pub subject : Option Id
   pub what : PlainWhat

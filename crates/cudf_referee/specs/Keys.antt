@@ -1,5 +1,5 @@
 -- Keys of violated instances, their order and their texts: own.
-use Rattle.std.specs.Prelude.{ℕ, Bool, true, false, ◌&&◌, nat_lt, ◌<◌, ◌^◌, IsTrue, List, [], ◌∷◌, ◌++◌, codes, decimal, Option, Some, None}
+use Rattle.std.specs.Prelude.{ℕ, Bool, true, false, ◌&&◌, nat_lt, List, [], ◌∷◌, ◌++◌, codes, decimal, Option, Some, None}
 use Rattle.std.specs.Cmp.Lexicographic.{slice_cmp}
 use Rattle.std.specs.List.{list_all}
 use Rattle.std.specs.Ordering.{nat_cmp, is_lt}
@@ -37,20 +37,6 @@ fits_aspect Upgrade None = false
 fits_aspect rule None = true
 fits_aspect rule (Some aspect) = false
 
--- a rule of packages, which has no aspect
-abbrev pub is_package_rule : Rule → Bool
-is_package_rule Depends = true
-is_package_rule Conflicts = true
-is_package_rule Keep = true
-is_package_rule rule = false
-
--- a rule of the request, with its aspect
-abbrev pub fits_request : Rule → Option Aspect → Bool
-fits_request Install None = true
-fits_request Remove None = true
-fits_request Upgrade (Some aspect) = true
-fits_request rule aspect = false
-
 -- numbers are from 1
 abbrev pub is_counted : Part → Bool
 is_counted (Package n) = nat_lt 0 n
@@ -58,10 +44,6 @@ is_counted part = true
 
 abbrev pub is_key : Part → Rule → ℕ → Option Aspect → Bool
 is_key part rule place aspect = fits_part part rule && is_counted part && nat_lt 0 place && fits_aspect rule aspect
-
--- the parts fit each other
-abbrev pub is_fitting : PlainKey → Bool
-is_fitting key = is_key key.part key.rule key.place key.aspect
 
 -- ---- order
 
@@ -138,9 +120,3 @@ aspect_text (Some aspect) = codes "." ++ aspect_word aspect
 -- a key, as `p1.depends.2` or `r.upgrade.1.many`
 abbrev pub key_text : PlainKey → List ℕ
 key_text key = part_text key.part ++ codes "." ++ rule_text key.rule ++ codes "." ++ decimal key.place ++ aspect_text key.aspect
-
--- the keys that can be written: their parts fit each other, and their numbers are those of a `u64`
-pub record IsWritable (key : PlainKey) : Type 0 where
-  pub fits : IsTrue (is_fitting key)
-  pub number : part_place key.part < 2 ^ 64
-  pub place : key.place < 2 ^ 64

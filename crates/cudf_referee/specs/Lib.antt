@@ -5,12 +5,8 @@ pub mod Instances
 pub mod KeyViews
 pub mod Keys
 pub mod Laws
-pub mod Pages
-pub mod PositionViews
 pub mod Proposals
-pub mod Sites
 pub mod Solutions
-pub mod Views
 pub mod Violations
-pub mod Walks
+pub mod Contracts
 pub mod Working

@@ -7,7 +7,7 @@ use Rattle.cudf_value.specs.Vpkgs.{PlainVpkg}
 use Rattle.cudf_document.specs.declared.package.Keep.{Keep}
 use Rattle.cudf_document.specs.declared.package.Keep.TheVariants.{Version, Package, Feature, Nothing}
 use Rattle.cudf_universe.specs.Satisfaction.{Placed, without, numbers_of, satisfies, satisfies_clause}
-use Rattle.cudf_referee.specs.Entries.{is_empty}
+use Rattle.cudf_document.specs.Documents.{is_empty}
 use Rattle.cudf_referee.specs.Proposals.{holds_place, Proposal}
 use Rattle.cudf_referee.specs.Violations.{has_package}
 

@@ -5,7 +5,7 @@ use Rattle.cudf_text.specs.declared.fault.Kind.TheVariants.{E1, E2, E3}
 use Rattle.cudf_text.specs.Chars.{is_ident}
 use Rattle.cudf_text.specs.Lines.{lines, raw_lines, class, comment, blank, continuation, named, faulty}
 use Rattle.cudf_text.specs.Stanzas.{plain_text}
-use Rattle.cudf_text.specs.Views.{utf8_fault}
+use Rattle.cudf_text.specs.LineFaults.{utf8_fault}
 use Rattle.cudf_text.specs.Joined.{problem_part, solution_part, is_fail}
 use Rattle.std.specs.Str.Lossy.{utf8_valid_len}
 use Rattle.std.specs.Str.{is_utf8, chars}

@@ -2,11 +2,7 @@ pub mod Chars
 pub mod Lines
 pub mod LineFaults
 pub mod Stanzas
-pub mod Views
 pub mod Joined
 pub mod Faults
-pub mod Laws
-pub mod Joins
-pub mod Borrows
-pub mod Cursor
+pub mod Contracts
 pub mod Working

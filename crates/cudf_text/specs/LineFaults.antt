@@ -1,8 +1,9 @@
 -- The first faulty line of a text, at which reading ends (own).
-use Rattle.std.specs.Prelude.{ℕ, Bool, true, false, nat_le, List, [], ◌∷◌, ◌++◌, filter, slice_get, if◌then◌else◌, Option, Some, None, option_to_list}
+use Rattle.std.specs.Prelude.{ℕ, Bool, true, false, nat_le, List, [], ◌∷◌, ◌++◌, filter, slice_get, if◌then◌else◌, Option, Some, None, option_to_list, ◌+◌, take, count_by}
 use Rattle.cudf_text.specs.declared.fault.Fault.{Fault}
-use Rattle.cudf_text.specs.declared.fault.Kind.TheVariants.{E2, E3}
-use Rattle.cudf_text.specs.Lines.{Class, blank, continuation, named, faulty, NumberedLine, judged_lines}
+use Rattle.cudf_text.specs.declared.fault.Kind.TheVariants.{E2, E3, E1}
+use Rattle.cudf_text.specs.Lines.{Class, blank, continuation, named, faulty, NumberedLine, judged_lines, is_lf}
+use Rattle.std.specs.Str.Lossy.{utf8_valid_len}
 
 -- a continuation may directly follow a line of this class
 abbrev pub is_open : Class → Bool
@@ -33,3 +34,7 @@ is_read (Some f) l = nat_le l.0 f.line
 -- the lines of a text that are read: those down to that of the first fault
 abbrev pub read_lines : List ℕ → List NumberedLine
 read_lines text = filter (is_read (first_fault text)) (judged_lines text)
+
+-- the fault of bytes that aren't UTF-8, on the line at which their longest UTF-8 prefix ends
+abbrev pub utf8_fault : List ℕ → Fault
+utf8_fault bytes = record { line = 1 + count_by is_lf (take (utf8_valid_len bytes) bytes); kind = E1 }

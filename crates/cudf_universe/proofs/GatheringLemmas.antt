@@ -4,17 +4,17 @@ use Rattle.std.specs.Prelude.{filter, filter_map, option_map, slice_get, option_
 use Rattle.std.specs.Option.{is_none, IfSome}
 use Rattle.std.specs.List.{count_by, cons_option, list_any}
 use Rattle.std.specs.Global.{Vec}
-use Rattle.std.proofs.lemmas.List.{map-append}
+use Rattle.std.proofs.lemmas.List.{map-append, append-nil}
 use Rattle.std.proofs.lemmas.List.Elements.{filter-append}
 use Rattle.cudf_value.specs.Vpkgs.{PlainVpkg}
 use Rattle.cudf_universe.specs.declared.index.entries.Entries.{Entries}
 use Rattle.cudf_universe.specs.declared.index.gathered_names.Provision.{Provision}
-use Rattle.std.proofs.lemmas.List.{append-nil}
 use Rattle.std.proofs.lemmas.List.Concat.{flat_map-append}
 use Rattle.std.proofs.lemmas.List.Folds.{list_any-append}
 use Rattle.cudf_value.specs.declared.relop.Relop.{Relop}
 use Rattle.cudf_document.specs.Universe.{PlainPackage}
-use Rattle.cudf_universe.specs.Satisfaction.{Placed, Pair, members, entry_pair, unversioned_name, name_unless, package_pairs, gives, gives_all_versions, numbers_of}
+use Rattle.cudf_universe.specs.Satisfaction.{Placed, members, entry_pair, unversioned_name, name_unless, package_pairs, gives, gives_all_versions, numbers_of}
+use Rattle.cudf_document.specs.Ids.{Id}
 use Rattle.cudf_universe.specs.Working.Kept.{Keeps, IsSole, found, names_given, places_of}
 use Rattle.cudf_universe.specs.Working.Gathering.{row_items, provisions_of, own_entry, given_by, given_of, sole_place, Completes, CompletesAt}
 use Rattle.cudf_universe.proofs.MemberLemmas.{members-more}
@@ -106,13 +106,13 @@ abbrev one_given : Bool → Bool → Option ℕ → ℕ → List Provision
 one_given v b number place = cond b (record { number = number; place = place; is_version = v } ∷ []) []
 
 module _ (f : List ℕ) where
-  abbrev named_numbers : List Pair → List ℕ
+  abbrev named_numbers : List Id → List ℕ
   named_numbers pairs = map (λ pair. pair.1) (filter (λ pair. bytes_eq pair.0 f) pairs)
 
-  numbers-append : (xs ys : List Pair) → named_numbers (xs ++ ys) ≡ named_numbers xs ++ named_numbers ys
+  numbers-append : (xs ys : List Id) → named_numbers (xs ++ ys) ≡ named_numbers xs ++ named_numbers ys
   numbers-append xs ys =
-      ap (map (λ (pair : Pair). pair.1)) (filter-append (λ (pair : Pair). bytes_eq pair.0 f) xs ys)
-      ∙ map-append (λ (pair : Pair). pair.1) (filter (λ (pair : Pair). bytes_eq pair.0 f) xs) (filter (λ (pair : Pair). bytes_eq pair.0 f) ys)
+      ap (map (λ (pair : Id). pair.1)) (filter-append (λ (pair : Id). bytes_eq pair.0 f) xs ys)
+      ∙ map-append (λ (pair : Id). pair.1) (filter (λ (pair : Id). bytes_eq pair.0 f) xs) (filter (λ (pair : Id). bytes_eq pair.0 f) ys)
 
   filter_map_append : (xs ys : List Provision) → filter_map (λ g. g.number) (xs ++ ys) ≡ filter_map (λ g. g.number) xs ++ filter_map (λ g. g.number) ys
   filter_map_append [] ys = refl

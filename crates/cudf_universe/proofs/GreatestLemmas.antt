@@ -10,9 +10,11 @@ use Rattle.std.proofs.lemmas.List.{append-nil, map_push, take_more}
 use Rattle.std.proofs.lemmas.List.Elements.{All-push, Contains-push, Contains-append_left}
 use Rattle.std.proofs.lemmas.List.Concat.{flat_map-append}
 use Rattle.cudf_value.specs.declared.vpkg.Vpkg.{Vpkg}
-use Rattle.cudf_value.specs.Vpkgs.{vpkg_view}
+use Rattle.cudf_value.specs.Contracts.Views.{vpkg_view}
 use Rattle.cudf_document.specs.Universe.{PlainPackage}
-use Rattle.cudf_universe.specs.Satisfaction.{Pair, Placed, entry_pair, IsGreatest, members, gives, numbers_of, package_pairs}
+use Rattle.cudf_document.specs.Ids.{Id}
+use Rattle.cudf_universe.specs.Satisfaction.{Placed, entry_pair, members, gives, numbers_of, package_pairs}
+use Rattle.cudf_universe.specs.Contracts.Members.{IsGreatest}
 use Rattle.cudf_universe.specs.Working.Kept.{found}
 use Rattle.cudf_universe.specs.Working.Greatest.{with_number, with_pairs, with_entries}
 use Rattle.cudf_universe.proofs.MemberLemmas.{members-more}
@@ -139,20 +141,20 @@ module _ (f : List ℕ) where
   unfolding with_pairs
   pairs_none g = refl
 
-  pub pairs_one : (pair : Pair) (g : Option ℕ) → with_pairs f (pair ∷ []) g ≡ cond (bytes_eq pair.0 f) (with_number g pair.1) g
+  pub pairs_one : (pair : Id) (g : Option ℕ) → with_pairs f (pair ∷ []) g ≡ cond (bytes_eq pair.0 f) (with_number g pair.1) g
   unfolding with_pairs
   pairs_one pair g = refl
 
-  pub pairs_first : (pair : Pair) (pairs : List Pair) (g : Option ℕ) → with_pairs f (pair ∷ pairs) g ≡ with_pairs f pairs (cond (bytes_eq pair.0 f) (with_number g pair.1) g)
+  pub pairs_first : (pair : Id) (pairs : List Id) (g : Option ℕ) → with_pairs f (pair ∷ pairs) g ≡ with_pairs f pairs (cond (bytes_eq pair.0 f) (with_number g pair.1) g)
   unfolding with_pairs
   pairs_first pair pairs g = refl
 
-  pub pairs-append : (xs ys : List Pair) (g : Option ℕ) → with_pairs f (xs ++ ys) g ≡ with_pairs f ys (with_pairs f xs g)
+  pub pairs-append : (xs ys : List Id) (g : Option ℕ) → with_pairs f (xs ++ ys) g ≡ with_pairs f ys (with_pairs f xs g)
   unfolding with_pairs
   pairs-append [] ys g = refl
   pairs-append (x ∷ xs) ys g = pairs-append xs ys (cond (bytes_eq x.0 f) (with_number g x.1) g)
 
-  abbrev pub named_numbers : List Pair → List ℕ
+  abbrev pub named_numbers : List Id → List ℕ
   named_numbers pairs = map (λ pair. pair.1) (filter (λ pair. bytes_eq pair.0 f) pairs)
 
   -- the greatest of some numbers and one more
@@ -178,7 +180,7 @@ module _ (f : List ℕ) where
           (some_more m (Contains-append_left ns (n ∷ []) m is.among) (All-push (λ k. k ≤ m) ns n is.bound more))
 
   -- the greatest of some numbers, and of those of the name in more pairs
-  greatest_pairs : (pairs : List Pair) (ns : List ℕ) (g : Option ℕ) → IsGreatest ns g → IsGreatest (ns ++ named_numbers pairs) (with_pairs f pairs g)
+  greatest_pairs : (pairs : List Id) (ns : List ℕ) (g : Option ℕ) → IsGreatest ns g → IsGreatest (ns ++ named_numbers pairs) (with_pairs f pairs g)
   unfolding with_pairs
   greatest_pairs [] ns g is = subst (λ ms. IsGreatest ms g) (sym (append-nil ns)) is
   greatest_pairs (pair ∷ pairs) ns g is =
@@ -204,7 +206,7 @@ module _ (f : List ℕ) where
       ∙ ap (λ pairs. with_pairs f pairs None) (sym (flat_map-append (λ (q : Placed). package_pairs q.1) status (p ∷ [])))
 
   -- one entry more
-  pub entries-more : (es : List Vpkg) (i : ℕ) (d : Vpkg) (first old now : Option ℕ) (pair : Option Pair) → i < length es → pair ≡ entry_pair (vpkg_view (get_or es i d))
+  pub entries-more : (es : List Vpkg) (i : ℕ) (d : Vpkg) (first old now : Option ℕ) (pair : Option Id) → i < length es → pair ≡ entry_pair (vpkg_view (get_or es i d))
       → old ≡ with_entries f (map vpkg_view (take i es)) first → now ≡ with_pairs f (option_to_list pair) old → now ≡ with_entries f (map vpkg_view (take (i + 1) es)) first
   entries-more es i d first old now pair inside is before more =
       more ∙ ap (λ p. with_pairs f (option_to_list p) old) is ∙ ap (with_pairs f (option_to_list (entry_pair (vpkg_view (get_or es i d))))) before

@@ -7,7 +7,9 @@ use Rattle.std.proofs.lemmas.List.Concat.{flat_map-append}
 use Rattle.std.proofs.lemmas.List.{append-nil}
 use Rattle.cudf_value.specs.declared.relop.Relop.{Relop}
 use Rattle.cudf_value.specs.Vpkgs.{PlainVpkg, meets}
-use Rattle.cudf_universe.specs.Satisfaction.{Placed, Pair, MemberAlone, entry_pair, name_unless, unversioned_name, package_pairs, gives, gives_all_versions, is_met_by, is_below_one, satisfies, meets_alone}
+use Rattle.cudf_universe.specs.Satisfaction.{Placed, entry_pair, name_unless, unversioned_name, package_pairs, gives, gives_all_versions, is_met_by, is_below_one, satisfies, meets_alone}
+use Rattle.cudf_document.specs.Ids.{Id}
+use Rattle.cudf_universe.specs.Contracts.Members.{MemberAlone}
 use Rattle.cudf_universe.specs.Working.Members.{provision_meets, entry_meets}
 
 or_assoc : (a b c : Bool) → ((a || b) || c) ≡ (a || (b || c))
@@ -45,7 +47,7 @@ member_alone (p ∷ ps) v = satisfies-append (p ∷ []) ps v ∙ ap (λ b. satis
 
 -- ---- a package
 
-entry_first : (v : PlainVpkg) (name : List ℕ) (bound : Option (Relop × ℕ)) (pairs : List Pair) (names : List (List ℕ))
+entry_first : (v : PlainVpkg) (name : List ℕ) (bound : Option (Relop × ℕ)) (pairs : List Id) (names : List (List ℕ))
     → (list_any (is_met_by v) (cons_option (option_map (λ given. (name, given.1)) bound) pairs) || (list_any (is_named v) (cons_option (name_unless name bound) names) && not (is_below_one v.bound)))
     ≡ ((bytes_eq name v.name && provision_meets v.bound bound) || (list_any (is_met_by v) pairs || (list_any (is_named v) names && not (is_below_one v.bound))))
 entry_first v name None pairs names =

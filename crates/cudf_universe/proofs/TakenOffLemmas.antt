@@ -1,9 +1,8 @@
 -- Counts of what a status gives, and of what it gives without one package.
-use Rattle.std.proofs.Common.{◌≡◌, ℕ, ◌+◌, ◌<◌, zero, suc, Bool, true, false, not, cond, ◌||◌, ◌&&◌, ◌==◌, List, [], ◌∷◌, length, get_or, map, Option, Some, None, refl, sym, ap, ◌∙◌, arith, nat_lt, bytes_eq, subst}
+use Rattle.std.proofs.Common.{◌≡◌, ℕ, ◌+◌, ◌<◌, zero, suc, Bool, true, false, not, cond, ◌||◌, ◌&&◌, ◌==◌, List, [], ◌∷◌, length, get_or, map, Option, Some, None, refl, sym, ap, ◌∙◌, arith, nat_lt, bytes_eq, subst, Bor}
 use Rattle.std.specs.Prelude.{filter, filter_map, find, option_map, slice_get, if◌then◌else◌}
 use Rattle.std.specs.Option.{option_map_or, is_some, IfSome}
 use Rattle.std.proofs.lemmas.Option.{slice_get_past, slice_get_read}
-use Rattle.std.proofs.Common.{Bor}
 use Rattle.std.proofs.Math.Dec.{ltb}
 use Rattle.std.specs.List.{count_by, list_any, flat_map, cons_option, enumerate_from}
 use Rattle.std.proofs.lemmas.Bool.{eqb-true, eq-eqb, ne_eqb, true≢false, ltb-true, ltb-false}
@@ -13,7 +12,8 @@ use Rattle.cudf_value.specs.Vpkgs.{PlainVpkg, meets}
 use Rattle.cudf_universe.specs.declared.index.entries.Entries.{Entries}
 use Rattle.cudf_universe.specs.Working.Kept.{Keeps, kept_numbers, kept_unversioned, is_met_by_entry, gives_all_of}
 use Rattle.cudf_document.specs.Universe.{PlainPackage}
-use Rattle.cudf_universe.specs.Satisfaction.{Placed, Pair, entry_pair, members, without, gives, gives_all_versions, package_pairs, unversioned_name, numbers_of, is_met_by, is_below_one, satisfies, meets_alone}
+use Rattle.cudf_universe.specs.Satisfaction.{Placed, entry_pair, members, without, gives, gives_all_versions, package_pairs, unversioned_name, numbers_of, is_met_by, is_below_one, satisfies, meets_alone}
+use Rattle.cudf_document.specs.Ids.{Id}
 use Rattle.cudf_universe.proofs.SatisfactionLemmas.{member_alone}
 use Rattle.cudf_universe.proofs.SearchLemmas.{list_any-filter}
 use Rattle.cudf_universe.proofs.CountLemmas.{count-cons, count-append, any-count}
@@ -224,7 +224,7 @@ module _ (holds : ℕ → Bool) (packages : List PlainPackage) (status : List Pl
 
 -- ---- what a package gives, entry by entry
 
-pub pairs_counted : {A : Type 0} (v : PlainVpkg) (own : Pair) (h : A → PlainVpkg) (es : List A) → count_by (is_met_by v) (own ∷ filter_map entry_pair (map h es)) ≡ cond (is_met_by v own) 1 0 + count_by (λ e. is_met_by_entry v (h e)) es
+pub pairs_counted : {A : Type 0} (v : PlainVpkg) (own : Id) (h : A → PlainVpkg) (es : List A) → count_by (is_met_by v) (own ∷ filter_map entry_pair (map h es)) ≡ cond (is_met_by v own) 1 0 + count_by (λ e. is_met_by_entry v (h e)) es
 pairs_counted v own h es =
     count-cons (is_met_by v) own (filter_map entry_pair (map h es))
     ∙ ap (λ n. cond (is_met_by v own) 1 0 + n) (count-filter_map (is_met_by v) entry_pair (map h es) ∙ count-map (is_met_by_entry v) h es)

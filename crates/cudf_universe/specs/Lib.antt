@@ -1,3 +1,3 @@
 pub mod Satisfaction
-pub mod Prices
+pub mod Contracts
 pub mod Working

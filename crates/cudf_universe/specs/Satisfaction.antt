@@ -1,11 +1,12 @@
 -- What a status gives, and when it satisfies a vpkg or a clause: CUDF 2.0, installations and features.
 -- Own: an unversioned provision gives all positive integers, without an upper end.
-use Rattle.std.specs.Prelude.{◌≡◌, ◌≤◌, ℕ, Bool, true, false, not, ◌&&◌, ◌||◌, ◌==◌, List, [], ◌∷◌, All, Contains, bytes_eq, map, filter, find, Option, Some, None, IsNone, IfSome, option_map, filter_map, ◌↔◌}
+use Rattle.std.specs.Prelude.{ℕ, Bool, true, false, not, ◌&&◌, ◌||◌, ◌==◌, List, [], ◌∷◌, bytes_eq, map, filter, find, Option, Some, None, option_map, filter_map}
 use Rattle.std.specs.List.{list_any, flat_map, enumerate_from}
 use Rattle.cudf_value.specs.declared.relop.Relop.{Relop}
 use Rattle.cudf_value.specs.declared.relop.Relop.TheVariants.{Lt}
 use Rattle.cudf_value.specs.Vpkgs.{PlainVpkg, meets}
 use Rattle.cudf_value.specs.Formulas.{PlainAtom, truth_atom, falsehood_atom, named}
+use Rattle.cudf_document.specs.Ids.{Id}
 use Rattle.cudf_document.specs.Universe.{PlainPackage}
 
 -- ---- statuses as lists of packages
@@ -24,12 +25,8 @@ without place status = filter (λ p. not (p.0 == place)) status
 
 -- ---- what they give
 
--- a name and a number
-abbrev pub Pair : Type 0
-Pair = List ℕ × ℕ
-
 -- the pair of an entry `f = n` of a package's `provides`
-abbrev pub entry_pair : PlainVpkg → Option Pair
+abbrev pub entry_pair : PlainVpkg → Option Id
 entry_pair entry = option_map (λ bound. (entry.name, bound.1)) entry.bound
 
 abbrev pub name_unless : List ℕ → Option (Relop × ℕ) → Option (List ℕ)
@@ -41,11 +38,11 @@ abbrev pub unversioned_name : PlainVpkg → Option (List ℕ)
 unversioned_name entry = name_unless entry.name entry.bound
 
 -- the pairs that a package gives: its own, and those of its versioned features
-abbrev pub package_pairs : PlainPackage → List Pair
+abbrev pub package_pairs : PlainPackage → List Id
 package_pairs p = (p.name, p.version) ∷ filter_map entry_pair p.provides
 
 -- the pairs that a status gives
-abbrev pub gives : List Placed → List Pair
+abbrev pub gives : List Placed → List Id
 gives status = flat_map (λ p. package_pairs p.1) status
 
 -- the names that a status gives at all versions
@@ -56,22 +53,10 @@ gives_all_versions status = flat_map (λ p. filter_map unversioned_name p.1.prov
 abbrev pub numbers_of : List ℕ → List Placed → List ℕ
 numbers_of name status = map (λ pair. pair.1) (filter (λ pair. bytes_eq pair.0 name) (gives status))
 
--- the least of the numbers: none where there are no numbers, else one of them that is at most each
-pub record IsLeast (numbers : List ℕ) (least : Option ℕ) : Type 0 where
-  pub none : IsNone least ↔ (numbers ≡ [])
-  pub among : IfSome least (Contains numbers)
-  pub bound : IfSome least (λ n. All (λ m. n ≤ m) numbers)
-
--- the greatest of the numbers: none where there are no numbers, else one of them that is at least each
-pub record IsGreatest (numbers : List ℕ) (greatest : Option ℕ) : Type 0 where
-  pub none : IsNone greatest ↔ (numbers ≡ [])
-  pub among : IfSome greatest (Contains numbers)
-  pub bound : IfSome greatest (λ n. All (λ m. m ≤ n) numbers)
-
 -- ---- satisfaction
 
 -- the pair is of the vpkg's name, and its number meets the bound
-abbrev pub is_met_by : PlainVpkg → Pair → Bool
+abbrev pub is_met_by : PlainVpkg → Id → Bool
 is_met_by v pair = bytes_eq pair.0 v.name && meets v.bound pair.1
 
 -- the bound `< 1`, which no positive integer meets
@@ -109,7 +94,3 @@ first_meeting status v = option_map (λ p. p.0) (find (meets_alone v) status)
 abbrev pub other_than : Option ℕ → List Placed → List Placed
 other_than None status = status
 other_than (Some place) status = without place status
-
--- a status satisfies a vpkg where one of its packages alone does
-abbrev pub MemberAlone : Type 0
-MemberAlone = (status : List Placed) (v : PlainVpkg) → satisfies status v ≡ list_any (meets_alone v) status

@@ -1,14 +1,13 @@
 -- The value of the preamble's `property` (syntax of the preamble): declarations of extra package properties.
-use Rattle.std.specs.Prelude.{ℕ, ◌+◌, Bool, true, false, not, ◌&&◌, ◌==◌, List, [], length, take, drop, map, take_while, position, slice_index, Option, Some, None, option_map, option_and_then, option_copied, bytes_eq, codes, if◌then◌else◌}
+use Rattle.std.specs.Prelude.{ℕ, ◌+◌, Bool, true, false, not, ◌&&◌, ◌==◌, List, [], length, take, drop, map, take_while, position, slice_index, Option, Some, None, option_map, option_and_then, bytes_eq, codes, if◌then◌else◌}
 use Rattle.std.specs.List.{list_any}
 use Rattle.std.specs.Option.{option_map_or}
 use Rattle.std.specs.Str.{byte}
 use Rattle.std.specs.Char.{is_ascii_alphabetic}
-use Rattle.cudf_value.specs.declared.declaration.Declaration.{Declaration}
 use Rattle.cudf_text.specs.Chars.{is_ident_char, trim_start, trim, is_ident}
 use Rattle.cudf_value.specs.Chars.{rest_after, between}
 use Rattle.cudf_value.specs.Parts.{some_if, all_some, read_parts}
-use Rattle.cudf_value.specs.Types.{PlainType, posint_type, nat_type, int_type, bool_type, string_type, pkgname_type, ident_type, enum_type, vpkg_type, veqpkg_type, vpkgformula_type, vpkglist_type, veqpkglist_type, type_view, is_one_of, is_of_type}
+use Rattle.cudf_value.specs.Types.{PlainType, posint_type, nat_type, int_type, bool_type, string_type, pkgname_type, ident_type, enum_type, vpkg_type, veqpkg_type, vpkgformula_type, vpkglist_type, veqpkglist_type, is_one_of, is_of_type}
 use Rattle.cudf_value.specs.LexStates.{quote_mark, is_quotable, pieces}
 
 -- a declaration, in plain texts
@@ -16,9 +15,6 @@ pub record PlainDeclaration : Type 0 where
   pub name : List ℕ
   pub kind : PlainType
   pub default : Option (List ℕ)
-
-abbrev pub declaration_view : Declaration → PlainDeclaration
-declaration_view d = record { name = d.name.now; kind = type_view d.kind; default = option_copied d.default }
 
 -- the type of a word; an enum is more than a word
 abbrev pub type_word : List ℕ → Option PlainType

@@ -1,30 +1,15 @@
 -- The types `vpkgformula`, `vpkglist` and `veqpkglist` (the type library).
-use Rattle.std.specs.Prelude.{ℕ, Bool, true, false, List, map, Option, Some, option_map, bytes_eq, codes, if◌then◌else◌}
+use Rattle.std.specs.Prelude.{ℕ, Bool, true, false, List, Option, Some, option_map, bytes_eq, codes, if◌then◌else◌}
 use Rattle.std.specs.Str.{byte}
-use Rattle.cudf_value.specs.declared.formula.Atom.{Atom}
-use Rattle.cudf_value.specs.declared.formula.Atom.TheVariants.{Yes, No, Is}
-use Rattle.cudf_value.specs.declared.formula.Clause.{Clause}
-use Rattle.cudf_value.specs.declared.formula.Formula.{Formula}
 use Rattle.cudf_text.specs.Chars.{trim}
 use Rattle.cudf_value.specs.Parts.{read_parts, comma_list}
-use Rattle.cudf_value.specs.Vpkgs.{PlainVpkg, vpkg_view, vpkg, veqpkg}
+use Rattle.cudf_value.specs.Vpkgs.{PlainVpkg, vpkg, veqpkg}
 
 -- an atom: `true!`, `false!` or a vpkg
 pub data PlainAtom : Type 0 where
   truth_atom : PlainAtom
   falsehood_atom : PlainAtom
   named : PlainVpkg → PlainAtom
-
-abbrev pub atom_view : Atom → PlainAtom
-atom_view Yes = truth_atom
-atom_view No = falsehood_atom
-atom_view (Is v) = named (vpkg_view v)
-
-abbrev pub clause_view : Clause → List PlainAtom
-clause_view c = map atom_view c.atoms.items
-
-abbrev pub formula_view : Formula → List (List PlainAtom)
-formula_view f = map clause_view f.clauses.items
 
 -- the constants are written just so, and any other atom is a vpkg
 abbrev pub atom : List ℕ → Option PlainAtom

@@ -8,6 +8,5 @@ pub mod Printing
 pub mod Types
 pub mod LexStates
 pub mod Declarations
-pub mod Tokens
-pub mod Laws
+pub mod Contracts
 pub mod Working

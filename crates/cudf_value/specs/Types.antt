@@ -1,9 +1,7 @@
 -- CUDF's types, and which texts are of each (the type library).
-use Rattle.std.specs.Prelude.{ℕ, Bool, true, List, map, is_some, bytes_eq}
+use Rattle.std.specs.Prelude.{ℕ, Bool, true, List, is_some, bytes_eq}
 use Rattle.std.specs.List.{list_any}
-use Rattle.cudf_value.specs.declared.value_type.ValueType.{ValueType}
 use Rattle.cudf_text.specs.Chars.{is_ident}
-use Rattle.cudf_value.specs.declared.value_type.ValueType.TheVariants.{Positive, Natural, Signed, Truth, Words, Name, Ident, Choice, Versioned, Exact, Formula, List as VpkgList, ExactList}
 use Rattle.cudf_value.specs.Words.{truth, is_pkgname}
 use Rattle.cudf_value.specs.Numbers.{positive, natural, signed}
 use Rattle.cudf_value.specs.Vpkgs.{vpkg, veqpkg}
@@ -24,21 +22,6 @@ pub data PlainType : Type 0 where
   vpkgformula_type : PlainType
   vpkglist_type : PlainType
   veqpkglist_type : PlainType
-
-abbrev pub type_view : ValueType → PlainType
-type_view Positive = posint_type
-type_view Natural = nat_type
-type_view Signed = int_type
-type_view Truth = bool_type
-type_view Words = string_type
-type_view Name = pkgname_type
-type_view Ident = ident_type
-type_view (Choice idents) = enum_type (map (λ ident. ident.now) idents.items)
-type_view Versioned = vpkg_type
-type_view Exact = veqpkg_type
-type_view Formula = vpkgformula_type
-type_view VpkgList = vpkglist_type
-type_view ExactList = veqpkglist_type
 
 -- the text is one of the words
 abbrev pub is_one_of : List (List ℕ) → List ℕ → Bool

@@ -2,7 +2,6 @@
 use Rattle.std.specs.Prelude.{ℕ, Bool, true, false, not, ◌==◌, nat_lt, nat_le, List, length, take_while, Option, Some, None, option_and_then, bytes_eq, codes, if◌then◌else◌}
 use Rattle.cudf_value.specs.declared.relop.Relop.{Relop}
 use Rattle.cudf_value.specs.declared.relop.Relop.TheVariants.{Eq, Neq, Geq, Gt, Leq, Lt}
-use Rattle.cudf_value.specs.declared.vpkg.Vpkg.{Vpkg}
 use Rattle.cudf_text.specs.Chars.{trim_start}
 use Rattle.cudf_value.specs.Chars.{is_pkgname_char, is_operator_char, rest_after}
 use Rattle.cudf_value.specs.Parts.{some_if}
@@ -12,9 +11,6 @@ use Rattle.cudf_value.specs.Numbers.{positive}
 pub record PlainVpkg : Type 0 where
   pub name : List ℕ
   pub bound : Option (Relop × ℕ)
-
-abbrev pub vpkg_view : Vpkg → PlainVpkg
-vpkg_view v = record { name = v.name.now; bound = v.bound }
 
 -- the operator that is written so
 abbrev pub relop : List ℕ → Option Relop

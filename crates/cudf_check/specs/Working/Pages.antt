@@ -1,13 +1,12 @@
 -- Where the walk over the instances stands after a page, and what it has spent.
 use Rattle.std.specs.Prelude.{◌≡◌, ◌≤◌, ◌+◌, ◌⊎◌, ℕ, List, [], ◌∷◌, ◌++◌, codes, length, take, drop, map, IsTrue, Option, Some, None, if◌then◌else◌}
-use Rattle.cudf_referee.specs.Entries.{is_empty}
-use Rattle.cudf_referee.specs.Keys.{PlainKey, key_text}
-use Rattle.cudf_referee.specs.Pages.{cost_along}
-use Rattle.cudf_referee.specs.Sites.{PlainPosition, at_key}
-use Rattle.cudf_referee.specs.Walks.{Walking, left}
+use Rattle.cudf_document.specs.Documents.{is_empty}
+use Rattle.cudf_referee.specs.Keys.{PlainKey, key_text, ascend}
+use Rattle.cudf_referee.specs.Contracts.Pages.{cost_along}
+use Rattle.cudf_referee.specs.Contracts.Sites.{PlainPosition, at_key}
+use Rattle.cudf_referee.specs.Contracts.Walks.{Walking, left}
 use Rattle.cudf_referee.specs.declared.key.Key.{Key}
 use Rattle.cudf_referee.specs.Instances.{PlainInstance}
-use Rattle.cudf_referee.specs.Keys.{ascend}
 use Rattle.cudf_referee.specs.KeyViews.{key_view}
 use Rattle.cudf_referee.specs.Proposals.{Proposal}
 use Rattle.cudf_referee.specs.Violations.{listing}

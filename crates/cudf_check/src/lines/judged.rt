@@ -1,6 +1,6 @@
 //! The report of a judged solution: what was found, and the verdict.
 ghost use Rattle.std.specs.Prelude.{◌≡◌, map, if◌then◌else◌};
-ghost use Rattle.cudf_document.specs.Universe.{package_view};
+ghost use Rattle.cudf_document.specs.Contracts.Views.{package_view};
 ghost use Rattle.cudf_referee.specs.Solutions.{is_solution};
 ghost use Rattle.cudf_check.specs.Report.{verdict_text, judged_report};
 ghost use Rattle.cudf_check.specs.Working.Answering.{Answers};

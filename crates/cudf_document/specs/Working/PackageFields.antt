@@ -6,16 +6,18 @@ use Rattle.cudf_text.specs.declared.fault.Kind.{Kind}
 use Rattle.cudf_text.specs.declared.fault.Kind.TheVariants.{E7, E8, E9}
 use Rattle.cudf_text.specs.Stanzas.{PlainProperty}
 use Rattle.cudf_value.specs.Vpkgs.{PlainVpkg}
-use Rattle.cudf_value.specs.Formulas.{PlainAtom, formula_view}
+use Rattle.cudf_value.specs.Formulas.{PlainAtom}
+use Rattle.cudf_value.specs.Contracts.Views.{formula_view}
 use Rattle.cudf_value.specs.Declarations.{PlainDeclaration}
 use Rattle.cudf_document.specs.declared.package.Keep.{Keep as PlainKeep}
 use Rattle.cudf_document.specs.declared.package.Keep.TheVariants.{Nothing}
-use Rattle.cudf_document.specs.declared.package_property.PackageProperty.{PackageProperty}
-use Rattle.cudf_document.specs.declared.package_property.PackageProperty.TheVariants.{Package, Version, Depends, Conflicts, Provides, Installed, Keep, WasInstalled, Recommends}
-use Rattle.cudf_document.specs.declared.package_fields.PackageFields.{PackageFields}
+use Rattle.cudf_document.specs.declared.package.property.PackageProperty.{PackageProperty}
+use Rattle.cudf_document.specs.declared.package.property.PackageProperty.TheVariants.{Package, Version, Depends, Conflicts, Provides, Installed, Keep, WasInstalled, Recommends}
+use Rattle.cudf_document.specs.declared.package.fields.PackageFields.{PackageFields}
 use Rattle.cudf_document.specs.Documents.{value_of}
 use Rattle.cudf_document.specs.Preamble.{recommends_in}
-use Rattle.cudf_document.specs.Universe.{PlainPackage, list_view, or_default, own_recommends}
+use Rattle.cudf_document.specs.Universe.{PlainPackage, or_default, own_recommends}
+use Rattle.cudf_document.specs.Contracts.Views.{list_view}
 use Rattle.cudf_document.specs.Ids.{Id, id_with}
 use Rattle.cudf_document.specs.Values.{Test, name_value, version_value, formula_value, list_value, exact_list_value, truth_value, keep_value, can_be, is_anything, declared_test, test_of}
 

@@ -7,11 +7,12 @@ use Rattle.cudf_text.specs.declared.fault.Kind.{Kind}
 use Rattle.cudf_text.specs.declared.fault.Kind.TheVariants.{E7, E10, E11, E12, E14}
 use Rattle.cudf_text.specs.Stanzas.{PlainProperty, PlainStanza}
 use Rattle.cudf_value.specs.Declarations.{PlainDeclaration}
-use Rattle.cudf_document.specs.declared.postmark.Postmark.{Postmark}
-use Rattle.cudf_document.specs.declared.postmark.Postmark.TheVariants.{Preamble, Package, Request}
+use Rattle.cudf_document.specs.declared.stanza.postmark.Postmark.{Postmark}
+use Rattle.cudf_document.specs.declared.stanza.postmark.Postmark.TheVariants.{Preamble, Package, Request}
 use Rattle.cudf_document.specs.Faults.{fault_if}
 use Rattle.cudf_document.specs.Documents.{has_name, line_of}
-use Rattle.cudf_document.specs.Ids.{Id, is_id, is_among, is_known, id_under, id_of, with_id}
+use Rattle.cudf_document.specs.Ids.{Id, is_id, is_among, is_known, id_under, id_of}
+use Rattle.cudf_document.specs.Contracts.Packages.{with_id}
 use Rattle.cudf_document.specs.Preamble.{declared_after, is_bad_declaration, declared, recommends_default}
 use Rattle.cudf_document.specs.ProblemFaults.{properties_faults, version_property, lacks_one}
 use Rattle.cudf_document.specs.Universe.{PlainPackage, package_id, PlainRequest, PlainProblem, or_default, no_request, request_of, packages_in, request_in}

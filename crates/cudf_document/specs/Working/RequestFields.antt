@@ -5,12 +5,13 @@ use Rattle.cudf_text.specs.declared.fault.Kind.{Kind}
 use Rattle.cudf_text.specs.declared.fault.Kind.TheVariants.{E7, E9}
 use Rattle.cudf_text.specs.Stanzas.{PlainProperty}
 use Rattle.cudf_value.specs.Vpkgs.{PlainVpkg}
-use Rattle.cudf_document.specs.declared.request_fields.RequestProperty.{RequestProperty}
-use Rattle.cudf_document.specs.declared.request_fields.RequestProperty.TheVariants.{Install, Remove, Upgrade}
-use Rattle.cudf_document.specs.declared.request_fields.RequestFields.{RequestFields}
+use Rattle.cudf_document.specs.declared.request.fields.RequestProperty.{RequestProperty}
+use Rattle.cudf_document.specs.declared.request.fields.RequestProperty.TheVariants.{Install, Remove, Upgrade}
+use Rattle.cudf_document.specs.declared.request.fields.RequestFields.{RequestFields}
 use Rattle.cudf_document.specs.Documents.{value_of}
 use Rattle.cudf_document.specs.Values.{Test, list_value, can_be, fails}
-use Rattle.cudf_document.specs.Universe.{PlainRequest, list_view, or_default}
+use Rattle.cudf_document.specs.Universe.{PlainRequest, or_default}
+use Rattle.cudf_document.specs.Contracts.Views.{list_view}
 
 abbrev pub request_property_named : List ℕ → Option RequestProperty
 request_property_named name = if bytes_eq name (codes "install") then Some Install

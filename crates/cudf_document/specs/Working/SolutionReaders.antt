@@ -5,12 +5,14 @@ use Rattle.std.specs.List.{flat_map}
 use Rattle.cudf_text.specs.Stanzas.{PlainStanza, PlainText}
 use Rattle.cudf_document.specs.declared.mode.Mode.{Mode}
 use Rattle.cudf_document.specs.declared.solution.Solution.{Solution}
-use Rattle.cudf_document.specs.declared.solution_reader.SolutionReader.{SolutionReader}
+use Rattle.cudf_document.specs.declared.solution.reader.SolutionReader.{SolutionReader}
 use Rattle.cudf_document.specs.Faults.{least}
 use Rattle.cudf_document.specs.Ids.{is_among}
 use Rattle.cudf_document.specs.SolutionFaults.{solution_stanza_faults, solution_faults}
 use Rattle.cudf_document.specs.Universe.{PlainProblem}
-use Rattle.cudf_document.specs.Statuses.{installed_ids, is_proposed, unknown_view, unknown_stanzas, IsStatusOf, ascend_above, are_outside}
+use Rattle.cudf_document.specs.Statuses.{installed_ids, is_proposed, unknown_stanzas, ascend_above}
+use Rattle.cudf_document.specs.Contracts.Views.{unknown_view}
+use Rattle.cudf_document.specs.Contracts.Statuses.{IsStatusOf, are_outside}
 use Rattle.cudf_document.specs.Working.Pairs.{ArePairs}
 use Rattle.cudf_document.specs.Working.SolutionBuilders.{ids_of}
 

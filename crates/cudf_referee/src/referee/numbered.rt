@@ -1,6 +1,7 @@
 //! That the numbers of all keys are those of a `u64`, which contracts alone see.
 ghost use Rattle.std.specs.Prelude.{ℕ, ◌<◌, ◌^◌, All, List, IsTrue, length, map};
-ghost use Rattle.cudf_document.specs.Statuses.{unknown_view, ascend_above};
+ghost use Rattle.cudf_document.specs.Contracts.Views.{unknown_view};
+ghost use Rattle.cudf_document.specs.Statuses.{ascend_above};
 ghost use Rattle.cudf_universe.specs.Satisfaction.{Placed};
 ghost use Rattle.cudf_referee.specs.Proposals.{put_forward};
 ghost use Rattle.cudf_referee.specs.Working.Numbered.{IsNumbered};

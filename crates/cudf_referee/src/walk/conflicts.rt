@@ -1,6 +1,6 @@
 //! Conflicts: an entry that the proposed status without the package satisfies.
-ghost use Rattle.cudf_value.specs.Vpkgs.{vpkg_view};
-ghost use Rattle.cudf_referee.specs.Sites.{conflicts_entry};
+ghost use Rattle.cudf_value.specs.Contracts.Views.{vpkg_view};
+ghost use Rattle.cudf_referee.specs.Contracts.Sites.{conflicts_entry};
 ghost use Rattle.cudf_referee.specs.Working.Candidates.{placed_view, Fits};
 
 use crate::instance::{Instance, What};

@@ -1,8 +1,8 @@
 //! Install: an entry that the proposed status doesn't satisfy.
 ghost use Rattle.std.specs.Prelude.{◌≡◌};
-ghost use Rattle.cudf_value.specs.Vpkgs.{vpkg_view};
-ghost use Rattle.cudf_document.specs.Universe.{request_view};
-ghost use Rattle.cudf_referee.specs.Sites.{install_entry};
+ghost use Rattle.cudf_value.specs.Contracts.Views.{vpkg_view};
+ghost use Rattle.cudf_document.specs.Contracts.Views.{request_view};
+ghost use Rattle.cudf_referee.specs.Contracts.Sites.{install_entry};
 
 use crate::instance::{Instance, What};
 use crate::key::Rule;

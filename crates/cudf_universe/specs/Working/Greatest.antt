@@ -1,7 +1,8 @@
 -- The greatest number of each name, as it is gathered (own).
 use Rattle.std.specs.Prelude.{ℕ, max, List, [], ◌∷◌, bytes_eq, filter_map, Option, Some, None, if◌then◌else◌}
 use Rattle.cudf_value.specs.Vpkgs.{PlainVpkg}
-use Rattle.cudf_universe.specs.Satisfaction.{Pair, entry_pair}
+use Rattle.cudf_document.specs.Ids.{Id}
+use Rattle.cudf_universe.specs.Satisfaction.{entry_pair}
 use Rattle.cudf_universe.specs.Working.Kept.{found}
 use Rattle.cudf_universe.specs.declared.greatest.NumberedNames.{NumberedNames}
 
@@ -15,7 +16,7 @@ with_number None n = Some n
 with_number (Some m) n = Some (max m n)
 
 -- the greatest of a name, with the numbers of that name in more pairs
-unfoldable pub with_pairs : List ℕ → List Pair → Option ℕ → Option ℕ
+unfoldable pub with_pairs : List ℕ → List Id → Option ℕ → Option ℕ
 with_pairs f [] greatest = greatest
 with_pairs f (pair ∷ pairs) greatest = with_pairs f pairs (if bytes_eq pair.0 f then with_number greatest pair.1 else greatest)
 

@@ -1,5 +1,5 @@
 use Rattle.std.proofs.Common.{◌≡◌, true, option_map, sym}
-use Rattle.cudf_referee.specs.Entries.{is_empty}
+use Rattle.cudf_document.specs.Documents.{is_empty}
 use Rattle.cudf_referee.specs.KeyViews.{key_view}
 use Rattle.cudf_referee.specs.Violations.{listing}
 use Rattle.cudf_check.proofs.PageLemmas.{no-page}

@@ -1,9 +1,8 @@
 use Rattle.std.proofs.Common.{◌≡◌, ◌<◌, ◌≤◌, [], length, sym, ap, ◌∙◌, arith}
 use Rattle.std.specs.FinSet as set
-use Rattle.std.proofs.lemmas.List.{length-map}
-use Rattle.cudf_document.specs.Universe.{package_view}
+use Rattle.std.proofs.lemmas.List.{length-map, take_all}
+use Rattle.cudf_document.specs.Contracts.Views.{package_view}
 use Rattle.std.specs.List.{count_by}
-use Rattle.std.proofs.lemmas.List.{take_all}
 use Rattle.std.proofs.lemmas.List.FromFn.{length-enumerate_from}
 use Rattle.cudf_referee.specs.Criteria.{is_touched, at_most_max, universe}
 use Rattle.cudf_referee.specs.Proposals.{proposal}

@@ -5,10 +5,10 @@ use Rattle.std.proofs.lemmas.List.Elements.{All-map}
 use Rattle.cudf_document.specs.declared.package.Package.{Package}
 use Rattle.cudf_document.specs.declared.request.Request.{Request}
 use Rattle.cudf_document.specs.declared.solution.Unknown.{Unknown}
-use Rattle.cudf_document.specs.Statuses.{PlainUnknown, unknown_view, ascend_above}
-use Rattle.cudf_document.specs.Universe.{PlainPackage, PlainRequest, PlainProblem, package_view, request_view}
-use Rattle.cudf_value.specs.Formulas.{clause_view}
-use Rattle.cudf_value.specs.Vpkgs.{vpkg_view}
+use Rattle.cudf_document.specs.Statuses.{PlainUnknown, ascend_above}
+use Rattle.cudf_document.specs.Contracts.Views.{unknown_view, package_view, request_view}
+use Rattle.cudf_document.specs.Universe.{PlainPackage, PlainRequest, PlainProblem}
+use Rattle.cudf_value.specs.Contracts.Views.{clause_view, vpkg_view}
 use Rattle.cudf_universe.specs.Satisfaction.{Placed}
 use Rattle.cudf_referee.specs.Proposals.{put_forward}
 use Rattle.cudf_referee.specs.Working.Numbered.{IsListed, IsNumbered}

@@ -1,19 +1,21 @@
 use Rattle.std.proofs.Common.{◌≡◌, ℕ, ◌+◌, Bool, true, false, cond, List, map, ap, sym, ◌∙◌, arith, ◌∷◌}
 use Rattle.std.specs.Prelude.{filter_map}
 use Rattle.std.specs.List.{count_by}
-use Rattle.cudf_value.specs.Vpkgs.{PlainVpkg, vpkg_view}
-use Rattle.cudf_universe.specs.Satisfaction.{Pair, is_met_by, entry_pair}
+use Rattle.cudf_value.specs.Vpkgs.{PlainVpkg}
+use Rattle.cudf_value.specs.Contracts.Views.{vpkg_view}
+use Rattle.cudf_document.specs.Ids.{Id}
+use Rattle.cudf_universe.specs.Satisfaction.{is_met_by, entry_pair}
 use Rattle.cudf_universe.specs.Working.Kept.{is_met_by_entry}
 use Rattle.cudf_universe.proofs.TakenOffLemmas.{pairs_counted}
 use Rattle.cudf_universe.proofs.index.member.Member.numbers_met.Goals as goal
 
-with_own : {A : Type 0} (v : PlainVpkg) (own : Pair) (h : A → PlainVpkg) (es : List A) (n : ℕ) → n ≡ count_by (λ e. is_met_by_entry v (h e)) es → is_met_by v own ≡ true → n + 1 ≡ count_by (is_met_by v) (own ∷ filter_map entry_pair (map h es))
+with_own : {A : Type 0} (v : PlainVpkg) (own : Id) (h : A → PlainVpkg) (es : List A) (n : ℕ) → n ≡ count_by (λ e. is_met_by_entry v (h e)) es → is_met_by v own ≡ true → n + 1 ≡ count_by (is_met_by v) (own ∷ filter_map entry_pair (map h es))
 with_own v own h es n e met = omega (arith, pairs_counted v own h es, ap one met)
   where
     one : Bool → ℕ
     one b = cond b 1 0
 
-without_own : {A : Type 0} (v : PlainVpkg) (own : Pair) (h : A → PlainVpkg) (es : List A) (n : ℕ) → n ≡ count_by (λ e. is_met_by_entry v (h e)) es → is_met_by v own ≡ false → n ≡ count_by (is_met_by v) (own ∷ filter_map entry_pair (map h es))
+without_own : {A : Type 0} (v : PlainVpkg) (own : Id) (h : A → PlainVpkg) (es : List A) (n : ℕ) → n ≡ count_by (λ e. is_met_by_entry v (h e)) es → is_met_by v own ≡ false → n ≡ count_by (is_met_by v) (own ∷ filter_map entry_pair (map h es))
 without_own v own h es n e met = omega (arith, pairs_counted v own h es, ap one met)
   where
     one : Bool → ℕ

@@ -1,0 +1,14 @@
+use Rattle.std.proofs.Common.{◌||◌, ◌∙◌}
+use Rattle.cudf_text.specs.Contracts.Views.{stanza_view}
+use Rattle.cudf_document.specs.Faults.{lesser}
+use Rattle.cudf_document.specs.Working.Walks.{texts}
+use Rattle.cudf_document.proofs.WalkLemmas.{IsKnown-next}
+use Rattle.cudf_document.proofs.problem.walk.Walk.take.Goals as goal
+
+pub returns-clause-known : goal.returns-clause-known
+returns-clause-known g c = λ mode before first ds required so_far.
+    IsKnown-next mode (texts c.args.required.now) c.args.self.now _ before (stanza_view c.args.stanza.now) c.postmark_of-mark.result c.args.is_first c.place_fault-place.result c.in_ok-inside.inside
+    first ds required so_far c.postmark_of-mark.ensures c.place_fault-place.ensures c.in_ok-inside.ensures.fault
+    (c.keep_lesser.ensures ∙ (λ i. lesser (c.in_ok-inside.ensures.first i) (c.or.ensures i)))
+    c.in_ok-inside.ensures.ids
+    (c.either-self.ensures ∙ (λ i. c.is_request.ensures i || c.in_ok-inside.ensures.requested i))

@@ -1,0 +1,6 @@
+pub mod Faults
+pub mod Laws
+pub mod Packages
+pub mod Statuses
+pub mod Thin
+pub mod Views

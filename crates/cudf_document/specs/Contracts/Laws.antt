@@ -1,0 +1,55 @@
+-- What follows from the definitions alone.
+use Rattle.std.specs.Prelude.{◌≡◌, ◌≢◌, ◌⊎◌, Bool, true, false, not, ◌||◌, List, [], Option, Some, is_some, IsTrue, Contains, AllPairs, count_by}
+use Rattle.std.specs.List.{list_all}
+use Rattle.cudf_text.specs.declared.fault.Fault.{Fault}
+use Rattle.cudf_text.specs.declared.fault.Kind.{Kind}
+use Rattle.cudf_text.specs.declared.fault.Kind.TheVariants.{E14, E15}
+use Rattle.cudf_text.specs.Stanzas.{PlainText}
+use Rattle.cudf_document.specs.declared.mode.Mode.{Mode}
+use Rattle.cudf_document.specs.declared.mode.Mode.TheVariants.{Lenient, Strict}
+use Rattle.cudf_document.specs.Faults.{precedes, least}
+use Rattle.cudf_document.specs.Contracts.Packages.{is_package}
+use Rattle.cudf_document.specs.Documents.{is_request}
+use Rattle.cudf_document.specs.Preamble.{declared}
+use Rattle.cudf_document.specs.ProblemFaults.{problem_faults}
+use Rattle.cudf_document.specs.SolutionFaults.{solution_faults}
+use Rattle.cudf_document.specs.Universe.{package_id, package_of, packages_in}
+
+-- f is one of the faults, and precedes every other one
+abbrev pub IsFirst : List Fault → Fault → Type 0
+IsFirst faults f = Contains faults f × ((g : Fault) → Contains faults g → (g ≡ f) ⊎ IsTrue (precedes f g))
+
+-- the least fault is the first, and there is no other first one
+abbrev pub LeastIsFirst : Type 0
+LeastIsFirst = (faults : List Fault) (f : Fault) → (least faults ≡ Some f → IsFirst faults f) × (IsFirst faults f → least faults ≡ Some f)
+
+-- each package stanza describes a package, no two packages have one name and version, and there is one request
+pub record IsSound (text : PlainText) : Type 0 where
+  pub described : list_all (λ s. not (is_package s) || is_some (package_of (declared text.stanzas) s)) text.stanzas ≡ true
+  pub distinct : AllPairs (λ p q. package_id p ≢ package_id q) (packages_in text.stanzas)
+  pub requested : count_by is_request text.stanzas ≡ 1
+
+-- a problem without fault has a universe and a request
+abbrev pub FaultlessIsSound : Type 0
+FaultlessIsSound = (text : PlainText) (mode : Mode) → problem_faults text mode ≡ [] → IsSound text
+
+-- ---- modes
+
+-- the kinds that are told strictly alone
+abbrev pub is_strict : Kind → Bool
+is_strict E14 = true
+is_strict E15 = true
+is_strict _ = false
+
+-- a document's faults in both modes: strictly there are the lenient ones and some of one kind. Leniently none is of a
+-- kind that is told strictly alone, but for the fault of a line, of which the text itself says what it is
+pub record StrictAdds (kind : Kind) (line : Option Fault) (lenient strict : List Fault) : Type 0 where
+  pub kept : (f : Fault) → Contains lenient f → Contains strict f
+  pub added : (f : Fault) → Contains strict f → Contains lenient f ⊎ (f.kind ≡ kind)
+  pub lenient_kinds : (f : Fault) → Contains lenient f → (line ≡ Some f) ⊎ (is_strict f.kind ≡ false)
+  pub faultless : strict ≡ [] → lenient ≡ []
+
+-- strictly a problem has faults of kind E14 besides, and a solution faults of kind E15
+abbrev pub StrictAddsOneKind : Type 0
+StrictAddsOneKind = (text : PlainText) → StrictAdds E14 text.fault (problem_faults text Lenient) (problem_faults text Strict)
+    × StrictAdds E15 text.fault (solution_faults text Lenient) (solution_faults text Strict)

@@ -1,0 +1,88 @@
+//! Packages without what they need.
+ghost use Rattle.std.specs.Prelude.{◌≡◌, Some, true, IfOk, OnOk};
+ghost use Rattle.cudf_text.specs.Contracts.Views.{stanza_view};
+ghost use Rattle.cudf_document.specs.Faults.{least};
+ghost use Rattle.cudf_document.specs.ProblemFaults.{properties_faults};
+ghost use Rattle.cudf_document.specs.Working.Borrows.{are_borrowed};
+ghost use Rattle.cudf_document.specs.Working.PackageFields.{package_fields_view, package_fields_of, without_needs, is_need};
+ghost use Rattle.cudf_document.specs.Working.SeenNames.{AreNames};
+ghost use Rattle.cudf_document.specs.declared.stanza.postmark.Postmark.TheVariants.{Package as PackageMark};
+
+use crate::declaration::declarations::Declarations;
+use crate::property::fields::{Fields, judge_property, read_properties};
+use crate::package::fields::PackageFields;
+use crate::package::property::{PackageProperty, package_property_named};
+use crate::property::seen_names::SeenNames;
+use cudf_text::{Fault, Kind, Property, Stanza};
+use std::alloc::{AllocError, Global};
+
+/// What the properties of a package stanza say, but what the package needs: that is only judged.
+#[derive(Drop)]
+struct BarePackage<'t> {
+    fields: PackageFields<'t>,
+}
+
+impl<'t> Fields<'t> for BarePackage<'t> {
+    ghost use Rattle.std.specs.Prelude.{◌≡◌};
+    ghost use Rattle.cudf_document.specs.Working.PackageFields.{package_fields_view, package_fields_of, without_needs};
+
+    ghost IsRead = { λ ds ps s. package_fields_view s.fields ≡ without_needs (package_fields_of ds ps) };
+
+    fn start() -> Self {
+        BarePackage {
+            fields: PackageFields::new(),
+        }
+    }
+
+    fn set(
+        &mut self,
+        alloc: Global,
+        declarations: &Declarations<'_>,
+        property: &Property<'t>,
+    ) -> Result<Option<Kind>, AllocError> {
+        let named = package_property_named(property.name);
+        if is_need(named) {
+            return Ok(judge_property(declarations, named, property));
+        }
+        self.fields.read(alloc, declarations, named, property)
+    }
+
+    fn skip(&self, declarations: &Declarations<'_>, property: &Property<'t>) {}
+}
+
+/// Whether the property says what a package needs: other packages, or that they are absent.
+#[inline(always)]
+fn is_need(named: Option<PackageProperty>) -> bool
+    ensures { result ≡ is_need named }
+{
+    matches!(
+        named,
+        Some(PackageProperty::Depends | PackageProperty::Conflicts | PackageProperty::Recommends)
+    )
+}
+
+/// The first fault of a package's properties, and what they say, but what the package needs, where
+/// each value is a part of the source.
+pub(crate) fn read_bare_package<'a>(
+    alloc: Global,
+    names: &mut SeenNames<'a>,
+    declarations: &Declarations<'_>,
+    stanza: &Stanza<'a>,
+) -> Result<(Option<Fault>, PackageFields<'a>), AllocError>
+    ensures fault { IfOk result (λ r.
+        r.0
+        ≡ least (properties_faults declarations.now (Some PackageMark) (stanza_view stanza.now).properties)) }
+    ensures names { OnOk result (AreNames names.new (stanza_view stanza.now).properties) }
+    ensures values { are_borrowed stanza.now.properties.items ≡ true →
+        IfOk result (λ r.
+        package_fields_view r.1
+        ≡ without_needs (package_fields_of declarations.now (stanza_view stanza.now).properties)) }
+{
+    let (fault, bare): (Option<Fault>, BarePackage<'a>) = read_properties(
+        alloc,
+        names,
+        declarations,
+        &stanza.properties,
+    )?;
+    Ok((fault, bare.fields))
+}

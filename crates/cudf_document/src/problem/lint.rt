@@ -1,0 +1,76 @@
+//! The first fault of a problem, with no problem made.
+ghost use Rattle.std.specs.Prelude.{◌≡◌, IfOk};
+ghost use Rattle.cudf_document.specs.Faults.{least};
+ghost use Rattle.cudf_document.specs.ProblemFaults.{problem_faults};
+
+use crate::declaration::declarations::Declarations;
+use crate::property::fields::judge_package;
+use crate::mode::Mode;
+use crate::request::fields::read_request;
+use crate::property::seen_names::SeenNames;
+use crate::problem::walk::{Kept, Walk, walk_all};
+use cudf_text::{Fault, Stanza, Stanzas};
+use std::alloc::{AllocError, Global};
+
+/// The first fault of a problem that is read in this mode, if it has one.
+pub fn first_fault(
+    alloc: Global,
+    stanzas: Stanzas<'_>,
+    mode: Mode,
+) -> Result<Option<Fault>, AllocError>
+    ensures { IfOk result (λ fault. fault ≡ least (problem_faults stanzas.entry.text mode)) }
+{
+    let mut head = Stanza {
+        line: 0,
+        last: 0,
+        properties: Vec::new(alloc),
+    };
+    let walked: Option<(Walk<'_, '_>, Nothing)> = walk_all(
+        alloc, stanzas, &mut head, Nothing, mode,
+    )?;
+    match walked {
+        Some((walk, _nothing)) => Ok(walk.first),
+        None => Ok(None),
+    }
+}
+
+/// Where stanzas are only judged.
+#[derive(Drop)]
+struct Nothing;
+
+impl<'a> Kept<'a> for Nothing {
+    ghost use Rattle.std.specs.Prelude.{⊤, false};
+
+    ghost IsKept = { λ is_kept before nothing. ⊤ };
+
+    ghost is_lost = { λ s. false };
+
+    ghost may_stop = { false };
+
+    fn loses(&self, stanza: &Stanza<'a>) -> bool {
+        false
+    }
+
+    fn take_package(
+        &mut self,
+        alloc: Global,
+        names: &mut SeenNames<'a>,
+        declarations: &Declarations<'_>,
+        id: Option<(&'a str, u64)>,
+        stanza: &Stanza<'a>,
+    ) -> Result<Option<Fault>, AllocError> {
+        judge_package(alloc, names, declarations, stanza)
+    }
+
+    fn take_request(
+        &mut self,
+        alloc: Global,
+        names: &mut SeenNames<'a>,
+        stanza: &Stanza<'a>,
+    ) -> Result<Option<Fault>, AllocError> {
+        let (fault, _request) = read_request(alloc, names, stanza)?;
+        Ok(fault)
+    }
+
+    fn pass(&self, stanza: &Stanza<'a>) {}
+}

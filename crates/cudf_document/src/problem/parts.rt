@@ -1,0 +1,189 @@
+//! What is kept of a problem whose values are parts of the source.
+ghost use Rattle.std.specs.Prelude.{◌≡◌, ◌++◌, map, option_map, option_to_list, OnOk};
+ghost use Rattle.cudf_document.specs.Ids.{is_among};
+ghost use Rattle.cudf_document.specs.Contracts.Views.{package_view};
+ghost use Rattle.cudf_document.specs.Working.PackageFields.{passes};
+
+use crate::package::bare::read_bare_package;
+use crate::property::borrowed::are_borrowed;
+use crate::problem::chosen::Chosen;
+use crate::declaration::declarations::Declarations;
+use crate::package::Package;
+use crate::package::fields::{PackageFields, read_package};
+use crate::stanza::postmark::is_preamble;
+use crate::problem::Problem;
+use crate::request::Request;
+use crate::request::fields::read_request;
+use crate::property::seen_names::SeenNames;
+use crate::problem::walk::{Kept, Walk};
+use cudf_text::{Fault, Stanza};
+use std::alloc::{AllocError, Global};
+
+/// The packages and the first request of the stanzas so far.
+#[derive(Drop)]
+pub(crate) struct Parts<'a, 'c, 's> {
+    /// The packages of which what they need is kept; all, where it isn't known which are chosen.
+    pub(crate) chosen: Option<&'c Chosen<'s>>,
+    pub(crate) packages: Vec<Package<'a>>,
+    pub(crate) request: Option<Request<'a>>,
+}
+
+impl<'a, 'c, 's> Parts<'a, 'c, 's> {
+    ghost use Rattle.std.specs.Prelude.{◌≡◌, [], true, Some, option_map, is_some, if◌then◌else◌, IfOk, OnOk};
+    ghost use Rattle.cudf_text.specs.Contracts.Views.{stanza_view};
+    ghost use Rattle.cudf_document.specs.Faults.{least};
+    ghost use Rattle.cudf_document.specs.ProblemFaults.{properties_faults};
+    ghost use Rattle.cudf_document.specs.Contracts.Views.{request_view};
+    ghost use Rattle.cudf_document.specs.declared.stanza.postmark.Postmark.TheVariants.{Package as PackageMark};
+    ghost use Rattle.cudf_document.specs.Working.Borrows.{are_borrowed};
+    ghost use Rattle.cudf_document.specs.Working.Kept.{IsParts, IsReady, kept_by, gathered_of};
+    ghost use Rattle.cudf_document.specs.Working.PackageFields.{package_fields_view, package_fields_of, passes, needing_if};
+    ghost use Rattle.cudf_document.specs.Working.ProblemBuilders.{problem_of};
+    ghost use Rattle.cudf_document.specs.Working.SeenNames.{AreNames};
+
+    /// Before the first stanza.
+    pub(crate) fn new(alloc: Global, chosen: Option<&'c Chosen<'s>>) -> Self
+        ensures { IsParts (kept_by chosen.entry) [] result }
+    {
+        Parts {
+            chosen,
+            packages: Vec::new(alloc),
+            request: None,
+        }
+    }
+
+    /// The first fault of a package's properties, and what they say, where each value is a part of the
+    /// source; without what it needs if others are chosen.
+    #[inline(always)]
+    fn read_kept(
+        &self,
+        alloc: Global,
+        names: &mut SeenNames<'a>,
+        declarations: &Declarations<'_>,
+        id: Option<(&'a str, u64)>,
+        stanza: &Stanza<'a>,
+    ) -> Result<(Option<Fault>, PackageFields<'a>), AllocError>
+        ensures fault { IfOk result (λ r.
+            r.0
+            ≡ least (properties_faults declarations.now (Some PackageMark) (stanza_view stanza.now).properties)) }
+        ensures names { OnOk result (AreNames names.new (stanza_view stanza.now).properties) }
+        ensures values { are_borrowed stanza.now.properties.items ≡ true →
+            IfOk result (λ r.
+            package_fields_view r.1
+            ≡ needing_if (passes (kept_by self.now.chosen) (option_map (λ id. (id.0.now, id.1)) id.entry)) (package_fields_of declarations.now (stanza_view stanza.now).properties)) }
+    {
+        if self.keeps(id) {
+            read_package(alloc, names, declarations, stanza)
+        } else {
+            read_bare_package(alloc, names, declarations, stanza)
+        }
+    }
+
+    /// Whether what the package of this name and version needs is kept.
+    #[inline(always)]
+    fn keeps(&self, id: Option<(&str, u64)>) -> bool
+        ensures { result
+            ≡ passes (kept_by self.now.chosen) (option_map (λ id. (id.0.now, id.1)) id.entry) }
+    {
+        match self.chosen {
+            Some(chosen) => is_chosen(chosen, id),
+            None => true,
+        }
+    }
+
+    /// Keeps a request, if it is the first.
+    fn keep_first(&mut self, request: Request<'a>)
+        ensures request { option_map request_view self.new.request
+            ≡ (if is_some (option_map request_view self.old.request) then option_map request_view self.old.request else Some (request_view request.entry)) }
+        ensures packages { self.new.packages ≡ self.old.packages }
+        ensures chosen { self.new.chosen ≡ self.old.chosen }
+    {
+        if self.request.is_none() {
+            self.request = Some(request);
+        }
+    }
+
+    /// The problem, once a walk without fault is over.
+    pub(crate) fn into_problem<'h>(
+        self,
+        alloc: Global,
+        walk: Walk<'h, 'a>,
+    ) -> Result<Problem<'h>, AllocError>
+    where
+        'a: 'h,
+        requires { IsReady walk self }
+        ensures { IfOk result (λ p. p ≡ problem_of (gathered_of walk.entry self.entry)) }
+    {
+        let recommends = walk.declarations.recommends_default(alloc)?;
+        Ok(Problem::new(self.packages, self.request.unwrap(), recommends, walk.ids))
+    }
+}
+
+/// Whether the pair is chosen, if there is one.
+fn is_chosen(chosen: &Chosen<'_>, id: Option<(&str, u64)>) -> bool
+    ensures { result ≡ passes (is_among chosen.now) (option_map (λ id. (id.0.now, id.1)) id.entry) }
+{
+    match id {
+        Some((name, version)) => chosen.has(name, version),
+        None => true,
+    }
+}
+
+/// Adds the package, if there is one.
+#[inline(always)]
+fn push_some<'t>(
+    packages: &mut Vec<Package<'t>>,
+    added: Option<Package<'t>>,
+) -> Result<(), AllocError>
+    ensures { OnOk result (map package_view packages.new.items
+        ≡ map package_view packages.old.items ++ option_to_list (option_map package_view added.entry)) }
+{
+    match added {
+        Some(package) => Ok(packages.push(package)?),
+        None => Ok(()),
+    }
+}
+
+impl<'a, 'c, 's> Kept<'a> for Parts<'a, 'c, 's> {
+    ghost use Rattle.std.specs.Prelude.{true};
+    ghost use Rattle.cudf_document.specs.Working.Kept.{IsParts, has_joined};
+
+    ghost IsKept = { λ is_kept before parts. IsParts is_kept before parts };
+
+    ghost is_lost = { has_joined };
+
+    ghost may_stop = { true };
+
+    fn loses(&self, stanza: &Stanza<'a>) -> bool {
+        if are_borrowed(&stanza.properties) {
+            return false;
+        }
+        !is_preamble(stanza)
+    }
+
+    fn take_package(
+        &mut self,
+        alloc: Global,
+        names: &mut SeenNames<'a>,
+        declarations: &Declarations<'_>,
+        id: Option<(&'a str, u64)>,
+        stanza: &Stanza<'a>,
+    ) -> Result<Option<Fault>, AllocError> {
+        let (fault, fields) = self.read_kept(alloc, names, declarations, id, stanza)?;
+        push_some(&mut self.packages, fields.into_package(alloc, stanza.line))?;
+        Ok(fault)
+    }
+
+    fn take_request(
+        &mut self,
+        alloc: Global,
+        names: &mut SeenNames<'a>,
+        stanza: &Stanza<'a>,
+    ) -> Result<Option<Fault>, AllocError> {
+        let (fault, request) = read_request(alloc, names, stanza)?;
+        self.keep_first(request);
+        Ok(fault)
+    }
+
+    fn pass(&self, stanza: &Stanza<'a>) {}
+}

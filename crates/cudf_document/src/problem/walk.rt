@@ -1,0 +1,525 @@
+//! The walk over a problem's stanzas, one at a time: their first fault, and what is kept of them.
+ghost use Rattle.std.specs.Prelude.{◌≡◌, Bool, not, ◌||◌, ◌&&◌, List, [], ◌∷◌, ◌++◌, Some, max, is_none, option_map, option_copied, bytes_eq, codes, find, IfOk, OnOk, IfSome, IfNone, IsTrue};
+ghost use Rattle.cudf_document.specs.Preamble.{declared};
+ghost use Rattle.cudf_text.specs.Stanzas.{PlainStanza, PlainText};
+ghost use Rattle.cudf_text.specs.Contracts.Views.{stanza_view, property_view};
+ghost use Rattle.cudf_text.specs.declared.fault.Kind.TheVariants.{E11, E12};
+ghost use Rattle.cudf_document.specs.Faults.{least, fault_if};
+ghost use Rattle.cudf_document.specs.Documents.{value_of, has_name, line_of, marks_preamble, marks_request};
+ghost use Rattle.cudf_document.specs.Ids.{Id, id_with, id_under};
+ghost use Rattle.cudf_document.specs.Values.{name_value, version_value};
+ghost use Rattle.cudf_document.specs.ProblemFaults.{properties_faults, place_faults, version_property, required_names};
+ghost use Rattle.cudf_document.specs.Working.Walks.{texts, GoesOn, IsWhole};
+ghost use Rattle.cudf_document.specs.declared.stanza.postmark.Postmark.TheVariants.{Preamble as PreambleMark, Package as PackageMark};
+
+use crate::declaration::declarations::Declarations;
+use crate::fault::{fault_if, keep_lesser, lesser};
+use crate::package::ids::Ids;
+use crate::mode::Mode;
+use crate::package::fields::source_name;
+use crate::stanza::postmark::{Postmark, postmark_of};
+use crate::declaration::preamble::read_preamble;
+use crate::declaration::required::lacks_one;
+use crate::property::seen_names::SeenNames;
+use cudf_text::{Fault, Kind, Next, Property, Stanza, Stanzas};
+use cudf_value::read_posint;
+use std::alloc::{AllocError, Global};
+
+/// What is kept of a problem's stanzas on the walk.
+pub(crate) trait Kept<'a>: Sized + Drop {
+    ghost use Rattle.std.specs.Prelude.{◌≡◌, Bool, ◌++◌, ◌∷◌, [], List, Some, false, option_map, IfOk, OnOk, IsTrue};
+    ghost use Rattle.cudf_text.specs.declared.text.Stanza.{Stanza};
+    ghost use Rattle.cudf_text.specs.Stanzas.{PlainStanza};
+    ghost use Rattle.cudf_text.specs.Contracts.Views.{stanza_view};
+    ghost use Rattle.cudf_document.specs.Faults.{least};
+    ghost use Rattle.cudf_document.specs.Documents.{postmark, is_request};
+    ghost use Rattle.cudf_document.specs.Contracts.Packages.{is_package};
+    ghost use Rattle.cudf_document.specs.Ids.{Id, id_under};
+    ghost use Rattle.cudf_document.specs.Preamble.{declared};
+    ghost use Rattle.cudf_document.specs.ProblemFaults.{properties_faults};
+    ghost use Rattle.cudf_document.specs.Working.SeenNames.{AreNames};
+    ghost use Rattle.cudf_document.specs.declared.stanza.postmark.Postmark.TheVariants.{Package as PackageMark, Request as RequestMark};
+
+    // This was kept of the stanzas, where the test tells of which packages what they need is kept.
+    ghost IsKept: { (Id → Bool) → List PlainStanza → Self → Type 0 };
+
+    // What the stanza says can't be kept.
+    ghost is_lost: { Stanza → Bool };
+
+    // Some stanzas are lost, so that the walk may stop before the end.
+    ghost may_stop: { Bool };
+
+    /// Whether what the stanza says can't be kept: then the walk stops.
+    fn loses(&self, stanza: &Stanza<'a>) -> bool
+        ensures lost { result ≡ is_lost stanza.now }
+        ensures stops { IsTrue result → IsTrue may_stop };
+
+    /// Keeps a package of this name and version, and answers the first fault of its properties.
+    fn take_package(
+        &mut self,
+        alloc: Global,
+        names: &mut SeenNames<'a>,
+        declarations: &Declarations<'_>,
+        id: Option<(&'a str, u64)>,
+        stanza: &Stanza<'a>,
+    ) -> Result<Option<Fault>, AllocError>
+        ensures fault { IfOk result (λ fault.
+            fault
+            ≡ least (properties_faults declarations.now (Some PackageMark) (stanza_view stanza.now).properties)) }
+        // The names are those of its properties.
+        ensures names { OnOk result (AreNames names.new (stanza_view stanza.now).properties) }
+        ensures kept { (is_kept : Id → Bool) →
+            is_lost stanza.now ≡ false →
+            (before : List PlainStanza) →
+            postmark (stanza_view stanza.now) ≡ Some PackageMark →
+            option_map (λ id. (id.0.now, id.1)) id.entry
+            ≡ id_under (Some PackageMark) (stanza_view stanza.now).properties →
+            declarations.now ≡ declared before →
+            IsKept is_kept before self.old →
+            OnOk result (IsKept is_kept (before ++ stanza_view stanza.now ∷ []) self.new) };
+
+    /// Keeps a request, and answers the first fault of its properties.
+    fn take_request(
+        &mut self,
+        alloc: Global,
+        names: &mut SeenNames<'a>,
+        stanza: &Stanza<'a>,
+    ) -> Result<Option<Fault>, AllocError>
+        ensures fault { IfOk result (λ fault.
+            fault ≡ least (properties_faults [] (Some RequestMark) (stanza_view stanza.now).properties)) }
+        ensures kept { (is_kept : Id → Bool) →
+            is_lost stanza.now ≡ false →
+            (before : List PlainStanza) →
+            postmark (stanza_view stanza.now) ≡ Some RequestMark →
+            IsKept is_kept before self.old →
+            OnOk result (IsKept is_kept (before ++ stanza_view stanza.now ∷ []) self.new) };
+
+    /// Of any other stanza nothing is kept. (Does nothing: its contract is a law.)
+    fn pass(&self, stanza: &Stanza<'a>)
+        ensures { (is_kept : Id → Bool) →
+            (before : List PlainStanza) →
+            is_package (stanza_view stanza.now) ≡ false →
+            is_request (stanza_view stanza.now) ≡ false →
+            IsKept is_kept before self.now →
+            IsKept is_kept (before ++ stanza_view stanza.now ∷ []) self.now };
+}
+
+/// Walks over all stanzas; the first one is held in `head`. Before it nothing is kept. `None` where
+/// the walk stopped before the end.
+pub(crate) fn walk_all<'h, 'a, K: Kept<'a>>(
+    alloc: Global,
+    stanzas: Stanzas<'a>,
+    head: &'h mut Stanza<'a>,
+    kept: K,
+    mode: Mode,
+) -> Result<Option<(Walk<'h, 'a>, K)>, AllocError>
+    ensures whole { (is_kept : Id → Bool) →
+        K.IsKept is_kept [] kept →
+        IfOk result (λ r.
+        IfSome r (λ w. IsWhole mode (λ ss. K.IsKept is_kept ss w.1) w.0 stanzas.entry.text)) }
+    ensures stopped { IfOk result (λ r. IfNone r (IsTrue K.may_stop)) }
+{
+    let mut stanzas = stanzas;
+    let mut kept = kept;
+    match stanzas.next(alloc, &mut head.properties)? {
+        Next::End { fault, lines } => {
+            let mut walk: Walk<'h, 'a> = Walk::new(alloc);
+            walk.end(fault, lines);
+            Ok(Some((walk, kept)))
+        }
+        Next::Stanza { line, last } => {
+            head.line = line;
+            head.last = last;
+            if kept.loses(head) {
+                return Ok(None);
+            }
+            let walk: Walk<'h, 'a> = Walk::start(alloc, &mut kept, head)?;
+            walk_behind(alloc, walk, kept, stanzas, mode)
+        }
+    }
+}
+
+/// Walks over the stanzas behind the first one, whose packages have to have what that requires. `None`
+/// where the walk stopped before the end.
+fn walk_behind<'h, 'a, K: Kept<'a>>(
+    alloc: Global,
+    walk: Walk<'h, 'a>,
+    kept: K,
+    stanzas: Stanzas<'a>,
+    mode: Mode,
+) -> Result<Option<(Walk<'h, 'a>, K)>, AllocError>
+    ensures whole { (is_kept : Id → Bool) →
+        (text : PlainText) →
+        GoesOn mode (required_names mode walk.entry.declarations) (λ ss. K.IsKept is_kept ss kept) walk.entry stanzas.entry.text text →
+        IfOk result (λ r. IfSome r (λ w. IsWhole mode (λ ss. K.IsKept is_kept ss w.1) w.0 text)) }
+    ensures stopped { IfOk result (λ r. IfNone r (IsTrue K.may_stop)) }
+{
+    let required = walk.declarations.required(alloc, mode)?;
+    walk_on(alloc, walk, kept, stanzas, &required)
+}
+
+/// Walks over stanzas. `None` where the walk stopped before the end.
+fn walk_on<'h, 'a, K: Kept<'a>>(
+    alloc: Global,
+    walk: Walk<'h, 'a>,
+    kept: K,
+    stanzas: Stanzas<'a>,
+    required: &[&str],
+) -> Result<Option<(Walk<'h, 'a>, K)>, AllocError>
+    ensures whole { (is_kept : Id → Bool) →
+        (mode : Mode) →
+        (text : PlainText) →
+        GoesOn mode (texts required.now) (λ ss. K.IsKept is_kept ss kept) walk.entry stanzas.entry.text text →
+        IfOk result (λ r. IfSome r (λ w. IsWhole mode (λ ss. K.IsKept is_kept ss w.1) w.0 text)) }
+    ensures stopped { IfOk result (λ r. IfNone r (IsTrue K.may_stop)) }
+{
+    let mut walk = walk;
+    let mut kept = kept;
+    let mut stanzas = stanzas;
+    let mut stanza = Stanza {
+        line: 0,
+        last: 0,
+        properties: Vec::new(alloc),
+    };
+    'stanzas: loop {
+        match stanzas.next(alloc, &mut stanza.properties)? {
+            Next::Stanza { line, last } => {
+                stanza.line = line;
+                stanza.last = last;
+                if kept.loses(&stanza) {
+                    return Ok(None);
+                }
+                walk.take(alloc, &mut kept, false, &stanza, required)?;
+            }
+            Next::End { fault, lines } => {
+                walk.end(fault, lines);
+                return Ok(Some((walk, kept)));
+            }
+        }
+    }
+}
+
+/// The first fault of the stanzas so far, and what the faults of later ones rest on.
+#[derive(Drop)]
+pub(crate) struct Walk<'h, 'a> {
+    pub(crate) first: Option<Fault>,
+    /// What the first stanza declares.
+    pub(crate) declarations: Declarations<'h>,
+    pub(crate) ids: Ids<'a>,
+    /// Whether there was a request.
+    pub(crate) requested: bool,
+    pub(crate) names: SeenNames<'a>,
+}
+
+impl<'h, 'a> Walk<'h, 'a> {
+    ghost use Rattle.std.specs.Prelude.{◌≡◌, Bool, false, List, [], ◌∷◌, ◌++◌, not, max, IfOk, OnOk};
+    ghost use Rattle.cudf_text.specs.Stanzas.{PlainStanza};
+    ghost use Rattle.cudf_text.specs.Contracts.Views.{stanza_view};
+    ghost use Rattle.cudf_text.specs.declared.fault.Kind.TheVariants.{E13};
+    ghost use Rattle.cudf_document.specs.Faults.{least, lesser, fault_if};
+    ghost use Rattle.cudf_document.specs.Ids.{Id, id_under};
+    ghost use Rattle.cudf_document.specs.Contracts.Packages.{with_id};
+    ghost use Rattle.cudf_document.specs.Working.ProblemBuilders.{package_faults};
+    ghost use Rattle.cudf_document.specs.ProblemFaults.{required_names};
+    ghost use Rattle.cudf_document.specs.Working.Walks.{texts, IsKnown, IsSoFar, judged_faults, judged_ids};
+    ghost use Rattle.cudf_document.specs.Documents.{is_empty, postmark};
+    ghost use Rattle.cudf_document.specs.Preamble.{declared};
+    ghost use Rattle.cudf_document.specs.declared.stanza.postmark.Postmark.TheVariants.{Package as PackageMark};
+
+    /// No stanza.
+    pub(crate) fn new(alloc: Global) -> Self
+        ensures known { (mode : Mode) → IsKnown mode result [] }
+        ensures declared { result.declarations ≡ [] }
+    {
+        Walk {
+            first: None,
+            declarations: Declarations::new(alloc),
+            ids: Ids::new(alloc),
+            requested: false,
+            names: SeenNames::new(alloc),
+        }
+    }
+
+    /// The first stanza.
+    fn start<K: Kept<'a>>(
+        alloc: Global,
+        kept: &mut K,
+        head: &'h Stanza<'a>,
+    ) -> Result<Self, AllocError>
+        ensures known { (mode : Mode) → IfOk result (λ k. IsKnown mode k (stanza_view head.now ∷ [])) }
+        ensures declared { IfOk result (λ k. k.declarations ≡ declared (stanza_view head.now ∷ [])) }
+        ensures kept { (is_kept : Id → Bool) →
+            K.is_lost head.now ≡ false →
+            K.IsKept is_kept [] kept.old →
+            OnOk result (K.IsKept is_kept (stanza_view head.now ∷ []) kept.new) }
+    {
+        let mut walk: Walk<'h, 'a> = Walk::new(alloc);
+        walk.take(alloc, kept, true, head, &[])?;
+        declare(alloc, &mut walk.declarations, head)?;
+        Ok(walk)
+    }
+
+    /// Takes the next of some stanzas that are held, as it is lent.
+    pub(crate) fn take_held<'b, K: Kept<'a>>(
+        &mut self,
+        alloc: Global,
+        kept: &mut K,
+        is_first: bool,
+        lent: &Stanza<'a>,
+        held: &'h Stanza<'b>,
+        required: &[&str],
+    ) -> Result<(), AllocError>
+        requires { stanza_view lent.now ≡ stanza_view held.now }
+        ensures { (is_kept : Id → Bool) →
+            K.is_lost lent.now ≡ false →
+            (mode : Mode) →
+            (before : List PlainStanza) →
+            is_first ≡ is_empty before →
+            texts required.now ≡ required_names mode (declared before) →
+            IsSoFar mode (λ ss. K.IsKept is_kept ss kept.old) self.old before →
+            OnOk result (IsSoFar mode (λ ss. K.IsKept is_kept ss kept.new) self.new (before ++ stanza_view held.now ∷ [])) }
+    {
+        self.take(alloc, kept, is_first, lent, required)?;
+        if is_first {
+            declare(alloc, &mut self.declarations, held)?;
+        }
+        Ok(())
+    }
+
+    /// Takes the next stanza; what it declares is left out.
+    fn take<K: Kept<'a>>(
+        &mut self,
+        alloc: Global,
+        kept: &mut K,
+        is_first: bool,
+        stanza: &Stanza<'a>,
+        required: &[&str],
+    ) -> Result<(), AllocError>
+        ensures known { (mode : Mode) →
+            (before : List PlainStanza) →
+            is_first ≡ is_empty before →
+            self.old.declarations ≡ declared before →
+            texts required.now ≡ required_names mode (declared before) →
+            IsKnown mode self.old before →
+            OnOk result (IsKnown mode self.new (before ++ stanza_view stanza.now ∷ [])) }
+        ensures declarations { OnOk result (self.new.declarations ≡ self.old.declarations) }
+        ensures kept { (is_kept : Id → Bool) →
+            K.is_lost stanza.now ≡ false →
+            (before : List PlainStanza) →
+            self.old.declarations ≡ declared before →
+            K.IsKept is_kept before kept.old →
+            OnOk result (K.IsKept is_kept (before ++ stanza_view stanza.now ∷ []) kept.new) }
+    {
+        let mark = postmark_of(stanza);
+        let place = place_fault(is_first, self.requested, mark, stanza.line);
+        let inside = self.judge(alloc, kept, mark, stanza, required)?;
+        keep_lesser(&mut self.first, place.or(inside));
+        self.requested = either(is_request(mark), self.requested);
+        Ok(())
+    }
+
+    /// The first fault inside a stanza; a package's name and version are added.
+    fn judge<K: Kept<'a>>(
+        &mut self,
+        alloc: Global,
+        kept: &mut K,
+        mark: Option<Postmark>,
+        stanza: &Stanza<'a>,
+        required: &[&str],
+    ) -> Result<Option<Fault>, AllocError>
+        ensures fault { IfOk result (λ fault.
+            fault ≡ least (judged_faults mark (texts required.now) self.old.declarations self.old.ids (stanza_view stanza.now))) }
+        ensures ids { OnOk result (self.new.ids ≡ judged_ids mark self.old.ids (stanza_view stanza.now)) }
+        ensures declarations { OnOk result (self.new.declarations ≡ self.old.declarations) }
+        ensures requested { OnOk result (self.new.requested ≡ self.old.requested) }
+        ensures first { OnOk result (self.new.first ≡ self.old.first) }
+        ensures kept { (is_kept : Id → Bool) →
+            K.is_lost stanza.now ≡ false →
+            (before : List PlainStanza) →
+            postmark (stanza_view stanza.now) ≡ mark →
+            self.old.declarations ≡ declared before →
+            K.IsKept is_kept before kept.old →
+            OnOk result (K.IsKept is_kept (before ++ stanza_view stanza.now ∷ []) kept.new) }
+    {
+        match mark {
+            Some(Postmark::Preamble) => {
+                kept.pass(stanza);
+                judge_preamble(alloc, stanza)
+            }
+            Some(Postmark::Package) => self.take_package(alloc, kept, stanza, required),
+            Some(Postmark::Request) => kept.take_request(alloc, &mut self.names, stanza),
+            None => {
+                kept.pass(stanza);
+                Ok(None)
+            }
+        }
+    }
+
+    /// Adds the name and version of a package, and answers the first fault inside it.
+    fn take_package<K: Kept<'a>>(
+        &mut self,
+        alloc: Global,
+        kept: &mut K,
+        stanza: &Stanza<'a>,
+        required: &[&str],
+    ) -> Result<Option<Fault>, AllocError>
+        ensures fault { IfOk result (λ fault.
+            fault ≡ least (package_faults (texts required.now) self.old.declarations self.old.ids (stanza_view stanza.now))) }
+        ensures ids { OnOk result (self.new.ids
+            ≡ with_id self.old.ids (id_under (Some PackageMark) (stanza_view stanza.now).properties)) }
+        ensures declarations { OnOk result (self.new.declarations ≡ self.old.declarations) }
+        ensures requested { OnOk result (self.new.requested ≡ self.old.requested) }
+        ensures first { OnOk result (self.new.first ≡ self.old.first) }
+        ensures kept { (is_kept : Id → Bool) →
+            K.is_lost stanza.now ≡ false →
+            (before : List PlainStanza) →
+            postmark (stanza_view stanza.now) ≡ Some PackageMark →
+            self.old.declarations ≡ declared before →
+            K.IsKept is_kept before kept.old →
+            OnOk result (K.IsKept is_kept (before ++ stanza_view stanza.now ∷ []) kept.new) }
+    {
+        let id = package_id(stanza);
+        let fault = kept.take_package(alloc, &mut self.names, &self.declarations, id, stanza)?;
+        let is_repeated = self.ids.insert_some(id)?;
+        let missing = fault_if(lacks_one(required, &self.names), stanza.last, Kind::E14);
+        Ok(lesser(missing, lesser(fault, package_fault(is_repeated, stanza))))
+    }
+
+    /// Takes the end of the text, with its first faulty line and the number of its lines.
+    pub(crate) fn end(&mut self, fault: Option<Fault>, lines: u64)
+        ensures first { self.new.first
+            ≡ lesser (lesser fault self.old.first) (least (fault_if (not self.old.requested) (max 1 lines) E13)) }
+        ensures declarations { self.new.declarations ≡ self.old.declarations }
+        ensures ids { self.new.ids ≡ self.old.ids }
+    {
+        let requestless = fault_if(!self.requested, at_least_one(lines), Kind::E13);
+        self.first = lesser(lesser(fault, self.first), requestless);
+    }
+}
+
+/// The name and the version of a package, where both are of their types.
+fn package_id<'a>(stanza: &Stanza<'a>) -> Option<(&'a str, u64)>
+    ensures { option_map (λ id. (id.0.now, id.1)) result
+        ≡ id_under (Some PackageMark) (stanza_view stanza.now).properties }
+{
+    both(package_name(stanza), package_version(stanza))
+}
+
+fn both<'a>(name: Option<&'a str>, version: Option<u64>) -> Option<(&'a str, u64)>
+    ensures { option_map (λ id. (id.0.now, id.1)) result ≡ id_with (option_copied name.entry) version }
+{
+    Some((name?, version?))
+}
+
+/// The name of a package, where its first `package` is one.
+fn package_name<'a>(stanza: &Stanza<'a>) -> Option<&'a str>
+    ensures { option_copied result ≡ value_of name_value (codes "package") (stanza_view stanza.now).properties }
+{
+    match first_named(stanza, "package") {
+        Some(property) => source_name(property),
+        None => None,
+    }
+}
+
+/// The version of a package, where its first `version` is one.
+fn package_version(stanza: &Stanza<'_>) -> Option<u64>
+    ensures { result ≡ value_of version_value (codes "version") (stanza_view stanza.now).properties }
+{
+    match first_named(stanza, "version") {
+        Some(property) => read_posint(property.value.as_str()),
+        None => None,
+    }
+}
+
+/// The first fault of a package's name and version: it is repeated, or has no version.
+fn package_fault(is_repeated: bool, stanza: &Stanza<'_>) -> Option<Fault>
+    ensures { result
+        ≡ least (fault_if is_repeated (line_of (version_property (stanza_view stanza.now))) E11
+        ++ fault_if (is_none (version_property (stanza_view stanza.now))) stanza.now.last E12) }
+{
+    match first_named(stanza, "version") {
+        Some(version) => fault_if(is_repeated, version.line, Kind::E11),
+        None => lesser(
+            fault_if(is_repeated, 0, Kind::E11),
+            fault_if(true, stanza.last, Kind::E12),
+        ),
+    }
+}
+
+/// The first property of this name.
+pub(crate) fn first_named<'s, 'a>(stanza: &'s Stanza<'a>, name: &str) -> Option<&'s Property<'a>>
+    ensures { option_map (λ p. property_view p.now) result
+        ≡ find (has_name name.now) (stanza_view stanza.now).properties }
+{
+    find_property(&stanza.properties, name)
+}
+
+fn find_property<'s, 'a>(properties: &'s [Property<'a>], name: &str) -> Option<&'s Property<'a>>
+    ensures { option_map (λ p. p.now) result
+        ≡ find (λ p. bytes_eq p.name.now name.now) properties.now }
+{
+    properties.iter().find(|p| p.name == name)
+}
+
+/// The first fault of where a stanza stands.
+fn place_fault(is_first: bool, is_late: bool, mark: Option<Postmark>, line: u64) -> Option<Fault>
+    ensures { result ≡ least (place_faults is_first is_late mark line) }
+{
+    let unmarked = fault_if(mark.is_none(), line, Kind::E4);
+    let late_preamble = fault_if(is_late_preamble(is_first, mark), line, Kind::E5);
+    let late = fault_if(is_late, line, Kind::E6);
+    lesser(lesser(unmarked, late_preamble), late)
+}
+
+fn is_late_preamble(is_first: bool, mark: Option<Postmark>) -> bool
+    ensures { result ≡ (marks_preamble mark && not is_first) }
+{
+    matches!(mark, Some(Postmark::Preamble)) && !is_first
+}
+
+/// The first fault of the properties of a preamble.
+fn judge_preamble(alloc: Global, stanza: &Stanza<'_>) -> Result<Option<Fault>, AllocError>
+    ensures { IfOk result (λ fault.
+        fault ≡ least (properties_faults [] (Some PreambleMark) (stanza_view stanza.now).properties)) }
+{
+    let mut names = SeenNames::new(alloc);
+    let mut spare = Declarations::new(alloc);
+    read_preamble(alloc, &mut names, &mut spare, stanza)
+}
+
+fn is_request(mark: Option<Postmark>) -> bool
+    ensures { result ≡ marks_request mark }
+{
+    matches!(mark, Some(Postmark::Request))
+}
+
+fn either(one: bool, other: bool) -> bool
+    ensures { result ≡ (one || other) }
+{
+    one || other
+}
+
+/// Adds what the first stanza declares.
+fn declare<'h, 'a>(
+    alloc: Global,
+    declarations: &mut Declarations<'h>,
+    head: &'h Stanza<'a>,
+) -> Result<(), AllocError>
+    ensures { declarations.old ≡ [] →
+        OnOk result (declarations.new ≡ declared (stanza_view head.now ∷ [])) }
+{
+    match postmark_of(head) {
+        Some(Postmark::Preamble) => {
+            let mut names = SeenNames::new(alloc);
+            let _fault = read_preamble(alloc, &mut names, declarations, head)?;
+            Ok(())
+        }
+        _ => Ok(()),
+    }
+}
+
+fn at_least_one(lines: u64) -> u64
+    ensures { result ≡ max 1 lines }
+{
+    lines.max(1)
+}

@@ -1,0 +1,150 @@
+//! The stanzas of a solution, one after the other.
+ghost use Rattle.std.specs.Prelude.{◌≡◌, option_map};
+ghost use Rattle.cudf_text.specs.Contracts.Views.{stanza_view};
+ghost use Rattle.cudf_document.specs.Faults.{least};
+ghost use Rattle.cudf_document.specs.Ids.{id_of};
+ghost use Rattle.cudf_document.specs.SolutionFaults.{solution_stanza_faults};
+ghost use Rattle.cudf_document.specs.Statuses.{installed_id};
+
+use crate::error::ReadError;
+use crate::fault::{fault_if, lesser};
+use crate::mode::Mode;
+use crate::solution::pairs::Pairs;
+use crate::stanza::postmark::{Postmark, postmark_of};
+use crate::problem::Problem;
+use crate::solution::Solution;
+use crate::solution::builder::SolutionBuilder;
+use crate::solution::package::read_solution_package;
+use crate::solution::status::Status;
+use cudf_text::{Fault, Kind, Stanza};
+use std::alloc::{AllocError, Global};
+
+/// What is known after some stanzas.
+#[derive(Drop)]
+pub(crate) struct SolutionReader<'a> {
+    /// Their first fault, each for itself.
+    pub(crate) first: Option<Fault>,
+    /// Their pairs, and the first that strictly is repeated.
+    pub(crate) pairs: Pairs<'a>,
+    /// How many there were.
+    pub(crate) number: u64,
+    /// What they propose.
+    pub(crate) builder: SolutionBuilder<'a>,
+}
+
+impl<'a> SolutionReader<'a> {
+    ghost use Rattle.std.specs.Prelude.{◌≡◌, List, [], ◌∷◌, ◌++◌, length, IfOk, IfErr, OnOk};
+    ghost use Rattle.cudf_text.specs.Stanzas.{PlainStanza, PlainText};
+    ghost use Rattle.cudf_text.specs.Contracts.Views.{stanza_view};
+    ghost use Rattle.cudf_document.specs.Contracts.Faults.{IsFirstFault};
+    ghost use Rattle.cudf_document.specs.SolutionFaults.{solution_faults};
+    ghost use Rattle.cudf_document.specs.Universe.{PlainProblem};
+    ghost use Rattle.cudf_document.specs.declared.mode.Mode.{Mode};
+    ghost use Rattle.cudf_document.specs.Working.SolutionReaders.{IsSolutionRead, IsSolutionOf};
+
+    /// Before the first stanza.
+    pub(crate) fn new(alloc: Global, problem: &Problem<'_>, mode: Mode) -> Result<Self, AllocError>
+        ensures { IfOk result (IsSolutionRead problem.now mode []) }
+    {
+        Ok(SolutionReader {
+            first: None,
+            pairs: Pairs::new(alloc, mode),
+            number: 0,
+            builder: SolutionBuilder::new(alloc, problem)?,
+        })
+    }
+
+    /// Takes the next stanza.
+    pub(crate) fn take(
+        &mut self,
+        problem: &Problem<'_>,
+        stanza: &Stanza<'a>,
+    ) -> Result<(), AllocError>
+        requires { length self.old.builder.flags.items ≡ length problem.now.packages }
+        ensures { (mode : Mode) →
+            (seen : List PlainStanza) →
+            IsSolutionRead problem.now mode seen self.old →
+            OnOk result (IsSolutionRead problem.now mode (seen ++ stanza_view stanza.now ∷ []) self.new) }
+    {
+        let said = read_stanza(stanza);
+        self.first = lesser(self.first, said.fault);
+        self.pairs.take(said.id, stanza)?;
+        // A text of more stanzas than a number counts is larger than any memory.
+        self.number = self.number.checked_add(1).ok_or(AllocError)?;
+        self.builder
+            .add(problem, self.number, stanza.line, said.installed)?;
+        Ok(())
+    }
+
+    /// The solution, unless a line, a stanza or a pair has a fault.
+    pub(crate) fn finish(self, line_fault: Option<Fault>) -> Result<Solution<'a>, ReadError>
+        ensures solution { (problem : PlainProblem) →
+            (mode : Mode) →
+            (text : PlainText) →
+            line_fault ≡ text.fault →
+            IsSolutionRead problem mode text.stanzas self.entry →
+            IfOk result (IsSolutionOf problem mode text) }
+        ensures fault { (problem : PlainProblem) →
+            (mode : Mode) →
+            (text : PlainText) →
+            line_fault ≡ text.fault →
+            IsSolutionRead problem mode text.stanzas self.entry →
+            IfErr result (IsFirstFault (solution_faults text mode)) }
+    {
+        let SolutionReader {
+            first,
+            pairs,
+            builder,
+            ..
+        } = self;
+        if let Some(fault) = lesser(pairs.first, lesser(line_fault, first)) {
+            return Err(ReadError::Fault(fault));
+        }
+        let SolutionBuilder { flags, unknown } = builder;
+        Ok(Solution {
+            status: Status::from_flags(flags),
+            unknown,
+        })
+    }
+}
+
+/// What a stanza says.
+#[derive(Clone, Copy)]
+pub(crate) struct SaidOfStanza<'a> {
+    /// Its first fault, whatever stands before it.
+    pub(crate) fault: Option<Fault>,
+    /// The name and the version of a package, where both are of their types.
+    pub(crate) id: Option<(&'a str, u64)>,
+    /// The same of a package that it installs.
+    pub(crate) installed: Option<(&'a str, u64)>,
+}
+
+/// Reads a stanza for itself.
+pub(crate) fn read_stanza<'a>(stanza: &Stanza<'a>) -> SaidOfStanza<'a>
+    ensures fault { result.fault ≡ least (solution_stanza_faults (stanza_view stanza.now)) }
+    ensures id { option_map (λ id. (id.0.now, id.1)) result.id ≡ id_of (stanza_view stanza.now) }
+    ensures installed { option_map (λ id. (id.0.now, id.1)) result.installed
+        ≡ installed_id (stanza_view stanza.now) }
+{
+    match postmark_of(stanza) {
+        Some(Postmark::Package) => {
+            let (fault, entry) = read_solution_package(stanza);
+            let unversioned = fault_if(!entry.has_version, stanza.last, Kind::E12);
+            SaidOfStanza {
+                fault: lesser(fault, unversioned),
+                id: entry.id(),
+                installed: entry.installed_id(),
+            }
+        }
+        Some(Postmark::Preamble | Postmark::Request) => SaidOfStanza {
+            fault: None,
+            id: None,
+            installed: None,
+        },
+        None => SaidOfStanza {
+            fault: fault_if(true, stanza.line, Kind::E4),
+            id: None,
+            installed: None,
+        },
+    }
+}

@@ -1,0 +1,3 @@
+//! What a stanza is.
+
+pub(crate) mod postmark;

@@ -1,0 +1,8 @@
+pub mod Aims
+pub mod Keys
+pub mod Laws
+pub mod Pages
+pub mod PositionViews
+pub mod Sites
+pub mod Views
+pub mod Walks

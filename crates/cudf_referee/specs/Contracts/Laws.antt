@@ -1,0 +1,57 @@
+-- Laws of texts of keys, of pages and of thin problems, over the definitions alone: own.
+use Rattle.std.specs.Prelude.{◌≡◌, ◌≤◌, ℕ, Bool, true, List, All, length, take, sum, Option, Some, None, IsTrue}
+use Rattle.std.specs.List.{flat_map}
+use Rattle.cudf_document.specs.Ids.{Id}
+use Rattle.cudf_document.specs.Contracts.Thin.{thin_problem}
+use Rattle.cudf_document.specs.Universe.{PlainPackage, PlainProblem, package_at, package_id}
+use Rattle.cudf_document.specs.Statuses.{PlainUnknown, ascend_above}
+use Rattle.cudf_referee.specs.Criteria.{criteria}
+use Rattle.cudf_referee.specs.Keys.{PlainKey, key_text}
+use Rattle.cudf_referee.specs.Contracts.Keys.{IsWritable}
+use Rattle.cudf_referee.specs.Contracts.Pages.{pages, ReadsKeys, page_bound, page_price}
+use Rattle.cudf_referee.specs.Proposals.{Proposal, proposal}
+use Rattle.cudf_referee.specs.Violations.{listing}
+use Rattle.cudf_referee.specs.Solutions.{is_solution}
+
+-- keys that can be written are equal where their texts are
+abbrev pub TextsTellKeys : Type 0
+TextsTellKeys = (a b : PlainKey) → IsWritable a → IsWritable b → key_text a ≡ key_text b → a ≡ b
+
+-- for every list of sizes the pages, each continued by the key that was printed and read, are joined the beginning of the
+-- listing, whose keys can be written
+abbrev pub PagesJoin : Type 0
+PagesJoin = (read : List ℕ → Option PlainKey) → ReadsKeys read
+    → (problem : PlainProblem) (was_installed is_installed : ℕ → Bool) (unknown : List PlainUnknown)
+    → IsTrue (ascend_above 0 unknown)
+    → let s = proposal problem was_installed is_installed unknown in
+    All (λ i. IsWritable i.key) (listing s)
+    → (sizes : List ℕ) → flat_map (λ is. is) (pages read s None sizes) ≡ take (sum sizes) (listing s)
+
+-- and the whole of it, where the sizes suffice
+abbrev pub PagesSuffice : Type 0
+PagesSuffice = (read : List ℕ → Option PlainKey) → ReadsKeys read
+    → (problem : PlainProblem) (was_installed is_installed : ℕ → Bool) (unknown : List PlainUnknown)
+    → IsTrue (ascend_above 0 unknown)
+    → let s = proposal problem was_installed is_installed unknown in
+    All (λ i. IsWritable i.key) (listing s)
+    → (sizes : List ℕ) → length (listing s) ≤ sum sizes → flat_map (λ is. is) (pages read s None sizes) ≡ listing s
+
+-- the prices of the calls for a page, after any key or from the start, add up to at most its bound
+abbrev pub PagesAreBound : Type 0
+PagesAreBound = (problem : PlainProblem) (was_installed is_installed : ℕ → Bool) (unknown : List PlainUnknown)
+    → IsTrue (ascend_above 0 unknown)
+    → let s = proposal problem was_installed is_installed unknown in
+    (key : Option PlainKey) (n : ℕ) → page_price s key n ≤ page_bound s key n
+
+-- the proposals have the same proposed status, and it is judged alike
+pub record AreJudgedAlike (s t : Proposal) : Type 0 where
+  pub proposed_are : s.proposed ≡ t.proposed
+  pub listing_is : listing s ≡ listing t
+  pub verdict_is : is_solution s ≡ is_solution t
+  pub criteria_are : criteria s ≡ criteria t
+
+-- what a package needs counts where it is proposed: a problem without the needs of others says the same
+abbrev pub ThinIsEnough : Type 0
+ThinIsEnough = (problem : PlainProblem) (is_kept : Id → Bool) (was_installed is_installed : ℕ → Bool) (unknown : List PlainUnknown)
+    → ((place : ℕ) (p : PlainPackage) → package_at problem place ≡ Some p → is_installed place ≡ true → is_kept (package_id p) ≡ true)
+    → AreJudgedAlike (proposal (thin_problem is_kept problem) was_installed is_installed unknown) (proposal problem was_installed is_installed unknown)

@@ -1,0 +1,5 @@
+pub mod Borrows
+pub mod Cursor
+pub mod Joins
+pub mod Laws
+pub mod Views

@@ -1,0 +1,4 @@
+pub mod Laws
+pub mod Tokens
+pub mod Types
+pub mod Views

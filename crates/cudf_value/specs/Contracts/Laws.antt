@@ -1,0 +1,34 @@
+-- Laws over the definitions alone.
+use Rattle.std.specs.Prelude.{◌≡◌, ℕ, ◌^◌, ◌<◌, true, List, map, Option, Some, IfSome, ◌↔◌}
+use Rattle.std.specs.List.{list_all, flat_map, slice_split, join_with_byte}
+use Rattle.std.specs.Str.{byte}
+use Rattle.cudf_value.specs.declared.relop.Relop.{Relop}
+use Rattle.cudf_value.specs.LexStates.{pieces, is_quotable}
+use Rattle.cudf_value.specs.Contracts.Tokens.{Inner, Token, is_inner, is_token, is_comma, inner_text, text_of}
+use Rattle.cudf_value.specs.Vpkgs.{PlainVpkg, vpkg}
+use Rattle.cudf_value.specs.Printing.{vpkg_text}
+
+-- the number of the bound, if there is one, is a posint
+abbrev pub IsPosintBound : Option (Relop × ℕ) → Type 0
+IsPosintBound bound = IfSome bound (λ b. (0 < b.1) × (b.1 < 2 ^ 64))
+
+-- what is printed of a vpkg is read back as it
+abbrev pub IsReadBack : List ℕ → Option (Relop × ℕ) → Type 0
+IsReadBack name bound = let v : PlainVpkg = record { name = name; bound = bound } in vpkg (vpkg_text v) ≡ Some v
+
+-- the pieces, with a comma between each two, are the text
+abbrev pub PiecesJoinToText : List ℕ → Type 0
+PiecesJoinToText text = IfSome (pieces text) (λ ps. join_with_byte (byte ",") ps ≡ text)
+
+-- what is made of tokens is cut at their commas, and nowhere inside quotes or brackets
+abbrev pub IsCutAtCommas : Type 0
+IsCutAtCommas = (tokens : List Token) → list_all is_token tokens ≡ true → pieces (text_of tokens) ≡ Some (map text_of (slice_split is_comma tokens))
+
+-- a text that has pieces is made of tokens, and its pieces of those between their commas
+abbrev pub IsMadeOfTokens : List ℕ → Type 0
+IsMadeOfTokens text = IfSome (pieces text) (λ ps.
+    (tokens : List Token) × (list_all is_token tokens ≡ true) × (text_of tokens ≡ text) × (map text_of (slice_split is_comma tokens) ≡ ps))
+
+-- a text can stand between quotes exactly where it is made of characters, quotes and backslashes escaped
+abbrev pub IsQuotableAsMade : List ℕ → Type 0
+IsQuotableAsMade text = (is_quotable text ≡ true) ↔ ((inner : List Inner) × (list_all is_inner inner ≡ true) × (flat_map inner_text inner ≡ text))
