@@ -150,7 +150,7 @@ class Types(Copy):
 
     def test_type_of_a_field(self):
         self.plant("cudf_document/src/package.rt", "use cudf_value::{Formula, Vpkg};",
-                   "use crate::seen_names::{\n    SeenNames as Seen,\n};\nuse cudf_value::{Formula, Vpkg};")
+                   "use crate::property::seen_names::{\n    SeenNames as Seen,\n};\nuse cudf_value::{Formula, Vpkg};")
         self.plant("cudf_document/src/package.rt", "    pub keep: Keep,",
                    "    pub keep: Keep,\n    pub(crate) seen: Option<Box<Seen<'t>>>,")
         self.plant("cudf_document/src/property/seen_names.rt", "    ghost Value = { List (List ℕ) };",

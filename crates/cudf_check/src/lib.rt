@@ -28,8 +28,8 @@ use input::read_all;
 use inputs::read_each;
 pub use job::Job;
 pub use outcome::{Outcome, RunError};
-use rank_report::answer_ranking;
-use report::answer_job;
+use rank_report::{Contest, answer_ranking};
+use report::{Task, answer_job};
 use std::alloc::Global;
 
 /// Reads `input` to its end, and then `solution`, where it is given and the job judges one; reads both
@@ -60,9 +60,10 @@ pub fn run<R: Source, S: Source, W: Sink>(
     // Where the solution isn't read, it is returned as it was lent.
     ensures unread { SkipsSolution job.now (change R.state input.old input.new) → returned solution.exit ≡ lent solution.entry }
 {
+    let task = Task { alloc, job, mode };
     match solution {
-        Some(solution) => run_two(alloc, job, mode, input, solution, out),
-        None => run_one(alloc, job, mode, input, out),
+        Some(solution) => run_two(task, input, solution, out),
+        None => run_one(task, input, out),
     }
 }
 
@@ -108,42 +109,38 @@ pub fn rank<R: Source, S: Source, W: Sink>(
 {
     let first = read_all(alloc, problem)?;
     let others = read_each(alloc, solutions)?;
-    answer_ranking(alloc, aims, mode, &first, &others, out)
+    answer_ranking(Contest { alloc, aims, mode }, &first, &others, out)
 }
 
 /// The run on one input.
 fn run_one<R: Source, W: Sink>(
-    alloc: Global,
-    job: &Job,
-    mode: Mode,
+    task: Task<'_>,
     input: &mut R,
     out: &mut W,
 ) -> Result<Outcome, RunError>
-    ensures { Runs job.now mode (change R.state input.old input.new) None (change W.state out.old out.new) result }
+    ensures { Runs task.entry.job.now task.entry.mode (change R.state input.old input.new) None (change W.state out.old out.new) result }
 {
-    let bytes = read_all(alloc, input)?;
-    answer_job(alloc, job, mode, &bytes, None, out)
+    let bytes = read_all(task.alloc, input)?;
+    answer_job(task, &bytes, None, out)
 }
 
 /// The run on two inputs. The second isn't read where the job judges no solution.
 fn run_two<R: Source, S: Source, W: Sink>(
-    alloc: Global,
-    job: &Job,
-    mode: Mode,
+    task: Task<'_>,
     input: &mut R,
     solution: &mut S,
     out: &mut W,
 ) -> Result<Outcome, RunError>
-    ensures runs { Runs job.now mode (change R.state input.old input.new) (Some (change S.state solution.old solution.new))
+    ensures runs { Runs task.entry.job.now task.entry.mode (change R.state input.old input.new) (Some (change S.state solution.old solution.new))
         (change W.state out.old out.new) result }
-    ensures unread { SkipsSolution job.now (change R.state input.old input.new) → solution.new ≡ solution.old }
+    ensures unread { SkipsSolution task.entry.job.now (change R.state input.old input.new) → solution.new ≡ solution.old }
 {
-    let first = read_all(alloc, input)?;
-    match job {
-        Job::Lint => answer_job(alloc, job, mode, &first, None, out),
+    let first = read_all(task.alloc, input)?;
+    match task.job {
+        Job::Lint => answer_job(task, &first, None, out),
         Job::Check { .. } | Job::Score { .. } => {
-            let second = read_all(alloc, solution)?;
-            answer_job(alloc, job, mode, &first, Some(&second), out)
+            let second = read_all(task.alloc, solution)?;
+            answer_job(task, &first, Some(&second), out)
         }
     }
 }

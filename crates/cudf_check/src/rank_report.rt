@@ -16,6 +16,14 @@ use cudf_text::{Stanzas, stanzas};
 use cudf_universe::{Mode, Problem, ReadError, Room, problem_of};
 use std::alloc::Global;
 
+/// By what solutions are ranked, and the mode in which the documents are read.
+#[derive(Clone, Copy)]
+pub(crate) struct Contest<'a> {
+    pub(crate) alloc: Global,
+    pub(crate) aims: &'a [Aim],
+    pub(crate) mode: Mode,
+}
+
 /// Ranks the solutions that were judged.
 fn answer_standings<W: Sink>(
     alloc: Global,
@@ -49,53 +57,47 @@ fn answer_refused<W: Sink>(
 
 /// Judges the solutions of a problem, and ranks them.
 fn answer_solutions<W: Sink>(
-    alloc: Global,
+    contest: Contest<'_>,
     out: &mut W,
-    aims: &[Aim],
-    mode: Mode,
     problem: &Problem<'_>,
     solutions: &[Vec<u8>],
 ) -> Result<Outcome, RunError>
-    ensures { Answers (W.state out.old) (W.state out.new) (solutions_report aims.now mode (map (λ b. b.items) solutions.now) problem.now) result }
+    ensures { Answers (W.state out.old) (W.state out.new) (solutions_report contest.entry.aims.now contest.entry.mode (map (λ b. b.items) solutions.now) problem.now) result }
 {
-    match judge_each(alloc, problem, solutions, mode) {
-        Ok(standings) => answer_standings(alloc, out, aims, &standings),
-        Err(refused) => answer_refused(alloc, out, refused),
+    match judge_each(contest.alloc, problem, solutions, contest.mode) {
+        Ok(standings) => answer_standings(contest.alloc, out, contest.aims, &standings),
+        Err(refused) => answer_refused(contest.alloc, out, refused),
     }
 }
 
 /// Reads a problem, and ranks its solutions. Of the problem all is kept.
 fn answer_problem<W: Sink>(
-    alloc: Global,
+    contest: Contest<'_>,
     out: &mut W,
-    aims: &[Aim],
-    mode: Mode,
     stanzas: Stanzas<'_>,
     solutions: &[Vec<u8>],
 ) -> Result<Outcome, RunError>
-    ensures { Answers (W.state out.old) (W.state out.new) (problem_rank_report aims.now mode (map (λ b. b.items) solutions.now) stanzas.entry.text) result }
+    ensures { Answers (W.state out.old) (W.state out.new) (problem_rank_report contest.entry.aims.now contest.entry.mode (map (λ b. b.items) solutions.now) stanzas.entry.text) result }
 {
-    let mut room = Room::new(alloc);
-    match problem_of(alloc, stanzas, &mut room, mode) {
-        Ok(problem) => answer_solutions(alloc, out, aims, mode, &problem, solutions),
-        Err(error) => answer_refusal(alloc, out, "problem", error),
+    let mut room = Room::new(contest.alloc);
+    match problem_of(contest.alloc, stanzas, &mut room, contest.mode) {
+        Ok(problem) => answer_solutions(contest, out, &problem, solutions),
+        Err(error) => answer_refusal(contest.alloc, out, "problem", error),
     }
 }
 
 /// Ranks the solutions of a problem.
 #[tactic(auto, unfolding(crate::specs::RankReport::rank_report))]
 pub(crate) fn answer_ranking<W: Sink>(
-    alloc: Global,
-    aims: &[Aim],
-    mode: Mode,
+    contest: Contest<'_>,
     problem: &[u8],
     solutions: &[Vec<u8>],
     out: &mut W,
 ) -> Result<Outcome, RunError>
-    ensures { Answers (W.state out.old) (W.state out.new) (rank_report aims.now mode problem.now (map (λ b. b.items) solutions.now)) result }
+    ensures { Answers (W.state out.old) (W.state out.new) (rank_report contest.entry.aims.now contest.entry.mode problem.now (map (λ b. b.items) solutions.now)) result }
 {
     match stanzas(problem) {
-        Ok(stanzas) => answer_problem(alloc, out, aims, mode, stanzas, solutions),
-        Err(fault) => answer_fault(alloc, out, "problem", fault),
+        Ok(stanzas) => answer_problem(contest, out, stanzas, solutions),
+        Err(fault) => answer_fault(contest.alloc, out, "problem", fault),
     }
 }

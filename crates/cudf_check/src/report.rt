@@ -24,6 +24,22 @@ use cudf_universe::{
 };
 use std::alloc::{AllocError, Global};
 
+/// What a run is asked for, and where its memory comes from.
+#[derive(Clone, Copy)]
+pub(crate) struct Task<'j> {
+    pub(crate) alloc: Global,
+    pub(crate) job: &'j Job,
+    pub(crate) mode: Mode,
+}
+
+/// What is asked of a solution: what is to stand before the verdict, and the mode in which the documents are read.
+#[derive(Clone, Copy)]
+struct Question<'x> {
+    alloc: Global,
+    mode: Mode,
+    found: Found<'x>,
+}
+
 /// Answers a document that isn't judged.
 pub(crate) fn answer_refusal<W: Sink>(
     alloc: Global,
@@ -41,20 +57,19 @@ pub(crate) fn answer_refusal<W: Sink>(
 
 /// Judges what a solution proposes.
 fn answer_proposal<W: Sink>(
-    alloc: Global,
+    question: Question<'_>,
     out: &mut W,
-    found: Found<'_>,
     problem: &Problem<'_>,
     solution: &Solution<'_>,
 ) -> Result<Outcome, RunError>
     requires { IsTrue (ascend_above 0 (map unknown_view solution.now.unknown.items)) }
-    ensures { Answers (W.state out.old) (W.state out.new) (judged_report (found_text found.entry) (proposal problem.now (is_initial problem.now) (set.contains solution.now.status)
+    ensures { Answers (W.state out.old) (W.state out.new) (judged_report (found_text question.entry.found) (proposal problem.now (is_initial problem.now) (set.contains solution.now.status)
         (map unknown_view solution.now.unknown.items))) result }
 {
-    match Referee::new(alloc, problem, solution) {
+    match Referee::new(question.alloc, problem, solution) {
         Ok(referee) => {
             ascending();
-            answer_judged(alloc, out, problem.packages(), &referee, found)
+            answer_judged(question.alloc, out, &referee, question.found)
         }
         Err(_) => Err(RunError::Memory),
     }
@@ -62,40 +77,36 @@ fn answer_proposal<W: Sink>(
 
 /// Reads a solution that doesn't say FAIL, and judges it.
 fn answer_solution_stanzas<W: Sink>(
-    alloc: Global,
+    question: Question<'_>,
     out: &mut W,
-    found: Found<'_>,
-    mode: Mode,
     problem: &Problem<'_>,
     stanzas: Stanzas<'_>,
 ) -> Result<Outcome, RunError>
-    ensures { Answers (W.state out.old) (W.state out.new) (solution_text_report mode (found_text found.entry) problem.now stanzas.entry.text) result }
+    ensures { Answers (W.state out.old) (W.state out.new) (solution_text_report question.entry.mode (found_text question.entry.found) problem.now stanzas.entry.text) result }
 {
-    match solution_of(alloc, stanzas, problem, mode) {
-        Ok(solution) => answer_proposal(alloc, out, found, problem, &solution),
-        Err(error) => answer_refusal(alloc, out, "solution", error),
+    match solution_of(question.alloc, stanzas, problem, question.mode) {
+        Ok(solution) => answer_proposal(question, out, problem, &solution),
+        Err(error) => answer_refusal(question.alloc, out, "solution", error),
     }
 }
 
 /// Answers a solution beside a problem without fault.
 fn answer_solution<W: Sink>(
-    alloc: Global,
+    question: Question<'_>,
     out: &mut W,
-    found: Found<'_>,
-    mode: Mode,
     problem: &Problem<'_>,
     bytes: &[u8],
 ) -> Result<Outcome, RunError>
-    ensures { Answers (W.state out.old) (W.state out.new) (solution_report mode (found_text found.entry) problem.now bytes.now) result }
+    ensures { Answers (W.state out.old) (W.state out.new) (solution_report question.entry.mode (found_text question.entry.found) problem.now bytes.now) result }
 {
     match source_of(bytes) {
         Ok(source) => {
             if is_fail(source) {
-                return answer(alloc, out, &["solution FAIL", "\n"], Outcome::Fail);
+                return answer(question.alloc, out, &["solution FAIL", "\n"], Outcome::Fail);
             }
-            answer_solution_stanzas(alloc, out, found, mode, problem, Stanzas::new(source))
+            answer_solution_stanzas(question, out, problem, Stanzas::new(source))
         }
-        Err(fault) => answer_fault(alloc, out, "solution", fault),
+        Err(fault) => answer_fault(question.alloc, out, "solution", fault),
     }
 }
 
@@ -111,60 +122,54 @@ fn chosen_by(alloc: Global, solution: &[u8]) -> Result<Chosen<'_>, AllocError>
 
 /// Reads a problem, and then its solution, which installs these.
 fn answer_chosen<W: Sink>(
-    alloc: Global,
+    question: Question<'_>,
     out: &mut W,
-    found: Found<'_>,
-    mode: Mode,
     stanzas: Stanzas<'_>,
     solution: &[u8],
     chosen: &Chosen<'_>,
 ) -> Result<Outcome, RunError>
     requires { AreChosen chosen.now solution.now }
-    ensures { Answers (W.state out.old) (W.state out.new) (problem_text_report mode (found_text found.entry) solution.now stanzas.entry.text) result }
+    ensures { Answers (W.state out.old) (W.state out.new) (problem_text_report question.entry.mode (found_text question.entry.found) solution.now stanzas.entry.text) result }
 {
-    let mut room = Room::new(alloc);
-    match problem_for(alloc, stanzas, &mut room, chosen, mode) {
+    let mut room = Room::new(question.alloc);
+    match problem_for(question.alloc, stanzas, &mut room, chosen, question.mode) {
         Ok(problem) => {
             thin();
-            answer_solution(alloc, out, found, mode, &problem, solution)
+            answer_solution(question, out, &problem, solution)
         }
-        Err(error) => answer_refusal(alloc, out, "problem", error),
+        Err(error) => answer_refusal(question.alloc, out, "problem", error),
     }
 }
 
 /// Reads a problem, and then its solution. Of the problem what is needed by packages that the solution
 /// doesn't install isn't kept.
 fn answer_thin<W: Sink>(
-    alloc: Global,
+    question: Question<'_>,
     out: &mut W,
-    found: Found<'_>,
-    mode: Mode,
     stanzas: Stanzas<'_>,
     solution: &[u8],
 ) -> Result<Outcome, RunError>
-    ensures { Answers (W.state out.old) (W.state out.new) (problem_text_report mode (found_text found.entry) solution.now stanzas.entry.text) result }
+    ensures { Answers (W.state out.old) (W.state out.new) (problem_text_report question.entry.mode (found_text question.entry.found) solution.now stanzas.entry.text) result }
 {
-    match chosen_by(alloc, solution) {
-        Ok(chosen) => answer_chosen(alloc, out, found, mode, stanzas, solution, &chosen),
+    match chosen_by(question.alloc, solution) {
+        Ok(chosen) => answer_chosen(question, out, stanzas, solution, &chosen),
         Err(_) => Err(RunError::Memory),
     }
 }
 
 /// Reads a problem, and then its solution. Of the problem all is kept.
 fn answer_whole<W: Sink>(
-    alloc: Global,
+    question: Question<'_>,
     out: &mut W,
-    found: Found<'_>,
-    mode: Mode,
     stanzas: Stanzas<'_>,
     solution: &[u8],
 ) -> Result<Outcome, RunError>
-    ensures { Answers (W.state out.old) (W.state out.new) (problem_text_report mode (found_text found.entry) solution.now stanzas.entry.text) result }
+    ensures { Answers (W.state out.old) (W.state out.new) (problem_text_report question.entry.mode (found_text question.entry.found) solution.now stanzas.entry.text) result }
 {
-    let mut room = Room::new(alloc);
-    match problem_of(alloc, stanzas, &mut room, mode) {
-        Ok(problem) => answer_solution(alloc, out, found, mode, &problem, solution),
-        Err(error) => answer_refusal(alloc, out, "problem", error),
+    let mut room = Room::new(question.alloc);
+    match problem_of(question.alloc, stanzas, &mut room, question.mode) {
+        Ok(problem) => answer_solution(question, out, &problem, solution),
+        Err(error) => answer_refusal(question.alloc, out, "problem", error),
     }
 }
 
@@ -176,40 +181,36 @@ fn is_short_beside(solution: &[u8], problem: &[u8]) -> bool {
 
 /// Reads a problem, and then its solution.
 fn answer_problem_stanzas<W: Sink>(
-    alloc: Global,
+    question: Question<'_>,
     out: &mut W,
-    found: Found<'_>,
-    mode: Mode,
     stanzas: Stanzas<'_>,
     solution: &[u8],
     is_short: bool,
 ) -> Result<Outcome, RunError>
-    ensures { Answers (W.state out.old) (W.state out.new) (problem_text_report mode (found_text found.entry) solution.now stanzas.entry.text) result }
+    ensures { Answers (W.state out.old) (W.state out.new) (problem_text_report question.entry.mode (found_text question.entry.found) solution.now stanzas.entry.text) result }
 {
     if is_short {
-        answer_thin(alloc, out, found, mode, stanzas, solution)
+        answer_thin(question, out, stanzas, solution)
     } else {
-        answer_whole(alloc, out, found, mode, stanzas, solution)
+        answer_whole(question, out, stanzas, solution)
     }
 }
 
 /// Judges a solution of a problem.
 fn check<W: Sink>(
-    alloc: Global,
+    question: Question<'_>,
     out: &mut W,
-    found: Found<'_>,
-    mode: Mode,
     problem: &[u8],
     solution: &[u8],
 ) -> Result<Outcome, RunError>
-    ensures { Answers (W.state out.old) (W.state out.new) (pair_report mode (found_text found.entry) problem.now solution.now) result }
+    ensures { Answers (W.state out.old) (W.state out.new) (pair_report question.entry.mode (found_text question.entry.found) problem.now solution.now) result }
 {
     match stanzas(problem) {
         Ok(stanzas) => {
             let is_short = is_short_beside(solution, problem);
-            answer_problem_stanzas(alloc, out, found, mode, stanzas, solution, is_short)
+            answer_problem_stanzas(question, out, stanzas, solution, is_short)
         }
-        Err(fault) => answer_fault(alloc, out, "problem", fault),
+        Err(fault) => answer_fault(question.alloc, out, "problem", fault),
     }
 }
 
@@ -260,20 +261,18 @@ fn lint<W: Sink>(
 /// Judges a solution of a problem. The second input is the solution; where there is none, the first
 /// is cut.
 fn check_inputs<W: Sink>(
-    alloc: Global,
+    question: Question<'_>,
     out: &mut W,
-    found: Found<'_>,
-    mode: Mode,
     input: &[u8],
     solution: Option<&[u8]>,
 ) -> Result<Outcome, RunError>
-    ensures { Answers (W.state out.old) (W.state out.new) (inputs_report mode (found_text found.entry) input.now (option_copied solution.entry)) result }
+    ensures { Answers (W.state out.old) (W.state out.new) (inputs_report question.entry.mode (found_text question.entry.found) input.now (option_copied solution.entry)) result }
 {
     match solution {
-        Some(solution) => check(alloc, out, found, mode, input, solution),
+        Some(solution) => check(question, out, input, solution),
         None => {
             let (problem, solution) = cut_joined(input);
-            check(alloc, out, found, mode, problem, solution)
+            check(question, out, problem, solution)
         }
     }
 }
@@ -291,15 +290,14 @@ fn found_by(aims: &Option<Vec<Aim>>) -> Found<'_>
 /// Answers a job on its inputs.
 #[tactic(auto, unfolding(crate::specs::Report::report))]
 pub(crate) fn answer_job<W: Sink>(
-    alloc: Global,
-    job: &Job,
-    mode: Mode,
+    task: Task<'_>,
     input: &[u8],
     solution: Option<&[u8]>,
     out: &mut W,
 ) -> Result<Outcome, RunError>
-    ensures { Answers (W.state out.old) (W.state out.new) (report job.now mode input.now (option_copied solution.entry)) result }
+    ensures { Answers (W.state out.old) (W.state out.new) (report task.entry.job.now task.entry.mode input.now (option_copied solution.entry)) result }
 {
+    let Task { alloc, job, mode } = task;
     match job {
         Job::Lint => lint(alloc, out, mode, input),
         Job::Check { after, limit } => {
@@ -307,8 +305,11 @@ pub(crate) fn answer_job<W: Sink>(
                 after: *after,
                 limit: *limit,
             };
-            check_inputs(alloc, out, found, mode, input, solution)
+            check_inputs(Question { alloc, mode, found }, out, input, solution)
         }
-        Job::Score { aims } => check_inputs(alloc, out, found_by(aims), mode, input, solution),
+        Job::Score { aims } => {
+            let found = found_by(aims);
+            check_inputs(Question { alloc, mode, found }, out, input, solution)
+        }
     }
 }

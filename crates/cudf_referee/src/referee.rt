@@ -96,6 +96,7 @@ fn has_none(mut instances: Instances<'_, '_, '_>) -> bool
 
 impl<'p, 't> Referee<'p, 't> {
     ghost use Rattle.std.specs.Prelude.{◌≡◌, ◌≤◌, All, IsTrue, IfOk, length, map};
+    ghost use Rattle.cudf_document.specs.Contracts.Views.{package_view};
     ghost use Rattle.std.specs.FinSet as set;
     ghost use Rattle.cudf_document.specs.Statuses.{is_initial, ascend_above};
     ghost use Rattle.cudf_document.specs.Contracts.Views.{unknown_view};
@@ -143,6 +144,13 @@ impl<'p, 't> Referee<'p, 't> {
             verdict,
             criteria,
         })
+    }
+
+    /// The universe: the problem's packages, in document order.
+    pub fn packages(&self) -> &'p [Package<'t>]
+        ensures { map package_view result.now ≡ self.entry.now.packages }
+    {
+        self.problem.packages()
     }
 
     /// The walk over the violated instances, in key order. Their keys can be written.

@@ -19,19 +19,30 @@ use cudf_universe::Package;
 use cudf_value::{Atom, Clause, Vpkg};
 use itoa::Buffer;
 
+/// The words of a vpkg that has a bound.
+#[derive(Clone, Copy)]
+struct Bounded<'x> {
+    name: &'x str,
+    symbol: &'x str,
+    digits: &'x str,
+}
+
 /// Prints a name, an operator and a number between two texts.
 fn print_bounded<'x, W: Sink>(
     buffer: &mut ReportBuffer,
     out: &mut W,
     before: &'x str,
-    name: &'x str,
-    symbol: &'x str,
-    digits: &'x str,
+    words: Bounded<'x>,
     after: &'x str,
 ) -> Result<(), RunError>
     ensures { Prints (W.state out.old) (W.state out.new) buffer.old buffer.new result
-        (before.now ++ (name.now ++ (codes " " ++ symbol.now ++ codes " " ++ digits.now)) ++ after.now) }
+        (before.now ++ (words.entry.name.now ++ (codes " " ++ words.entry.symbol.now ++ codes " " ++ words.entry.digits.now)) ++ after.now) }
 {
+    let Bounded {
+        name,
+        symbol,
+        digits,
+    } = words;
     print(
         buffer,
         out,
@@ -54,16 +65,12 @@ fn print_vpkg<'x, W: Sink>(
         None => print(buffer, out, &[before, vpkg.name, after]),
         Some((relop, number)) => {
             let mut numbers = Buffer::new();
-            let digits = numbers.format(number);
-            print_bounded(
-                buffer,
-                out,
-                before,
-                vpkg.name,
-                relop.symbol(),
-                digits,
-                after,
-            )
+            let words = Bounded {
+                name: vpkg.name,
+                symbol: relop.symbol(),
+                digits: numbers.format(number),
+            };
+            print_bounded(buffer, out, before, words, after)
         }
     }
 }

@@ -1,6 +1,5 @@
 //! The report of a judged solution: what was found, and the verdict.
-ghost use Rattle.std.specs.Prelude.{◌≡◌, map, if◌then◌else◌};
-ghost use Rattle.cudf_document.specs.Contracts.Views.{package_view};
+ghost use Rattle.std.specs.Prelude.{◌≡◌, if◌then◌else◌};
 ghost use Rattle.cudf_referee.specs.Solutions.{is_solution};
 ghost use Rattle.cudf_check.specs.Report.{verdict_text, judged_report};
 ghost use Rattle.cudf_check.specs.Working.Answering.{Answers};
@@ -16,7 +15,6 @@ use crate::lines::print;
 use crate::lines::score::print_score;
 use crate::outcome::{Outcome, RunError};
 use cudf_referee::{Aim, Key, Referee};
-use cudf_universe::Package;
 use std::alloc::Global;
 
 /// What stands before the verdict.
@@ -49,18 +47,16 @@ fn verdict_of(is_solution: bool) -> (&'static str, Outcome)
 fn print_found<W: Sink>(
     buffer: &mut ReportBuffer,
     out: &mut W,
-    packages: &[Package<'_>],
     referee: &Referee<'_, '_>,
     found: Found<'_>,
 ) -> Result<(), RunError>
-    requires packages { map package_view packages.now ≡ referee.now.packages }
     requires ascending { Ascends referee.now }
     ensures { Prints (W.state out.old) (W.state out.new) buffer.old buffer.new result (found_text found.entry referee.entry.now) }
 {
     match found {
         // A solution's listing is empty, so no place is judged again for a page of it.
         Found::Page { .. } if referee.is_solution() => Ok(()),
-        Found::Page { after, limit } => print_page(buffer, out, packages, referee, after, limit).1,
+        Found::Page { after, limit } => print_page(buffer, out, referee, after, limit).1,
         Found::Score => print_score(buffer, out, referee.criteria()),
         Found::Aims(aims) => print_aim_lines(buffer, out, &referee.criteria(), aims),
     }
@@ -70,19 +66,17 @@ fn print_found<W: Sink>(
 fn print_judged<W: Sink>(
     buffer: &mut ReportBuffer,
     out: &mut W,
-    packages: &[Package<'_>],
     referee: &Referee<'_, '_>,
     found: Found<'_>,
     verdict: &str,
 ) -> Result<(), RunError>
-    requires packages { map package_view packages.now ≡ referee.now.packages }
     requires ascending { Ascends referee.now }
     requires verdict { verdict.now ≡ verdict_text (is_solution referee.now) }
 
     ensures { Prints (W.state out.old) (W.state out.new) buffer.old buffer.new result
         (judged_report (found_text found.entry) referee.entry.now).text }
 {
-    print_found(buffer, out, packages, referee, found)?;
+    print_found(buffer, out, referee, found)?;
     print(buffer, out, &[verdict, "\n"])
 }
 
@@ -90,17 +84,15 @@ fn print_judged<W: Sink>(
 pub(crate) fn answer_judged<W: Sink>(
     alloc: Global,
     out: &mut W,
-    packages: &[Package<'_>],
     referee: &Referee<'_, '_>,
     found: Found<'_>,
 ) -> Result<Outcome, RunError>
-    requires packages { map package_view packages.now ≡ referee.now.packages }
     requires ascending { Ascends referee.now }
     ensures { Answers (W.state out.old) (W.state out.new) (judged_report (found_text found.entry) referee.entry.now) result }
 {
     let (verdict, outcome) = verdict_of(referee.is_solution());
     let mut buffer = ReportBuffer::new(alloc)?;
-    print_judged(&mut buffer, out, packages, referee, found, verdict)?;
+    print_judged(&mut buffer, out, referee, found, verdict)?;
     buffer.flush(out)?;
     Ok(outcome)
 }

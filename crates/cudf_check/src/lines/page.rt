@@ -44,15 +44,13 @@ fn walk_after<'r, 'p, 't>(referee: &'r Referee<'p, 't>, after: Option<Key>) -> I
 fn print_line<W: Sink>(
     buffer: &mut ReportBuffer,
     out: &mut W,
-    packages: &[Package<'_>],
     referee: &Referee<'_, '_>,
     instance: &Instance<'_, '_>,
 ) -> Result<(), RunError>
-    requires { map package_view packages.now ≡ referee.now.packages }
     ensures { Prints (W.state out.old) (W.state out.new) buffer.old buffer.new result
         (instance_line referee.entry.now (instance_view instance.now)) }
 {
-    let met = meeting(packages, referee.met_by(instance));
+    let met = meeting(referee.packages(), referee.met_by(instance));
     print_instance(buffer, out, instance, met)
 }
 
@@ -60,18 +58,16 @@ fn print_line<W: Sink>(
 fn print_rest<W: Sink>(
     buffer: &mut ReportBuffer,
     out: &mut W,
-    packages: &[Package<'_>],
     referee: &Referee<'_, '_>,
     instances: &mut Instances<'_, '_, '_>,
 ) -> Result<(), RunError>
-    requires { map package_view packages.now ≡ referee.now.packages }
     ensures printed { Prints (W.state out.old) (W.state out.new) buffer.old buffer.new result
         (flat_map (instance_line referee.entry.now) (left instances.old)) }
     ensures price { instances.new.steps ≤ instances.old.steps
         + cost_along instances.old.judged instances.old.position (calls (left instances.old) (length (left instances.old))) }
 {
     while let Some(instance) = instances.next() {
-        print_line(buffer, out, packages, referee, &instance)?;
+        print_line(buffer, out, referee, &instance)?;
     }
     Ok(())
 }
@@ -81,12 +77,10 @@ fn print_rest<W: Sink>(
 fn print_first<W: Sink>(
     buffer: &mut ReportBuffer,
     out: &mut W,
-    packages: &[Package<'_>],
     referee: &Referee<'_, '_>,
     instances: &mut Instances<'_, '_, '_>,
     limit: u64,
 ) -> Result<Option<Key>, RunError>
-    requires { map package_view packages.now ≡ referee.now.packages }
     ensures printed { Prints (W.state out.old) (W.state out.new) buffer.old buffer.new result
         (flat_map (instance_line referee.entry.now) (take limit (left instances.old))) }
     ensures end { IfOk result (IsPageEnd limit (left instances.old) (left instances.new)) }
@@ -98,7 +92,7 @@ fn print_first<W: Sink>(
     for turn in 0..limit {
         match instances.next() {
             Some(instance) => {
-                print_line(buffer, out, packages, referee, &instance)?;
+                print_line(buffer, out, referee, &instance)?;
                 last = Some(instance.key);
             }
             None => return Ok(None),
@@ -140,18 +134,16 @@ fn print_next<W: Sink>(
 fn print_limited<W: Sink>(
     buffer: &mut ReportBuffer,
     out: &mut W,
-    packages: &[Package<'_>],
     referee: &Referee<'_, '_>,
     instances: &mut Instances<'_, '_, '_>,
     limit: u64,
 ) -> Result<(), RunError>
-    requires { map package_view packages.now ≡ referee.now.packages }
     ensures printed { (after : Option PlainKey) → Ascends referee.entry.now → left instances.old ≡ listed after referee.entry.now
         → Prints (W.state out.old) (W.state out.new) buffer.old buffer.new result (check_text after (Some limit) referee.entry.now) }
     ensures price { instances.new.steps ≤ instances.old.steps
         + cost_along instances.old.judged instances.old.position (calls (left instances.old) limit) }
 {
-    match print_first(buffer, out, packages, referee, instances, limit)? {
+    match print_first(buffer, out, referee, instances, limit)? {
         Some(last) => print_next(buffer, out, instances, last),
         None => Ok(()),
     }
@@ -162,20 +154,18 @@ fn print_limited<W: Sink>(
 fn print_left<W: Sink>(
     buffer: &mut ReportBuffer,
     out: &mut W,
-    packages: &[Package<'_>],
     referee: &Referee<'_, '_>,
     instances: &mut Instances<'_, '_, '_>,
     limit: Option<u64>,
 ) -> Result<(), RunError>
-    requires { map package_view packages.now ≡ referee.now.packages }
     ensures printed { (after : Option PlainKey) → Ascends referee.entry.now → left instances.old ≡ listed after referee.entry.now
         → Prints (W.state out.old) (W.state out.new) buffer.old buffer.new result (check_text after limit referee.entry.now) }
     ensures price { instances.new.steps ≤ instances.old.steps
         + cost_along instances.old.judged instances.old.position (calls (left instances.old) (page_size limit (left instances.old))) }
 {
     match limit {
-        Some(limit) => print_limited(buffer, out, packages, referee, instances, limit),
-        None => print_rest(buffer, out, packages, referee, instances),
+        Some(limit) => print_limited(buffer, out, referee, instances, limit),
+        None => print_rest(buffer, out, referee, instances),
     }
 }
 
@@ -184,12 +174,10 @@ fn print_left<W: Sink>(
 pub(crate) fn print_page<'r, 'p, 't, W: Sink>(
     buffer: &mut ReportBuffer,
     out: &mut W,
-    packages: &[Package<'_>],
     referee: &'r Referee<'p, 't>,
     after: Option<Key>,
     limit: Option<u64>,
 ) -> (Instances<'r, 'p, 't>, Result<(), RunError>)
-    requires packages { map package_view packages.now ≡ referee.now.packages }
     requires ascending { Ascends referee.now }
     ensures printed { Prints (W.state out.old) (W.state out.new) buffer.old buffer.new result.1
         (check_text (option_map key_view after) limit referee.entry.now) }
@@ -197,6 +185,6 @@ pub(crate) fn print_page<'r, 'p, 't, W: Sink>(
         (page_size limit (listed (option_map key_view after) referee.entry.now)) }
 {
     let mut instances = walk_after(referee, after);
-    let printed = print_left(buffer, out, packages, referee, &mut instances, limit);
+    let printed = print_left(buffer, out, referee, &mut instances, limit);
     (instances, printed)
 }

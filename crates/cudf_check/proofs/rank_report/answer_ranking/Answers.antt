@@ -6,13 +6,13 @@ use Rattle.cudf_check.proofs.rank_report.answer_ranking.Goals as goal
 pub returns-in-Ok : goal.returns-in-Ok
 unfolding rank_report
 returns-in-Ok g c =
-    answers_as _ _ _ _ _ (bytes_read (codes "problem") c.args.problem.now (problem_rank_report c.args.aims.now c.args.mode (map (λ b. b.items) c.args.solutions.now)) c.in-Ok.stanzas.text
+    answers_as _ _ _ _ _ (bytes_read (codes "problem") c.args.problem.now (problem_rank_report c.args.contest.aims.now c.args.contest.mode (map (λ b. b.items) c.args.solutions.now)) c.in-Ok.stanzas.text
     c.in-Ok.ensures.utf8.0 c.in-Ok.ensures.utf8.1)
     c.answer_problem.ensures
 
 pub returns-in-Err : goal.returns-in-Err
 unfolding rank_report
 returns-in-Err g c =
-    answers_as _ _ _ _ _ (bytes_not_utf8 (codes "problem") c.args.problem.now (problem_rank_report c.args.aims.now c.args.mode (map (λ b. b.items) c.args.solutions.now)) c.in-Err.fault
+    answers_as _ _ _ _ _ (bytes_not_utf8 (codes "problem") c.args.problem.now (problem_rank_report c.args.contest.aims.now c.args.contest.mode (map (λ b. b.items) c.args.solutions.now)) c.in-Err.fault
     c.in-Err.ensures.fault.0 c.in-Err.ensures.fault.1)
     c.answer_fault.ensures

@@ -5,7 +5,7 @@ use Rattle.cudf_check.proofs.rank_report.answer_solutions.Goals as goal
 
 pub returns-in-Ok : goal.returns-in-Ok
 returns-in-Ok g c =
-    let aims = c.args.aims.now in
+    let aims = c.args.contest.aims.now in
     let solutions = map (λ b. b.items) c.args.solutions.now in
     let judged = c.in-Ok.ensures.judged in
     answers_as _ _ _ _ _
@@ -16,4 +16,4 @@ returns-in-Ok g c =
 pub returns-in-Err : goal.returns-in-Err
 returns-in-Err g c =
     let solutions = map (λ b. b.items) c.args.solutions.now in
-    c.answer_refused.ensures c.args.mode solutions (ranked_report c.args.aims.now (standings c.args.problem.now solutions)) c.in-Err.ensures.refused
+    c.answer_refused.ensures c.args.contest.mode solutions (ranked_report c.args.contest.aims.now (standings c.args.problem.now solutions)) c.in-Err.ensures.refused

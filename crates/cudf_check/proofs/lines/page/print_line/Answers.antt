@@ -6,5 +6,5 @@ use Rattle.cudf_check.proofs.lines.page.print_line.Goals as goal
 
 pub returns : goal.returns
 returns g c =
-    Prints-as _ _ _ _ _ _ _ (ap (met_line (instance_view c.args.instance.now)) (c.meeting-met.ensures ∙ (λ k. package_at (c.requires k) (c.met_by.ensures k))))
+    Prints-as _ _ _ _ _ _ _ (ap (met_line (instance_view c.args.instance.now)) (c.meeting-met.ensures ∙ (λ k. package_at (c.packages.ensures k) (c.met_by.ensures k))))
     c.print_instance.ensures
