@@ -7,7 +7,7 @@ use Rattle.cudf_text.specs.declared.fault.Fault.{Fault}
 use Rattle.cudf_document.specs.declared.error.ReadError.{ReadError}
 use Rattle.cudf_document.specs.declared.error.ReadError.TheVariants as read_error
 use Rattle.cudf_document.specs.Faults.{least}
-use Rattle.cudf_document.specs.Contracts.Faults.{IsFirstFault}
+use Rattle.cudf_document.specs.Promises.Faults.{IsFirstFault}
 use Rattle.cudf_text.specs.Stanzas.{PlainText, plain_text}
 use Rattle.cudf_text.specs.LineFaults.{utf8_fault}
 use Rattle.std.proofs.KnownBytes.{Keeps-refl}

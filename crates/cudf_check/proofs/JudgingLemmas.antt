@@ -11,7 +11,7 @@ use Rattle.cudf_text.specs.LineFaults.{utf8_fault}
 use Rattle.cudf_document.specs.declared.error.ReadError.{ReadError}
 use Rattle.cudf_document.specs.declared.error.ReadError.TheVariants as read_error
 use Rattle.cudf_document.specs.Faults.{least}
-use Rattle.cudf_document.specs.Contracts.Faults.{IsFirstFault}
+use Rattle.cudf_document.specs.Promises.Faults.{IsFirstFault}
 use Rattle.cudf_document.specs.SolutionFaults.{solution_faults}
 use Rattle.cudf_document.specs.Universe.{PlainProblem}
 use Rattle.cudf_check.specs.RankReport.{solution_fault, judgement_of, placed_fault, placed_faults, standing_of, standings, first_faulty_or}

@@ -14,8 +14,8 @@ use Rattle.cudf_referee.specs.KeyViews.{key_view}
 use Rattle.cudf_referee.specs.Proposals.{Proposal}
 use Rattle.cudf_referee.specs.Violations.{listing, rest}
 use Rattle.cudf_check.specs.Report.{line, listed, limited, last_key, more_text, page_text, check_text}
-use Rattle.cudf_referee.specs.Contracts.Pages as pages
-use Rattle.cudf_referee.specs.Contracts.Walks.{Walking, left}
+use Rattle.cudf_referee.specs.Promises.Pages as pages
+use Rattle.cudf_referee.specs.Promises.Walks.{Walking, left}
 use Rattle.cudf_check.specs.Working.Pages.{Ascends, IsPageEnd, more_behind}
 
 -- ---- the order of keys

@@ -15,7 +15,7 @@ use Rattle.cudf_value.specs.Formulas.{formula, vpkglist, veqpkglist}
 use Rattle.cudf_document.specs.ProblemFaults.{problem_faults}
 use Rattle.cudf_document.specs.SolutionFaults.{solution_faults}
 use Rattle.cudf_document.specs.Universe.{plain_problem}
-use Rattle.cudf_referee.specs.Contracts.Aims.{criterion}
+use Rattle.cudf_referee.specs.Promises.Aims.{criterion}
 use Rattle.cudf_referee.specs.Criteria.{criteria}
 use Rattle.cudf_referee.specs.Violations.{listing}
 use Rattle.cudf_referee.specs.Solutions.{is_solution}

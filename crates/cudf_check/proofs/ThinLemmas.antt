@@ -13,13 +13,13 @@ use Rattle.cudf_document.specs.Faults.{least}
 use Rattle.cudf_document.specs.Ids.{Id, is_among}
 use Rattle.cudf_document.specs.SolutionFaults.{solution_faults}
 use Rattle.cudf_document.specs.Statuses.{is_initial, is_proposed, installed_id, installed_ids, unknown_with, unknown_of, unknown_stanzas}
-use Rattle.cudf_document.specs.Contracts.Thin.{thin_package, thin_problem, IsThinFor}
+use Rattle.cudf_document.specs.Promises.Thin.{thin_package, thin_problem, IsThinFor}
 use Rattle.cudf_document.specs.Universe.{PlainPackage, PlainProblem, package_id, package_at}
 use Rattle.cudf_document.specs.Documents.{is_empty}
 use Rattle.cudf_referee.specs.Instances.{PlainWhat, needs, conflicts_with, keep_version, keep_package, keep_feature, install, remove, upgrade, unknown, PlainInstance}
 use Rattle.cudf_referee.specs.Keys.{PlainKey, key_cmp, key_text}
 use Rattle.cudf_referee.specs.KeyViews.{key_view}
-use Rattle.cudf_referee.specs.Contracts.Laws.{AreJudgedAlike, ThinIsEnough}
+use Rattle.cudf_referee.specs.Promises.Laws.{AreJudgedAlike, ThinIsEnough}
 use Rattle.cudf_referee.specs.Proposals.{Proposal, proposal}
 use Rattle.cudf_referee.specs.Violations.{listing, met_by}
 use Rattle.cudf_referee.specs.declared.key.Aspect.{Aspect}

@@ -1,6 +1,6 @@
 //! Judges the solutions of a problem.
 ghost use Rattle.std.specs.Prelude.{◌≡◌, [], map, IfOk, IfErr};
-ghost use Rattle.cudf_document.specs.Contracts.Faults.{IsFirstFault};
+ghost use Rattle.cudf_document.specs.Promises.Faults.{IsFirstFault};
 ghost use Rattle.cudf_document.specs.SolutionFaults.{solution_faults};
 ghost use Rattle.cudf_check.specs.RankReport.{judgement_of};
 ghost use Rattle.cudf_check.specs.Report.{proposal_of};

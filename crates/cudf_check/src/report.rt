@@ -2,7 +2,7 @@
 ghost use Rattle.std.specs.Prelude.{◌≡◌, IsTrue, IfOk, codes, map, option_copied, option_map};
 ghost use Rattle.std.specs.FinSet as set;
 ghost use Rattle.cudf_document.specs.Statuses.{is_initial, ascend_above};
-ghost use Rattle.cudf_document.specs.Contracts.Views.{unknown_view};
+ghost use Rattle.cudf_document.specs.Promises.Views.{unknown_view};
 ghost use Rattle.cudf_referee.specs.Proposals.{proposal};
 ghost use Rattle.cudf_check.specs.declared.outcome.Outcome.TheVariants.{Yes};
 ghost use Rattle.cudf_check.specs.Report.{Report, alone, faulty, faulty_or, judged_report, solution_text_report, solution_report, problem_text_report, pair_report, lint_text_report, lint_report, inputs_report, scored_text, report};

@@ -4,7 +4,7 @@ use Rattle.std.proofs.lemmas.List.{append_assoc, append-nil}
 use Rattle.cudf_text.specs.declared.fault.Fault.{Fault}
 use Rattle.cudf_text.specs.Stanzas.{PlainStanza, PlainText}
 use Rattle.cudf_document.specs.Ids.{Id, is_among}
-use Rattle.cudf_document.specs.Contracts.Packages.{with_id}
+use Rattle.cudf_document.specs.Promises.Packages.{with_id}
 use Rattle.cudf_document.specs.Statuses.{installed_id, installed_ids}
 use Rattle.cudf_document.specs.Working.Chosen.{ChosenGoesOn}
 use Rattle.cudf_document.proofs.PairLemmas.{picked-push}

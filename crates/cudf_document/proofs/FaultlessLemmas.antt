@@ -16,13 +16,13 @@ use Rattle.cudf_document.specs.declared.stanza.postmark.Postmark.{Postmark}
 use Rattle.cudf_document.specs.declared.stanza.postmark.Postmark.TheVariants.{Preamble, Package, Request}
 use Rattle.cudf_document.specs.Faults.{fault_if}
 use Rattle.cudf_document.specs.Documents.{is_empty, with_earlier, first_mark, postmark, marks_preamble, marks_package, is_request, has_name, value_of, line_of}
-use Rattle.cudf_document.specs.Contracts.Packages.{is_package, are_distinct}
+use Rattle.cudf_document.specs.Promises.Packages.{is_package, are_distinct}
 use Rattle.cudf_document.specs.Ids.{Id, is_id, is_among, is_known, id_with, id_under, id_of}
 use Rattle.cudf_document.specs.Values.{Test, name_value, version_value, can_be, test_of, fails}
 use Rattle.cudf_document.specs.Preamble.{declared}
 use Rattle.cudf_document.specs.ProblemFaults.{tests, place_faults, property_faults, repeated_faults, undeclared_faults, mistyped_faults, misdeclared_faults, version_property, repeated_package_faults, unversioned_faults, required_names, missing_faults, inner_faults, faults_or, stanza_faults, requestless_faults, problem_faults}
 use Rattle.cudf_document.specs.Universe.{PlainPackage, package_id, package_with, package_of, packages_in}
-use Rattle.cudf_document.specs.Contracts.Laws.{IsSound}
+use Rattle.cudf_document.specs.Promises.Laws.{IsSound}
 use Rattle.cudf_document.proofs.ListLemmas.{is_some-find, is_some-option_map}
 use Rattle.cudf_document.proofs.NameLemmas.{same_bytes, bytes_same}
 

@@ -17,7 +17,7 @@ use Rattle.cudf_document.specs.Preamble.{declared, declared_after, is_bad_declar
 use Rattle.cudf_document.specs.Values.{solution_tests, test_of, fails}
 use Rattle.cudf_document.specs.ProblemFaults.{tests, is_repeatable, property_faults, properties_faults, place_faults, version_property, repeated_package_faults, unversioned_faults, required_names, lacks_one, missing_faults, inner_faults, faults_or, stanza_faults, requestless_faults, problem_faults}
 use Rattle.cudf_document.specs.SolutionFaults.{value_faults, values_faults, solution_stanza_faults, repeated_pair_faults, repeated_pairs_faults, solution_faults}
-use Rattle.cudf_document.specs.Contracts.Laws.{is_strict, StrictAdds, StrictAddsOneKind}
+use Rattle.cudf_document.specs.Promises.Laws.{is_strict, StrictAdds, StrictAddsOneKind}
 use Rattle.cudf_document.proofs.LawLemmas.{head_or_after, none_in_nil, at_head}
 
 -- ---- faults of one kind besides

@@ -12,7 +12,7 @@ use Rattle.cudf_document.specs.declared.solution.pairs.Pairs.{Pairs}
 use Rattle.cudf_document.specs.Documents.{line_of}
 use Rattle.cudf_document.specs.Faults.{lesser, least, fault_if}
 use Rattle.cudf_document.specs.Ids.{Id, is_id, is_among, is_known, id_of}
-use Rattle.cudf_document.specs.Contracts.Packages.{with_id}
+use Rattle.cudf_document.specs.Promises.Packages.{with_id}
 use Rattle.cudf_document.specs.ProblemFaults.{version_property}
 use Rattle.cudf_document.specs.SolutionFaults.{repeated_pair_faults, repeated_pairs_faults}
 use Rattle.cudf_document.specs.Working.Pairs.{ArePairs}

@@ -4,7 +4,7 @@ use Rattle.std.proofs.lemmas.Bool.{true≢false}
 use Rattle.std.proofs.lemmas.List.{map-append}
 use Rattle.cudf_text.specs.declared.text.Stanza.{Stanza}
 use Rattle.cudf_text.specs.Stanzas.{PlainStanza, PlainText}
-use Rattle.cudf_text.specs.Contracts.Views.{stanza_view}
+use Rattle.cudf_text.specs.Promises.Views.{stanza_view}
 use Rattle.cudf_value.specs.Declarations.{PlainDeclaration}
 use Rattle.cudf_document.specs.declared.mode.Mode.{Mode}
 use Rattle.cudf_document.specs.declared.problem.parts.Parts.{Parts}
@@ -12,12 +12,12 @@ use Rattle.cudf_document.specs.declared.problem.walk.Walk.{Walk}
 use Rattle.cudf_document.specs.declared.stanza.postmark.Postmark.{Postmark}
 use Rattle.cudf_document.specs.declared.stanza.postmark.Postmark.TheVariants.{Preamble, Package, Request}
 use Rattle.cudf_document.specs.Documents.{is_empty, postmark, marks_preamble, marks_package, marks_request, is_request}
-use Rattle.cudf_document.specs.Contracts.Packages.{is_preamble, is_package, are_distinct}
+use Rattle.cudf_document.specs.Promises.Packages.{is_preamble, is_package, are_distinct}
 use Rattle.cudf_document.specs.Ids.{Id, id_of}
 use Rattle.cudf_document.specs.Preamble.{declared}
-use Rattle.cudf_document.specs.Contracts.Thin.{thin_package, thin_problem}
+use Rattle.cudf_document.specs.Promises.Thin.{thin_package, thin_problem}
 use Rattle.cudf_document.specs.Universe.{PlainPackage, PlainRequest, plain_problem, package_id, request_of, packages_in, request_in}
-use Rattle.cudf_document.specs.Contracts.Views.{package_view, request_view}
+use Rattle.cudf_document.specs.Promises.Views.{package_view, request_view}
 use Rattle.cudf_document.specs.Working.Borrows.{are_borrowed}
 use Rattle.cudf_document.specs.Working.Kept.{AreParts, IsParts, IsReady, kept_by, has_joined, gathered_of}
 use Rattle.cudf_document.specs.Working.PackageFields.{package_fields_of, package_from, fields_if}

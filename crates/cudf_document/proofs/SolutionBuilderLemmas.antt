@@ -16,11 +16,11 @@ use Rattle.cudf_document.specs.declared.mode.Mode.{Mode}
 use Rattle.cudf_document.specs.declared.solution.reader.SolutionReader.{SolutionReader}
 use Rattle.cudf_document.specs.Faults.{lesser, least}
 use Rattle.cudf_document.specs.Ids.{Id, is_id, is_among}
-use Rattle.cudf_document.specs.Contracts.Packages.{are_distinct}
+use Rattle.cudf_document.specs.Promises.Packages.{are_distinct}
 use Rattle.cudf_document.specs.SolutionFaults.{solution_stanza_faults}
 use Rattle.cudf_document.specs.Universe.{PlainPackage, PlainProblem, package_id}
 use Rattle.cudf_document.specs.Statuses.{installed_id, installed_ids, is_proposed, unknown_with, unknown_of, unknown_stanzas}
-use Rattle.cudf_document.specs.Contracts.Views.{unknown_view}
+use Rattle.cudf_document.specs.Promises.Views.{unknown_view}
 use Rattle.cudf_document.specs.Working.Pairs.{ArePairs}
 use Rattle.cudf_document.specs.Working.SolutionBuilders.{ids_of}
 use Rattle.cudf_document.specs.Working.SolutionReaders.{IsSolutionRead}

@@ -13,8 +13,8 @@ use Rattle.cudf_document.specs.Ids.{is_among}
 use Rattle.cudf_document.specs.SolutionFaults.{solution_stanza_faults, repeated_pairs_faults, solution_faults}
 use Rattle.cudf_document.specs.Universe.{PlainProblem, package_id}
 use Rattle.cudf_document.specs.Statuses.{installed_ids, ascend_above}
-use Rattle.cudf_document.specs.Contracts.Views.{unknown_view}
-use Rattle.cudf_document.specs.Contracts.Statuses.{are_outside}
+use Rattle.cudf_document.specs.Promises.Views.{unknown_view}
+use Rattle.cudf_document.specs.Promises.Statuses.{are_outside}
 use Rattle.cudf_document.specs.Working.Flags.{flag_at}
 use Rattle.cudf_document.specs.Working.SolutionBuilders.{ids_of}
 use Rattle.cudf_document.specs.Working.SolutionReaders.{IsSolutionRead, SolutionGoesOn, IsSolutionOf}

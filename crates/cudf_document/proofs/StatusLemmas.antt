@@ -8,7 +8,7 @@ use Rattle.cudf_text.specs.Stanzas.{PlainStanza}
 use Rattle.cudf_document.specs.Ids.{Id, is_among}
 use Rattle.cudf_document.specs.Universe.{PlainPackage, PlainProblem, package_id, package_at}
 use Rattle.cudf_document.specs.Statuses.{PlainUnknown, installed_id, unknown_with, unknown_of, unknown_stanzas, ascend_above}
-use Rattle.cudf_document.specs.Contracts.Statuses.{are_outside}
+use Rattle.cudf_document.specs.Promises.Statuses.{are_outside}
 
 -- a place with a package is one of the universe
 pub within_universe : (test : PlainPackage → Bool) (problem : PlainProblem) (place : ℕ) → option_map_or test (package_at problem place) false ≡ true

@@ -1,7 +1,7 @@
 -- Packages without what they need.
 use Rattle.std.proofs.Common.{◌≡◌, ℕ, Bool, true, false, List, [], ◌∷◌, map, Option, Some, None, option_map, option_to_list, if◌then◌else◌, refl, sym, ap, ◌∙◌}
 use Rattle.cudf_document.specs.Ids.{Id, id_with}
-use Rattle.cudf_document.specs.Contracts.Thin.{thinned, thin_package, thin_problem, IsThinFor}
+use Rattle.cudf_document.specs.Promises.Thin.{thinned, thin_package, thin_problem, IsThinFor}
 use Rattle.cudf_document.specs.Universe.{PlainPackage, PlainProblem, package_id}
 use Rattle.cudf_document.specs.Working.PackageFields.{PlainPackageFields, package_from, passes, fields_if, without_needs}
 use Rattle.cudf_document.proofs.ListLemmas.{option_map-option_map}

@@ -9,7 +9,7 @@ use Rattle.std.proofs.lemmas.Bool.{eqb-true}
 use Rattle.std.proofs.lemmas.List.Folds.{list_any-append}
 use Rattle.cudf_text.specs.declared.fault.Fault.{Fault}
 use Rattle.cudf_text.specs.Chars.{is_blank}
-use Rattle.cudf_text.specs.Contracts.Joins.{is_owned, IsJoined}
+use Rattle.cudf_text.specs.Promises.Joins.{is_owned, IsJoined}
 use Rattle.cudf_text.specs.Stanzas.{PlainStanza, PlainText}
 use Rattle.cudf_value.specs.Chars.{is_pkgname_char}
 use Rattle.cudf_value.specs.Words.{is_pkgname}

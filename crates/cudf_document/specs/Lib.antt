@@ -7,5 +7,5 @@ pub mod ProblemFaults
 pub mod SolutionFaults
 pub mod Universe
 pub mod Statuses
-pub mod Contracts
+pub mod Promises
 pub mod Working

@@ -1,5 +1,5 @@
 //! What follows from the definitions alone. Each law is the contract of a function without effect.
-ghost use Rattle.cudf_document.specs.Contracts.Laws.{LeastIsFirst, FaultlessIsSound, StrictAddsOneKind};
+ghost use Rattle.cudf_document.specs.Promises.Laws.{LeastIsFirst, FaultlessIsSound, StrictAddsOneKind};
 
 /// The fault that a reader answers is one of the document's faults and precedes every other one,
 /// and no other fault does.

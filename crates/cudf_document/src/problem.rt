@@ -23,10 +23,10 @@ pub struct Problem<'t> {
 
 impl<'t> Model for Problem<'t> {
     ghost use Rattle.std.specs.Prelude.{◌≡◌, true, map, option_map};
-    ghost use Rattle.cudf_value.specs.Contracts.Views.{formula_view};
-    ghost use Rattle.cudf_document.specs.Contracts.Packages.{are_distinct};
+    ghost use Rattle.cudf_value.specs.Promises.Views.{formula_view};
+    ghost use Rattle.cudf_document.specs.Promises.Packages.{are_distinct};
     ghost use Rattle.cudf_document.specs.Universe.{PlainProblem, package_id};
-    ghost use Rattle.cudf_document.specs.Contracts.Views.{package_view, request_view};
+    ghost use Rattle.cudf_document.specs.Promises.Views.{package_view, request_view};
 
     ghost Value = { PlainProblem };
 
@@ -41,10 +41,10 @@ impl<'t> Model for Problem<'t> {
 
 impl<'t> Problem<'t> {
     ghost use Rattle.std.specs.Prelude.{◌≡◌, ◌<◌, ◌≤◌, true, map, length, option_map, position, IfOk};
-    ghost use Rattle.cudf_value.specs.Contracts.Views.{formula_view};
+    ghost use Rattle.cudf_value.specs.Promises.Views.{formula_view};
     ghost use Rattle.cudf_document.specs.Ids.{is_id};
-    ghost use Rattle.cudf_document.specs.Contracts.Packages.{are_distinct, recommends_at};
-    ghost use Rattle.cudf_document.specs.Contracts.Views.{package_view, request_view};
+    ghost use Rattle.cudf_document.specs.Promises.Packages.{are_distinct, recommends_at};
+    ghost use Rattle.cudf_document.specs.Promises.Views.{package_view, request_view};
     ghost use Rattle.cudf_document.specs.Universe.{package_id};
 
     /// The problem of these, where `ids` are the names and versions of the packages.

@@ -1,13 +1,13 @@
 //! Proposed solutions: CUDF 2.0, installations.
 ghost use Rattle.std.specs.Prelude.{◌≡◌, ℕ, false, [], map, IsTrue, IfOk, IfErr};
 ghost use Rattle.std.specs.FinSet as set;
-ghost use Rattle.cudf_text.specs.Contracts.Views.{text_view};
+ghost use Rattle.cudf_text.specs.Promises.Views.{text_view};
 ghost use Rattle.cudf_text.specs.Joined.{is_fail};
-ghost use Rattle.cudf_document.specs.Contracts.Faults.{IsFirstFault};
+ghost use Rattle.cudf_document.specs.Promises.Faults.{IsFirstFault};
 ghost use Rattle.cudf_document.specs.SolutionFaults.{solution_faults};
 ghost use Rattle.cudf_document.specs.Statuses.{is_proposed, unknown_stanzas, ascend_above};
-ghost use Rattle.cudf_document.specs.Contracts.Views.{unknown_view};
-ghost use Rattle.cudf_document.specs.Contracts.Statuses.{IsStatusOf, are_outside};
+ghost use Rattle.cudf_document.specs.Promises.Views.{unknown_view};
+ghost use Rattle.cudf_document.specs.Promises.Statuses.{IsStatusOf, are_outside};
 
 pub(crate) mod builder;
 pub(crate) mod package;

@@ -7,10 +7,10 @@ use Rattle.clap.specs.Words.{Row, all_of, first_of}
 use Rattle.clap.specs.declared.parser.matches.Found.{Found}
 use Rattle.cudf_text.specs.Chars.{trim}
 use Rattle.cudf_value.specs.Numbers.{positive}
-use Rattle.cudf_referee.specs.Contracts.Aims.{criterion}
+use Rattle.cudf_referee.specs.Promises.Aims.{criterion}
 use Rattle.cudf_referee.specs.declared.aims.Aim.{Aim}
 use Rattle.cudf_referee.specs.Keys.{PlainKey, key_text}
-use Rattle.cudf_referee.specs.Contracts.Keys.{IsWritable}
+use Rattle.cudf_referee.specs.Promises.Keys.{IsWritable}
 use Rattle.cudf_referee.specs.KeyViews.{key_view}
 use Rattle.cudf_referee.specs.declared.key.Key.{Key}
 use Rattle.cudf_document.specs.declared.mode.Mode.{Mode}

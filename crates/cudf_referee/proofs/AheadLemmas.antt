@@ -23,9 +23,9 @@ use Rattle.cudf_referee.specs.declared.key.Rule.TheVariants as rule
 use Rattle.cudf_referee.specs.declared.key.Aspect.{Aspect}
 use Rattle.cudf_referee.specs.declared.key.Aspect.TheVariants.{Unsatisfied, Many, Lower}
 use Rattle.cudf_referee.specs.Keys.{PlainKey, fits_part, fits_aspect, is_counted, is_key, rule_rank, aspect_rank, key_ranks}
-use Rattle.cudf_referee.specs.Contracts.Keys.{is_fitting}
+use Rattle.cudf_referee.specs.Promises.Keys.{is_fitting}
 use Rattle.cudf_referee.specs.Proposals.{Proposal, holds_place}
-use Rattle.cudf_referee.specs.Contracts.Sites.{Site, conjunct, conflicts_entry, kept_version, kept_package, kept_feature, install_entry, remove_entry, upgrade_entry, unknown_stanza, site_key, package_key, needed_sites, kept_sites, package_sites, upgrade_sites, request_sites, Stop, at_site, package_end, package_stops, walk, precedes, is_after}
+use Rattle.cudf_referee.specs.Promises.Sites.{Site, conjunct, conflicts_entry, kept_version, kept_package, kept_feature, install_entry, remove_entry, upgrade_entry, unknown_stanza, site_key, package_key, needed_sites, kept_sites, package_sites, upgrade_sites, request_sites, Stop, at_site, package_end, package_stops, walk, precedes, is_after}
 use Rattle.cudf_referee.specs.Working.Searches.{passed, entries_left, needed_left, kept_left, package_sites_left, package_left, aspects_after, aspects_left, upgrade_left, request_left, unknown_left, packages_left, stops_left}
 use Rattle.cudf_referee.proofs.AscentLemmas.{Below, same_first, less_first, Climbs, from_lower, to_higher, climbs-over, site_ranks, package_climbs, packages_climb, entry_climbs, entries_climb, request_climbs}
 use Rattle.cudf_referee.proofs.ListLemmas.{and_left, and_right, filter-map, filter-same, all_kept, none_kept}

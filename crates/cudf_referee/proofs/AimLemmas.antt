@@ -6,7 +6,7 @@ use Rattle.cudf_referee.specs.declared.aims.Aim.{Aim}
 use Rattle.cudf_referee.specs.declared.aims.Sign.{Sign}
 use Rattle.cudf_referee.specs.declared.aims.Sign.TheVariants.{Least, Most}
 use Rattle.cudf_referee.specs.Aims.{sign_text}
-use Rattle.cudf_referee.specs.Contracts.Aims.{aim_of}
+use Rattle.cudf_referee.specs.Promises.Aims.{aim_of}
 
 -- ---- one aim
 

@@ -17,7 +17,7 @@ use Rattle.cudf_referee.specs.Instances.{PlainInstance}
 use Rattle.cudf_referee.specs.Keys.{PlainKey, key_ranks, precedes_all, ascend}
 use Rattle.cudf_referee.specs.Proposals.{Proposal, holds_place}
 use Rattle.cudf_referee.specs.Violations.{listing}
-use Rattle.cudf_referee.specs.Contracts.Sites.{Site, conjunct, conflicts_entry, kept_feature, install_entry, remove_entry, unknown_stanza, site_key, needed_sites, kept_sites, package_sites, upgrade_sites, request_sites, Stop, at_site, package_end, package_stops, walk}
+use Rattle.cudf_referee.specs.Promises.Sites.{Site, conjunct, conflicts_entry, kept_feature, install_entry, remove_entry, unknown_stanza, site_key, needed_sites, kept_sites, package_sites, upgrade_sites, request_sites, Stop, at_site, package_end, package_stops, walk}
 use Rattle.cudf_referee.specs.Working.Judged.{instance_at, is_violated, all_given}
 use Rattle.cudf_referee.proofs.ListLemmas.{and_left, and_right}
 use Rattle.cudf_referee.proofs.PositionLemmas.{stop_ranks}

@@ -15,7 +15,7 @@ use Rattle.cudf_referee.specs.declared.key.Part.TheVariants as part
 use Rattle.cudf_referee.specs.declared.key.Rule.TheVariants as rule
 use Rattle.cudf_referee.specs.Keys.{PlainKey}
 use Rattle.cudf_referee.specs.Proposals.{Proposal, holds_place}
-use Rattle.cudf_referee.specs.Contracts.Sites.{at_site, conjunct, conflicts_entry, install_entry, remove_entry, unknown_stanza, package_end, kept_sites, upgrade_sites, request_sites, package_stops, walk}
+use Rattle.cudf_referee.specs.Promises.Sites.{at_site, conjunct, conflicts_entry, install_entry, remove_entry, unknown_stanza, package_end, kept_sites, upgrade_sites, request_sites, package_stops, walk}
 use Rattle.cudf_referee.specs.Working.Behind.{passed_by, needed_behind, needed_stops, kept_stops, package_behind, later_aspects, aspect_stops, request_behind, unknown_stops, last_stops, unknown_behind_part, unknown_behind, stops_behind}
 use Rattle.cudf_referee.specs.Working.Passes.{entry_stops}
 use Rattle.cudf_referee.specs.Working.Searches.{passed, entries_left, kept_left, package_left, aspects_after, upgrade_left, request_left, packages_left, part_left}

@@ -6,7 +6,7 @@ use Rattle.std.specs.Option.{option_map_or}
 use Rattle.std.proofs.lemmas.Option.{slice_get-map, get_or_from_slice_get}
 use Rattle.cudf_document.specs.Statuses.{is_initial}
 use Rattle.cudf_document.specs.Universe.{PlainPackage, PlainProblem, package_at}
-use Rattle.cudf_universe.specs.Contracts.Prices.{own_entries, own_cost}
+use Rattle.cudf_universe.specs.Promises.Prices.{own_entries, own_cost}
 use Rattle.cudf_universe.specs.Satisfaction.{Placed, members}
 use Rattle.cudf_referee.specs.Proposals.{holds_place}
 use Rattle.cudf_referee.proofs.ListLemmas.{and_true}

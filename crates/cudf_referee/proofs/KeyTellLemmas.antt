@@ -10,7 +10,7 @@ use Rattle.cudf_referee.specs.declared.key.Rule.TheVariants.{Depends, Conflicts,
 use Rattle.cudf_referee.specs.declared.key.Aspect.{Aspect}
 use Rattle.cudf_referee.specs.declared.key.Aspect.TheVariants.{Unsatisfied, Many, Lower}
 use Rattle.cudf_referee.specs.Keys.{part_place, part_text, rule_text, aspect_word, aspect_text}
-use Rattle.cudf_referee.specs.Contracts.Laws.{TextsTellKeys}
+use Rattle.cudf_referee.specs.Promises.Laws.{TextsTellKeys}
 use Rattle.cudf_referee.specs.Working.KeyTexts.{has_no_point}
 use Rattle.cudf_referee.proofs.KeyTextLemmas.{is_point, first_point, before_place, after_place, decimal_plain, decimal_tells, part_plain, rule_plain, behind_rule, behind_part, text_cut}
 use Rattle.cudf_referee.proofs.ListLemmas.{and_false}

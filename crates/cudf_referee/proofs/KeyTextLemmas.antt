@@ -14,7 +14,7 @@ use Rattle.cudf_referee.specs.declared.key.Aspect.{Aspect}
 use Rattle.cudf_referee.specs.declared.key.Key.{Key}
 use Rattle.cudf_referee.specs.KeyViews.{key_view}
 use Rattle.cudf_referee.specs.Keys.{PlainKey, part_place, part_text, rule_text, aspect_word, aspect_text, key_text}
-use Rattle.cudf_referee.specs.Contracts.Keys.{IsWritable, is_fitting}
+use Rattle.cudf_referee.specs.Promises.Keys.{IsWritable, is_fitting}
 use Rattle.cudf_referee.specs.Working.KeyTexts.{has_no_point}
 use Rattle.cudf_referee.proofs.ListLemmas.{and_left, and_right}
 

@@ -12,11 +12,11 @@ use Rattle.cudf_referee.specs.declared.instance.Instance.{Instance}
 use Rattle.cudf_document.specs.Documents.{is_empty}
 use Rattle.cudf_referee.specs.Instances.{PlainInstance}
 use Rattle.cudf_referee.specs.Keys.{PlainKey, key_ranks}
-use Rattle.cudf_referee.specs.Contracts.Pages.{behind, at_instance}
+use Rattle.cudf_referee.specs.Promises.Pages.{behind, at_instance}
 use Rattle.cudf_referee.specs.Proposals.{Proposal}
-use Rattle.cudf_referee.specs.Contracts.Sites.{Stop, at_site, package_end, walk, stop_cost, least_cost, PlainPosition, at_start, at_key, at_end, precedes, is_after, is_ahead, stops_between, cost_between, least_between}
-use Rattle.cudf_referee.specs.Contracts.Views.{instance_view}
-use Rattle.cudf_referee.specs.Contracts.Walks.{Walking, left, Moves}
+use Rattle.cudf_referee.specs.Promises.Sites.{Stop, at_site, package_end, walk, stop_cost, least_cost, PlainPosition, at_start, at_key, at_end, precedes, is_after, is_ahead, stops_between, cost_between, least_between}
+use Rattle.cudf_referee.specs.Promises.Views.{instance_view}
+use Rattle.cudf_referee.specs.Promises.Walks.{Walking, left, Moves}
 use Rattle.cudf_referee.specs.Working.Judged.{instance_at, is_violated, given_at, all_given}
 use Rattle.cudf_referee.specs.Working.Places.{IsFitting, ahead}
 use Rattle.cudf_referee.specs.Working.Searches.{or_later, first_given, unless_found, sum_to_first, cost_to_first, least_to_first, Finds}

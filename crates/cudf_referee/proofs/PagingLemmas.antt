@@ -6,14 +6,14 @@ use Rattle.std.specs.List.{flat_map}
 use Rattle.std.proofs.lemmas.List.{take-append-drop}
 use Rattle.std.proofs.lemmas.List.Sums.{sum_by-cons}
 use Rattle.std.proofs.Math.Seq.{take-add}
-use Rattle.cudf_universe.specs.Contracts.Prices.{digits}
+use Rattle.cudf_universe.specs.Promises.Prices.{digits}
 use Rattle.cudf_referee.specs.Instances.{PlainInstance}
 use Rattle.cudf_referee.specs.Keys.{PlainKey, precedes_all, ascend, key_text}
-use Rattle.cudf_referee.specs.Contracts.Keys.{IsWritable}
+use Rattle.cudf_referee.specs.Promises.Keys.{IsWritable}
 use Rattle.cudf_referee.specs.Proposals.{Proposal}
 use Rattle.cudf_referee.specs.Violations.{listing, rest}
-use Rattle.cudf_referee.specs.Contracts.Sites.{PlainPosition, at_start, at_key, at_end, precedes, cost_between}
-use Rattle.cudf_referee.specs.Contracts.Pages.{left_at, behind, page, last_key, pages, ReadsKeys, at_instance, page_bound, calls, cost_along, page_price}
+use Rattle.cudf_referee.specs.Promises.Sites.{PlainPosition, at_start, at_key, at_end, precedes, cost_between}
+use Rattle.cudf_referee.specs.Promises.Pages.{left_at, behind, page, last_key, pages, ReadsKeys, at_instance, page_bound, calls, cost_along, page_price}
 use Rattle.cudf_referee.proofs.ListLemmas.{and_left, and_right}
 use Rattle.cudf_referee.proofs.PositionLemmas.{precedes-itself, precedes-back, IsLater, later-key, later-end, later-start, later-chained, cost_between-joined}
 

@@ -14,9 +14,9 @@ use Rattle.cudf_referee.specs.declared.key.Rule.TheVariants as rule
 use Rattle.cudf_referee.specs.declared.key.Aspect.{Aspect}
 use Rattle.cudf_referee.specs.Instances.{PlainInstance}
 use Rattle.cudf_referee.specs.Keys.{is_key, key_ranks}
-use Rattle.cudf_referee.specs.Contracts.Pages.{at_instance}
+use Rattle.cudf_referee.specs.Promises.Pages.{at_instance}
 use Rattle.cudf_referee.specs.Proposals.{Proposal}
-use Rattle.cudf_referee.specs.Contracts.Sites.{unknown_stanza, request_sites, Stop, at_site, package_stops, walk, PlainPosition, at_start, at_key, at_end, is_after, is_ahead}
+use Rattle.cudf_referee.specs.Promises.Sites.{unknown_stanza, request_sites, Stop, at_site, package_stops, walk, PlainPosition, at_start, at_key, at_end, is_after, is_ahead}
 use Rattle.cudf_referee.specs.Violations.{unknown_instance}
 use Rattle.cudf_referee.specs.Working.Judged.{given_at}
 use Rattle.cudf_referee.specs.Working.Places.{ahead, IsFitting, unknown_behind, unknown_ahead, BeginsAt, place_behind, next_place}

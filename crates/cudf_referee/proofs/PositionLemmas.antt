@@ -16,7 +16,7 @@ use Rattle.cudf_referee.specs.declared.key.Rule.{Rule}
 use Rattle.cudf_referee.specs.declared.key.Rule.TheVariants.{Depends, Conflicts, Keep, Install, Remove, Upgrade, Unknown}
 use Rattle.cudf_referee.specs.Keys.{PlainKey, part_rank, part_place, rule_rank, aspect_rank, key_ranks}
 use Rattle.cudf_referee.specs.Proposals.{Proposal}
-use Rattle.cudf_referee.specs.Contracts.Sites.{Stop, at_site, package_end, site_key, walk, stop_cost, PlainPosition, at_start, at_key, at_end, precedes, precedes_end, is_after, is_ahead, cost_between}
+use Rattle.cudf_referee.specs.Promises.Sites.{Stop, at_site, package_end, site_key, walk, stop_cost, PlainPosition, at_start, at_key, at_end, precedes, precedes_end, is_after, is_ahead, cost_between}
 
 -- ---- keys
 

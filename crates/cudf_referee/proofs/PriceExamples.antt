@@ -7,7 +7,7 @@ use Rattle.cudf_document.specs.declared.package.Keep.{Keep}
 use Rattle.cudf_document.specs.declared.package.Keep.TheVariants.{Version, Package, Feature, Nothing}
 use Rattle.cudf_document.specs.Universe.{PlainPackage, PlainRequest}
 use Rattle.cudf_document.specs.Statuses.{PlainUnknown}
-use Rattle.cudf_universe.specs.Contracts.Prices.{digits_within, digits}
+use Rattle.cudf_universe.specs.Promises.Prices.{digits_within, digits}
 use Rattle.cudf_universe.specs.Satisfaction.{members}
 use Rattle.cudf_referee.specs.declared.key.Part.TheVariants as part
 use Rattle.cudf_referee.specs.declared.key.Rule.{Rule}
@@ -17,8 +17,8 @@ use Rattle.cudf_referee.specs.declared.key.Aspect.TheVariants.{Unsatisfied}
 use Rattle.cudf_referee.specs.Keys.{PlainKey}
 use Rattle.cudf_referee.specs.Proposals.{Proposal}
 use Rattle.cudf_referee.specs.Violations.{listing}
-use Rattle.cudf_referee.specs.Contracts.Sites.{walk, at_start, at_key, at_end, stops_between, least_between}
-use Rattle.cudf_referee.specs.Contracts.Pages.{page_bound}
+use Rattle.cudf_referee.specs.Promises.Sites.{walk, at_start, at_key, at_end, stops_between, least_between}
+use Rattle.cudf_referee.specs.Promises.Pages.{page_bound}
 
 abbrev every : List ℕ → PlainVpkg
 every name = record { name = name; bound = None }

@@ -9,7 +9,7 @@ use Rattle.std.proofs.lemmas.List.Concat.{flat_map-append}
 use Rattle.std.proofs.lemmas.List.Elements.{filter-append}
 use Rattle.cudf_document.specs.declared.package.Keep.TheVariants.{Nothing}
 use Rattle.cudf_document.specs.Universe.{PlainPackage, PlainProblem, package_at}
-use Rattle.cudf_document.specs.Contracts.Packages.{recommends_at}
+use Rattle.cudf_document.specs.Promises.Packages.{recommends_at}
 use Rattle.cudf_universe.specs.Satisfaction.{Placed, members, satisfies_clause}
 use Rattle.cudf_referee.specs.Criteria.{at_most_max}
 use Rattle.cudf_referee.specs.Entries.{those}

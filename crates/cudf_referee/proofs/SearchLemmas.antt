@@ -11,7 +11,7 @@ use Rattle.std.proofs.lemmas.List.FromFn.{length-enumerate_from, get_or-enumerat
 use Rattle.cudf_document.specs.Statuses.{PlainUnknown}
 use Rattle.cudf_referee.specs.Instances.{PlainInstance}
 use Rattle.cudf_referee.specs.Proposals.{Proposal}
-use Rattle.cudf_referee.specs.Contracts.Sites.{Site, unknown_stanza, Stop, at_site, stop_cost, least_cost}
+use Rattle.cudf_referee.specs.Promises.Sites.{Site, unknown_stanza, Stop, at_site, stop_cost, least_cost}
 use Rattle.cudf_referee.specs.Violations.{unknown_instance}
 use Rattle.cudf_referee.specs.Working.Behind.{unknown_stops}
 use Rattle.cudf_referee.specs.Working.Judged.{given_at}

@@ -12,8 +12,8 @@ use Rattle.cudf_referee.specs.Instances.{PlainInstance}
 use Rattle.cudf_referee.specs.Keys.{PlainKey}
 use Rattle.cudf_referee.specs.Proposals.{Proposal, holds_place}
 use Rattle.cudf_referee.specs.Violations.{has_package, violated_depends, violated_conflicts, violated_keep, package_instances, violated_entry, violated_upgrade, request_instances, unknown_instance, listing, rest}
-use Rattle.cudf_referee.specs.Contracts.Sites.{Site, conjunct, conflicts_entry, kept_version, kept_package, kept_feature, install_entry, remove_entry, upgrade_entry, unknown_stanza, Stop, at_site, package_end, site_key, needed_sites, kept_sites, package_sites, upgrade_sites, request_sites, sites, package_stops, walk, PlainPosition, at_start, at_key, at_end, precedes, is_after, is_ahead}
-use Rattle.cudf_referee.specs.Contracts.Pages.{left_at}
+use Rattle.cudf_referee.specs.Promises.Sites.{Site, conjunct, conflicts_entry, kept_version, kept_package, kept_feature, install_entry, remove_entry, upgrade_entry, unknown_stanza, Stop, at_site, package_end, site_key, needed_sites, kept_sites, package_sites, upgrade_sites, request_sites, sites, package_stops, walk, PlainPosition, at_start, at_key, at_end, precedes, is_after, is_ahead}
+use Rattle.cudf_referee.specs.Promises.Pages.{left_at}
 use Rattle.cudf_referee.specs.Working.Judged.{instance_at, is_violated, judged, given_at, all_given}
 use Rattle.cudf_referee.proofs.ListLemmas.{all_kept, none_kept}
 

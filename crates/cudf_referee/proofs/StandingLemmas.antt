@@ -7,7 +7,7 @@ use Rattle.std.proofs.lemmas.List.{append-nil, map-append, length-map, take-map,
 use Rattle.std.proofs.lemmas.List.Elements.{filter-append}
 use Rattle.std.proofs.lemmas.List.Folds.{list_any-append, list_all-append}
 use Rattle.indexmap.specs.IndexSet.{insert_key}
-use Rattle.cudf_document.specs.Contracts.Packages.{are_distinct}
+use Rattle.cudf_document.specs.Promises.Packages.{are_distinct}
 use Rattle.cudf_document.specs.Ids.{is_among as is_among_ids}
 use Rattle.cudf_document.specs.Universe.{PlainPackage, package_id}
 use Rattle.cudf_document.proofs.FaultlessLemmas.{distinct-at}

@@ -8,7 +8,7 @@ use Rattle.std.proofs.lemmas.Simd.{map-map}
 use Rattle.cudf_document.specs.declared.package.Keep.{Keep}
 use Rattle.cudf_document.specs.declared.package.Keep.TheVariants.{Version, Package, Feature, Nothing}
 use Rattle.cudf_document.specs.Ids.{Id}
-use Rattle.cudf_document.specs.Contracts.Thin.{thinned, thin_package, thin_problem}
+use Rattle.cudf_document.specs.Promises.Thin.{thinned, thin_package, thin_problem}
 use Rattle.cudf_document.specs.Universe.{PlainPackage, PlainProblem, PlainRequest, package_at, package_id}
 use Rattle.cudf_universe.specs.Satisfaction.{Placed, members, numbers_of, package_pairs, satisfies, satisfies_clause}
 use Rattle.cudf_universe.proofs.SearchLemmas.{list_any-map}
@@ -16,7 +16,7 @@ use Rattle.cudf_referee.specs.declared.key.Aspect.TheVariants.{Unsatisfied, Many
 use Rattle.cudf_referee.specs.Criteria.{universe, is_touched, each_once, names_of, versions_of, is_among, is_same_set, greatest, at_most_max, criteria}
 use Rattle.cudf_referee.specs.Entries.{those}
 use Rattle.cudf_document.specs.Documents.{is_empty}
-use Rattle.cudf_referee.specs.Contracts.Laws.{ThinIsEnough}
+use Rattle.cudf_referee.specs.Promises.Laws.{ThinIsEnough}
 use Rattle.cudf_referee.specs.Proposals.{Proposal, proposal, holds_place}
 use Rattle.cudf_referee.specs.Violations.{has_package, violated_keep, package_rules, package_instances, are_many, are_lower, upgrade_if, violated_install, violated_remove, violated_upgrade, unknown_instance, listing}
 use Rattle.cudf_referee.proofs.ListLemmas.{filter-map, count-map}

@@ -3,8 +3,8 @@ use Rattle.std.proofs.Common.{◌≡◌, ℕ, zero, suc, ◌+◌, ◌-◌, ◌<�
 use Rattle.std.proofs.lemmas.Bool.{ltb-true, lt-ltb, le-ltb}
 use Rattle.cudf_document.specs.declared.solution.Unknown.{Unknown}
 use Rattle.cudf_document.specs.Statuses.{PlainUnknown, ascend_above}
-use Rattle.cudf_document.specs.Contracts.Views.{unknown_view}
-use Rattle.cudf_universe.specs.Contracts.Prices.{digits_within, digits}
+use Rattle.cudf_document.specs.Promises.Views.{unknown_view}
+use Rattle.cudf_universe.specs.Promises.Prices.{digits_within, digits}
 use Rattle.cudf_referee.specs.Working.Places.{stanza_numbers}
 use Rattle.cudf_referee.specs.Working.Searches.{unknown_left}
 use Rattle.cudf_referee.proofs.ListLemmas.{and_left, and_right}

@@ -10,7 +10,7 @@ use Rattle.cudf_document.specs.declared.package.Keep.{Keep}
 use Rattle.cudf_document.specs.declared.package.Keep.TheVariants.{Version, Package, Feature, Nothing}
 use Rattle.cudf_document.specs.declared.solution.Unknown.{Unknown}
 use Rattle.cudf_document.specs.Statuses.{PlainUnknown, ascend_above}
-use Rattle.cudf_document.specs.Contracts.Views.{unknown_view}
+use Rattle.cudf_document.specs.Promises.Views.{unknown_view}
 use Rattle.cudf_universe.specs.Satisfaction.{Placed}
 use Rattle.cudf_referee.specs.declared.key.Part.TheVariants as part
 use Rattle.cudf_referee.specs.declared.key.Rule.{Rule}
@@ -18,11 +18,11 @@ use Rattle.cudf_referee.specs.declared.key.Rule.TheVariants as rule
 use Rattle.cudf_referee.specs.declared.key.Aspect.{Aspect}
 use Rattle.cudf_referee.specs.declared.key.Aspect.TheVariants.{Unsatisfied, Many, Lower}
 use Rattle.cudf_referee.specs.Instances.{PlainInstance}
-use Rattle.cudf_referee.specs.Contracts.Keys.{IsWritable}
+use Rattle.cudf_referee.specs.Promises.Keys.{IsWritable}
 use Rattle.cudf_referee.specs.Keys.{fits_part, fits_aspect}
 use Rattle.cudf_referee.specs.Proposals.{Proposal, holds_place}
 use Rattle.cudf_referee.specs.Violations.{listing}
-use Rattle.cudf_referee.specs.Contracts.Sites.{Site, conjunct, conflicts_entry, kept_version, kept_package, kept_feature, install_entry, remove_entry, upgrade_entry, unknown_stanza, package_key, request_key, site_key, needed_sites, kept_sites, package_sites, upgrade_sites, request_sites, sites}
+use Rattle.cudf_referee.specs.Promises.Sites.{Site, conjunct, conflicts_entry, kept_version, kept_package, kept_feature, install_entry, remove_entry, upgrade_entry, unknown_stanza, package_key, request_key, site_key, needed_sites, kept_sites, package_sites, upgrade_sites, request_sites, sites}
 use Rattle.cudf_referee.specs.Working.Judged.{instance_at, is_violated, judged}
 use Rattle.cudf_referee.specs.Working.Numbered.{IsListed, IsNumbered}
 use Rattle.cudf_referee.specs.Working.Places.{stanza_numbers}

@@ -8,5 +8,5 @@ pub mod Laws
 pub mod Proposals
 pub mod Solutions
 pub mod Violations
-pub mod Contracts
+pub mod Promises
 pub mod Working

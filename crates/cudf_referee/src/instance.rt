@@ -42,10 +42,10 @@ pub enum What<'p, 't> {
 
 impl<'p, 't> Instance<'p, 't> {
     ghost use Rattle.std.specs.Prelude.{◌≡◌, ◌<◌, IsTrue};
-    ghost use Rattle.cudf_document.specs.Contracts.Views.{package_view, request_view, unknown_view};
-    ghost use Rattle.cudf_referee.specs.Contracts.Keys.{is_package_rule, fits_request};
+    ghost use Rattle.cudf_document.specs.Promises.Views.{package_view, request_view, unknown_view};
+    ghost use Rattle.cudf_referee.specs.Promises.Keys.{is_package_rule, fits_request};
     ghost use Rattle.cudf_referee.specs.Violations.{at_package, at_request, unknown_instance};
-    ghost use Rattle.cudf_referee.specs.Contracts.Views.{instance_view, what_view};
+    ghost use Rattle.cudf_referee.specs.Promises.Views.{instance_view, what_view};
 
     /// An instance of a package's rule, at an entry's place.
     pub(crate) fn of_package(

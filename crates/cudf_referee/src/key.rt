@@ -50,7 +50,7 @@ impl Key {
     ghost use Rattle.std.specs.Prelude.{◌≡◌, ◌<◌, IsTrue};
     ghost use Rattle.std.specs.Ordering.{is_lt};
     ghost use Rattle.cudf_referee.specs.Keys.{is_key, key_cmp};
-    ghost use Rattle.cudf_referee.specs.Contracts.Keys.{is_fitting};
+    ghost use Rattle.cudf_referee.specs.Promises.Keys.{is_fitting};
     ghost use Rattle.cudf_referee.specs.KeyViews.{key_view};
 
     /// The key of these parts.

@@ -4,7 +4,7 @@ ghost use Rattle.std.specs.Ordering.{is_lt, partial_lt};
 ghost use Rattle.cudf_referee.specs.KeyViews.{key_view};
 ghost use Rattle.cudf_referee.specs.Keys.{key_cmp};
 ghost use Rattle.cudf_referee.specs.Laws.{SolutionIsEmpty, ListingAscends};
-ghost use Rattle.cudf_referee.specs.Contracts.Laws.{TextsTellKeys, PagesJoin, PagesSuffice, PagesAreBound, ThinIsEnough};
+ghost use Rattle.cudf_referee.specs.Promises.Laws.{TextsTellKeys, PagesJoin, PagesSuffice, PagesAreBound, ThinIsEnough};
 
 use crate::key::Key;
 

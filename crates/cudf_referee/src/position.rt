@@ -1,14 +1,14 @@
 //! Where a walk over the violated instances stands. (own)
 ghost use Rattle.std.specs.Prelude.{◌≡◌, ◌≤◌, ◌<◌, ◌+◌, ℕ, ◌^◌, IsTrue, map, drop, length, slice_index_or, option_map};
-ghost use Rattle.cudf_document.specs.Contracts.Views.{unknown_view};
+ghost use Rattle.cudf_document.specs.Promises.Views.{unknown_view};
 ghost use Rattle.cudf_document.specs.Statuses.{ascend_above};
-ghost use Rattle.cudf_universe.specs.Contracts.Prices.{digits};
+ghost use Rattle.cudf_universe.specs.Promises.Prices.{digits};
 ghost use Rattle.cudf_referee.specs.KeyViews.{key_view};
-ghost use Rattle.cudf_referee.specs.Contracts.Keys.{is_fitting};
-ghost use Rattle.cudf_referee.specs.Contracts.Pages.{at_instance, least_search};
-ghost use Rattle.cudf_referee.specs.Contracts.PositionViews.{position_view};
-ghost use Rattle.cudf_referee.specs.Contracts.Sites.{at_key};
-ghost use Rattle.cudf_referee.specs.Contracts.Views.{instance_view};
+ghost use Rattle.cudf_referee.specs.Promises.Keys.{is_fitting};
+ghost use Rattle.cudf_referee.specs.Promises.Pages.{at_instance, least_search};
+ghost use Rattle.cudf_referee.specs.Promises.PositionViews.{position_view};
+ghost use Rattle.cudf_referee.specs.Promises.Sites.{at_key};
+ghost use Rattle.cudf_referee.specs.Promises.Views.{instance_view};
 ghost use Rattle.cudf_referee.specs.Working.Places.{stanza_numbers, BeginsAt, IsFitting, next_place};
 ghost use Rattle.cudf_referee.specs.Working.Searches.{unknown_left};
 

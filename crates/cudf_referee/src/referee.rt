@@ -1,10 +1,10 @@
 //! The referee of a proposed status: its verdict and its counts, and the walk over the violated instances.
 ghost use Rattle.std.specs.Prelude.{◌≡◌, map, IfOk};
-ghost use Rattle.cudf_document.specs.Contracts.Views.{package_view};
+ghost use Rattle.cudf_document.specs.Promises.Views.{package_view};
 ghost use Rattle.cudf_document.specs.Documents.{is_empty};
 ghost use Rattle.cudf_referee.specs.Violations.{package_place};
 ghost use Rattle.cudf_referee.specs.Working.Named.{has_kept_name};
-ghost use Rattle.cudf_referee.specs.Contracts.Walks.{left};
+ghost use Rattle.cudf_referee.specs.Promises.Walks.{left};
 
 mod instances;
 mod numbered;
@@ -35,7 +35,7 @@ pub struct Referee<'p, 't> {
 impl<'p, 't> Model for Referee<'p, 't> {
     ghost use Rattle.std.specs.Prelude.{◌≡◌, map};
     ghost use Rattle.std.specs.FinSet as set;
-    ghost use Rattle.cudf_document.specs.Contracts.Views.{unknown_view};
+    ghost use Rattle.cudf_document.specs.Promises.Views.{unknown_view};
     ghost use Rattle.cudf_referee.specs.Criteria.{criteria as counts};
     ghost use Rattle.cudf_referee.specs.Proposals.{Proposal, put_forward};
     ghost use Rattle.cudf_referee.specs.Solutions.{is_solution};
@@ -96,22 +96,22 @@ fn has_none(mut instances: Instances<'_, '_, '_>) -> bool
 
 impl<'p, 't> Referee<'p, 't> {
     ghost use Rattle.std.specs.Prelude.{◌≡◌, ◌≤◌, All, IsTrue, IfOk, length, map};
-    ghost use Rattle.cudf_document.specs.Contracts.Views.{package_view};
+    ghost use Rattle.cudf_document.specs.Promises.Views.{package_view};
     ghost use Rattle.std.specs.FinSet as set;
     ghost use Rattle.cudf_document.specs.Statuses.{is_initial, ascend_above};
-    ghost use Rattle.cudf_document.specs.Contracts.Views.{unknown_view};
-    ghost use Rattle.cudf_universe.specs.Contracts.Prices.{digits};
+    ghost use Rattle.cudf_document.specs.Promises.Views.{unknown_view};
+    ghost use Rattle.cudf_universe.specs.Promises.Prices.{digits};
     ghost use Rattle.cudf_referee.specs.Criteria.{criteria};
     ghost use Rattle.cudf_document.specs.Documents.{is_empty};
     ghost use Rattle.cudf_referee.specs.KeyViews.{key_view};
-    ghost use Rattle.cudf_referee.specs.Contracts.Pages.{least_search};
-    ghost use Rattle.cudf_referee.specs.Contracts.Keys.{IsWritable};
+    ghost use Rattle.cudf_referee.specs.Promises.Pages.{least_search};
+    ghost use Rattle.cudf_referee.specs.Promises.Keys.{IsWritable};
     ghost use Rattle.cudf_referee.specs.Proposals.{proposal};
-    ghost use Rattle.cudf_referee.specs.Contracts.Sites.{at_start, at_key};
+    ghost use Rattle.cudf_referee.specs.Promises.Sites.{at_start, at_key};
     ghost use Rattle.cudf_referee.specs.Solutions.{is_solution};
-    ghost use Rattle.cudf_referee.specs.Contracts.Views.{instance_view};
+    ghost use Rattle.cudf_referee.specs.Promises.Views.{instance_view};
     ghost use Rattle.cudf_referee.specs.Violations.{listing, rest, met_by};
-    ghost use Rattle.cudf_referee.specs.Contracts.Walks.{left};
+    ghost use Rattle.cudf_referee.specs.Promises.Walks.{left};
 
     /// The referee of what a solution proposes for a problem. The solution is one of that problem, and the
     /// numbers of its unknown stanzas ascend from 1 on.

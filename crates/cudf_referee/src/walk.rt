@@ -1,7 +1,7 @@
 //! The search along the walk over all places where an instance may stand: the first violated one, at a counted price.
 ghost use Rattle.std.specs.Prelude.{◌≡◌, ◌+◌, ◌++◌, None, drop, option_map};
 ghost use Rattle.cudf_referee.specs.KeyViews.{key_view};
-ghost use Rattle.cudf_referee.specs.Contracts.Views.{instance_view};
+ghost use Rattle.cudf_referee.specs.Promises.Views.{instance_view};
 ghost use Rattle.cudf_referee.specs.Working.Behind.{last_stops, unknown_behind, stops_behind};
 ghost use Rattle.cudf_referee.specs.Working.Grounds.{proposal_of};
 ghost use Rattle.cudf_referee.specs.Working.Searches.{Finds, packages_left};

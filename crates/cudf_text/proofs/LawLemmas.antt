@@ -6,7 +6,7 @@ use Rattle.std.proofs.lemmas.List.Elements.{All-from_recursion}
 use Rattle.cudf_text.specs.Lines.{NumberedLine, is_lf}
 use Rattle.cudf_text.specs.LineFaults.{read_lines}
 use Rattle.cudf_text.specs.Stanzas.{PlainProperty, PlainStanza, plain_text, stanza_of, stanza_with, properties, last_number, is_blank_line}
-use Rattle.cudf_text.specs.Contracts.Laws.{LineEndsAtLf, LastLineNeedsNoLf, BeginsWithProperty, StanzasHaveProperties}
+use Rattle.cudf_text.specs.Promises.Laws.{LineEndsAtLf, LastLineNeedsNoLf, BeginsWithProperty, StanzasHaveProperties}
 
 pub line_ends_at_lf : (line rest : List ℕ) → LineEndsAtLf line rest
 line_ends_at_lf [] rest none = refl

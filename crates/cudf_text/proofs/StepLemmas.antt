@@ -5,7 +5,7 @@ use Rattle.cudf_text.specs.declared.text.Property.{Property}
 use Rattle.std.specs.List.{list_any}
 use Rattle.std.proofs.lemmas.List.Folds.{list_any-append}
 use Rattle.cudf_text.specs.Chars.{is_blank}
-use Rattle.cudf_text.specs.Contracts.Joins.{has_join}
+use Rattle.cudf_text.specs.Promises.Joins.{has_join}
 use Rattle.cudf_text.specs.Working.Tracked.{TrackedProperty, TrackedValue, tracked_property}
 use Rattle.cudf_text.specs.Working.Steps.{extend_last, value_onto}
 

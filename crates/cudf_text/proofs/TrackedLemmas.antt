@@ -5,12 +5,12 @@ use Rattle.cudf_text.specs.declared.fault.Fault.{Fault}
 use Rattle.cudf_text.specs.declared.text.Property.{Property}
 use Rattle.cudf_text.specs.declared.cursor.Next.{Next}
 use Rattle.cudf_text.specs.declared.cursor.Next.TheVariants as next
-use Rattle.cudf_text.specs.Contracts.Borrows.{is_joined, joins, joined_values}
-use Rattle.cudf_text.specs.Contracts.Cursor.{Left, with_next}
+use Rattle.cudf_text.specs.Promises.Borrows.{is_joined, joins, joined_values}
+use Rattle.cudf_text.specs.Promises.Cursor.{Left, with_next}
 use Rattle.cudf_text.specs.Lines.{Class, blank, comment, continuation, named, faulty, NumberedLine, lines, judged_lines}
 use Rattle.cudf_text.specs.Stanzas.{PlainProperty, PlainStanza, PlainText, continuations, is_blank_line, last_number, plain_text}
 use Rattle.cudf_text.specs.Stanzas as plain
-use Rattle.cudf_text.specs.Contracts.Views.{property_view, owned_in}
+use Rattle.cudf_text.specs.Promises.Views.{property_view, owned_in}
 use Rattle.cudf_text.specs.Working.Left.{with_tracked}
 use Rattle.cudf_text.specs.Working.Reading.{read_after, fault_after}
 use Rattle.cudf_text.specs.Working.Tracked.{TrackedProperty, TrackedStanza, TrackedText, properties, stanza_with, stanza_of, stanzas_of, plain_property, plain_stanza, plain_left, owned_of, tracked_property}

@@ -4,5 +4,5 @@ pub mod LineFaults
 pub mod Stanzas
 pub mod Joined
 pub mod Faults
-pub mod Contracts
+pub mod Promises
 pub mod Working

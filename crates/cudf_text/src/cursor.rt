@@ -1,5 +1,5 @@
 ghost use Rattle.std.specs.Prelude.{◌≡◌, [], map, string_bytes, IfOk, IsTrue};
-ghost use Rattle.cudf_text.specs.Contracts.Cursor.{is_end};
+ghost use Rattle.cudf_text.specs.Promises.Cursor.{is_end};
 ghost use Rattle.cudf_text.specs.Lines.{class};
 ghost use Rattle.cudf_text.specs.Working.Left.{text_left, with_tracked, IsCounted};
 ghost use Rattle.cudf_text.specs.Working.Steps.{open_state, step, stepped, extend_last, value_onto};
@@ -31,7 +31,7 @@ pub struct Stanzas<'a> {
 }
 
 impl<'a> Model for Stanzas<'a> {
-    ghost use Rattle.cudf_text.specs.Contracts.Cursor.{Left};
+    ghost use Rattle.cudf_text.specs.Promises.Cursor.{Left};
     ghost use Rattle.cudf_text.specs.Working.Left.{text_left, IsCounted};
     ghost use Rattle.cudf_text.specs.Working.Tracked.{plain_left};
 
@@ -45,9 +45,9 @@ impl<'a> Model for Stanzas<'a> {
 impl<'a> Stanzas<'a> {
     ghost use Rattle.std.specs.Prelude.{◌≡◌, [], IfOk, IfErr, IsTrue};
     ghost use Rattle.cudf_text.specs.Stanzas.{plain_text};
-    ghost use Rattle.cudf_text.specs.Contracts.Borrows.{joined_values};
-    ghost use Rattle.cudf_text.specs.Contracts.Cursor.{with_next, is_end};
-    ghost use Rattle.cudf_text.specs.Contracts.Views.{text_view, owned_values};
+    ghost use Rattle.cudf_text.specs.Promises.Borrows.{joined_values};
+    ghost use Rattle.cudf_text.specs.Promises.Cursor.{with_next, is_end};
+    ghost use Rattle.cudf_text.specs.Promises.Views.{text_view, owned_values};
 
     /// All stanzas of a text.
     pub fn new(source: &'a str) -> Self

@@ -1,7 +1,7 @@
 //! Laws of the definitions that the contracts of this crate cite. The functions do nothing: each
 //! contract is a law, proved for every argument.
 
-ghost use Rattle.cudf_text.specs.Contracts.Laws.{LastLineNeedsNoLf, LineEndsAtLf, LinesJoinToText, StanzasHaveProperties};
+ghost use Rattle.cudf_text.specs.Promises.Laws.{LastLineNeedsNoLf, LineEndsAtLf, LinesJoinToText, StanzasHaveProperties};
 
 /// Lines are the text cut after each LF, and a last part without LF is a line where it isn't
 /// empty (CUDF 2.0, syntax of stanzas and properties).

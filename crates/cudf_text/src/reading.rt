@@ -1,8 +1,8 @@
 ghost use Rattle.std.specs.Prelude.{◌≡◌, ◌+◌, IfErr, IfOk, IsUtf8, alloc_error, count_by};
 ghost use Rattle.cudf_text.specs.Lines.{is_lf};
 ghost use Rattle.cudf_text.specs.Stanzas.{plain_text};
-ghost use Rattle.cudf_text.specs.Contracts.Borrows.{joined_values};
-ghost use Rattle.cudf_text.specs.Contracts.Views.{IsText, owned_values, text_view};
+ghost use Rattle.cudf_text.specs.Promises.Borrows.{joined_values};
+ghost use Rattle.cudf_text.specs.Promises.Views.{IsText, owned_values, text_view};
 ghost use Rattle.cudf_text.specs.LineFaults.{utf8_fault};
 
 use crate::cursor::{Next, Stanzas};

@@ -1,4 +1,4 @@
-ghost use Rattle.cudf_text.specs.Contracts.Joins.{IsJoined};
+ghost use Rattle.cudf_text.specs.Promises.Joins.{IsJoined};
 
 use crate::fault::Fault;
 use std::alloc::AllocError;

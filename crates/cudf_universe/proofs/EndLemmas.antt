@@ -7,7 +7,7 @@ use Rattle.std.proofs.lemmas.Bool.{eqb-true, eq-eqb, true≢false, or_cases}
 use Rattle.std.proofs.lemmas.List.{get_or_default}
 use Rattle.std.proofs.lemmas.List.Elements.{Contains-append_left, Contains-append_right, Contains-push}
 use Rattle.std.proofs.lemmas.List.Folds.{list_any_at}
-use Rattle.cudf_universe.specs.Contracts.Members.{IsLeast, IsGreatest}
+use Rattle.cudf_universe.specs.Promises.Members.{IsLeast, IsGreatest}
 use Rattle.cudf_universe.proofs.CountLemmas.{any-count, count-all}
 
 Contains-first : (x y : ℕ) (xs : List ℕ) → y ≡ x → Contains (y ∷ xs) x

@@ -10,11 +10,11 @@ use Rattle.std.proofs.lemmas.List.{append-nil, map_push, take_more}
 use Rattle.std.proofs.lemmas.List.Elements.{All-push, Contains-push, Contains-append_left}
 use Rattle.std.proofs.lemmas.List.Concat.{flat_map-append}
 use Rattle.cudf_value.specs.declared.vpkg.Vpkg.{Vpkg}
-use Rattle.cudf_value.specs.Contracts.Views.{vpkg_view}
+use Rattle.cudf_value.specs.Promises.Views.{vpkg_view}
 use Rattle.cudf_document.specs.Universe.{PlainPackage}
 use Rattle.cudf_document.specs.Ids.{Id}
 use Rattle.cudf_universe.specs.Satisfaction.{Placed, entry_pair, members, gives, numbers_of, package_pairs}
-use Rattle.cudf_universe.specs.Contracts.Members.{IsGreatest}
+use Rattle.cudf_universe.specs.Promises.Members.{IsGreatest}
 use Rattle.cudf_universe.specs.Working.Kept.{found}
 use Rattle.cudf_universe.specs.Working.Greatest.{with_number, with_pairs, with_entries}
 use Rattle.cudf_universe.proofs.MemberLemmas.{members-more}

@@ -5,7 +5,7 @@ use Rattle.cudf_value.specs.Formulas.{truth_atom, falsehood_atom, named}
 use Rattle.cudf_document.specs.declared.package.Keep.TheVariants.{Nothing}
 use Rattle.cudf_document.specs.Universe.{PlainPackage}
 use Rattle.cudf_universe.specs.Satisfaction.{Placed, members}
-use Rattle.cudf_universe.specs.Contracts.Prices.{digits_within, digits, entries, search_cost, clause_cost, clause_lookups, own_cost}
+use Rattle.cudf_universe.specs.Promises.Prices.{digits_within, digits, entries, search_cost, clause_cost, clause_lookups, own_cost}
 
 digits_0 : digits 0 ≡ 0
 unfolding digits digits_within

@@ -1,6 +1,6 @@
 -- Binary digits.
 use Rattle.std.proofs.Common.{◌≡◌, ℕ, zero, suc, ◌+◌, ◌*◌, ◌<◌, ◌≤◌, ◌/◌, refl, ap, arith}
-use Rattle.cudf_universe.specs.Contracts.Prices.{digits_within, digits}
+use Rattle.cudf_universe.specs.Promises.Prices.{digits_within, digits}
 
 digits_within-fuel : (f g n : ℕ) → n ≤ f → n ≤ g → digits_within f n ≡ digits_within g n
 unfolding digits_within

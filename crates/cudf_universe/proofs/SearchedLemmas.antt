@@ -4,7 +4,7 @@ use Rattle.std.specs.List.{count_by}
 use Rattle.std.specs.List.Sorted.{IsNonDecreasing}
 use Rattle.std.proofs.lemmas.Bool.{lt-ltb, le-ltb}
 use Rattle.std.proofs.lemmas.List.{get_or_default}
-use Rattle.cudf_universe.specs.Contracts.Prices.{digits}
+use Rattle.cudf_universe.specs.Promises.Prices.{digits}
 use Rattle.cudf_universe.proofs.CountLemmas.{count-point}
 use Rattle.cudf_universe.proofs.PriceLemmas.{digits-halved}
 

@@ -5,7 +5,7 @@ use Rattle.std.specs.List.{count_by, cons_option}
 use Rattle.std.proofs.lemmas.List.{append-nil}
 use Rattle.std.proofs.lemmas.List.Sums.{count_by-le-length}
 use Rattle.cudf_value.specs.Vpkgs.{PlainVpkg, meets}
-use Rattle.cudf_universe.specs.Contracts.Prices.{digits, own_entries}
+use Rattle.cudf_universe.specs.Promises.Prices.{digits, own_entries}
 use Rattle.cudf_universe.specs.Satisfaction.{Placed, is_met_by, package_pairs, entry_pair, unversioned_name}
 use Rattle.cudf_universe.specs.Working.Kept.{Keeps, kept_numbers, kept_unversioned}
 use Rattle.cudf_universe.specs.Working.Shares.{GivesMuch}

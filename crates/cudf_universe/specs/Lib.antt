@@ -1,3 +1,3 @@
 pub mod Satisfaction
-pub mod Contracts
+pub mod Promises
 pub mod Working

@@ -1,10 +1,10 @@
 //! The greatest number that a status gives of each name.
 ghost use Rattle.std.specs.Prelude.{◌≡◌, ◌≤◌, ◌+◌, ℕ, List, Some, None, length, map, bytes_eq, IfOk, OnOk, if◌then◌else◌};
 ghost use Rattle.std.specs.FinSet as set;
-ghost use Rattle.cudf_value.specs.Contracts.Views.{vpkg_view};
-ghost use Rattle.cudf_document.specs.Contracts.Views.{package_view};
+ghost use Rattle.cudf_value.specs.Promises.Views.{vpkg_view};
+ghost use Rattle.cudf_document.specs.Promises.Views.{package_view};
 ghost use Rattle.cudf_universe.specs.Satisfaction.{members, numbers_of, package_pairs, entry_pair};
-ghost use Rattle.cudf_universe.specs.Contracts.Members.{IsGreatest};
+ghost use Rattle.cudf_universe.specs.Promises.Members.{IsGreatest};
 ghost use Rattle.cudf_universe.specs.Working.Greatest.{kept_greatest, with_number, with_pairs, with_entries};
 
 use crate::steps::Steps;
@@ -29,7 +29,7 @@ impl<'p, 't> Model for GreatestNumbers<'p, 't> {
     ghost use Rattle.std.specs.Prelude.{List, ℕ};
     ghost use Rattle.std.specs.FinSet as set;
     ghost use Rattle.cudf_universe.specs.Satisfaction.{Placed, members, numbers_of};
-    ghost use Rattle.cudf_universe.specs.Contracts.Members.{IsGreatest};
+    ghost use Rattle.cudf_universe.specs.Promises.Members.{IsGreatest};
     ghost use Rattle.cudf_universe.specs.Working.Greatest.{kept_greatest};
 
     ghost Value = { List Placed };
@@ -88,7 +88,7 @@ pub struct MeteredNumbers<'i, 'p, 't> {
 }
 
 impl<'i, 'p, 't> Model for MeteredNumbers<'i, 'p, 't> {
-    ghost use Rattle.cudf_universe.specs.Contracts.Prices.{Metering};
+    ghost use Rattle.cudf_universe.specs.Promises.Prices.{Metering};
 
     ghost Value = { Metering };
 

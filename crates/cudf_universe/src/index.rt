@@ -2,11 +2,11 @@
 ghost use Rattle.std.specs.Prelude.{◌≡◌, ◌≤◌, ◌+◌, ◌&&◌, ◌==◌, ◌*◌, ℕ, List, Some, length, bytes_eq, option_map, find, IfOk, IfSome};
 ghost use Rattle.std.specs.List.{count_by, list_any};
 ghost use Rattle.std.specs.FinSet as set;
-ghost use Rattle.cudf_value.specs.Contracts.Views.{atom_view, clause_view, vpkg_view};
+ghost use Rattle.cudf_value.specs.Promises.Views.{atom_view, clause_view, vpkg_view};
 ghost use Rattle.cudf_value.specs.Vpkgs.{meets};
-ghost use Rattle.cudf_universe.specs.Contracts.Prices.{digits, search_cost, atom_cost, atom_lookups, clause_cost, clause_lookups, own_cost};
+ghost use Rattle.cudf_universe.specs.Promises.Prices.{digits, search_cost, atom_cost, atom_lookups, clause_cost, clause_lookups, own_cost};
 ghost use Rattle.cudf_universe.specs.Satisfaction.{members, satisfies, satisfies_atom, satisfies_clause, without, first_meeting, other_than, numbers_of, gives_all_versions};
-ghost use Rattle.cudf_universe.specs.Contracts.Members.{IsLeast, IsGreatest};
+ghost use Rattle.cudf_universe.specs.Promises.Members.{IsLeast, IsGreatest};
 ghost use Rattle.cudf_universe.specs.Working.Gathering.{row_of, given_of};
 ghost use Rattle.cudf_universe.specs.Working.Kept.{Keeps};
 ghost use Rattle.cudf_universe.specs.Working.Members.{member_view};

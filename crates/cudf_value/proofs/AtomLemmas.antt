@@ -15,7 +15,7 @@ use Rattle.cudf_value.specs.Parts.{parts, all_some, read_parts}
 use Rattle.cudf_value.proofs.PartsLemmas.{cond_none}
 use Rattle.cudf_value.specs.declared.formula.Atom.{Atom}
 use Rattle.cudf_value.specs.Formulas.{PlainAtom, named, atom, atom_part, clause}
-use Rattle.cudf_value.specs.Contracts.Views.{atom_view}
+use Rattle.cudf_value.specs.Promises.Views.{atom_view}
 use Rattle.cudf_value.specs.Working.Atoms.{ends_atom, is_inside, end_text, end_rest, values, values_of}
 use Rattle.cudf_value.specs.Working.Rests.{BeginsWith}
 use Rattle.cudf_value.proofs.VpkgLemmas.{run_passes}

@@ -7,9 +7,9 @@ use Rattle.std.proofs.lemmas.Bool.{and_parts, or_parts, not-true, eqb-true}
 use Rattle.std.proofs.lemmas.List.{append_assoc}
 use Rattle.cudf_value.specs.declared.lex_state.LexState.{LexState}
 use Rattle.cudf_value.specs.declared.lex_state.LexState.TheVariants.{Outside, Bracket, Quotes, Escape, BracketQuotes, BracketEscape, Broken}
-use Rattle.cudf_value.specs.Contracts.Laws.{IsMadeOfTokens, IsQuotableAsMade}
+use Rattle.cudf_value.specs.Promises.Laws.{IsMadeOfTokens, IsQuotableAsMade}
 use Rattle.cudf_value.specs.LexStates.{quote_mark, backslash, in_quotes, in_escape, next_state, state_after, is_outside, is_quotable_from, is_quotable}
-use Rattle.cudf_value.specs.Contracts.Tokens.{Inner, plain, escaped, Item, char_item, quoted_item, Token, char, quoted, bracketed, is_inner, is_item, is_token, is_comma, inner_text, quoted_text, item_text, text_of}
+use Rattle.cudf_value.specs.Promises.Tokens.{Inner, plain, escaped, Item, char_item, quoted_item, Token, char, quoted, bracketed, is_inner, is_item, is_token, is_comma, inner_text, quoted_text, item_text, text_of}
 use Rattle.cudf_value.proofs.TokenLemmas.{cut_from, is_cut}
 
 -- ---- what stands from a state on to the end of a text that ends outside

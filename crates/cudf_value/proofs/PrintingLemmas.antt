@@ -4,7 +4,7 @@ use Rattle.std.specs.Prelude.{flat_map}
 use Rattle.std.proofs.lemmas.List.{take_all}
 use Rattle.std.proofs.lemmas.List.Folds.{flat_map-map}
 use Rattle.cudf_value.specs.declared.formula.Atom.{Atom}
-use Rattle.cudf_value.specs.Contracts.Views.{atom_view}
+use Rattle.cudf_value.specs.Promises.Views.{atom_view}
 use Rattle.cudf_value.specs.Printing.{atom_text, clause_text}
 
 -- an atom after the first

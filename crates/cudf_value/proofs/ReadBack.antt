@@ -13,7 +13,7 @@ use Rattle.cudf_value.specs.Words.{is_pkgname}
 use Rattle.cudf_value.specs.Numbers.{natural, positive}
 use Rattle.cudf_value.specs.Vpkgs.{vpkg, vpkg_after}
 use Rattle.cudf_value.specs.Printing.{bound_text}
-use Rattle.cudf_value.specs.Contracts.Laws.{IsPosintBound, IsReadBack}
+use Rattle.cudf_value.specs.Promises.Laws.{IsPosintBound, IsReadBack}
 use Rattle.cudf_value.proofs.NumberLemmas.{own, test_true}
 
 -- the run at the front ends where the first list does

@@ -8,9 +8,9 @@ use Rattle.std.proofs.lemmas.List.{append_assoc}
 use Rattle.std.proofs.lemmas.List.Splits.{length-slice_split}
 use Rattle.cudf_value.specs.declared.lex_state.LexState.{LexState}
 use Rattle.cudf_value.specs.declared.lex_state.LexState.TheVariants.{Outside, Bracket, Quotes, Escape, BracketQuotes, BracketEscape}
-use Rattle.cudf_value.specs.Contracts.Laws.{IsCutAtCommas, PiecesJoinToText}
+use Rattle.cudf_value.specs.Promises.Laws.{IsCutAtCommas, PiecesJoinToText}
 use Rattle.cudf_value.specs.LexStates.{quote_mark, backslash, next_state, state_after, with_states, is_outside, separates, characters}
-use Rattle.cudf_value.specs.Contracts.Tokens.{Inner, plain, escaped, Item, char_item, quoted_item, Token, char, quoted, bracketed, is_inner, is_plain_char, is_item, is_token, inner_text, quoted_text, item_text, token_text, text_of, is_comma}
+use Rattle.cudf_value.specs.Promises.Tokens.{Inner, plain, escaped, Item, char_item, quoted_item, Token, char, quoted, bracketed, is_inner, is_plain_char, is_item, is_token, inner_text, quoted_text, item_text, token_text, text_of, is_comma}
 
 -- ---- the pieces of a text that begins in a state
 

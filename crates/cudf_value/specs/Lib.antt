@@ -8,5 +8,5 @@ pub mod Printing
 pub mod Types
 pub mod LexStates
 pub mod Declarations
-pub mod Contracts
+pub mod Promises
 pub mod Working

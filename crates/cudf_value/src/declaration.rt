@@ -1,7 +1,7 @@
 //! Declarations of extra package properties, the values of the preamble's `property`.
 ghost use Rattle.std.specs.Prelude.{◌≡◌, map, option_map, IfOk};
 ghost use Rattle.cudf_text.specs.Chars.{trim};
-ghost use Rattle.cudf_value.specs.Contracts.Types.{type_view, declaration_view};
+ghost use Rattle.cudf_value.specs.Promises.Types.{type_view, declaration_view};
 ghost use Rattle.cudf_value.specs.Declarations.{with_kind, declaration_piece, read_pieces, declarations};
 
 use crate::class::Class;

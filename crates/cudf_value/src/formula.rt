@@ -3,7 +3,7 @@ ghost use Rattle.std.specs.Prelude.{◌≡◌, option_map, is_some, ◌∷◌, �
 ghost use Rattle.std.specs.Str.{byte};
 ghost use Rattle.cudf_text.specs.Chars.{trim};
 ghost use Rattle.cudf_value.specs.Parts.{read_parts};
-ghost use Rattle.cudf_value.specs.Contracts.Views.{formula_view};
+ghost use Rattle.cudf_value.specs.Promises.Views.{formula_view};
 ghost use Rattle.cudf_value.specs.Formulas.{clause, formula};
 ghost use Rattle.cudf_value.specs.Working.Atoms.{with_clauses};
 

@@ -2,7 +2,7 @@
 ghost use Rattle.std.specs.Prelude.{◌≡◌, map, option_map, option_copied, IfOk};
 ghost use Rattle.std.specs.Str.{byte};
 ghost use Rattle.cudf_value.specs.Parts.{read_parts};
-ghost use Rattle.cudf_value.specs.Contracts.Types.{type_view};
+ghost use Rattle.cudf_value.specs.Promises.Types.{type_view};
 ghost use Rattle.cudf_value.specs.Declarations.{type_word, ident_part, enum_at, type_at};
 
 use crate::class::Class;

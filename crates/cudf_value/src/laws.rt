@@ -1,7 +1,7 @@
 //! Laws over the definitions alone, each the contract of a function without effect.
 ghost use Rattle.std.specs.Prelude.{IsTrue};
 ghost use Rattle.cudf_value.specs.Words.{is_pkgname};
-ghost use Rattle.cudf_value.specs.Contracts.Laws.{IsCutAtCommas, IsMadeOfTokens, IsPosintBound, IsQuotableAsMade, IsReadBack, PiecesJoinToText};
+ghost use Rattle.cudf_value.specs.Promises.Laws.{IsCutAtCommas, IsMadeOfTokens, IsPosintBound, IsQuotableAsMade, IsReadBack, PiecesJoinToText};
 
 use crate::relop::Relop;
 

@@ -1,6 +1,6 @@
 //! How vpkgs, atoms and clauses are printed: spaces round an operator and round `|`.
 ghost use Rattle.std.specs.Prelude.{Some};
-ghost use Rattle.cudf_value.specs.Contracts.Views.{vpkg_view, atom_view, clause_view};
+ghost use Rattle.cudf_value.specs.Promises.Views.{vpkg_view, atom_view, clause_view};
 ghost use Rattle.cudf_value.specs.Printing.{vpkg_text, atom_text, clause_text};
 
 use crate::formula::{Atom, Clause};

@@ -2,7 +2,7 @@
 ghost use Rattle.std.specs.Prelude.{◌≡◌, Ok, bytes_eq};
 ghost use Rattle.std.specs.List.{list_any};
 ghost use Rattle.cudf_text.specs.Chars.{trim};
-ghost use Rattle.cudf_value.specs.Contracts.Types.{type_view};
+ghost use Rattle.cudf_value.specs.Promises.Types.{type_view};
 ghost use Rattle.cudf_value.specs.Types.{is_of_type};
 
 use crate::formula::is_formula_text;

@@ -1,7 +1,7 @@
 //! The types `vpkg` and `veqpkg`.
 ghost use Rattle.std.specs.Prelude.{◌≡◌, option_map, length, ◌<◌, ◌≤◌, IfSome};
 ghost use Rattle.cudf_text.specs.Chars.{trim};
-ghost use Rattle.cudf_value.specs.Contracts.Views.{vpkg_view};
+ghost use Rattle.cudf_value.specs.Promises.Views.{vpkg_view};
 ghost use Rattle.cudf_value.specs.Vpkgs.{vpkg, veqpkg, vpkg_after, is_exact};
 ghost use Rattle.cudf_value.specs.Working.Rests.{BeginsWith, BoundBegins};
 

@@ -3,7 +3,7 @@ ghost use Rattle.std.specs.Prelude.{◌≡◌, not, ◌||◌, ◌∷◌, ◌<◌
 ghost use Rattle.std.specs.Str.{byte};
 ghost use Rattle.cudf_text.specs.Chars.{trim};
 ghost use Rattle.cudf_value.specs.Parts.{some_if, parts, read_parts, comma_list};
-ghost use Rattle.cudf_value.specs.Contracts.Views.{vpkg_view};
+ghost use Rattle.cudf_value.specs.Promises.Views.{vpkg_view};
 ghost use Rattle.cudf_value.specs.Vpkgs.{is_exact};
 ghost use Rattle.cudf_value.specs.Formulas.{vpkg_part, vpkglist, veqpkglist};
 ghost use Rattle.cudf_value.specs.Working.Rests.{parts_after};

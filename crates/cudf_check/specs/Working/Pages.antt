@@ -2,9 +2,9 @@
 use Rattle.std.specs.Prelude.{◌≡◌, ◌≤◌, ◌+◌, ◌⊎◌, ℕ, List, [], ◌∷◌, ◌++◌, codes, length, take, drop, map, IsTrue, Option, Some, None, if◌then◌else◌}
 use Rattle.cudf_document.specs.Documents.{is_empty}
 use Rattle.cudf_referee.specs.Keys.{PlainKey, key_text, ascend}
-use Rattle.cudf_referee.specs.Contracts.Pages.{cost_along}
-use Rattle.cudf_referee.specs.Contracts.Sites.{PlainPosition, at_key}
-use Rattle.cudf_referee.specs.Contracts.Walks.{Walking, left}
+use Rattle.cudf_referee.specs.Promises.Pages.{cost_along}
+use Rattle.cudf_referee.specs.Promises.Sites.{PlainPosition, at_key}
+use Rattle.cudf_referee.specs.Promises.Walks.{Walking, left}
 use Rattle.cudf_referee.specs.declared.key.Key.{Key}
 use Rattle.cudf_referee.specs.Instances.{PlainInstance}
 use Rattle.cudf_referee.specs.KeyViews.{key_view}

@@ -1,12 +1,12 @@
 //! Prints the line of an instance.
 ghost use Rattle.std.specs.Prelude.{◌≡◌, ◌++◌, codes, option_map};
 ghost use Rattle.std.specs.List.{flat_map};
-ghost use Rattle.cudf_value.specs.Contracts.Views.{vpkg_view, atom_view, clause_view};
+ghost use Rattle.cudf_value.specs.Promises.Views.{vpkg_view, atom_view, clause_view};
 ghost use Rattle.cudf_value.specs.Printing.{vpkg_text, atom_text, clause_text};
-ghost use Rattle.cudf_document.specs.Contracts.Views.{package_view};
+ghost use Rattle.cudf_document.specs.Promises.Views.{package_view};
 ghost use Rattle.cudf_referee.specs.Keys.{key_text, aspect_text};
 ghost use Rattle.cudf_referee.specs.KeyViews.{key_view};
-ghost use Rattle.cudf_referee.specs.Contracts.Views.{instance_view, what_view};
+ghost use Rattle.cudf_referee.specs.Promises.Views.{instance_view, what_view};
 ghost use Rattle.cudf_check.specs.Report.{line, meeting_text, aspect_line, upgrade_text, what_text, place_text, met_line};
 ghost use Rattle.cudf_check.specs.Working.Printing.{Prints};
 

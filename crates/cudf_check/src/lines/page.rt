@@ -1,14 +1,14 @@
 //! Prints a page of the listing.
 ghost use Rattle.std.specs.Prelude.{◌≡◌, ◌≤◌, ◌+◌, ◌++◌, codes, take, map, length, slice_get, Option, Some, None, option_map, IfOk, if◌then◌else◌};
 ghost use Rattle.std.specs.List.{flat_map};
-ghost use Rattle.cudf_document.specs.Contracts.Views.{package_view};
-ghost use Rattle.cudf_universe.specs.Contracts.Prices.{digits};
+ghost use Rattle.cudf_document.specs.Promises.Views.{package_view};
+ghost use Rattle.cudf_universe.specs.Promises.Prices.{digits};
 ghost use Rattle.cudf_referee.specs.Keys.{PlainKey, key_text};
 ghost use Rattle.cudf_referee.specs.KeyViews.{key_view};
-ghost use Rattle.cudf_referee.specs.Contracts.Pages.{behind, at_instance, calls, cost_along, page_price};
-ghost use Rattle.cudf_referee.specs.Contracts.Sites.{cost_between};
-ghost use Rattle.cudf_referee.specs.Contracts.Views.{instance_view};
-ghost use Rattle.cudf_referee.specs.Contracts.Walks.{left};
+ghost use Rattle.cudf_referee.specs.Promises.Pages.{behind, at_instance, calls, cost_along, page_price};
+ghost use Rattle.cudf_referee.specs.Promises.Sites.{cost_between};
+ghost use Rattle.cudf_referee.specs.Promises.Views.{instance_view};
+ghost use Rattle.cudf_referee.specs.Promises.Walks.{left};
 ghost use Rattle.cudf_check.specs.Report.{line, instance_line, package_at, listed, check_text};
 ghost use Rattle.cudf_check.specs.Working.Pages.{Ascends, IsPageEnd, IsSpent, more_behind, page_size};
 ghost use Rattle.cudf_check.specs.Working.Printing.{Prints};

@@ -2,7 +2,7 @@
 use Rattle.std.specs.Prelude.{Bool, not, List}
 use Rattle.std.specs.List.{list_all}
 use Rattle.cudf_text.specs.declared.text.Property.{Property}
-use Rattle.cudf_text.specs.Contracts.Joins.{is_owned}
+use Rattle.cudf_text.specs.Promises.Joins.{is_owned}
 
 abbrev pub is_borrowed : Property → Bool
 is_borrowed p = not (is_owned p.value)

@@ -3,14 +3,14 @@ use Rattle.std.specs.Prelude.{◌≡◌, Bool, true, false, not, List, map, Opti
 use Rattle.std.specs.Borrow.{Bor}
 use Rattle.cudf_text.specs.declared.text.Stanza.{Stanza}
 use Rattle.cudf_text.specs.Stanzas.{PlainStanza}
-use Rattle.cudf_text.specs.Contracts.Views.{stanza_view}
+use Rattle.cudf_text.specs.Promises.Views.{stanza_view}
 use Rattle.cudf_document.specs.declared.problem.parts.Parts.{Parts}
 use Rattle.cudf_document.specs.declared.problem.walk.Walk.{Walk}
-use Rattle.cudf_document.specs.Contracts.Packages.{is_preamble, are_distinct}
+use Rattle.cudf_document.specs.Promises.Packages.{is_preamble, are_distinct}
 use Rattle.cudf_document.specs.Ids.{Id, is_among}
-use Rattle.cudf_document.specs.Contracts.Thin.{thin_package}
+use Rattle.cudf_document.specs.Promises.Thin.{thin_package}
 use Rattle.cudf_document.specs.Universe.{package_id, packages_in, request_in}
-use Rattle.cudf_document.specs.Contracts.Views.{package_view, request_view}
+use Rattle.cudf_document.specs.Promises.Views.{package_view, request_view}
 use Rattle.cudf_document.specs.Working.Borrows.{are_borrowed}
 use Rattle.cudf_document.specs.Working.ProblemBuilders.{PlainBuilder}
 

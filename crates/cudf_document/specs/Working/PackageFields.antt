@@ -7,7 +7,7 @@ use Rattle.cudf_text.specs.declared.fault.Kind.TheVariants.{E7, E8, E9}
 use Rattle.cudf_text.specs.Stanzas.{PlainProperty}
 use Rattle.cudf_value.specs.Vpkgs.{PlainVpkg}
 use Rattle.cudf_value.specs.Formulas.{PlainAtom}
-use Rattle.cudf_value.specs.Contracts.Views.{formula_view}
+use Rattle.cudf_value.specs.Promises.Views.{formula_view}
 use Rattle.cudf_value.specs.Declarations.{PlainDeclaration}
 use Rattle.cudf_document.specs.declared.package.Keep.{Keep as PlainKeep}
 use Rattle.cudf_document.specs.declared.package.Keep.TheVariants.{Nothing}
@@ -17,7 +17,7 @@ use Rattle.cudf_document.specs.declared.package.fields.PackageFields.{PackageFie
 use Rattle.cudf_document.specs.Documents.{value_of}
 use Rattle.cudf_document.specs.Preamble.{recommends_in}
 use Rattle.cudf_document.specs.Universe.{PlainPackage, or_default, own_recommends}
-use Rattle.cudf_document.specs.Contracts.Views.{list_view}
+use Rattle.cudf_document.specs.Promises.Views.{list_view}
 use Rattle.cudf_document.specs.Ids.{Id, id_with}
 use Rattle.cudf_document.specs.Values.{Test, name_value, version_value, formula_value, list_value, exact_list_value, truth_value, keep_value, can_be, is_anything, declared_test, test_of}
 

@@ -12,7 +12,7 @@ use Rattle.cudf_document.specs.declared.stanza.postmark.Postmark.TheVariants.{Pr
 use Rattle.cudf_document.specs.Faults.{fault_if}
 use Rattle.cudf_document.specs.Documents.{has_name, line_of}
 use Rattle.cudf_document.specs.Ids.{Id, is_id, is_among, is_known, id_under, id_of}
-use Rattle.cudf_document.specs.Contracts.Packages.{with_id}
+use Rattle.cudf_document.specs.Promises.Packages.{with_id}
 use Rattle.cudf_document.specs.Preamble.{declared_after, is_bad_declaration, declared, recommends_default}
 use Rattle.cudf_document.specs.ProblemFaults.{properties_faults, version_property, lacks_one}
 use Rattle.cudf_document.specs.Universe.{PlainPackage, package_id, PlainRequest, PlainProblem, or_default, no_request, request_of, packages_in, request_in}

@@ -11,7 +11,7 @@ use Rattle.cudf_document.specs.declared.request.fields.RequestFields.{RequestFie
 use Rattle.cudf_document.specs.Documents.{value_of}
 use Rattle.cudf_document.specs.Values.{Test, list_value, can_be, fails}
 use Rattle.cudf_document.specs.Universe.{PlainRequest, or_default}
-use Rattle.cudf_document.specs.Contracts.Views.{list_view}
+use Rattle.cudf_document.specs.Promises.Views.{list_view}
 
 abbrev pub request_property_named : List ℕ → Option RequestProperty
 request_property_named name = if bytes_eq name (codes "install") then Some Install

@@ -11,8 +11,8 @@ use Rattle.cudf_document.specs.Ids.{is_among}
 use Rattle.cudf_document.specs.SolutionFaults.{solution_stanza_faults, solution_faults}
 use Rattle.cudf_document.specs.Universe.{PlainProblem}
 use Rattle.cudf_document.specs.Statuses.{installed_ids, is_proposed, unknown_stanzas, ascend_above}
-use Rattle.cudf_document.specs.Contracts.Views.{unknown_view}
-use Rattle.cudf_document.specs.Contracts.Statuses.{IsStatusOf, are_outside}
+use Rattle.cudf_document.specs.Promises.Views.{unknown_view}
+use Rattle.cudf_document.specs.Promises.Statuses.{IsStatusOf, are_outside}
 use Rattle.cudf_document.specs.Working.Pairs.{ArePairs}
 use Rattle.cudf_document.specs.Working.SolutionBuilders.{ids_of}
 

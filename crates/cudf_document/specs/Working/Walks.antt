@@ -12,7 +12,7 @@ use Rattle.cudf_document.specs.declared.problem.walk.Walk.{Walk}
 use Rattle.cudf_document.specs.Faults.{least}
 use Rattle.cudf_document.specs.Documents.{is_empty, with_earlier, is_request}
 use Rattle.cudf_document.specs.Ids.{Id, is_among, id_of, id_under}
-use Rattle.cudf_document.specs.Contracts.Packages.{with_id}
+use Rattle.cudf_document.specs.Promises.Packages.{with_id}
 use Rattle.cudf_document.specs.Preamble.{declared}
 use Rattle.cudf_document.specs.ProblemFaults.{properties_faults, required_names, stanza_faults, problem_faults}
 use Rattle.cudf_document.specs.Universe.{package_id, packages_in}

@@ -1,7 +1,7 @@
 //! The extra package properties that a document declares.
 ghost use Rattle.std.specs.Prelude.{◌≡◌, Bool, false, not, ◌&&◌, ◌||◌, [], ◌∷◌, ◌++◌, map, take, length, filter_map, find, is_some, Some, None, option_map, option_to_list, unwrap_or, bytes_eq, IfOk, OnOk, IsTrue, if◌then◌else◌};
-ghost use Rattle.cudf_value.specs.Contracts.Views.{formula_view};
-ghost use Rattle.cudf_value.specs.Contracts.Types.{declaration_view};
+ghost use Rattle.cudf_value.specs.Promises.Views.{formula_view};
+ghost use Rattle.cudf_value.specs.Promises.Types.{declaration_view};
 ghost use Rattle.cudf_document.specs.Values.{declared_test, test_of};
 ghost use Rattle.cudf_document.specs.ProblemFaults.{name_without_default, required_names};
 ghost use Rattle.cudf_document.specs.Preamble.{is_reserved, is_declared, is_declarable, all_declarable, if_declarable, declared_by, recommends_in, recommends_default};

@@ -1,7 +1,7 @@
 //! A declaration, and the look-up of an enum's idents.
 ghost use Rattle.std.specs.Prelude.{◌≡◌, List, ℕ, IfOk, bytes_eq};
 ghost use Rattle.std.specs.List.{list_any};
-ghost use Rattle.cudf_value.specs.Contracts.Types.{type_view};
+ghost use Rattle.cudf_value.specs.Promises.Types.{type_view};
 ghost use Rattle.cudf_document.specs.Working.Enums.{AreIdents, AreWords};
 
 use crate::property::seen_names::SeenNames;
@@ -19,7 +19,7 @@ pub(crate) struct Declared<'t> {
 }
 
 impl<'t> Model for Declared<'t> {
-    ghost use Rattle.cudf_value.specs.Contracts.Types.{type_view, declaration_view};
+    ghost use Rattle.cudf_value.specs.Promises.Types.{type_view, declaration_view};
     ghost use Rattle.cudf_value.specs.Declarations.{PlainDeclaration};
     ghost use Rattle.cudf_document.specs.Working.Enums.{AreIdents};
 
@@ -34,8 +34,8 @@ impl<'t> Declared<'t> {
     ghost use Rattle.std.specs.Prelude.{◌≡◌, is_some, option_map, IfOk};
     ghost use Rattle.cudf_text.specs.Chars.{trim};
     ghost use Rattle.cudf_value.specs.Types.{is_of_type};
-    ghost use Rattle.cudf_value.specs.Contracts.Views.{formula_view};
-    ghost use Rattle.cudf_value.specs.Contracts.Types.{declaration_view};
+    ghost use Rattle.cudf_value.specs.Promises.Views.{formula_view};
+    ghost use Rattle.cudf_value.specs.Promises.Types.{declaration_view};
     ghost use Rattle.cudf_document.specs.Preamble.{is_formula_type, formula_default};
 
     pub(crate) fn new(alloc: Global, declaration: Declaration<'t>) -> Result<Self, AllocError>

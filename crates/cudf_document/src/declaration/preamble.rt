@@ -1,7 +1,7 @@
 //! The preamble: what it declares.
 ghost use Rattle.std.specs.Prelude.{◌≡◌, [], ◌++◌, bytes_eq, Some, None, IfOk, OnOk, if◌then◌else◌};
 ghost use Rattle.indexmap.specs.IndexSet.{insert_key};
-ghost use Rattle.cudf_text.specs.Contracts.Views.{property_view, stanza_view};
+ghost use Rattle.cudf_text.specs.Promises.Views.{property_view, stanza_view};
 ghost use Rattle.cudf_document.specs.Faults.{least};
 ghost use Rattle.cudf_document.specs.Preamble.{added_by, declared_after};
 ghost use Rattle.cudf_document.specs.ProblemFaults.{properties_faults};

@@ -1,6 +1,6 @@
 //! The values of a package's properties.
 ghost use Rattle.std.specs.Prelude.{◌≡◌, Some, [], true, option_copied, IfOk, OnOk};
-ghost use Rattle.cudf_text.specs.Contracts.Views.{stanza_view, property_view};
+ghost use Rattle.cudf_text.specs.Promises.Views.{stanza_view, property_view};
 ghost use Rattle.cudf_document.specs.Faults.{least};
 ghost use Rattle.cudf_document.specs.Values.{name_value, keep_value};
 ghost use Rattle.cudf_document.specs.ProblemFaults.{properties_faults};
@@ -37,12 +37,12 @@ pub(crate) struct PackageFields<'t> {
 
 impl<'t> PackageFields<'t> {
     ghost use Rattle.std.specs.Prelude.{◌≡◌, [], true, option_map, option_copied, bytes_eq, IfOk, OnOk};
-    ghost use Rattle.cudf_text.specs.Contracts.Views.{property_view};
+    ghost use Rattle.cudf_text.specs.Promises.Views.{property_view};
     ghost use Rattle.cudf_document.specs.Values.{declared_test, test_of};
     ghost use Rattle.indexmap.specs.IndexSet.{insert_key};
     ghost use Rattle.cudf_document.specs.Working.Borrows.{is_borrowed};
     ghost use Rattle.cudf_document.specs.Working.PackageFields.{package_property_named, package_property_test, wrong_kind, fault_on, package_fields_view, no_package_fields, with_package_property, kind_after, package_fields_after, package_from};
-    ghost use Rattle.cudf_document.specs.Contracts.Views.{package_view};
+    ghost use Rattle.cudf_document.specs.Promises.Views.{package_view};
     ghost use Rattle.cudf_document.specs.Ids.{id_with};
     ghost use Rattle.cudf_document.specs.declared.package.property.PackageProperty.TheVariants.{Recommends};
 

@@ -22,9 +22,9 @@ impl<'a> Model for Chosen<'a> {
 
 impl<'a> Chosen<'a> {
     ghost use Rattle.std.specs.Prelude.{◌≡◌, [], IfOk, OnOk};
-    ghost use Rattle.cudf_text.specs.Contracts.Views.{stanza_view};
+    ghost use Rattle.cudf_text.specs.Promises.Views.{stanza_view};
     ghost use Rattle.cudf_document.specs.Ids.{Id, is_among};
-    ghost use Rattle.cudf_document.specs.Contracts.Packages.{with_id};
+    ghost use Rattle.cudf_document.specs.Promises.Packages.{with_id};
     ghost use Rattle.cudf_document.specs.Statuses.{installed_id, installed_ids};
 
     /// Those of a solution that installs nothing. Takes no memory.

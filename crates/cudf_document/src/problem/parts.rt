@@ -1,7 +1,7 @@
 //! What is kept of a problem whose values are parts of the source.
 ghost use Rattle.std.specs.Prelude.{◌≡◌, ◌++◌, map, option_map, option_to_list, OnOk};
 ghost use Rattle.cudf_document.specs.Ids.{is_among};
-ghost use Rattle.cudf_document.specs.Contracts.Views.{package_view};
+ghost use Rattle.cudf_document.specs.Promises.Views.{package_view};
 ghost use Rattle.cudf_document.specs.Working.PackageFields.{passes};
 
 use crate::package::bare::read_bare_package;
@@ -30,10 +30,10 @@ pub(crate) struct Parts<'a, 'c, 's> {
 
 impl<'a, 'c, 's> Parts<'a, 'c, 's> {
     ghost use Rattle.std.specs.Prelude.{◌≡◌, [], true, Some, option_map, is_some, if◌then◌else◌, IfOk, OnOk};
-    ghost use Rattle.cudf_text.specs.Contracts.Views.{stanza_view};
+    ghost use Rattle.cudf_text.specs.Promises.Views.{stanza_view};
     ghost use Rattle.cudf_document.specs.Faults.{least};
     ghost use Rattle.cudf_document.specs.ProblemFaults.{properties_faults};
-    ghost use Rattle.cudf_document.specs.Contracts.Views.{request_view};
+    ghost use Rattle.cudf_document.specs.Promises.Views.{request_view};
     ghost use Rattle.cudf_document.specs.declared.stanza.postmark.Postmark.TheVariants.{Package as PackageMark};
     ghost use Rattle.cudf_document.specs.Working.Borrows.{are_borrowed};
     ghost use Rattle.cudf_document.specs.Working.Kept.{IsParts, IsReady, kept_by, gathered_of};

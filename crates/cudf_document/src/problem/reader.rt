@@ -1,7 +1,7 @@
 //! Reading a problem whose stanzas are held.
 ghost use Rattle.std.specs.Prelude.{◌≡◌, true, [], IfOk, IfErr};
-ghost use Rattle.cudf_text.specs.Contracts.Views.{text_view};
-ghost use Rattle.cudf_document.specs.Contracts.Faults.{IsFirstFault};
+ghost use Rattle.cudf_text.specs.Promises.Views.{text_view};
+ghost use Rattle.cudf_document.specs.Promises.Faults.{IsFirstFault};
 ghost use Rattle.cudf_document.specs.ProblemFaults.{problem_faults};
 ghost use Rattle.cudf_document.specs.Universe.{plain_problem};
 ghost use Rattle.cudf_document.specs.Working.Kept.{IsParts};

@@ -1,9 +1,9 @@
 //! Reading a problem stanza by stanza.
 ghost use Rattle.std.specs.Prelude.{◌≡◌, [], IfOk, IfErr, IfSome};
-ghost use Rattle.cudf_document.specs.Contracts.Faults.{IsFirstFault};
+ghost use Rattle.cudf_document.specs.Promises.Faults.{IsFirstFault};
 ghost use Rattle.cudf_document.specs.Ids.{is_among};
 ghost use Rattle.cudf_document.specs.ProblemFaults.{problem_faults};
-ghost use Rattle.cudf_document.specs.Contracts.Thin.{IsThinFor, thin_problem};
+ghost use Rattle.cudf_document.specs.Promises.Thin.{IsThinFor, thin_problem};
 ghost use Rattle.cudf_document.specs.Universe.{plain_problem};
 ghost use Rattle.cudf_document.specs.Working.Kept.{kept_by};
 

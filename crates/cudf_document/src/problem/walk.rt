@@ -2,7 +2,7 @@
 ghost use Rattle.std.specs.Prelude.{◌≡◌, Bool, not, ◌||◌, ◌&&◌, List, [], ◌∷◌, ◌++◌, Some, max, is_none, option_map, option_copied, bytes_eq, codes, find, IfOk, OnOk, IfSome, IfNone, IsTrue};
 ghost use Rattle.cudf_document.specs.Preamble.{declared};
 ghost use Rattle.cudf_text.specs.Stanzas.{PlainStanza, PlainText};
-ghost use Rattle.cudf_text.specs.Contracts.Views.{stanza_view, property_view};
+ghost use Rattle.cudf_text.specs.Promises.Views.{stanza_view, property_view};
 ghost use Rattle.cudf_text.specs.declared.fault.Kind.TheVariants.{E11, E12};
 ghost use Rattle.cudf_document.specs.Faults.{least, fault_if};
 ghost use Rattle.cudf_document.specs.Documents.{value_of, has_name, line_of, marks_preamble, marks_request};
@@ -30,10 +30,10 @@ pub(crate) trait Kept<'a>: Sized + Drop {
     ghost use Rattle.std.specs.Prelude.{◌≡◌, Bool, ◌++◌, ◌∷◌, [], List, Some, false, option_map, IfOk, OnOk, IsTrue};
     ghost use Rattle.cudf_text.specs.declared.text.Stanza.{Stanza};
     ghost use Rattle.cudf_text.specs.Stanzas.{PlainStanza};
-    ghost use Rattle.cudf_text.specs.Contracts.Views.{stanza_view};
+    ghost use Rattle.cudf_text.specs.Promises.Views.{stanza_view};
     ghost use Rattle.cudf_document.specs.Faults.{least};
     ghost use Rattle.cudf_document.specs.Documents.{postmark, is_request};
-    ghost use Rattle.cudf_document.specs.Contracts.Packages.{is_package};
+    ghost use Rattle.cudf_document.specs.Promises.Packages.{is_package};
     ghost use Rattle.cudf_document.specs.Ids.{Id, id_under};
     ghost use Rattle.cudf_document.specs.Preamble.{declared};
     ghost use Rattle.cudf_document.specs.ProblemFaults.{properties_faults};
@@ -214,11 +214,11 @@ pub(crate) struct Walk<'h, 'a> {
 impl<'h, 'a> Walk<'h, 'a> {
     ghost use Rattle.std.specs.Prelude.{◌≡◌, Bool, false, List, [], ◌∷◌, ◌++◌, not, max, IfOk, OnOk};
     ghost use Rattle.cudf_text.specs.Stanzas.{PlainStanza};
-    ghost use Rattle.cudf_text.specs.Contracts.Views.{stanza_view};
+    ghost use Rattle.cudf_text.specs.Promises.Views.{stanza_view};
     ghost use Rattle.cudf_text.specs.declared.fault.Kind.TheVariants.{E13};
     ghost use Rattle.cudf_document.specs.Faults.{least, lesser, fault_if};
     ghost use Rattle.cudf_document.specs.Ids.{Id, id_under};
-    ghost use Rattle.cudf_document.specs.Contracts.Packages.{with_id};
+    ghost use Rattle.cudf_document.specs.Promises.Packages.{with_id};
     ghost use Rattle.cudf_document.specs.Working.ProblemBuilders.{package_faults};
     ghost use Rattle.cudf_document.specs.ProblemFaults.{required_names};
     ghost use Rattle.cudf_document.specs.Working.Walks.{texts, IsKnown, IsSoFar, judged_faults, judged_ids};

@@ -1,7 +1,7 @@
 //! Values that are parts of the source.
 ghost use Rattle.std.specs.Prelude.{◌≡◌, true, is_some, map, IfSome, OnOk};
 ghost use Rattle.std.specs.Cow.{cow_str_bytes};
-ghost use Rattle.cudf_text.specs.Contracts.Views.{property_view, stanza_view};
+ghost use Rattle.cudf_text.specs.Promises.Views.{property_view, stanza_view};
 ghost use Rattle.cudf_document.specs.Working.Borrows.{is_borrowed, are_borrowed};
 
 use cudf_text::{Property, Stanza};

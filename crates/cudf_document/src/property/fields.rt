@@ -2,7 +2,7 @@
 ghost use Rattle.std.specs.Prelude.{◌≡◌, ◌++◌, ◌∷◌, [], List, Some, true, bytes_eq, map, IfOk, OnOk};
 ghost use Rattle.indexmap.specs.IndexSet.{insert_key};
 ghost use Rattle.cudf_text.specs.Stanzas.{PlainProperty};
-ghost use Rattle.cudf_text.specs.Contracts.Views.{property_view, stanza_view};
+ghost use Rattle.cudf_text.specs.Promises.Views.{property_view, stanza_view};
 ghost use Rattle.cudf_document.specs.Faults.{least};
 ghost use Rattle.cudf_document.specs.Working.Borrows.{is_borrowed, are_borrowed};
 ghost use Rattle.cudf_document.specs.Working.SeenNames.{AreNames};
@@ -24,7 +24,7 @@ pub(crate) trait Fields<'s>: Sized + Drop {
     ghost use Rattle.std.specs.Prelude.{◌≡◌, ◌++◌, ◌∷◌, [], List, ℕ, false, true, IfOk, OnOk};
     ghost use Rattle.std.specs.List.{list_any};
     ghost use Rattle.cudf_text.specs.Stanzas.{PlainProperty};
-    ghost use Rattle.cudf_text.specs.Contracts.Views.{property_view};
+    ghost use Rattle.cudf_text.specs.Promises.Views.{property_view};
     ghost use Rattle.cudf_value.specs.Declarations.{PlainDeclaration};
     ghost use Rattle.cudf_document.specs.Documents.{same_name};
     ghost use Rattle.cudf_document.specs.Working.Borrows.{is_borrowed};

@@ -1,9 +1,9 @@
 //! The lists of a request.
 ghost use Rattle.std.specs.Prelude.{◌≡◌, [], Some, true, IfOk};
-ghost use Rattle.cudf_text.specs.Contracts.Views.{stanza_view};
+ghost use Rattle.cudf_text.specs.Promises.Views.{stanza_view};
 ghost use Rattle.cudf_document.specs.Faults.{least};
 ghost use Rattle.cudf_document.specs.ProblemFaults.{properties_faults};
-ghost use Rattle.cudf_document.specs.Contracts.Views.{request_view};
+ghost use Rattle.cudf_document.specs.Promises.Views.{request_view};
 ghost use Rattle.cudf_document.specs.Universe.{request_of};
 ghost use Rattle.cudf_document.specs.Working.Borrows.{are_borrowed};
 ghost use Rattle.cudf_document.specs.Working.RequestFields.{request_property_named, request_property_test, mistyped_kind};
@@ -59,10 +59,10 @@ pub(crate) struct RequestFields<'t> {
 impl<'t> RequestFields<'t> {
     ghost use Rattle.std.specs.Prelude.{◌≡◌, [], true, bytes_eq, IfOk, OnOk};
     ghost use Rattle.indexmap.specs.IndexSet.{insert_key};
-    ghost use Rattle.cudf_text.specs.Contracts.Views.{property_view};
+    ghost use Rattle.cudf_text.specs.Promises.Views.{property_view};
     ghost use Rattle.cudf_document.specs.Working.Borrows.{is_borrowed};
     ghost use Rattle.cudf_document.specs.Working.PackageFields.{fault_on};
-    ghost use Rattle.cudf_document.specs.Contracts.Views.{request_view};
+    ghost use Rattle.cudf_document.specs.Promises.Views.{request_view};
     ghost use Rattle.cudf_document.specs.Working.RequestFields.{request_property_named, request_property_test, mistyped_kind, request_fields_view, request_fields_of, with_request_property, request_kind_after, request_fields_after, request_with};
 
     fn new() -> Self

@@ -1,7 +1,7 @@
 //! What a solution proposes, while its stanzas are read.
 ghost use Rattle.std.specs.Prelude.{◌≡◌, false, List, [], ◌++◌, map, length, replicate, option_and_then, option_to_list, IfOk, OnOk};
 ghost use Rattle.cudf_document.specs.Ids.{Id, is_among};
-ghost use Rattle.cudf_document.specs.Contracts.Views.{unknown_view};
+ghost use Rattle.cudf_document.specs.Promises.Views.{unknown_view};
 ghost use Rattle.cudf_document.specs.Statuses.{unknown_with};
 ghost use Rattle.cudf_document.specs.Working.SolutionBuilders.{pair_view, with_pair, ids_of};
 

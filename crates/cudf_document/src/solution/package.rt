@@ -1,7 +1,7 @@
 //! The values of a solution's package.
 ghost use Rattle.std.specs.Prelude.{◌≡◌, []};
 ghost use Rattle.std.specs.List.{flat_map};
-ghost use Rattle.cudf_text.specs.Contracts.Views.{stanza_view};
+ghost use Rattle.cudf_text.specs.Promises.Views.{stanza_view};
 ghost use Rattle.cudf_document.specs.Faults.{least};
 ghost use Rattle.cudf_document.specs.Documents.{with_earlier};
 ghost use Rattle.cudf_document.specs.SolutionFaults.{value_faults};
@@ -45,7 +45,7 @@ pub(crate) struct SolutionPackage<'a> {
 
 impl<'a> SolutionPackage<'a> {
     ghost use Rattle.std.specs.Prelude.{◌≡◌, [], Some, option_map};
-    ghost use Rattle.cudf_text.specs.Contracts.Views.{property_view};
+    ghost use Rattle.cudf_text.specs.Promises.Views.{property_view};
     ghost use Rattle.cudf_document.specs.Ids.{id_with};
     ghost use Rattle.cudf_document.specs.Working.PackageFields.{fault_on};
     ghost use Rattle.cudf_document.specs.Working.SolutionPackages.{solution_property_named, solution_package_view, solution_package_of, with_solution_property, solution_kind, with_property, solution_kind_of, solution_package_id};

@@ -1,6 +1,6 @@
 //! The names and versions of a solution's packages, each of which strictly stands once.
 ghost use Rattle.std.specs.Prelude.{◌≡◌};
-ghost use Rattle.cudf_text.specs.Contracts.Views.{stanza_view};
+ghost use Rattle.cudf_text.specs.Promises.Views.{stanza_view};
 ghost use Rattle.cudf_text.specs.declared.fault.Kind.TheVariants.{E15};
 ghost use Rattle.cudf_document.specs.Documents.{line_of};
 ghost use Rattle.cudf_document.specs.Faults.{least, fault_if};
@@ -25,7 +25,7 @@ pub(crate) struct Pairs<'a> {
 impl<'a> Pairs<'a> {
     ghost use Rattle.std.specs.Prelude.{◌≡◌, List, [], ◌∷◌, ◌++◌, option_map, OnOk};
     ghost use Rattle.cudf_text.specs.Stanzas.{PlainStanza};
-    ghost use Rattle.cudf_text.specs.Contracts.Views.{stanza_view};
+    ghost use Rattle.cudf_text.specs.Promises.Views.{stanza_view};
     ghost use Rattle.cudf_document.specs.declared.mode.Mode.{Mode};
     ghost use Rattle.cudf_document.specs.Ids.{id_of};
     ghost use Rattle.cudf_document.specs.Working.Pairs.{ArePairs};

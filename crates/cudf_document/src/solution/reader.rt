@@ -1,6 +1,6 @@
 //! The stanzas of a solution, one after the other.
 ghost use Rattle.std.specs.Prelude.{◌≡◌, option_map};
-ghost use Rattle.cudf_text.specs.Contracts.Views.{stanza_view};
+ghost use Rattle.cudf_text.specs.Promises.Views.{stanza_view};
 ghost use Rattle.cudf_document.specs.Faults.{least};
 ghost use Rattle.cudf_document.specs.Ids.{id_of};
 ghost use Rattle.cudf_document.specs.SolutionFaults.{solution_stanza_faults};
@@ -35,8 +35,8 @@ pub(crate) struct SolutionReader<'a> {
 impl<'a> SolutionReader<'a> {
     ghost use Rattle.std.specs.Prelude.{◌≡◌, List, [], ◌∷◌, ◌++◌, length, IfOk, IfErr, OnOk};
     ghost use Rattle.cudf_text.specs.Stanzas.{PlainStanza, PlainText};
-    ghost use Rattle.cudf_text.specs.Contracts.Views.{stanza_view};
-    ghost use Rattle.cudf_document.specs.Contracts.Faults.{IsFirstFault};
+    ghost use Rattle.cudf_text.specs.Promises.Views.{stanza_view};
+    ghost use Rattle.cudf_document.specs.Promises.Faults.{IsFirstFault};
     ghost use Rattle.cudf_document.specs.SolutionFaults.{solution_faults};
     ghost use Rattle.cudf_document.specs.Universe.{PlainProblem};
     ghost use Rattle.cudf_document.specs.declared.mode.Mode.{Mode};

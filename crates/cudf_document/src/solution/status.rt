@@ -3,7 +3,7 @@ ghost use Rattle.std.specs.Prelude.{◌≡◌, ℕ, IfOk};
 ghost use Rattle.std.specs.FinSet as set;
 ghost use Rattle.cudf_document.specs.Working.Flags.{flag_at};
 ghost use Rattle.cudf_document.specs.Statuses.{is_initial};
-ghost use Rattle.cudf_document.specs.Contracts.Statuses.{IsStatusOf};
+ghost use Rattle.cudf_document.specs.Promises.Statuses.{IsStatusOf};
 
 use crate::problem::Problem;
 use std::alloc::{AllocError, Global};

@@ -1,8 +1,8 @@
 //! What a stanza is: CUDF 2.0, syntax of documents.
 ghost use Rattle.std.specs.Prelude.{◌≡◌};
-ghost use Rattle.cudf_text.specs.Contracts.Views.{stanza_view};
+ghost use Rattle.cudf_text.specs.Promises.Views.{stanza_view};
 ghost use Rattle.cudf_document.specs.Documents.{postmark, postmark_named};
-ghost use Rattle.cudf_document.specs.Contracts.Packages.{is_preamble};
+ghost use Rattle.cudf_document.specs.Promises.Packages.{is_preamble};
 
 use cudf_text::Stanza;
 

@@ -13,7 +13,7 @@ use Rattle.cudf_referee.specs.declared.key.Aspect.{Aspect}
 use Rattle.cudf_referee.specs.declared.key.Aspect.TheVariants.{Unsatisfied, Many, Lower}
 use Rattle.cudf_referee.specs.Keys.{PlainKey}
 use Rattle.cudf_referee.specs.Proposals.{Proposal, holds_place}
-use Rattle.cudf_referee.specs.Contracts.Sites.{Site, conjunct, conflicts_entry, install_entry, remove_entry, upgrade_entry, upgrade_sites, unknown_stanza, Stop, at_site, package_end, walk}
+use Rattle.cudf_referee.specs.Promises.Sites.{Site, conjunct, conflicts_entry, install_entry, remove_entry, upgrade_entry, upgrade_sites, unknown_stanza, Stop, at_site, package_end, walk}
 use Rattle.cudf_referee.specs.Working.Passes.{entry_stops}
 use Rattle.cudf_referee.specs.Working.Searches.{passed, entries_left, kept_left, aspects_left, upgrade_left, unknown_left, stops_left}
 

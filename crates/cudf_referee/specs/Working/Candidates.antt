@@ -1,7 +1,7 @@
 -- A package that is judged, and what is known of it beforehand.
 use Rattle.std.specs.Prelude.{◌≡◌, ◌≤◌, ◌+◌, length}
-use Rattle.cudf_document.specs.Contracts.Views.{package_view}
-use Rattle.cudf_universe.specs.Contracts.Prices.{own_cost}
+use Rattle.cudf_document.specs.Promises.Views.{package_view}
+use Rattle.cudf_universe.specs.Promises.Prices.{own_cost}
 use Rattle.cudf_universe.specs.Satisfaction.{Placed}
 use Rattle.cudf_referee.specs.declared.walk.candidate.Candidate.{Candidate}
 use Rattle.cudf_referee.specs.Proposals.{Proposal, holds_place}

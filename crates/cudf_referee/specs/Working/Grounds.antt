@@ -2,7 +2,7 @@
 use Rattle.std.specs.Prelude.{map}
 use Rattle.std.specs.FinSet as set
 use Rattle.cudf_document.specs.Statuses.{is_initial}
-use Rattle.cudf_document.specs.Contracts.Views.{unknown_view}
+use Rattle.cudf_document.specs.Promises.Views.{unknown_view}
 use Rattle.cudf_referee.specs.declared.walk.ground.Ground.{Ground}
 use Rattle.cudf_referee.specs.Proposals.{Proposal, proposal}
 

@@ -8,7 +8,7 @@ use Rattle.cudf_referee.specs.declared.key.Aspect.TheVariants.{Unsatisfied, Many
 use Rattle.cudf_referee.specs.Instances.{needs, conflicts_with, keep_version, keep_package, keep_feature, install, remove, upgrade, PlainInstance}
 use Rattle.cudf_referee.specs.Proposals.{holds_place, Proposal}
 use Rattle.cudf_referee.specs.Violations.{at_package, at_request, has_package, are_many, are_lower, unknown_instance}
-use Rattle.cudf_referee.specs.Contracts.Sites.{Site, conjunct, conflicts_entry, kept_version, kept_package, kept_feature, install_entry, remove_entry, upgrade_entry, unknown_stanza, Stop, at_site, package_end}
+use Rattle.cudf_referee.specs.Promises.Sites.{Site, conjunct, conflicts_entry, kept_version, kept_package, kept_feature, install_entry, remove_entry, upgrade_entry, unknown_stanza, Stop, at_site, package_end}
 
 -- the instance that may stand at a site
 abbrev pub instance_at : Proposal → Site → PlainInstance

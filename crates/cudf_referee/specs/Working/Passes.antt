@@ -2,7 +2,7 @@
 use Rattle.std.specs.Prelude.{◌≡◌, ◌≤◌, ℕ, ◌+◌, List, map, drop, min, Option, Some, None}
 use Rattle.std.specs.List.{enumerate_from}
 use Rattle.cudf_referee.specs.Proposals.{Proposal}
-use Rattle.cudf_referee.specs.Contracts.Sites.{Site, Stop, at_site}
+use Rattle.cudf_referee.specs.Promises.Sites.{Site, Stop, at_site}
 use Rattle.cudf_referee.specs.Working.Searches.{first_given, cost_to_first, least_to_first, entries_left}
 
 -- a search of all these stops has come to the ones that are left: those before gave nothing, and are paid for

@@ -4,9 +4,9 @@ use Rattle.cudf_document.specs.Statuses.{PlainUnknown}
 use Rattle.cudf_referee.specs.declared.key.Part.{Part}
 use Rattle.cudf_referee.specs.declared.key.Part.TheVariants.{Package, Request, Solution}
 use Rattle.cudf_referee.specs.Instances.{PlainInstance}
-use Rattle.cudf_referee.specs.Contracts.Keys.{is_fitting}
+use Rattle.cudf_referee.specs.Promises.Keys.{is_fitting}
 use Rattle.cudf_referee.specs.Proposals.{Proposal}
-use Rattle.cudf_referee.specs.Contracts.Sites.{PlainPosition, at_start, at_key, at_end, Stop, walk, is_ahead}
+use Rattle.cudf_referee.specs.Promises.Sites.{PlainPosition, at_start, at_key, at_end, Stop, walk, is_ahead}
 use Rattle.cudf_referee.specs.Working.Searches.{unknown_left}
 
 abbrev pub stanza_numbers : List PlainUnknown → List ℕ

@@ -16,7 +16,7 @@ use Rattle.cudf_referee.specs.declared.key.Aspect.TheVariants.{Unsatisfied, Many
 use Rattle.cudf_referee.specs.Instances.{PlainInstance}
 use Rattle.cudf_referee.specs.Keys.{PlainKey, rule_rank}
 use Rattle.cudf_referee.specs.Proposals.{Proposal, holds_place}
-use Rattle.cudf_referee.specs.Contracts.Sites.{Site, conjunct, conflicts_entry, kept_version, kept_package, kept_feature, install_entry, remove_entry, upgrade_entry, unknown_stanza, upgrade_sites, request_sites, Stop, at_site, package_end, package_stops, stop_cost, least_cost}
+use Rattle.cudf_referee.specs.Promises.Sites.{Site, conjunct, conflicts_entry, kept_version, kept_package, kept_feature, install_entry, remove_entry, upgrade_entry, unknown_stanza, upgrade_sites, request_sites, Stop, at_site, package_end, package_stops, stop_cost, least_cost}
 use Rattle.cudf_referee.specs.Working.Judged.{given_at}
 
 -- ---- searches

@@ -5,7 +5,7 @@ use Rattle.cudf_document.specs.Universe.{PlainProblem}
 use Rattle.cudf_universe.specs.Satisfaction.{Placed, members}
 use Rattle.cudf_referee.specs.Keys.{PlainKey}
 use Rattle.cudf_referee.specs.Proposals.{Proposal}
-use Rattle.cudf_referee.specs.Contracts.Sites.{Stop, walk}
+use Rattle.cudf_referee.specs.Promises.Sites.{Stop, walk}
 use Rattle.cudf_referee.specs.Working.Named.{has_kept_name}
 use Rattle.cudf_referee.specs.Working.Searches.{stops_left}
 

@@ -1,7 +1,7 @@
 //! Lists of aims that are read from their texts.
 ghost use Rattle.std.specs.Prelude.{◌≡◌, ◌++◌, ℕ, List, IfSome, IfNone, IfOk, option_map, bytes_eq, find};
 ghost use Rattle.cudf_referee.specs.Aims.{count_text, sign_text};
-ghost use Rattle.cudf_referee.specs.Contracts.Aims.{all_counts, aim_of, criterion};
+ghost use Rattle.cudf_referee.specs.Promises.Aims.{all_counts, aim_of, criterion};
 
 use crate::aims::{Aim, Count, Sign};
 use std::alloc::{AllocError, Global};

@@ -2,7 +2,7 @@
 ghost use Rattle.std.specs.Prelude.{◌≡◌, ℕ, Bool, [], length, not, option_map, unwrap_or};
 ghost use Rattle.std.specs.List.{count_by};
 ghost use Rattle.std.specs.FinSet as set;
-ghost use Rattle.cudf_value.specs.Contracts.Views.{formula_view};
+ghost use Rattle.cudf_value.specs.Promises.Views.{formula_view};
 ghost use Rattle.cudf_universe.specs.Satisfaction.{members, satisfies_clause};
 ghost use Rattle.cudf_referee.specs.Criteria.{at_most_max, unsatisfied_recommends};
 ghost use Rattle.cudf_referee.specs.Proposals.{proposal};

@@ -2,7 +2,7 @@
 ghost use Rattle.std.specs.Prelude.{◌≡◌, ◌<◌, ◌||◌, ℕ, Bool, List, [], ◌∷◌, ◌++◌, map, length, bytes_eq, is_some, IfOk, IfSome, OnOk, if◌then◌else◌, false};
 ghost use Rattle.std.specs.List.{list_any, position_or_len, enumerate_from};
 ghost use Rattle.std.specs.FinSet as set;
-ghost use Rattle.cudf_document.specs.Contracts.Views.{package_view};
+ghost use Rattle.cudf_document.specs.Promises.Views.{package_view};
 ghost use Rattle.cudf_universe.specs.Satisfaction.{Placed};
 ghost use Rattle.indexmap.specs.IndexSet.{insert_key};
 ghost use Rattle.cudf_referee.specs.Criteria.{is_among, versions_of};

@@ -2,7 +2,7 @@
 ghost use Rattle.std.specs.Prelude.{◌≡◌, ℕ, ◌<◌, ◌^◌, ◌++◌, ◌∷◌, ◌&&◌, List, Option, Some, None, IfSome, IsSomeAnd, IsTrue, option_map, decimal, if◌then◌else◌};
 ghost use Rattle.cudf_referee.specs.KeyViews.{key_view};
 ghost use Rattle.cudf_referee.specs.Keys.{PlainKey, is_key, is_counted, fits_part, fits_aspect, part_place, part_text, rule_text, aspect_word, aspect_text, key_text};
-ghost use Rattle.cudf_referee.specs.Contracts.Keys.{IsWritable};
+ghost use Rattle.cudf_referee.specs.Promises.Keys.{IsWritable};
 ghost use Rattle.cudf_referee.specs.Working.KeyTexts.{has_no_point};
 
 use crate::key::{Aspect, Key, Part, Rule};

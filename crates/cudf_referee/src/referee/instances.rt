@@ -1,14 +1,14 @@
 //! The walk over the violated instances.
 ghost use Rattle.std.specs.Prelude.{◌≡◌, ◌≤◌, ◌+◌, map, length, option_map};
 ghost use Rattle.std.specs.FinSet as set;
-ghost use Rattle.cudf_document.specs.Contracts.Views.{unknown_view};
-ghost use Rattle.cudf_universe.specs.Contracts.Prices.{digits};
+ghost use Rattle.cudf_document.specs.Promises.Views.{unknown_view};
+ghost use Rattle.cudf_universe.specs.Promises.Prices.{digits};
 ghost use Rattle.cudf_referee.specs.KeyViews.{key_view};
-ghost use Rattle.cudf_referee.specs.Contracts.Pages.{behind, least_search};
-ghost use Rattle.cudf_referee.specs.Contracts.PositionViews.{position_view};
+ghost use Rattle.cudf_referee.specs.Promises.Pages.{behind, least_search};
+ghost use Rattle.cudf_referee.specs.Promises.PositionViews.{position_view};
 ghost use Rattle.cudf_referee.specs.Proposals.{put_forward};
-ghost use Rattle.cudf_referee.specs.Contracts.Sites.{at_start, at_key};
-ghost use Rattle.cudf_referee.specs.Contracts.Views.{instance_view};
+ghost use Rattle.cudf_referee.specs.Promises.Sites.{at_start, at_key};
+ghost use Rattle.cudf_referee.specs.Promises.Views.{instance_view};
 ghost use Rattle.cudf_referee.specs.Working.Places.{BeginsAt, IsFitting, ahead};
 ghost use Rattle.cudf_referee.specs.Working.Searches.{Finds};
 ghost use Rattle.cudf_referee.specs.Working.Walkers.{Agrees, stops_behind};
@@ -41,10 +41,10 @@ pub struct Instances<'r, 'p, 't> {
 impl<'r, 'p, 't> Model for Instances<'r, 'p, 't> {
     ghost use Rattle.std.specs.Prelude.{◌+◌, map};
     ghost use Rattle.std.specs.FinSet as set;
-    ghost use Rattle.cudf_document.specs.Contracts.Views.{unknown_view};
-    ghost use Rattle.cudf_referee.specs.Contracts.PositionViews.{position_view};
+    ghost use Rattle.cudf_document.specs.Promises.Views.{unknown_view};
+    ghost use Rattle.cudf_referee.specs.Promises.PositionViews.{position_view};
     ghost use Rattle.cudf_referee.specs.Proposals.{put_forward};
-    ghost use Rattle.cudf_referee.specs.Contracts.Walks.{Walking};
+    ghost use Rattle.cudf_referee.specs.Promises.Walks.{Walking};
     ghost use Rattle.cudf_referee.specs.Working.Places.{BeginsAt, IsFitting};
     ghost use Rattle.cudf_referee.specs.Working.Walkers.{Agrees};
 
@@ -180,8 +180,8 @@ fn search<'p, 't>(
 impl<'r, 'p, 't> Iterator for Instances<'r, 'p, 't> {
     ghost use Rattle.std.specs.Prelude.{option_map};
     ghost use Rattle.std.specs.Iterator.{item_count};
-    ghost use Rattle.cudf_referee.specs.Contracts.Views.{instance_view};
-    ghost use Rattle.cudf_referee.specs.Contracts.Walks.{left, Moves};
+    ghost use Rattle.cudf_referee.specs.Promises.Views.{instance_view};
+    ghost use Rattle.cudf_referee.specs.Promises.Walks.{left, Moves};
 
     type Item = Instance<'p, 't>;
 

@@ -20,8 +20,8 @@ pub(crate) struct Candidate<'p, 't> {
 
 impl<'c, 't> Candidate<'c, 't> {
     ghost use Rattle.std.specs.Prelude.{◌≡◌, ◌<◌, IsTrue};
-    ghost use Rattle.cudf_referee.specs.Contracts.Keys.{is_package_rule};
-    ghost use Rattle.cudf_referee.specs.Contracts.Views.{instance_view, what_view};
+    ghost use Rattle.cudf_referee.specs.Promises.Keys.{is_package_rule};
+    ghost use Rattle.cudf_referee.specs.Promises.Views.{instance_view, what_view};
     ghost use Rattle.cudf_referee.specs.Violations.{at_package};
     ghost use Rattle.cudf_referee.specs.Working.Candidates.{placed_view};
 

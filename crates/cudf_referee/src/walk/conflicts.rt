@@ -1,6 +1,6 @@
 //! Conflicts: an entry that the proposed status without the package satisfies.
-ghost use Rattle.cudf_value.specs.Contracts.Views.{vpkg_view};
-ghost use Rattle.cudf_referee.specs.Contracts.Sites.{conflicts_entry};
+ghost use Rattle.cudf_value.specs.Promises.Views.{vpkg_view};
+ghost use Rattle.cudf_referee.specs.Promises.Sites.{conflicts_entry};
 ghost use Rattle.cudf_referee.specs.Working.Candidates.{placed_view, Fits};
 
 use crate::instance::{Instance, What};

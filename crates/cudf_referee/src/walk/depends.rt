@@ -1,6 +1,6 @@
 //! Depends: a conjunct that the proposed status doesn't satisfy.
-ghost use Rattle.cudf_value.specs.Contracts.Views.{clause_view};
-ghost use Rattle.cudf_referee.specs.Contracts.Sites.{conjunct};
+ghost use Rattle.cudf_value.specs.Promises.Views.{clause_view};
+ghost use Rattle.cudf_referee.specs.Promises.Sites.{conjunct};
 ghost use Rattle.cudf_referee.specs.Working.Candidates.{placed_view};
 
 use crate::instance::{Instance, What};

@@ -1,8 +1,8 @@
 //! The search of a list's entries, for any rule that judges them one by one.
 ghost use Rattle.std.specs.Prelude.{◌≡◌, ℕ, ◌+◌, ◌<◌, [], ◌∷◌, option_map};
 ghost use Rattle.cudf_referee.specs.Proposals.{Proposal};
-ghost use Rattle.cudf_referee.specs.Contracts.Sites.{Site, at_site};
-ghost use Rattle.cudf_referee.specs.Contracts.Views.{instance_view};
+ghost use Rattle.cudf_referee.specs.Promises.Sites.{Site, at_site};
+ghost use Rattle.cudf_referee.specs.Promises.Views.{instance_view};
 ghost use Rattle.cudf_referee.specs.Working.Passes.{entry_stops};
 ghost use Rattle.cudf_referee.specs.Working.Searches.{Finds};
 

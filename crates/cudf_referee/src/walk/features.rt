@@ -1,6 +1,6 @@
 //! Keep of features: an entry of `provides` that the proposed status doesn't satisfy.
-ghost use Rattle.cudf_value.specs.Contracts.Views.{vpkg_view};
-ghost use Rattle.cudf_referee.specs.Contracts.Sites.{kept_feature};
+ghost use Rattle.cudf_value.specs.Promises.Views.{vpkg_view};
+ghost use Rattle.cudf_referee.specs.Promises.Sites.{kept_feature};
 ghost use Rattle.cudf_referee.specs.Working.Candidates.{placed_view};
 
 use crate::instance::{Instance, What};

@@ -1,7 +1,7 @@
 //! What a search walks over.
 ghost use Rattle.std.specs.Prelude.{◌≡◌, IsTrue, map};
 ghost use Rattle.std.specs.FinSet as set;
-ghost use Rattle.cudf_document.specs.Contracts.Views.{unknown_view};
+ghost use Rattle.cudf_document.specs.Promises.Views.{unknown_view};
 ghost use Rattle.cudf_document.specs.Statuses.{ascend_above};
 ghost use Rattle.cudf_referee.specs.Working.Named.{names_held};
 
@@ -21,7 +21,7 @@ pub(crate) struct Ground<'r, 'p, 't> {
 
 impl<'r, 'p, 't> Ground<'r, 'p, 't> {
     ghost use Rattle.std.specs.Prelude.{◌≡◌, ◌+◌, slice_get};
-    ghost use Rattle.cudf_document.specs.Contracts.Views.{package_view};
+    ghost use Rattle.cudf_document.specs.Promises.Views.{package_view};
     ghost use Rattle.cudf_referee.specs.Working.Candidates.{placed_view, Fits};
     ghost use Rattle.cudf_referee.specs.Working.Grounds.{proposal_of};
 

@@ -1,8 +1,8 @@
 //! Install: an entry that the proposed status doesn't satisfy.
 ghost use Rattle.std.specs.Prelude.{◌≡◌};
-ghost use Rattle.cudf_value.specs.Contracts.Views.{vpkg_view};
-ghost use Rattle.cudf_document.specs.Contracts.Views.{request_view};
-ghost use Rattle.cudf_referee.specs.Contracts.Sites.{install_entry};
+ghost use Rattle.cudf_value.specs.Promises.Views.{vpkg_view};
+ghost use Rattle.cudf_document.specs.Promises.Views.{request_view};
+ghost use Rattle.cudf_referee.specs.Promises.Sites.{install_entry};
 
 use crate::instance::{Instance, What};
 use crate::key::Rule;

@@ -2,8 +2,8 @@
 ghost use Rattle.std.specs.Prelude.{◌≡◌, ◌+◌, [], ◌∷◌, option_map, if◌then◌else◌};
 ghost use Rattle.cudf_referee.specs.KeyViews.{key_view};
 ghost use Rattle.cudf_referee.specs.Proposals.{Proposal};
-ghost use Rattle.cudf_referee.specs.Contracts.Sites.{Site, site_price, look_ups};
-ghost use Rattle.cudf_referee.specs.Contracts.Views.{instance_view, what_view};
+ghost use Rattle.cudf_referee.specs.Promises.Sites.{Site, site_price, look_ups};
+ghost use Rattle.cudf_referee.specs.Promises.Views.{instance_view, what_view};
 ghost use Rattle.cudf_referee.specs.Violations.{at_package};
 ghost use Rattle.cudf_referee.specs.Working.Behind.{kept_stops};
 ghost use Rattle.cudf_referee.specs.Working.Candidates.{placed_view, Fits};

@@ -2,7 +2,7 @@
 ghost use Rattle.std.specs.Prelude.{◌≡◌, ◌+◌, option_map};
 ghost use Rattle.cudf_referee.specs.KeyViews.{key_view};
 ghost use Rattle.cudf_referee.specs.Proposals.{Proposal};
-ghost use Rattle.cudf_referee.specs.Contracts.Views.{instance_view};
+ghost use Rattle.cudf_referee.specs.Promises.Views.{instance_view};
 ghost use Rattle.cudf_referee.specs.Working.Behind.{needed_stops, package_behind};
 ghost use Rattle.cudf_referee.specs.Working.Candidates.{placed_view, Fits};
 ghost use Rattle.cudf_referee.specs.Working.Searches.{Finds};

@@ -1,8 +1,8 @@
 //! Remove: an entry that the proposed status satisfies.
 ghost use Rattle.std.specs.Prelude.{◌≡◌};
-ghost use Rattle.cudf_value.specs.Contracts.Views.{vpkg_view};
-ghost use Rattle.cudf_document.specs.Contracts.Views.{request_view};
-ghost use Rattle.cudf_referee.specs.Contracts.Sites.{remove_entry};
+ghost use Rattle.cudf_value.specs.Promises.Views.{vpkg_view};
+ghost use Rattle.cudf_document.specs.Promises.Views.{request_view};
+ghost use Rattle.cudf_referee.specs.Promises.Sites.{remove_entry};
 
 use crate::instance::{Instance, What};
 use crate::key::Rule;

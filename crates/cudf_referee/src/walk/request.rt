@@ -1,9 +1,9 @@
 //! The request: what is to be installed, removed and upgraded.
 ghost use Rattle.std.specs.Prelude.{◌≡◌, ◌+◌, option_map};
-ghost use Rattle.cudf_document.specs.Contracts.Views.{request_view};
+ghost use Rattle.cudf_document.specs.Promises.Views.{request_view};
 ghost use Rattle.cudf_referee.specs.KeyViews.{key_view};
 ghost use Rattle.cudf_referee.specs.Proposals.{Proposal};
-ghost use Rattle.cudf_referee.specs.Contracts.Views.{instance_view};
+ghost use Rattle.cudf_referee.specs.Promises.Views.{instance_view};
 ghost use Rattle.cudf_referee.specs.Working.Behind.{request_behind};
 ghost use Rattle.cudf_referee.specs.Working.Searches.{Finds};
 

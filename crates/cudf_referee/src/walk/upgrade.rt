@@ -1,13 +1,13 @@
 //! Upgrade: an entry that isn't satisfied, whose name has several numbers, or one that is lower than before.
 ghost use Rattle.std.specs.Prelude.{◌≡◌, ◌≤◌, ◌<◌, ◌+◌, [], ◌∷◌, map, drop, length, slice_get, option_map};
 ghost use Rattle.std.specs.List.{enumerate_from};
-ghost use Rattle.cudf_value.specs.Contracts.Views.{vpkg_view};
-ghost use Rattle.cudf_document.specs.Contracts.Views.{list_view, request_view};
+ghost use Rattle.cudf_value.specs.Promises.Views.{vpkg_view};
+ghost use Rattle.cudf_document.specs.Promises.Views.{list_view, request_view};
 ghost use Rattle.cudf_universe.specs.Satisfaction.{numbers_of};
 ghost use Rattle.cudf_referee.specs.KeyViews.{key_view};
 ghost use Rattle.cudf_referee.specs.Proposals.{Proposal};
-ghost use Rattle.cudf_referee.specs.Contracts.Sites.{aspect_price, aspect_look_ups, upgrade_entry, at_site};
-ghost use Rattle.cudf_referee.specs.Contracts.Views.{instance_view};
+ghost use Rattle.cudf_referee.specs.Promises.Sites.{aspect_price, aspect_look_ups, upgrade_entry, at_site};
+ghost use Rattle.cudf_referee.specs.Promises.Views.{instance_view};
 ghost use Rattle.cudf_referee.specs.Violations.{are_many, are_lower};
 ghost use Rattle.cudf_referee.specs.Working.Behind.{later_aspects, aspect_stops, upgrade_stops, upgrade_after, upgrade_behind};
 ghost use Rattle.cudf_referee.specs.Working.Judged.{is_aspect_violated};

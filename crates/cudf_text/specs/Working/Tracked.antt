@@ -6,9 +6,9 @@ use Rattle.std.specs.declared.alloc.Global.{Global}
 use Rattle.std.specs.declared.borrow.CowStr.{CowStr}
 use Rattle.cudf_text.specs.declared.fault.Fault.{Fault}
 use Rattle.cudf_text.specs.declared.text.Property.{Property}
-use Rattle.cudf_text.specs.Contracts.Borrows.{is_joined}
-use Rattle.cudf_text.specs.Contracts.Cursor.{Left}
-use Rattle.cudf_text.specs.Contracts.Joins.{is_owned}
+use Rattle.cudf_text.specs.Promises.Borrows.{is_joined}
+use Rattle.cudf_text.specs.Promises.Cursor.{Left}
+use Rattle.cudf_text.specs.Promises.Joins.{is_owned}
 use Rattle.cudf_text.specs.Lines.{named, NumberedLine}
 use Rattle.cudf_text.specs.Stanzas.{PlainProperty, PlainStanza, continuations, joined as joined_bytes, last_number, is_blank_line}
 

@@ -2,7 +2,7 @@
 ghost use Rattle.std.specs.Prelude.{◌≡◌, ◌≤◌, ◌+◌, ◌*◌, length, ◌||◌, nat_lt, if◌then◌else◌};
 ghost use Rattle.std.specs.List.{count_by};
 ghost use Rattle.cudf_value.specs.Vpkgs.{meets};
-ghost use Rattle.cudf_universe.specs.Contracts.Prices.{digits};
+ghost use Rattle.cudf_universe.specs.Promises.Prices.{digits};
 ghost use Rattle.cudf_universe.specs.Satisfaction.{is_below_one};
 
 use crate::index::sorted::Sorted;

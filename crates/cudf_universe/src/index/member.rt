@@ -1,7 +1,7 @@
 //! A package of a status.
 ghost use Rattle.std.specs.Prelude.{◌≡◌, ◌<◌, ◌^◌, bytes_eq, filter_map, map};
 ghost use Rattle.std.specs.List.{count_by};
-ghost use Rattle.cudf_value.specs.Contracts.Views.{vpkg_view};
+ghost use Rattle.cudf_value.specs.Promises.Views.{vpkg_view};
 ghost use Rattle.cudf_universe.specs.Satisfaction.{package_pairs, unversioned_name, is_met_by};
 ghost use Rattle.cudf_universe.specs.Working.Kept.{is_met_by_entry, gives_all_of};
 ghost use Rattle.cudf_universe.specs.Working.Members.{member_view};

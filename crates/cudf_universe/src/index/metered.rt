@@ -1,9 +1,9 @@
 //! An index that counts the steps of its calls. (own)
 ghost use Rattle.std.specs.Prelude.{◌≡◌, ◌≤◌, ◌+◌};
-ghost use Rattle.cudf_value.specs.Contracts.Views.{clause_view, vpkg_view};
-ghost use Rattle.cudf_universe.specs.Contracts.Prices.{search_cost, clause_cost, clause_lookups, own_cost};
+ghost use Rattle.cudf_value.specs.Promises.Views.{clause_view, vpkg_view};
+ghost use Rattle.cudf_universe.specs.Promises.Prices.{search_cost, clause_cost, clause_lookups, own_cost};
 ghost use Rattle.cudf_universe.specs.Satisfaction.{satisfies, satisfies_clause, without, numbers_of};
-ghost use Rattle.cudf_universe.specs.Contracts.Members.{IsLeast, IsGreatest};
+ghost use Rattle.cudf_universe.specs.Promises.Members.{IsLeast, IsGreatest};
 
 use crate::index::Index;
 use crate::steps::Steps;
@@ -21,7 +21,7 @@ pub struct Metered<'i, 'p, 't> {
 }
 
 impl<'i, 'p, 't> Model for Metered<'i, 'p, 't> {
-    ghost use Rattle.cudf_universe.specs.Contracts.Prices.{Metering};
+    ghost use Rattle.cudf_universe.specs.Promises.Prices.{Metering};
 
     ghost Value = { Metering };
 

@@ -2,8 +2,8 @@
 ghost use Rattle.std.specs.Prelude.{◌≡◌, ◌≤◌, ◌+◌, Some, [], ◌∷◌, bytes_eq, filter_map, option_map, IfOk};
 ghost use Rattle.std.specs.List.{count_by};
 ghost use Rattle.std.specs.FinSet as set;
-ghost use Rattle.cudf_value.specs.Contracts.Views.{vpkg_view};
-ghost use Rattle.cudf_universe.specs.Contracts.Prices.{own_entries};
+ghost use Rattle.cudf_value.specs.Promises.Views.{vpkg_view};
+ghost use Rattle.cudf_universe.specs.Promises.Prices.{own_entries};
 ghost use Rattle.cudf_universe.specs.Satisfaction.{members, is_met_by, package_pairs, unversioned_name};
 ghost use Rattle.cudf_universe.specs.Working.Kept.{Keeps};
 ghost use Rattle.cudf_universe.specs.Working.Members.{member_view};

@@ -3,8 +3,8 @@ ghost use Rattle.std.specs.Prelude.{◌≡◌, ◌==◌, ◌<◌, ◌≤◌, ◌
 ghost use Rattle.std.specs.List.{count_by};
 ghost use Rattle.std.specs.List.Sorted.{IsNonDecreasing};
 ghost use Rattle.cudf_value.specs.Vpkgs.{meets};
-ghost use Rattle.cudf_universe.specs.Contracts.Members.{IsLeast, IsGreatest};
-ghost use Rattle.cudf_universe.specs.Contracts.Prices.{digits};
+ghost use Rattle.cudf_universe.specs.Promises.Members.{IsLeast, IsGreatest};
+ghost use Rattle.cudf_universe.specs.Promises.Prices.{digits};
 
 use crate::index::numbers::Numbers;
 use crate::steps::Steps;

@@ -7,7 +7,7 @@ use Rattle.cudf_value.specs.declared.atom.AtomEnd.TheVariants.{Text, Comma, Bar}
 use Rattle.cudf_value.specs.declared.formula.FirstClause.{FirstClause}
 use Rattle.cudf_value.specs.Parts.{parts, read_parts}
 use Rattle.cudf_value.specs.Formulas.{PlainAtom, atom_part, clause}
-use Rattle.cudf_value.specs.Contracts.Views.{clause_view}
+use Rattle.cudf_value.specs.Promises.Views.{clause_view}
 
 abbrev pub ends_atom : ℕ → Bool
 ends_atom b = b == byte "," || b == byte "|"

@@ -1,7 +1,7 @@
 use Rattle.std.proofs.Common.{map, take, IfOk, refl, sym, subst, arith}
 use Rattle.std.proofs.lemmas.List.{take_all}
 use Rattle.std.proofs.lemmas.Result.{IfOk-weaker}
-use Rattle.cudf_text.specs.Contracts.Views.{stanza_view, text_view}
+use Rattle.cudf_text.specs.Promises.Views.{stanza_view, text_view}
 use Rattle.cudf_document.specs.Working.SolutionReaders.{IsSolutionRead, IsSolutionOf}
 use Rattle.cudf_document.proofs.ListLemmas.{map_next}
 use Rattle.cudf_document.proofs.solution.read_solution.Goals as goal

@@ -1,5 +1,5 @@
 use Rattle.std.proofs.Common.{map, take}
-use Rattle.cudf_text.specs.Contracts.Views.{stanza_view}
+use Rattle.cudf_text.specs.Promises.Views.{stanza_view}
 use Rattle.cudf_document.specs.Working.SolutionReaders.{IsSolutionRead}
 use Rattle.cudf_document.proofs.solution.read_solution.Given as goal
 

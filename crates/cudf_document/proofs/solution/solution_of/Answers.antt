@@ -1,8 +1,8 @@
 use Rattle.std.proofs.Common.{IfOk, ◌∙◌, ap, map}
 use Rattle.std.proofs.lemmas.Result.{IfOk-weaker}
-use Rattle.cudf_text.specs.Contracts.Cursor.{Left, with_next}
+use Rattle.cudf_text.specs.Promises.Cursor.{Left, with_next}
 use Rattle.cudf_text.specs.Stanzas.{PlainStanza}
-use Rattle.cudf_text.specs.Contracts.Views.{property_view}
+use Rattle.cudf_text.specs.Promises.Views.{property_view}
 use Rattle.cudf_document.specs.Working.SolutionReaders.{IsSolutionOf}
 use Rattle.cudf_document.proofs.SolutionReaderLemmas.{IsSolutionWhole, SolutionGoesOn-next, SolutionGoesOn-end}
 use Rattle.cudf_document.proofs.solution.solution_of.Goals as goal

@@ -1,6 +1,6 @@
 use Rattle.std.proofs.Common.{◌+◌, length, ap, sym, ◌∙◌, arith}
 use Rattle.std.proofs.lemmas.Grind.{common_steps}
-use Rattle.cudf_referee.specs.Contracts.Pages.{least_search}
+use Rattle.cudf_referee.specs.Promises.Pages.{least_search}
 use Rattle.cudf_referee.proofs.UnknownLemmas.{digits-positive}
 use Rattle.cudf_referee.proofs.position.first_unknown_behind.Goals as goal
 

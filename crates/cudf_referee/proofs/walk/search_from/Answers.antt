@@ -2,9 +2,9 @@ use Rattle.std.proofs.Common.{◌≡◌, length, ap, ◌∙◌, arith}
 use Rattle.std.specs.List.{flat_map, enumerate_from}
 use Rattle.std.proofs.lemmas.List.{length-map}
 use Rattle.std.proofs.lemmas.List.FromFn.{length-enumerate_from}
-use Rattle.cudf_document.specs.Contracts.Views.{package_view}
-use Rattle.cudf_referee.specs.Contracts.Sites.{package_stops}
-use Rattle.cudf_referee.specs.Contracts.Views.{instance_view}
+use Rattle.cudf_document.specs.Promises.Views.{package_view}
+use Rattle.cudf_referee.specs.Promises.Sites.{package_stops}
+use Rattle.cudf_referee.specs.Promises.Views.{instance_view}
 use Rattle.cudf_referee.specs.Working.Grounds.{proposal_of}
 use Rattle.cudf_referee.specs.Working.Searches.{packages_left}
 use Rattle.cudf_referee.proofs.SearchLemmas.{Finds-at, Finds-between, Finds-first, Finds-then, at_none, at_some, drop-least}

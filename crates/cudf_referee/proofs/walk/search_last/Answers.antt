@@ -1,9 +1,9 @@
 use Rattle.std.proofs.Common.{◌+◌, map, ap, sym, ◌∙◌}
 use Rattle.std.specs.Prelude.{option_map}
-use Rattle.cudf_document.specs.Contracts.Views.{unknown_view}
+use Rattle.cudf_document.specs.Promises.Views.{unknown_view}
 use Rattle.cudf_document.specs.Statuses.{ascend_above}
 use Rattle.cudf_referee.specs.KeyViews.{key_view}
-use Rattle.cudf_referee.specs.Contracts.Views.{instance_view}
+use Rattle.cudf_referee.specs.Promises.Views.{instance_view}
 use Rattle.cudf_referee.specs.Working.Behind.{request_behind, unknown_stops}
 use Rattle.cudf_referee.specs.Working.Grounds.{proposal_of}
 use Rattle.cudf_referee.proofs.ListingLemmas.{all_numbered}

@@ -1,7 +1,7 @@
 use Rattle.std.proofs.Common.{◌≡◌, ◌++◌, length, map}
 use Rattle.std.specs.List.{flat_map}
 use Rattle.cudf_text.specs.Stanzas.{PlainText}
-use Rattle.cudf_text.specs.Contracts.Views.{stanza_view, owned_in}
+use Rattle.cudf_text.specs.Promises.Views.{stanza_view, owned_in}
 use Rattle.cudf_text.proofs.reading.read_left.Given as goal
 
 abbrev pub invariant-stanzas : goal.invariant-stanzas

@@ -1,9 +1,9 @@
 use Rattle.std.proofs.Common.{None, ap, sym, subst, ◌∙◌, length, map}
 use Rattle.std.proofs.lemmas.List.{take_all}
 use Rattle.std.specs.FinSet as set
-use Rattle.cudf_document.specs.Contracts.Views.{package_view}
+use Rattle.cudf_document.specs.Promises.Views.{package_view}
 use Rattle.cudf_universe.specs.Satisfaction.{members, gives, numbers_of, package_pairs}
-use Rattle.cudf_universe.specs.Contracts.Members.{IsGreatest}
+use Rattle.cudf_universe.specs.Promises.Members.{IsGreatest}
 use Rattle.cudf_universe.specs.Working.Greatest.{kept_greatest, with_pairs}
 use Rattle.cudf_universe.proofs.GreatestLemmas.{pairs_none, greatest_of_status, greatest_kept, greatest_left_out}
 use Rattle.cudf_universe.proofs.greatest.numbered.Goals as goal

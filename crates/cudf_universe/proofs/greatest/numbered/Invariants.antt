@@ -1,6 +1,6 @@
 use Rattle.std.proofs.Common.{◌≡◌, ℕ, List, map, take, length, None}
 use Rattle.std.specs.FinSet as set
-use Rattle.cudf_document.specs.Contracts.Views.{package_view}
+use Rattle.cudf_document.specs.Promises.Views.{package_view}
 use Rattle.cudf_universe.specs.Satisfaction.{members, gives}
 use Rattle.cudf_universe.specs.Working.Greatest.{kept_greatest, with_pairs}
 use Rattle.cudf_universe.proofs.greatest.numbered.Given as goal

@@ -1,6 +1,6 @@
 use Rattle.std.proofs.Common.{◌+◌, ap, sym, ◌∙◌, length, ◌++◌}
 use Rattle.std.specs.FinSet as set
-use Rattle.cudf_document.specs.Contracts.Views.{package_view}
+use Rattle.cudf_document.specs.Promises.Views.{package_view}
 use Rattle.cudf_universe.specs.Working.Gathering.{row_of, given_by}
 use Rattle.cudf_universe.proofs.GatheringLemmas.{given_kept, given_left_out}
 use Rattle.cudf_universe.proofs.index.gathered.Goals as goal

@@ -1,6 +1,6 @@
 use Rattle.std.proofs.Common.{◌≡◌, ℕ, List, map, take, length}
 use Rattle.std.specs.FinSet as set
-use Rattle.cudf_document.specs.Contracts.Views.{package_view}
+use Rattle.cudf_document.specs.Promises.Views.{package_view}
 use Rattle.cudf_universe.specs.Satisfaction.{members}
 use Rattle.cudf_universe.specs.Working.Gathering.{row_of, given_of}
 use Rattle.cudf_universe.proofs.index.gathered.Given as goal

@@ -1,4 +1,4 @@
-use Rattle.cudf_value.specs.Contracts.Views.{vpkg_view}
+use Rattle.cudf_value.specs.Promises.Views.{vpkg_view}
 use Rattle.cudf_value.proofs.AtomLemmas.{values_begun}
 use Rattle.cudf_value.proofs.atom.first_atom.Goals as goal
 

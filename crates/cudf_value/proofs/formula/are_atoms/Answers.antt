@@ -1,5 +1,5 @@
 use Rattle.std.proofs.Common.{option_map, sym, ap, ◌∙◌, rules}
-use Rattle.cudf_value.specs.Contracts.Views.{atom_view}
+use Rattle.cudf_value.specs.Promises.Views.{atom_view}
 use Rattle.cudf_value.proofs.AtomLemmas.{judged_none, judged_some, judged_after, is_some-map}
 use Rattle.cudf_value.proofs.formula.are_atoms.Goals as goal
 

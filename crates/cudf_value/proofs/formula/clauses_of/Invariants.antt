@@ -3,7 +3,7 @@ use Rattle.std.specs.Str.{byte}
 use denote.Text.{Utf8}
 use denote.Shadow.{shadow}
 use Rattle.cudf_value.specs.Parts.{read_parts}
-use Rattle.cudf_value.specs.Contracts.Views.{clause_view}
+use Rattle.cudf_value.specs.Promises.Views.{clause_view}
 use Rattle.cudf_value.specs.Formulas.{clause}
 use Rattle.cudf_value.proofs.PartsLemmas.{onto}
 use Rattle.cudf_value.proofs.formula.clauses_of.Given as goal

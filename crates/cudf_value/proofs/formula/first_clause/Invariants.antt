@@ -1,7 +1,7 @@
 use Rattle.std.proofs.Common.{◌≡◌, ◌≤◌, length, map}
 use denote.Text.{Utf8}
 use denote.Shadow.{shadow}
-use Rattle.cudf_value.specs.Contracts.Views.{atom_view}
+use Rattle.cudf_value.specs.Promises.Views.{atom_view}
 use Rattle.cudf_value.proofs.AtomLemmas.{upon, formula_in}
 use Rattle.cudf_value.proofs.formula.first_clause.Given as goal
 

@@ -3,7 +3,7 @@ use Rattle.std.specs.Str.{byte}
 use denote.Text.{Utf8}
 use denote.Shadow.{shadow}
 use Rattle.cudf_value.specs.Parts.{read_parts}
-use Rattle.cudf_value.specs.Contracts.Views.{vpkg_view}
+use Rattle.cudf_value.specs.Promises.Views.{vpkg_view}
 use Rattle.cudf_value.specs.Formulas.{vpkg_part}
 use Rattle.cudf_value.proofs.PartsLemmas.{onto}
 use Rattle.cudf_value.proofs.vpkglist.entries_of.Given as goal

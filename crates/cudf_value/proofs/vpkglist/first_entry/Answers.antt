@@ -1,5 +1,5 @@
 use Rattle.std.proofs.Common.{option_copied, sym, ◌∙◌}
-use Rattle.cudf_value.specs.Contracts.Views.{vpkg_view}
+use Rattle.cudf_value.specs.Promises.Views.{vpkg_view}
 use Rattle.cudf_value.proofs.EntryLemmas.{begun_parts, begun_value}
 use Rattle.cudf_value.proofs.vpkglist.first_entry.Goals as goal
 

@@ -1,5 +1,5 @@
 use Rattle.std.proofs.Common.{[], ◌∷◌, ◌∙◌, ap, sym, codes}
-use Rattle.cudf_value.specs.Contracts.Views.{vpkg_view}
+use Rattle.cudf_value.specs.Promises.Views.{vpkg_view}
 use Rattle.cudf_check.specs.Report.{line, aspect_line}
 use Rattle.cudf_check.proofs.PrintLemmas.{Prints-as, four_pieces}
 use Rattle.cudf_check.proofs.lines.instance.print_aspect.Goals as goal

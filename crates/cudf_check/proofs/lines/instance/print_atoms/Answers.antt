@@ -2,7 +2,7 @@ use Rattle.std.proofs.Common.{◌+◌, ◌<◌, ◌≤◌, List, ℕ, [], ◌∷
 use Rattle.std.specs.List.{flat_map}
 use Rattle.std.proofs.lemmas.List.{take_all}
 use Rattle.cudf_value.specs.declared.formula.Atom.{Atom}
-use Rattle.cudf_value.specs.Contracts.Views.{atom_view}
+use Rattle.cudf_value.specs.Promises.Views.{atom_view}
 use Rattle.cudf_value.specs.Printing.{atom_text}
 use Rattle.cudf_check.proofs.PrintLemmas.{Prints-as, Prints-then, Prints-stop, texts-more, texts-all}
 use Rattle.cudf_check.proofs.lines.instance.print_atoms.Goals as goal

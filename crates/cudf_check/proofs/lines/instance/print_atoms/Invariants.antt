@@ -1,7 +1,7 @@
 -- The atoms so far are printed.
 use Rattle.std.proofs.Common.{◌++◌, take, codes}
 use Rattle.std.specs.List.{flat_map}
-use Rattle.cudf_value.specs.Contracts.Views.{atom_view}
+use Rattle.cudf_value.specs.Promises.Views.{atom_view}
 use Rattle.cudf_value.specs.Printing.{atom_text}
 use Rattle.cudf_check.specs.Working.Printing.{Prints}
 use Rattle.cudf_check.proofs.PrintLemmas.{done}

@@ -1,7 +1,7 @@
 use Rattle.std.proofs.Common.{◌++◌, ◌∙◌, [], ◌∷◌, ap, option_map}
-use Rattle.cudf_document.specs.Contracts.Views.{package_view}
+use Rattle.cudf_document.specs.Promises.Views.{package_view}
 use Rattle.cudf_referee.specs.Keys.{key_text}
-use Rattle.cudf_referee.specs.Contracts.Views.{instance_view}
+use Rattle.cudf_referee.specs.Promises.Views.{instance_view}
 use Rattle.cudf_check.specs.Report.{line, place_text, what_text}
 use Rattle.cudf_check.proofs.PrintLemmas.{Prints-as, Prints-then, Prints-stop, one_by_one}
 use Rattle.cudf_check.proofs.lines.instance.print_instance.Goals as goal

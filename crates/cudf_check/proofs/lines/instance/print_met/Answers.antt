@@ -1,7 +1,7 @@
 use Rattle.std.proofs.Common.{[], ◌∷◌, option_map}
-use Rattle.cudf_value.specs.Contracts.Views.{vpkg_view}
+use Rattle.cudf_value.specs.Promises.Views.{vpkg_view}
 use Rattle.cudf_value.specs.Printing.{vpkg_text}
-use Rattle.cudf_document.specs.Contracts.Views.{package_view}
+use Rattle.cudf_document.specs.Promises.Views.{package_view}
 use Rattle.cudf_check.specs.Report.{line, meeting_text}
 use Rattle.cudf_check.proofs.PrintLemmas.{Prints-as, Prints-then, Prints-stop, two_then_one}
 use Rattle.cudf_check.proofs.lines.instance.print_met.Goals as goal

@@ -1,7 +1,7 @@
 use Rattle.std.proofs.Common.{◌≡◌, ◌+◌, ◌-◌, ◌<◌, ◌≤◌, length, take, drop, refl, ap, sym, ◌∙◌, subst, inr, arith}
 use Rattle.std.specs.List.{flat_map}
-use Rattle.cudf_referee.specs.Contracts.Views.{instance_view}
-use Rattle.cudf_referee.specs.Contracts.Walks.{left}
+use Rattle.cudf_referee.specs.Promises.Views.{instance_view}
+use Rattle.cudf_referee.specs.Promises.Walks.{left}
 use Rattle.cudf_check.specs.Working.Pages.{HasSpent}
 use Rattle.cudf_check.specs.Report.{instance_line, last_key}
 use Rattle.cudf_check.proofs.PageLemmas.{step, last_of_more, take-step, take-none, take-nothing, drop-further, page_end}

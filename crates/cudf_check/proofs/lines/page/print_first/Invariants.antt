@@ -3,7 +3,7 @@
 use Rattle.std.proofs.Common.{◌≡◌, ◌≤◌, ◌-◌, length, take, drop, option_map}
 use Rattle.std.specs.List.{flat_map}
 use Rattle.cudf_referee.specs.KeyViews.{key_view}
-use Rattle.cudf_referee.specs.Contracts.Walks.{left}
+use Rattle.cudf_referee.specs.Promises.Walks.{left}
 use Rattle.cudf_check.specs.Report.{instance_line, last_key}
 use Rattle.cudf_check.specs.Working.Pages.{HasSpent}
 use Rattle.cudf_check.proofs.PrintLemmas.{PrintsSoFar}

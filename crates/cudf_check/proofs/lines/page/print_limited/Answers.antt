@@ -1,7 +1,7 @@
 use Rattle.std.proofs.Common.{◌≡◌, ◌++◌, [], take, Some, None, ap, sym, ◌∙◌, append-nil, subst}
 use Rattle.std.specs.List.{flat_map}
 use Rattle.cudf_referee.specs.KeyViews.{key_view}
-use Rattle.cudf_referee.specs.Contracts.Walks.{left}
+use Rattle.cudf_referee.specs.Promises.Walks.{left}
 use Rattle.cudf_check.specs.Report.{instance_line, listed, last_key, more_text, check_text}
 use Rattle.cudf_check.specs.Working.Pages.{IsPageEnd, IsSpent, more_behind}
 use Rattle.cudf_check.proofs.PageLemmas.{more-line, more-key, more-no-key}

@@ -1,5 +1,5 @@
 use Rattle.std.proofs.Common.{ap, ◌∙◌}
-use Rattle.cudf_referee.specs.Contracts.Views.{instance_view}
+use Rattle.cudf_referee.specs.Promises.Views.{instance_view}
 use Rattle.cudf_check.specs.Report.{met_line, package_at}
 use Rattle.cudf_check.proofs.PrintLemmas.{Prints-as}
 use Rattle.cudf_check.proofs.lines.page.print_line.Goals as goal

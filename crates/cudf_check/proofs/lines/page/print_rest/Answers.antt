@@ -1,8 +1,8 @@
 use Rattle.std.proofs.Common.{◌≡◌, Option, None, option_map, ap, subst}
 use Rattle.std.specs.List.{flat_map}
 use Rattle.cudf_referee.specs.declared.instance.Instance.{Instance}
-use Rattle.cudf_referee.specs.Contracts.Views.{instance_view}
-use Rattle.cudf_referee.specs.Contracts.Walks.{Walking, left, Moves}
+use Rattle.cudf_referee.specs.Promises.Views.{instance_view}
+use Rattle.cudf_referee.specs.Promises.Walks.{Walking, left, Moves}
 use Rattle.cudf_check.specs.Report.{instance_line}
 use Rattle.cudf_check.proofs.PrintLemmas.{SoFar-start, SoFar-more, SoFar-stop, SoFar-answer}
 use Rattle.cudf_check.proofs.WalkLemmas.{taken-start, taken-more, price-taken, price-all}

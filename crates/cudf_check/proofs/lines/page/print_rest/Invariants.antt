@@ -1,7 +1,7 @@
 -- The lines so far are printed, those that are left make the text whole, and the walk has gone to them.
 use Rattle.std.proofs.Common.{length}
 use Rattle.std.specs.List.{flat_map}
-use Rattle.cudf_referee.specs.Contracts.Walks.{left}
+use Rattle.cudf_referee.specs.Promises.Walks.{left}
 use Rattle.cudf_check.specs.Report.{instance_line}
 use Rattle.cudf_check.proofs.PrintLemmas.{PrintsSoFar}
 use Rattle.cudf_check.proofs.WalkLemmas.{HasTaken}

@@ -1,5 +1,5 @@
 use Rattle.std.proofs.Common.{map, take, ◌+◌, arith}
-use Rattle.cudf_text.specs.Contracts.Views.{property_view}
+use Rattle.cudf_text.specs.Promises.Views.{property_view}
 use Rattle.cudf_document.proofs.ListLemmas.{map_next}
 use Rattle.cudf_document.proofs.PreambleLemmas.{IsDeclaredTo-next}
 use Rattle.cudf_document.proofs.declaration.preamble.read_preamble.Goals as goal

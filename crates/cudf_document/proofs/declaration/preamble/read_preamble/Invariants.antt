@@ -1,5 +1,5 @@
 use Rattle.std.proofs.Common.{map, take}
-use Rattle.cudf_text.specs.Contracts.Views.{property_view}
+use Rattle.cudf_text.specs.Promises.Views.{property_view}
 use Rattle.cudf_document.proofs.PreambleLemmas.{IsDeclaredTo}
 use Rattle.cudf_document.proofs.declaration.preamble.read_preamble.Given as goal
 

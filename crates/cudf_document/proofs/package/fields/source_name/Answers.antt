@@ -1,5 +1,5 @@
 use Rattle.std.proofs.Common.{ap}
-use Rattle.cudf_text.specs.Contracts.Joins.{is_owned}
+use Rattle.cudf_text.specs.Promises.Joins.{is_owned}
 use Rattle.cudf_document.proofs.WalkLemmas.{joined_no_name}
 use Rattle.cudf_document.proofs.package.fields.source_name.Goals as goal
 

@@ -1,5 +1,5 @@
 use Rattle.std.proofs.Common.{true, refl, sym, ◌∙◌}
-use Rattle.cudf_text.specs.Contracts.Views.{text_view}
+use Rattle.cudf_text.specs.Promises.Views.{text_view}
 use Rattle.cudf_document.specs.Universe.{plain_problem}
 use Rattle.cudf_document.specs.Working.Kept.{IsParts}
 use Rattle.cudf_document.proofs.PartsLemmas.{faultless, ready, thin_problem_is}

@@ -1,8 +1,8 @@
 use Rattle.std.proofs.Common.{◌≡◌, ◌+◌, ◌++◌, ◌∷◌, [], true, false, not, map, take, if◌then◌else◌, subst, refl, sym, ap, arith, ◌∙◌}
 use Rattle.std.proofs.lemmas.List.{take_all}
-use Rattle.cudf_text.specs.Contracts.Views.{stanza_view, text_view}
+use Rattle.cudf_text.specs.Promises.Views.{stanza_view, text_view}
 use Rattle.cudf_document.specs.Documents.{is_empty}
-use Rattle.cudf_document.specs.Contracts.Packages.{is_preamble}
+use Rattle.cudf_document.specs.Promises.Packages.{is_preamble}
 use Rattle.cudf_document.specs.Preamble.{declared}
 use Rattle.cudf_document.specs.ProblemFaults.{required_names}
 use Rattle.cudf_document.specs.Working.Kept.{IsParts}

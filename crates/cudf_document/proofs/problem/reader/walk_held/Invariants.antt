@@ -1,5 +1,5 @@
 use Rattle.std.proofs.Common.{◌≡◌, true, map, take}
-use Rattle.cudf_text.specs.Contracts.Views.{stanza_view}
+use Rattle.cudf_text.specs.Promises.Views.{stanza_view}
 use Rattle.cudf_document.specs.Documents.{is_empty}
 use Rattle.cudf_document.specs.Preamble.{declared}
 use Rattle.cudf_document.specs.ProblemFaults.{required_names}

@@ -1,7 +1,7 @@
 use Rattle.std.proofs.Common.{◌∙◌, sym, ap, map}
-use Rattle.cudf_text.specs.Contracts.Cursor.{Left, with_next}
+use Rattle.cudf_text.specs.Promises.Cursor.{Left, with_next}
 use Rattle.cudf_text.specs.Stanzas.{PlainStanza}
-use Rattle.cudf_text.specs.Contracts.Views.{property_view}
+use Rattle.cudf_text.specs.Promises.Views.{property_view}
 use Rattle.cudf_document.specs.Working.Walks.{texts}
 use Rattle.cudf_document.proofs.WalkLemmas.{GoesOn-next, GoesOn-end}
 use Rattle.cudf_document.proofs.problem.walk.walk_on.Goals as goal

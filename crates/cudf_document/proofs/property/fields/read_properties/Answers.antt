@@ -1,5 +1,5 @@
 use Rattle.std.proofs.Common.{map, take, ◌+◌, ◌++◌, ◌∷◌, [], ◌≡◌, refl, sym, subst, arith}
-use Rattle.cudf_text.specs.Contracts.Views.{property_view}
+use Rattle.cudf_text.specs.Promises.Views.{property_view}
 use Rattle.cudf_document.specs.Working.Borrows.{is_borrowed}
 use Rattle.cudf_document.proofs.ListLemmas.{map_next, all_here}
 use Rattle.cudf_document.proofs.PackageLemmas.{IsJudgedTo-none, IsJudgedTo-next}

@@ -1,5 +1,5 @@
 use Rattle.std.proofs.Common.{◌≡◌, true, map, take}
-use Rattle.cudf_text.specs.Contracts.Views.{property_view}
+use Rattle.cudf_text.specs.Promises.Views.{property_view}
 use Rattle.cudf_document.specs.Working.Borrows.{are_borrowed}
 use Rattle.cudf_document.proofs.PackageLemmas.{IsJudgedTo}
 use Rattle.cudf_document.proofs.property.fields.read_properties.Given as goal

@@ -1,5 +1,5 @@
 use Rattle.std.proofs.Common.{◌≡◌, true, map, take}
-use Rattle.cudf_text.specs.Contracts.Views.{property_view}
+use Rattle.cudf_text.specs.Promises.Views.{property_view}
 use Rattle.cudf_document.specs.Working.Borrows.{are_borrowed}
 use Rattle.cudf_document.specs.Working.RequestFields.{request_fields_view, request_fields_of}
 use Rattle.cudf_document.proofs.RequestLemmas.{IsAskedTo}

@@ -1,5 +1,5 @@
 use Rattle.std.proofs.Common.{map, take}
-use Rattle.cudf_text.specs.Contracts.Views.{property_view}
+use Rattle.cudf_text.specs.Promises.Views.{property_view}
 use Rattle.cudf_document.specs.Working.SolutionPackages.{solution_package_view}
 use Rattle.cudf_document.proofs.SolutionPackageLemmas.{IsEnteredTo}
 use Rattle.cudf_document.proofs.solution.package.read_solution_package.Given as goal

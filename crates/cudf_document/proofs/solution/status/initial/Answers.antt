@@ -3,7 +3,7 @@ use Rattle.std.proofs.lemmas.List.{take_all}
 use Rattle.cudf_document.specs.Working.Flags.{places_from, flag_at}
 use Rattle.std.specs.FinSet as set
 use Rattle.std.specs.Ordering.{nat_cmp}
-use Rattle.cudf_document.specs.Contracts.Views.{package_view}
+use Rattle.cudf_document.specs.Promises.Views.{package_view}
 use Rattle.cudf_document.specs.Statuses.{is_initial}
 use Rattle.cudf_document.proofs.StatusLemmas.{within_universe}
 use Rattle.cudf_document.proofs.FlagLemmas.{contains-places, flag_at-flags}

@@ -1,5 +1,5 @@
 use Rattle.std.proofs.Common.{◌≡◌, map, take}
-use Rattle.cudf_document.specs.Contracts.Views.{package_view}
+use Rattle.cudf_document.specs.Promises.Views.{package_view}
 use Rattle.cudf_document.proofs.solution.status.initial.Given as goal
 
 abbrev pub invariant-loop-package : goal.invariant-loop-package

@@ -3,7 +3,7 @@ use Rattle.std.proofs.lemmas.Iterator.Consumers.{YieldsList-turn, YieldsList-end
 use Rattle.std.proofs.lemmas.Iterator.Splits.{YieldsList-from_str_split}
 use Rattle.std.proofs.lemmas.List.{length_push}
 use Rattle.cudf_value.specs.Parts.{parts, read_parts}
-use Rattle.cudf_referee.specs.Contracts.Aims.{aim_of, criterion}
+use Rattle.cudf_referee.specs.Promises.Aims.{aim_of, criterion}
 use Rattle.cudf_referee.proofs.AimLemmas.{with_rest, aim_read, aim_missing, aims_read}
 use Rattle.cudf_referee.proofs.aims.reading.read_criterion.Goals as goal
 

@@ -2,7 +2,7 @@
 use Rattle.std.proofs.Common.{◌≡◌, length, drop}
 use Rattle.std.specs.Str.{byte}
 use Rattle.cudf_value.specs.Parts.{parts, read_parts}
-use Rattle.cudf_referee.specs.Contracts.Aims.{aim_of}
+use Rattle.cudf_referee.specs.Promises.Aims.{aim_of}
 use Rattle.cudf_referee.proofs.AimLemmas.{with_rest}
 use Rattle.cudf_referee.proofs.aims.reading.read_criterion.Given as goal
 

@@ -2,14 +2,14 @@ use Rattle.std.proofs.Common.{◌≡◌, Bool, List, [], length, map, arith, ap,
 use Rattle.std.proofs.lemmas.List.{length-map}
 use Rattle.std.specs.FinSet as set
 use Rattle.cudf_document.specs.Statuses.{is_initial}
-use Rattle.cudf_document.specs.Contracts.Views.{unknown_view}
+use Rattle.cudf_document.specs.Promises.Views.{unknown_view}
 use Rattle.cudf_universe.specs.Satisfaction.{members}
 use Rattle.cudf_referee.specs.Criteria.{criteria}
 use Rattle.cudf_document.specs.Documents.{is_empty}
 use Rattle.cudf_referee.specs.Proposals.{put_forward, proposal}
 use Rattle.cudf_referee.specs.Solutions.{is_solution}
 use Rattle.cudf_referee.specs.Violations.{listing}
-use Rattle.cudf_referee.specs.Contracts.Walks.{Walking, left}
+use Rattle.cudf_referee.specs.Promises.Walks.{Walking, left}
 use Rattle.cudf_referee.specs.Working.Named.{has_kept_name}
 use Rattle.cudf_referee.proofs.ListingLemmas.{criteria_known}
 use Rattle.cudf_referee.proofs.SolutionLemmas.{solution_is_empty}

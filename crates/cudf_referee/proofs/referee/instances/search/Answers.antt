@@ -1,10 +1,10 @@
 use Rattle.std.proofs.Common.{◌≡◌, map, option_map, ap, sym, ◌∙◌}
-use Rattle.cudf_document.specs.Contracts.Views.{unknown_view}
+use Rattle.cudf_document.specs.Promises.Views.{unknown_view}
 use Rattle.cudf_referee.specs.KeyViews.{key_view}
-use Rattle.cudf_referee.specs.Contracts.Pages.{behind}
-use Rattle.cudf_referee.specs.Contracts.PositionViews.{position_view}
+use Rattle.cudf_referee.specs.Promises.Pages.{behind}
+use Rattle.cudf_referee.specs.Promises.PositionViews.{position_view}
 use Rattle.cudf_referee.specs.Proposals.{put_forward}
-use Rattle.cudf_referee.specs.Contracts.Views.{instance_view}
+use Rattle.cudf_referee.specs.Promises.Views.{instance_view}
 use Rattle.cudf_referee.proofs.MoveLemmas.{finds-end, finds-ahead}
 use Rattle.cudf_referee.proofs.referee.instances.search.Goals as goal
 use Rattle.cudf_referee.proofs.referee.instances.search.Goals.{in-Start, in-At}

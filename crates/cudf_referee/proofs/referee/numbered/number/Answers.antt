@@ -6,9 +6,9 @@ use Rattle.cudf_document.specs.declared.package.Package.{Package}
 use Rattle.cudf_document.specs.declared.request.Request.{Request}
 use Rattle.cudf_document.specs.declared.solution.Unknown.{Unknown}
 use Rattle.cudf_document.specs.Statuses.{PlainUnknown, ascend_above}
-use Rattle.cudf_document.specs.Contracts.Views.{unknown_view, package_view, request_view}
+use Rattle.cudf_document.specs.Promises.Views.{unknown_view, package_view, request_view}
 use Rattle.cudf_document.specs.Universe.{PlainPackage, PlainRequest, PlainProblem}
-use Rattle.cudf_value.specs.Contracts.Views.{clause_view, vpkg_view}
+use Rattle.cudf_value.specs.Promises.Views.{clause_view, vpkg_view}
 use Rattle.cudf_universe.specs.Satisfaction.{Placed}
 use Rattle.cudf_referee.specs.Proposals.{put_forward}
 use Rattle.cudf_referee.specs.Working.Numbered.{IsListed, IsNumbered}

@@ -1,5 +1,5 @@
 use Rattle.std.proofs.Common.{refl, sym, ◌∙◌}
-use Rattle.cudf_referee.specs.Contracts.Views.{instance_view}
+use Rattle.cudf_referee.specs.Promises.Views.{instance_view}
 use Rattle.cudf_referee.proofs.SearchLemmas.{loop-start, loop-more, loop-found, loop-end, at_none, at_some}
 use Rattle.cudf_referee.proofs.walk.entries.search_entries.Goals as goal
 

@@ -1,12 +1,12 @@
 use Rattle.std.proofs.Common.{◌≡◌, ℕ, true, [], ◌∷◌, Option, Some, None, ◌&&◌, cond, not, refl, ap, sym, ◌∙◌}
 use Rattle.std.specs.Prelude.{option_map}
 use Rattle.cudf_value.specs.Vpkgs.{PlainVpkg}
-use Rattle.cudf_value.specs.Contracts.Views.{vpkg_view}
+use Rattle.cudf_value.specs.Promises.Views.{vpkg_view}
 use Rattle.cudf_document.specs.declared.package.Keep.TheVariants.{Version, Package, Feature}
 use Rattle.cudf_referee.specs.declared.key.Rule.TheVariants as rule
 use Rattle.cudf_referee.specs.KeyViews.{key_view}
 use Rattle.cudf_referee.specs.Instances.{keep_version, keep_package}
-use Rattle.cudf_referee.specs.Contracts.Sites.{kept_version, kept_package, kept_feature}
+use Rattle.cudf_referee.specs.Promises.Sites.{kept_version, kept_package, kept_feature}
 use Rattle.cudf_referee.specs.Violations.{at_package, has_package}
 use Rattle.cudf_referee.specs.Working.Named.{keeps_name}
 use Rattle.cudf_referee.specs.Working.Candidates.{placed_view}

@@ -1,11 +1,11 @@
 use Rattle.std.proofs.Common.{◌≡◌, ℕ, true, List, sym, ◌∙◌}
 use Rattle.std.specs.Prelude.{option_map}
 use Rattle.cudf_value.specs.Formulas.{PlainAtom}
-use Rattle.cudf_value.specs.Contracts.Views.{clause_view, vpkg_view}
+use Rattle.cudf_value.specs.Promises.Views.{clause_view, vpkg_view}
 use Rattle.cudf_value.specs.Vpkgs.{PlainVpkg}
 use Rattle.cudf_referee.specs.KeyViews.{key_view}
-use Rattle.cudf_referee.specs.Contracts.Sites.{conjunct, conflicts_entry}
-use Rattle.cudf_referee.specs.Contracts.Views.{instance_view}
+use Rattle.cudf_referee.specs.Promises.Sites.{conjunct, conflicts_entry}
+use Rattle.cudf_referee.specs.Promises.Views.{instance_view}
 use Rattle.cudf_referee.specs.Working.Candidates.{placed_view}
 use Rattle.cudf_referee.proofs.BehindLemmas.{needed-installed}
 use Rattle.cudf_referee.proofs.SearchLemmas.{Finds-at, Finds-first, Finds-seen, Finds-then, at_some, at_none}

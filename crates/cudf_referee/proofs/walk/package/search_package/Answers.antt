@@ -1,6 +1,6 @@
 use Rattle.std.proofs.Common.{refl, sym, ◌∙◌, arith, None}
-use Rattle.cudf_referee.specs.Contracts.Sites.{package_end}
-use Rattle.cudf_referee.specs.Contracts.Views.{instance_view}
+use Rattle.cudf_referee.specs.Promises.Sites.{package_end}
+use Rattle.cudf_referee.specs.Promises.Views.{instance_view}
 use Rattle.cudf_referee.proofs.SearchLemmas.{Finds-one, Finds-first, Finds-then, at_some, at_none}
 use Rattle.cudf_referee.proofs.walk.package.search_package.Goals as goal
 

@@ -1,9 +1,9 @@
 use Rattle.std.proofs.Common.{ℕ, ◌+◌, List, drop, refl, ap, sym, ◌∙◌}
 use Rattle.std.specs.List.{flat_map, enumerate_from}
 use Rattle.cudf_document.specs.Universe.{PlainPackage}
-use Rattle.cudf_document.specs.Contracts.Views.{package_view}
-use Rattle.cudf_referee.specs.Contracts.Sites.{package_stops}
-use Rattle.cudf_referee.specs.Contracts.Views.{instance_view}
+use Rattle.cudf_document.specs.Promises.Views.{package_view}
+use Rattle.cudf_referee.specs.Promises.Sites.{package_stops}
+use Rattle.cudf_referee.specs.Promises.Views.{instance_view}
 use Rattle.cudf_referee.specs.Working.Candidates.{placed_view}
 use Rattle.cudf_referee.specs.Working.Grounds.{proposal_of}
 use Rattle.cudf_referee.proofs.BehindLemmas.{package-whole}

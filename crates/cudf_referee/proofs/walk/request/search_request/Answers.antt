@@ -1,8 +1,8 @@
 use Rattle.std.proofs.Common.{ℕ, sym, ◌∙◌}
 use Rattle.cudf_value.specs.Vpkgs.{PlainVpkg}
-use Rattle.cudf_value.specs.Contracts.Views.{vpkg_view}
-use Rattle.cudf_referee.specs.Contracts.Sites.{install_entry, remove_entry}
-use Rattle.cudf_referee.specs.Contracts.Views.{instance_view}
+use Rattle.cudf_value.specs.Promises.Views.{vpkg_view}
+use Rattle.cudf_referee.specs.Promises.Sites.{install_entry, remove_entry}
+use Rattle.cudf_referee.specs.Promises.Views.{instance_view}
 use Rattle.cudf_referee.proofs.SearchLemmas.{Finds-seen, Finds-between, Finds-first, Finds-then, at_none, at_some}
 use Rattle.cudf_referee.proofs.walk.request.search_request.Goals as goal
 

@@ -2,7 +2,7 @@ use Rattle.std.proofs.Common.{◌<◌, map, ap, ◌∙◌}
 use Rattle.std.specs.Prelude.{option_map}
 use Rattle.std.proofs.lemmas.Option.{slice_get-map}
 use Rattle.cudf_document.specs.Statuses.{PlainUnknown}
-use Rattle.cudf_document.specs.Contracts.Views.{unknown_view}
+use Rattle.cudf_document.specs.Promises.Views.{unknown_view}
 use Rattle.cudf_referee.proofs.SearchLemmas.{item-some, all-at, unknown-found}
 use Rattle.cudf_referee.proofs.walk.unknown.search_unknown.Goals as goal
 

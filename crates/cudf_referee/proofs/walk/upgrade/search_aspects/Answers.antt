@@ -1,8 +1,8 @@
 use Rattle.std.proofs.Common.{sym, ◌∙◌}
-use Rattle.cudf_value.specs.Contracts.Views.{vpkg_view}
+use Rattle.cudf_value.specs.Promises.Views.{vpkg_view}
 use Rattle.cudf_referee.specs.declared.key.Aspect.{Aspect}
-use Rattle.cudf_referee.specs.Contracts.Sites.{upgrade_entry, at_site}
-use Rattle.cudf_referee.specs.Contracts.Views.{instance_view}
+use Rattle.cudf_referee.specs.Promises.Sites.{upgrade_entry, at_site}
+use Rattle.cudf_referee.specs.Promises.Views.{instance_view}
 use Rattle.cudf_referee.proofs.SearchLemmas.{stops-more, stops-found, stops-end, at_none, at_some}
 use Rattle.cudf_referee.proofs.walk.upgrade.search_aspects.Goals as goal
 

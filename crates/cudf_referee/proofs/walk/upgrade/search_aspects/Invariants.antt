@@ -1,6 +1,6 @@
 use Rattle.std.proofs.Common.{◌≡◌, ◌+◌, drop}
-use Rattle.cudf_value.specs.Contracts.Views.{vpkg_view}
-use Rattle.cudf_document.specs.Contracts.Views.{request_view}
+use Rattle.cudf_value.specs.Promises.Views.{vpkg_view}
+use Rattle.cudf_document.specs.Promises.Views.{request_view}
 use Rattle.cudf_referee.specs.Proposals.{Proposal}
 use Rattle.cudf_referee.specs.Working.Behind.{aspect_stops}
 use Rattle.cudf_referee.specs.Working.Passes.{Passes}

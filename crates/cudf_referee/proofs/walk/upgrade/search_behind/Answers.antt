@@ -3,11 +3,11 @@ use Rattle.std.specs.Prelude.{slice_get}
 use Rattle.std.specs.List.{enumerate_from}
 use Rattle.std.proofs.lemmas.List.{map-append, length-map}
 use Rattle.std.proofs.lemmas.List.FromFn.{length-enumerate_from}
-use Rattle.cudf_value.specs.Contracts.Views.{vpkg_view}
-use Rattle.cudf_document.specs.Contracts.Views.{list_view}
+use Rattle.cudf_value.specs.Promises.Views.{vpkg_view}
+use Rattle.cudf_document.specs.Promises.Views.{list_view}
 use Rattle.cudf_referee.specs.KeyViews.{key_view}
-use Rattle.cudf_referee.specs.Contracts.Sites.{at_site}
-use Rattle.cudf_referee.specs.Contracts.Views.{instance_view}
+use Rattle.cudf_referee.specs.Promises.Sites.{at_site}
+use Rattle.cudf_referee.specs.Promises.Views.{instance_view}
 use Rattle.cudf_referee.specs.Working.Behind.{upgrade_stops}
 use Rattle.cudf_referee.specs.Working.Searches.{aspects_left}
 use Rattle.cudf_referee.proofs.SearchLemmas.{Finds-at, Finds-first, Finds-then, at_none, at_some, drop-least}

@@ -1,6 +1,6 @@
 use Rattle.std.proofs.Common.{◌≡◌, ◌+◌, drop}
 use Rattle.std.specs.List.{enumerate_from}
-use Rattle.cudf_document.specs.Contracts.Views.{list_view, request_view}
+use Rattle.cudf_document.specs.Promises.Views.{list_view, request_view}
 use Rattle.cudf_referee.specs.Proposals.{Proposal}
 use Rattle.cudf_referee.specs.Working.Behind.{upgrade_stops}
 use Rattle.cudf_referee.specs.Working.Passes.{Passes}

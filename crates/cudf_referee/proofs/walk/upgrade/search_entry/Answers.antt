@@ -2,9 +2,9 @@ use Rattle.std.proofs.Common.{◌≡◌, ◌+◌, List, map, Some, None, ap, sym
 use Rattle.std.specs.Prelude.{slice_get}
 use Rattle.std.specs.List.{enumerate_from}
 use Rattle.cudf_value.specs.declared.vpkg.Vpkg.{Vpkg}
-use Rattle.cudf_value.specs.Contracts.Views.{vpkg_view}
-use Rattle.cudf_document.specs.Contracts.Views.{list_view}
-use Rattle.cudf_referee.specs.Contracts.Sites.{at_site}
+use Rattle.cudf_value.specs.Promises.Views.{vpkg_view}
+use Rattle.cudf_document.specs.Promises.Views.{list_view}
+use Rattle.cudf_referee.specs.Promises.Sites.{at_site}
 use Rattle.cudf_referee.specs.Working.Behind.{aspect_stops}
 use Rattle.cudf_referee.specs.Working.Searches.{aspects_left}
 use Rattle.cudf_referee.proofs.BehindLemmas.{aspects-after}

@@ -1,10 +1,10 @@
 use Rattle.std.proofs.Common.{map, cond, Option, ap, sym, ◌∙◌}
 use Rattle.std.specs.Prelude.{option_map}
 use Rattle.std.specs.List.{flat_map, enumerate_from}
-use Rattle.cudf_document.specs.Contracts.Views.{list_view}
+use Rattle.cudf_document.specs.Promises.Views.{list_view}
 use Rattle.cudf_referee.specs.KeyViews.{key_view}
 use Rattle.cudf_referee.specs.Keys.{PlainKey}
-use Rattle.cudf_referee.specs.Contracts.Sites.{upgrade_sites, at_site}
+use Rattle.cudf_referee.specs.Promises.Sites.{upgrade_sites, at_site}
 use Rattle.cudf_referee.specs.Working.Behind.{upgrade_after, upgrade_behind}
 use Rattle.cudf_referee.proofs.SearchLemmas.{Finds-at}
 use Rattle.cudf_referee.proofs.walk.upgrade.search_upgrade.Goals as goal

@@ -1,5 +1,5 @@
 use Rattle.std.proofs.Common.{zero-add, length, refl, ap, ◌∙◌}
-use Rattle.cudf_text.specs.Contracts.Cursor.{Left}
+use Rattle.cudf_text.specs.Promises.Cursor.{Left}
 use Rattle.cudf_text.specs.Lines.{blank, lines, judged_lines}
 use Rattle.cudf_text.specs.Working.Reading.{read_after, fault_after}
 use Rattle.cudf_text.specs.Working.Tracked.{plain_left, stanzas_of}

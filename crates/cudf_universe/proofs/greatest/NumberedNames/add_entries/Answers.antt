@@ -2,7 +2,7 @@ use Rattle.std.proofs.Common.{◌≡◌, ℕ, Some, None, [], ap, sym, ◌∙◌
 use Rattle.std.specs.Prelude.{option_map}
 use Rattle.cudf_value.specs.declared.relop.Relop.{Relop}
 use Rattle.cudf_value.specs.declared.vpkg.Vpkg.{Vpkg}
-use Rattle.cudf_value.specs.Contracts.Views.{vpkg_view}
+use Rattle.cudf_value.specs.Promises.Views.{vpkg_view}
 use Rattle.cudf_universe.specs.Satisfaction.{entry_pair}
 use Rattle.cudf_universe.specs.Working.Greatest.{kept_greatest}
 use Rattle.cudf_universe.proofs.GreatestLemmas.{pairs_none, pairs_one, entries-more}

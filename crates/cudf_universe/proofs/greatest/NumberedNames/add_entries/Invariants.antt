@@ -1,5 +1,5 @@
 use Rattle.std.proofs.Common.{◌≡◌, ℕ, List, length, take, map}
-use Rattle.cudf_value.specs.Contracts.Views.{vpkg_view}
+use Rattle.cudf_value.specs.Promises.Views.{vpkg_view}
 use Rattle.cudf_universe.specs.Working.Greatest.{kept_greatest, with_entries}
 use Rattle.cudf_universe.proofs.greatest.NumberedNames.add_entries.Given as goal
 

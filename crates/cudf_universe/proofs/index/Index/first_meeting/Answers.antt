@@ -1,5 +1,5 @@
 use Rattle.std.proofs.Common.{ap, ◌∙◌}
-use Rattle.cudf_value.specs.Contracts.Views.{vpkg_view}
+use Rattle.cudf_value.specs.Promises.Views.{vpkg_view}
 use Rattle.cudf_universe.specs.Working.FirstPlaces.{first_place_of}
 use Rattle.cudf_universe.proofs.TreeLemmas.{first_given}
 use Rattle.cudf_universe.proofs.index.Index.first_meeting.Goals as goal

@@ -1,6 +1,6 @@
 use Rattle.std.proofs.Common.{◌≡◌, ◌||◌, ◌&&◌, false, not, nat_lt, bytes_eq, Some, sym, ap, ◌∙◌}
 use Rattle.std.specs.List.{count_by}
-use Rattle.cudf_value.specs.Contracts.Views.{vpkg_view}
+use Rattle.cudf_value.specs.Promises.Views.{vpkg_view}
 use Rattle.cudf_value.specs.Vpkgs.{meets}
 use Rattle.cudf_universe.specs.Satisfaction.{numbers_of, gives_all_versions, without, is_below_one, satisfies}
 use Rattle.cudf_universe.proofs.TakenOffLemmas.{kept_exceeds, satisfies-counted, more_than_own, unsatisfied_without}

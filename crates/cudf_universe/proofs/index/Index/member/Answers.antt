@@ -6,7 +6,7 @@ use Rattle.cudf_document.specs.declared.package.Package.{Package}
 use Rattle.std.specs.FinSet as set
 use Rattle.std.proofs.lemmas.Option.{slice_get-map}
 use Rattle.cudf_document.specs.Universe.{PlainPackage}
-use Rattle.cudf_document.specs.Contracts.Views.{package_view}
+use Rattle.cudf_document.specs.Promises.Views.{package_view}
 use Rattle.cudf_universe.specs.Satisfaction.{Placed, members}
 use Rattle.cudf_universe.proofs.TakenOffLemmas.{got, find_below, find_unheld, find_at_place}
 use Rattle.cudf_universe.proofs.index.Index.member.Goals as goal

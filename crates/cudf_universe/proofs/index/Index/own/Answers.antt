@@ -4,10 +4,10 @@ use Rattle.std.specs.Option.{IfSome}
 use Rattle.std.specs.FinSet as set
 use Rattle.std.specs.List.{count_by}
 use Rattle.std.proofs.lemmas.List.{length-map}
-use Rattle.cudf_value.specs.Contracts.Views.{vpkg_view}
+use Rattle.cudf_value.specs.Promises.Views.{vpkg_view}
 use Rattle.cudf_value.specs.Vpkgs.{meets}
 use Rattle.cudf_universe.specs.Satisfaction.{Placed, numbers_of, gives_all_versions, without}
-use Rattle.cudf_universe.specs.Contracts.Prices.{own_entries, own_cost}
+use Rattle.cudf_universe.specs.Promises.Prices.{own_entries, own_cost}
 use Rattle.cudf_universe.specs.Working.Members.{member_view}
 use Rattle.cudf_universe.proofs.TakenOffLemmas.{numbers_split, names_split}
 use Rattle.cudf_universe.proofs.index.Index.own.Goals as goal

@@ -4,9 +4,9 @@ use Rattle.std.proofs.lemmas.List.{take_all}
 use Rattle.std.proofs.lemmas.List.Folds.{list_any_at}
 use Rattle.std.proofs.lemmas.List.Sums.{sum_by-cons}
 use Rattle.cudf_value.specs.declared.formula.Atom.{Atom}
-use Rattle.cudf_value.specs.Contracts.Views.{atom_view}
+use Rattle.cudf_value.specs.Promises.Views.{atom_view}
 use Rattle.cudf_universe.specs.Satisfaction.{Placed, satisfies_atom}
-use Rattle.cudf_universe.specs.Contracts.Prices.{atom_lookups, clause_lookups}
+use Rattle.cudf_universe.specs.Promises.Prices.{atom_lookups, clause_lookups}
 use Rattle.cudf_universe.proofs.SearchLemmas.{list_any-map}
 use Rattle.cudf_universe.proofs.index.Index.satisfies_clause_counting.Goals as goal
 

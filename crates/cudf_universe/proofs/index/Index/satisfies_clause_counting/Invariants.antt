@@ -1,8 +1,8 @@
 use Rattle.std.proofs.Common.{◌≡◌, ◌+◌, ◌≤◌, false, take}
 use Rattle.std.specs.List.{list_any, sum_by}
-use Rattle.cudf_value.specs.Contracts.Views.{atom_view}
+use Rattle.cudf_value.specs.Promises.Views.{atom_view}
 use Rattle.cudf_universe.specs.Satisfaction.{satisfies_atom}
-use Rattle.cudf_universe.specs.Contracts.Prices.{atom_cost, atom_lookups}
+use Rattle.cudf_universe.specs.Promises.Prices.{atom_cost, atom_lookups}
 use Rattle.cudf_universe.proofs.index.Index.satisfies_clause_counting.Given as goal
 
 abbrev pub invariant-loop-atom : goal.invariant-loop-atom

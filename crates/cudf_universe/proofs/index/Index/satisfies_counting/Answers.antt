@@ -1,8 +1,8 @@
 use Rattle.std.proofs.Common.{◌≡◌, None, Some, sym, ap, ◌∙◌, length, arith}
-use Rattle.cudf_value.specs.Contracts.Views.{vpkg_view}
+use Rattle.cudf_value.specs.Promises.Views.{vpkg_view}
 use Rattle.cudf_universe.specs.Satisfaction.{numbers_of}
 use Rattle.cudf_universe.specs.Working.Kept.{Keeps}
-use Rattle.cudf_universe.specs.Contracts.Prices.{digits}
+use Rattle.cudf_universe.specs.Promises.Prices.{digits}
 use Rattle.cudf_universe.proofs.EndLemmas.{length_same}
 use Rattle.cudf_universe.proofs.TakenOffLemmas.{kept_exceeds, none_kept, satisfies-counted}
 use Rattle.cudf_universe.proofs.index.Index.satisfies_counting.Goals as goal

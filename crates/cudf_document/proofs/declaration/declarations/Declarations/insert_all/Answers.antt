@@ -1,6 +1,6 @@
 use Rattle.std.proofs.Common.{◌&&◌, ◌∷◌, [], ◌++◌, sym, subst, map}
 use Rattle.std.proofs.lemmas.List.{map_push}
-use Rattle.cudf_value.specs.Contracts.Types.{declaration_view}
+use Rattle.cudf_value.specs.Promises.Types.{declaration_view}
 use Rattle.cudf_document.proofs.DeclarationLemmas.{Added, Added-next}
 use Rattle.cudf_document.proofs.declaration.declarations.Declarations.insert_all.Goals as goal
 

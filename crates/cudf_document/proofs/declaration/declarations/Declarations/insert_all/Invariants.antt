@@ -1,5 +1,5 @@
 use Rattle.std.proofs.Common.{map}
-use Rattle.cudf_value.specs.Contracts.Types.{declaration_view}
+use Rattle.cudf_value.specs.Promises.Types.{declaration_view}
 use Rattle.cudf_document.proofs.DeclarationLemmas.{Added}
 use Rattle.cudf_document.proofs.declaration.declarations.Declarations.insert_all.Given as goal
 

@@ -1,5 +1,5 @@
 use Rattle.std.proofs.Common.{sym, ap, ◌∙◌}
-use Rattle.cudf_text.specs.Contracts.Views.{property_view}
+use Rattle.cudf_text.specs.Promises.Views.{property_view}
 use Rattle.cudf_document.specs.Working.PackageFields.{with_package_property}
 use Rattle.cudf_document.proofs.ListLemmas.{OnOk-along}
 use Rattle.cudf_document.proofs.PackageLemmas.{bare-need, bare-other}

@@ -1,6 +1,6 @@
 use Rattle.std.proofs.Common.{◌≡◌, true, sym, ap, ◌∙◌, is_some, Some, None, if◌then◌else◌}
 use Rattle.cudf_text.specs.declared.fault.Kind.TheVariants.{E9}
-use Rattle.cudf_value.specs.Contracts.Views.{formula_view}
+use Rattle.cudf_value.specs.Promises.Views.{formula_view}
 use Rattle.cudf_document.specs.Preamble.{recommends_in}
 use Rattle.cudf_document.specs.Working.PackageFields.{wrong_kind}
 use Rattle.cudf_document.proofs.ListLemmas.{is_some-option_map}

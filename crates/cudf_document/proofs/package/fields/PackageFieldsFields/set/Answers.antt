@@ -1,5 +1,5 @@
 use Rattle.std.proofs.Common.{ap, ◌∙◌}
-use Rattle.cudf_text.specs.Contracts.Views.{property_view}
+use Rattle.cudf_text.specs.Promises.Views.{property_view}
 use Rattle.cudf_document.specs.Working.PackageFields.{package_fields_view, with_package_property}
 use Rattle.cudf_document.proofs.PackageLemmas.{package_fields_of-first}
 use Rattle.cudf_document.proofs.ListLemmas.{OnOk-along}

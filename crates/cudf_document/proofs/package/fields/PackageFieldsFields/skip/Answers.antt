@@ -1,5 +1,5 @@
 use Rattle.std.proofs.Common.{sym, ◌∙◌}
-use Rattle.cudf_text.specs.Contracts.Views.{property_view}
+use Rattle.cudf_text.specs.Promises.Views.{property_view}
 use Rattle.cudf_document.proofs.PackageLemmas.{package_fields_of-repeated}
 use Rattle.cudf_document.proofs.package.fields.PackageFieldsFields.skip.Goals as goal
 

@@ -1,7 +1,7 @@
 use Rattle.std.proofs.Common.{◌∙◌, ap, map}
-use Rattle.cudf_text.specs.Contracts.Cursor.{Left, with_next}
+use Rattle.cudf_text.specs.Promises.Cursor.{Left, with_next}
 use Rattle.cudf_text.specs.Stanzas.{PlainStanza}
-use Rattle.cudf_text.specs.Contracts.Views.{property_view}
+use Rattle.cudf_text.specs.Promises.Views.{property_view}
 use Rattle.cudf_document.proofs.ChosenLemmas.{ChosenGoesOn-next, ChosenGoesOn-end}
 use Rattle.cudf_document.proofs.problem.chosen.Chosen.of.Goals as goal
 

@@ -1,4 +1,4 @@
-use Rattle.cudf_text.specs.Contracts.Views.{stanza_view}
+use Rattle.cudf_text.specs.Promises.Views.{stanza_view}
 use Rattle.cudf_document.proofs.PartsLemmas.{passed}
 use Rattle.cudf_document.proofs.problem.parts.PartsKept.pass.Goals as goal
 

@@ -1,9 +1,9 @@
 use Rattle.std.proofs.Common.{◌++◌, map, option_to_list, refl, ap, ◌∙◌}
-use Rattle.cudf_text.specs.Contracts.Views.{stanza_view}
+use Rattle.cudf_text.specs.Promises.Views.{stanza_view}
 use Rattle.cudf_document.specs.declared.problem.parts.Parts.{Parts}
 use Rattle.cudf_document.specs.declared.stanza.postmark.Postmark.TheVariants.{Package}
 use Rattle.std.specs.Prelude.{Some}
-use Rattle.cudf_document.specs.Contracts.Views.{package_view}
+use Rattle.cudf_document.specs.Promises.Views.{package_view}
 use Rattle.cudf_document.specs.Working.Kept.{kept_by}
 use Rattle.cudf_document.specs.Working.PackageFields.{package_fields_of, package_from, passes, needing_if}
 use Rattle.cudf_document.proofs.PartsLemmas.{package_kept, kept_values}

@@ -1,7 +1,7 @@
 use Rattle.std.proofs.Common.{Some, option_map, is_some, if◌then◌else◌, refl, ap, ◌∙◌}
-use Rattle.cudf_text.specs.Contracts.Views.{stanza_view}
+use Rattle.cudf_text.specs.Promises.Views.{stanza_view}
 use Rattle.cudf_document.specs.declared.stanza.postmark.Postmark.TheVariants.{Request}
-use Rattle.cudf_document.specs.Contracts.Views.{request_view}
+use Rattle.cudf_document.specs.Promises.Views.{request_view}
 use Rattle.cudf_document.proofs.PartsLemmas.{request_kept, kept_values}
 use Rattle.cudf_document.proofs.problem.parts.PartsKept.take_request.Goals as goal
 

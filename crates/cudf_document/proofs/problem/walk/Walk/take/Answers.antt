@@ -1,5 +1,5 @@
 use Rattle.std.proofs.Common.{◌||◌, ◌∙◌}
-use Rattle.cudf_text.specs.Contracts.Views.{stanza_view}
+use Rattle.cudf_text.specs.Promises.Views.{stanza_view}
 use Rattle.cudf_document.specs.Faults.{lesser}
 use Rattle.cudf_document.specs.Working.Walks.{texts}
 use Rattle.cudf_document.proofs.WalkLemmas.{IsKnown-next}

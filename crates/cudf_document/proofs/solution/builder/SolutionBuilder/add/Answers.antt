@@ -1,7 +1,7 @@
 use Rattle.std.proofs.Common.{◌≡◌, ◌++◌, true, false, Some, None, map, is_some, option_map, option_and_then, option_to_list, sym, ap, ◌∙◌, if◌then◌else◌}
 use Rattle.std.proofs.lemmas.List.{append-nil, map_push}
 use Rattle.cudf_document.specs.Ids.{Id, is_id, is_among}
-use Rattle.cudf_document.specs.Contracts.Views.{unknown_view}
+use Rattle.cudf_document.specs.Promises.Views.{unknown_view}
 use Rattle.cudf_document.specs.Statuses.{unknown_with}
 use Rattle.cudf_document.specs.Working.SolutionBuilders.{ids_of}
 use Rattle.cudf_document.proofs.SolutionBuilderLemmas.{is_some-position, flags_next}

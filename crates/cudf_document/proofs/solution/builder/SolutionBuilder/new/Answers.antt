@@ -1,6 +1,6 @@
 use Rattle.std.proofs.Common.{◌≡◌, length, replicate, false, sym, ap, ◌∙◌}
 use Rattle.std.proofs.lemmas.List.{length-map}
-use Rattle.cudf_document.specs.Contracts.Views.{package_view}
+use Rattle.cudf_document.specs.Promises.Views.{package_view}
 use Rattle.cudf_document.specs.Universe.{package_id}
 use Rattle.cudf_document.specs.Working.SolutionBuilders.{ids_of}
 use Rattle.cudf_document.proofs.SolutionBuilderLemmas.{none_flagged}

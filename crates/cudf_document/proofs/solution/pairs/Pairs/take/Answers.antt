@@ -1,5 +1,5 @@
 use Rattle.std.proofs.Common.{option_map, refl}
-use Rattle.cudf_text.specs.Contracts.Views.{stanza_view}
+use Rattle.cudf_text.specs.Promises.Views.{stanza_view}
 use Rattle.cudf_document.proofs.PairLemmas.{ArePairs-strict}
 use Rattle.cudf_document.proofs.solution.pairs.Pairs.take.Goals as goal
 

@@ -1,5 +1,5 @@
 use Rattle.std.proofs.Common.{option_map}
-use Rattle.cudf_text.specs.Contracts.Views.{stanza_view}
+use Rattle.cudf_text.specs.Promises.Views.{stanza_view}
 use Rattle.cudf_document.specs.Statuses.{installed_ids}
 use Rattle.cudf_document.proofs.SolutionBuilderLemmas.{IsSolutionRead-next}
 use Rattle.cudf_document.proofs.solution.reader.SolutionReader.take.Goals as goal

@@ -2,7 +2,7 @@ use Rattle.std.proofs.Common.{List, [], ◌∷◌, ◌++◌, map, ap, sym, ◌�
 use Rattle.std.specs.FinSet as set
 use Rattle.std.specs.List.{list_any}
 use Rattle.indexmap.specs.IndexSet.{insert_key}
-use Rattle.cudf_document.specs.Contracts.Views.{package_view}
+use Rattle.cudf_document.specs.Promises.Views.{package_view}
 use Rattle.cudf_universe.specs.Satisfaction.{Placed}
 use Rattle.cudf_referee.specs.Working.Standings.{no_standing, names_held, standing_of}
 use Rattle.cudf_referee.proofs.StandingLemmas.{held_more, name_more}

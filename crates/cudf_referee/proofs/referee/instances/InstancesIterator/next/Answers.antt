@@ -1,12 +1,12 @@
 use Rattle.std.proofs.Common.{◌≡◌, ◌+◌, ℕ, map, option_map, ap, sym, ◌∙◌, subst}
-use Rattle.cudf_document.specs.Contracts.Views.{unknown_view}
-use Rattle.cudf_referee.specs.Contracts.Pages.{at_instance}
-use Rattle.cudf_referee.specs.Contracts.PositionViews.{position_view}
+use Rattle.cudf_document.specs.Promises.Views.{unknown_view}
+use Rattle.cudf_referee.specs.Promises.Pages.{at_instance}
+use Rattle.cudf_referee.specs.Promises.PositionViews.{position_view}
 use Rattle.cudf_referee.specs.Proposals.{put_forward}
-use Rattle.cudf_referee.specs.Contracts.Sites.{PlainPosition}
-use Rattle.cudf_referee.specs.Contracts.Views.{instance_view}
+use Rattle.cudf_referee.specs.Promises.Sites.{PlainPosition}
+use Rattle.cudf_referee.specs.Promises.Views.{instance_view}
 use Rattle.cudf_referee.specs.Working.Named.{has_kept_name}
-use Rattle.cudf_referee.specs.Contracts.Walks.{Walking}
+use Rattle.cudf_referee.specs.Promises.Walks.{Walking}
 use Rattle.cudf_referee.specs.Working.Places.{IsFitting, BeginsAt, next_place}
 use Rattle.cudf_referee.proofs.MoveLemmas.{moves, moves-same, moved-on}
 use Rattle.cudf_referee.proofs.PlaceLemmas.{place-moves}

@@ -2,8 +2,8 @@ use Rattle.std.proofs.Common.{false, sym, ◌∙◌, arith}
 use Rattle.std.specs.FinSet as set
 use Rattle.std.proofs.lemmas.List.{length-map}
 use Rattle.std.proofs.lemmas.Option.{slice_get_within}
-use Rattle.cudf_value.specs.Contracts.Views.{vpkg_view}
-use Rattle.cudf_document.specs.Contracts.Views.{package_view}
+use Rattle.cudf_value.specs.Promises.Views.{vpkg_view}
+use Rattle.cudf_document.specs.Promises.Views.{package_view}
 use Rattle.cudf_document.specs.Statuses.{is_initial}
 use Rattle.cudf_universe.specs.Satisfaction.{members}
 use Rattle.cudf_referee.specs.Working.Named.{has_kept_name}

@@ -1,5 +1,5 @@
 use Rattle.std.proofs.Common.{◌≡◌, ℕ, List, ◌++◌, length, take, map, false}
-use Rattle.cudf_value.specs.Contracts.Views.{vpkg_view}
+use Rattle.cudf_value.specs.Promises.Views.{vpkg_view}
 use Rattle.cudf_universe.specs.Working.Gathering.{row_of, provisions_of}
 use Rattle.cudf_universe.proofs.index.gathered_names.GatheredNames.add_entries.Given as goal
 

@@ -2,8 +2,8 @@ use Rattle.std.proofs.Common.{◌≡◌, ℕ, List, true, false, ap, sym, ◌∙
 use Rattle.std.specs.Prelude.{option_map}
 use Rattle.std.proofs.lemmas.List.{append-nil}
 use Rattle.cudf_value.specs.Vpkgs.{PlainVpkg}
-use Rattle.cudf_value.specs.Contracts.Views.{vpkg_view}
-use Rattle.cudf_document.specs.Contracts.Views.{package_view}
+use Rattle.cudf_value.specs.Promises.Views.{vpkg_view}
+use Rattle.cudf_document.specs.Promises.Views.{package_view}
 use Rattle.cudf_universe.specs.declared.index.gathered_names.Provision.{Provision}
 use Rattle.cudf_universe.specs.Working.Gathering.{row_of, provisions_of, own_entry}
 use Rattle.cudf_universe.proofs.GatheringLemmas.{provisions-cons}

@@ -2,7 +2,7 @@ use Rattle.std.proofs.Common.{◌≡◌, ℕ, ◌+◌, Bool, true, false, cond, 
 use Rattle.std.specs.Prelude.{filter_map}
 use Rattle.std.specs.List.{count_by}
 use Rattle.cudf_value.specs.Vpkgs.{PlainVpkg}
-use Rattle.cudf_value.specs.Contracts.Views.{vpkg_view}
+use Rattle.cudf_value.specs.Promises.Views.{vpkg_view}
 use Rattle.cudf_document.specs.Ids.{Id}
 use Rattle.cudf_universe.specs.Satisfaction.{is_met_by, entry_pair}
 use Rattle.cudf_universe.specs.Working.Kept.{is_met_by_entry}

@@ -1,5 +1,5 @@
 use Rattle.std.proofs.Common.{sym, ◌∙◌}
-use Rattle.cudf_value.specs.Contracts.Views.{vpkg_view}
+use Rattle.cudf_value.specs.Promises.Views.{vpkg_view}
 use Rattle.cudf_universe.proofs.TakenOffLemmas.{names_counted}
 use Rattle.cudf_universe.proofs.index.member.Member.unversioned.Goals as goal
 

@@ -1,6 +1,6 @@
 use Rattle.std.proofs.Common.{ap, ◌∙◌, ◌∷◌, [], Some, None, subst}
 use Rattle.std.specs.Prelude.{option_map}
-use Rattle.cudf_value.specs.Contracts.Views.{vpkg_view}
+use Rattle.cudf_value.specs.Promises.Views.{vpkg_view}
 use Rattle.cudf_universe.specs.Working.Kept.{Keeps}
 use Rattle.cudf_universe.specs.Working.Shares.{GivesMuch}
 use Rattle.cudf_universe.proofs.ShareLemmas.{share_numbers, share_unversioned, share_price}

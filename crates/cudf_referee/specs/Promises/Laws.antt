@@ -2,13 +2,13 @@
 use Rattle.std.specs.Prelude.{◌≡◌, ◌≤◌, ℕ, Bool, true, List, All, length, take, sum, Option, Some, None, IsTrue}
 use Rattle.std.specs.List.{flat_map}
 use Rattle.cudf_document.specs.Ids.{Id}
-use Rattle.cudf_document.specs.Contracts.Thin.{thin_problem}
+use Rattle.cudf_document.specs.Promises.Thin.{thin_problem}
 use Rattle.cudf_document.specs.Universe.{PlainPackage, PlainProblem, package_at, package_id}
 use Rattle.cudf_document.specs.Statuses.{PlainUnknown, ascend_above}
 use Rattle.cudf_referee.specs.Criteria.{criteria}
 use Rattle.cudf_referee.specs.Keys.{PlainKey, key_text}
-use Rattle.cudf_referee.specs.Contracts.Keys.{IsWritable}
-use Rattle.cudf_referee.specs.Contracts.Pages.{pages, ReadsKeys, page_bound, page_price}
+use Rattle.cudf_referee.specs.Promises.Keys.{IsWritable}
+use Rattle.cudf_referee.specs.Promises.Pages.{pages, ReadsKeys, page_bound, page_price}
 use Rattle.cudf_referee.specs.Proposals.{Proposal, proposal}
 use Rattle.cudf_referee.specs.Violations.{listing}
 use Rattle.cudf_referee.specs.Solutions.{is_solution}

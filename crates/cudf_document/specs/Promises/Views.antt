@@ -3,7 +3,7 @@ use Rattle.std.specs.Prelude.{List, map, option_map, Vec}
 use Rattle.std.specs.declared.alloc.Global.{Global}
 use Rattle.cudf_value.specs.declared.vpkg.Vpkg.{Vpkg}
 use Rattle.cudf_value.specs.Vpkgs.{PlainVpkg}
-use Rattle.cudf_value.specs.Contracts.Views.{vpkg_view, formula_view}
+use Rattle.cudf_value.specs.Promises.Views.{vpkg_view, formula_view}
 use Rattle.cudf_document.specs.declared.package.Package.{Package}
 use Rattle.cudf_document.specs.declared.request.Request.{Request}
 use Rattle.cudf_document.specs.Universe.{PlainPackage, PlainRequest}

@@ -8,7 +8,7 @@ use Rattle.cudf_text.specs.Stanzas.{PlainText}
 use Rattle.cudf_document.specs.declared.mode.Mode.{Mode}
 use Rattle.cudf_document.specs.declared.mode.Mode.TheVariants.{Lenient, Strict}
 use Rattle.cudf_document.specs.Faults.{precedes, least}
-use Rattle.cudf_document.specs.Contracts.Packages.{is_package}
+use Rattle.cudf_document.specs.Promises.Packages.{is_package}
 use Rattle.cudf_document.specs.Documents.{is_request}
 use Rattle.cudf_document.specs.Preamble.{declared}
 use Rattle.cudf_document.specs.ProblemFaults.{problem_faults}

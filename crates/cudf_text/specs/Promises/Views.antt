@@ -5,7 +5,7 @@ use Rattle.std.specs.Cow.{cow_str_bytes}
 use Rattle.cudf_text.specs.declared.text.Property.{Property}
 use Rattle.cudf_text.specs.declared.text.Stanza.{Stanza}
 use Rattle.cudf_text.specs.declared.text.Text.{Text}
-use Rattle.cudf_text.specs.Contracts.Joins.{is_owned}
+use Rattle.cudf_text.specs.Promises.Joins.{is_owned}
 use Rattle.cudf_text.specs.Stanzas.{PlainProperty, PlainStanza, PlainText, plain_text}
 
 -- a property, its value by its bytes

@@ -4,7 +4,7 @@ use Rattle.cudf_text.specs.declared.cursor.Next.{Next}
 use Rattle.cudf_text.specs.declared.cursor.Next.TheVariants as next
 use Rattle.cudf_text.specs.declared.text.Property.{Property}
 use Rattle.cudf_text.specs.Stanzas.{PlainText}
-use Rattle.cudf_text.specs.Contracts.Views.{property_view, owned_in}
+use Rattle.cudf_text.specs.Promises.Views.{property_view, owned_in}
 
 -- the bytes of the whole text, the stanzas that are left with the text's fault and lines,
 -- and which of the values that are left are joined

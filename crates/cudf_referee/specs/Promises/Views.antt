@@ -1,7 +1,7 @@
 -- What contracts see of instances, wherever they lie in memory: own.
 use Rattle.std.specs.Prelude.{List, map, option_map, Vec}
 use Rattle.std.specs.declared.alloc.Global.{Global}
-use Rattle.cudf_value.specs.Contracts.Views.{vpkg_view, clause_view}
+use Rattle.cudf_value.specs.Promises.Views.{vpkg_view, clause_view}
 use Rattle.cudf_referee.specs.declared.instance.Instance.{Instance}
 use Rattle.cudf_referee.specs.declared.instance.What.{What}
 use Rattle.cudf_referee.specs.declared.instance.What.TheVariants.{Needs, ConflictsWith, KeepVersion, KeepPackage, KeepFeature, Install, Remove, Upgrade, Unknown}
