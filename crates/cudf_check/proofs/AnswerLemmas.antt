@@ -21,11 +21,8 @@ use Rattle.cudf_check.specs.Working.Answering.{Answers}
 use Rattle.cudf_check.specs.Working.Printing.{Writes, Prints}
 use Rattle.cudf_check.specs.Working.Refusals.{IsReportOf}
 use Rattle.cudf_check.proofs.BufferLemmas.{Printed, Printed-flushed, Printed-cut}
+use Rattle.cudf_check.proofs.CommonLemmas.{none_below}
 use Rattle.cudf_check.proofs.PrintLemmas.{done, broken}
-
--- no count is below itself
-none_below : (f g : ℕ) → f ≡ g → f < g → ⊥
-none_below f g same below = omega arith
 
 -- memory ran out before the first byte
 pub memory_first : (a : SinkState) (report : Report) → Answers a a report (Err Memory)

@@ -6,6 +6,7 @@ use Rattle.cudf_check.specs.Device.{SourceState}
 use Rattle.cudf_check.specs.ManyRuns.{changes, OfOne, OfEach, LeavesBehind}
 use Rattle.cudf_check.specs.Runs.{Change, change, ReadsAll, IsUnfinished, IsTooLong, IsStopped}
 use Rattle.cudf_check.specs.Working.InTurn.{ReadsInTurn}
+use Rattle.cudf_check.proofs.CommonLemmas.{same_error}
 
 -- the reading was ended, and went well
 pub record WasRead (reader : Change SourceState) (bytes : List ℕ) : Type 0 where
@@ -220,11 +221,8 @@ stopped state n olds news read x d texts reading e (Err y) below m is too_long u
     let error : y ≡ e = same.1 in
     record {
       all = tt;
-      too_long = (λ h. too_long_one.1 (too_long.0 (is ∙ ap Err (sym error ∙ inner h))), λ h. ap Err (error ∙ inner (sym is ∙ too_long.1 (too_long_one.0 h))));
-      read = (λ h. unfinished_one.1 (unfinished.0 (is ∙ ap Err (sym error ∙ inner h))), λ h. ap Err (error ∙ inner (sym is ∙ unfinished.1 (unfinished_one.0 h))));
+      too_long = (λ h. too_long_one.1 (too_long.0 (is ∙ ap Err (sym error ∙ same_error h))), λ h. ap Err (error ∙ same_error (sym is ∙ too_long.1 (too_long_one.0 h))));
+      read = (λ h. unfinished_one.1 (unfinished.0 (is ∙ ap Err (sym error ∙ same_error h))), λ h. ap Err (error ∙ same_error (sym is ∙ unfinished.1 (unfinished_one.0 h))));
       behind = left_behind state n olds news read x below_old m.same_length m.texts_are m.rest;
-      no_write = λ h. no_write (is ∙ ap Err (sym error ∙ inner h));
+      no_write = λ h. no_write (is ∙ ap Err (sym error ∙ same_error h));
     }
-  where
-    inner : {V : Type 0} {a b : RunError} → ◌≡◌ {0} {A = Result V RunError} (Err a) (Err b) → a ≡ b
-    inner h = cc h

@@ -1,5 +1,6 @@
 pub mod AnswerLemmas
 pub mod BufferLemmas
+pub mod CommonLemmas
 mod Examples
 pub mod InputsLemmas
 pub mod JudgingLemmas

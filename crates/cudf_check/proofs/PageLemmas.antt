@@ -17,6 +17,7 @@ use Rattle.cudf_check.specs.Report.{line, listed, limited, last_key, more_text, 
 use Rattle.cudf_referee.specs.Promises.Pages as pages
 use Rattle.cudf_referee.specs.Promises.Walks.{Walking, left}
 use Rattle.cudf_check.specs.Working.Pages.{Ascends, IsPageEnd, more_behind}
+use Rattle.cudf_check.proofs.CommonLemmas.{and_left, and_right, is_less}
 
 -- ---- the order of keys
 
@@ -31,18 +32,11 @@ behind key is = filter (λ i. is_lt (key_cmp key i.key)) is
 keys : List PlainInstance → List PlainKey
 keys is = map (λ i. i.key) is
 
-is_less : (o : Ordering) → is_lt o ≡ true → o ≡ Less
-is_less Less h = refl
-is_less Equal h = absurd (true≢false (sym h))
-is_less Greater h = absurd (true≢false (sym h))
+some_of : {a b : PlainKey} → Some a ≡ Some b → a ≡ b
+some_of e = cc e
 
-both_left : (a b : Bool) → (a && b) ≡ true → a ≡ true
-both_left true b h = refl
-both_left false b h = absurd (true≢false (sym h))
-
-both_right : (a b : Bool) → (a && b) ≡ true → b ≡ true
-both_right true b h = h
-both_right false b h = absurd (true≢false (sym h))
+none_is_some : {key : PlainKey} → ◌≡◌ {0} {A = Option PlainKey} None (Some key) → ⊥
+none_is_some e = cc e
 
 precedes-through : (a b c : PlainKey) → precedes a b ≡ true → precedes b c ≡ true → precedes a c ≡ true
 precedes-through a b c h k = ap is_lt (nat_list_cmp_total.trans (key_ranks a) (key_ranks b) (key_ranks c) (is_less (key_cmp a b) h) (is_less (key_cmp b c) k))
@@ -63,43 +57,32 @@ precedes-itself a = itself_case a (precedes a a) refl
 behind-all : (key : PlainKey) (is : List PlainInstance) → precedes_all key (map (λ i. i.key) is) ≡ true → behind key is ≡ is
 behind-all key [] h = refl
 behind-all key (i ∷ is) h =
-    let here = both_left (precedes key i.key) (precedes_all key (map (λ j. j.key) is)) h in
-    let others = both_right (precedes key i.key) (precedes_all key (map (λ j. j.key) is)) h in
+    let here = and_left (precedes key i.key) (precedes_all key (map (λ j. j.key) is)) h in
+    let others = and_right (precedes key i.key) (precedes_all key (map (λ j. j.key) is)) h in
     ap (λ b. cond b (i ∷ behind key is) (behind key is)) here ∙ ap (λ js. i ∷ js) (behind-all key is others)
 
 -- the first of several comes before the last one
 before_last : (first key : PlainKey) (i : PlainInstance) (front back : List PlainInstance) → precedes_all first (map (λ j. j.key) ((i ∷ front) ++ back)) ≡ true
     → last_key (i ∷ front) ≡ Some key → precedes first key ≡ true
-before_last first key i [] back h last = same_key (precedes first i.key) i.key key (both_left (precedes first i.key) (precedes_all first (map (λ j. j.key) back)) h) last
-  where
-    some_of : (a b : PlainKey) → Some a ≡ Some b → a ≡ b
-    some_of a b e = cc e
-
-    same_key : (b : Bool) (a c : PlainKey) → precedes first a ≡ true → Some a ≡ Some c → precedes first c ≡ true
-    same_key b a c before e = ap (precedes first) (sym (some_of a c e)) ∙ before
+before_last first key i [] back h last = 
+    ap (precedes first) (sym (some_of last)) ∙ and_left (precedes first i.key) (precedes_all first (map (λ j. j.key) back)) h
 before_last first key i (j ∷ front) back h last =
-    before_last first key j front back (both_right (precedes first i.key) (precedes_all first (map (λ k. k.key) ((j ∷ front) ++ back))) h) last
+    before_last first key j front back (and_right (precedes first i.key) (precedes_all first (map (λ k. k.key) ((j ∷ front) ++ back))) h) last
 
 -- behind the last key of a front lies what follows the front
 pub behind-front : (key : PlainKey) (front back : List PlainInstance) → ascend (map (λ i. i.key) (front ++ back)) ≡ true → last_key front ≡ Some key
     → behind key (front ++ back) ≡ back
-behind-front key [] back h last = absurd (none_is_some key last)
-  where
-    none_is_some : (key : PlainKey) → None ≡ Some key → ⊥
-    none_is_some key e = cc e
+behind-front key [] back h last = absurd (none_is_some last)
 behind-front key (i ∷ []) back h last =
-    let others = both_left (precedes_all i.key (map (λ j. j.key) back)) (ascend (map (λ j. j.key) back)) h in
-    ap (λ k. behind k (i ∷ back)) (sym (some_of i.key key last))
+    let others = and_left (precedes_all i.key (map (λ j. j.key) back)) (ascend (map (λ j. j.key) back)) h in
+    ap (λ k. behind k (i ∷ back)) (sym (some_of last))
     ∙ ap (λ b. cond b (i ∷ behind i.key back) (behind i.key back)) (precedes-itself i.key)
     ∙ behind-all i.key back others
-  where
-    some_of : (a b : PlainKey) → Some a ≡ Some b → a ≡ b
-    some_of a b e = cc e
 behind-front key (i ∷ j ∷ front) back h last =
     let rest = (j ∷ front) ++ back in
-    let before = before_last i.key key j front back (both_left (precedes_all i.key (map (λ k. k.key) rest)) (ascend (map (λ k. k.key) rest)) h) last in
+    let before = before_last i.key key j front back (and_left (precedes_all i.key (map (λ k. k.key) rest)) (ascend (map (λ k. k.key) rest)) h) last in
     ap (λ b. cond b (i ∷ behind key rest) (behind key rest)) (precedes-back i.key key before)
-    ∙ behind-front key (j ∷ front) back (both_right (precedes_all i.key (map (λ k. k.key) rest)) (ascend (map (λ k. k.key) rest)) h) last
+    ∙ behind-front key (j ∷ front) back (and_right (precedes_all i.key (map (λ k. k.key) rest)) (ascend (map (λ k. k.key) rest)) h) last
 
 -- ---- behind a key, and behind a later one
 
@@ -108,8 +91,8 @@ follows_case : (key : PlainKey) (i : PlainInstance) (is : List PlainInstance) �
     → precedes_all key (map (λ j. j.key) is) ≡ true
 follows_case key i [] h k = refl
 follows_case key i (j ∷ is) h k =
-    let here = precedes-through key i.key j.key h (both_left (precedes i.key j.key) (precedes_all i.key (map (λ l. l.key) is)) k) in
-    let others = follows_case key i is h (both_right (precedes i.key j.key) (precedes_all i.key (map (λ l. l.key) is)) k) in
+    let here = precedes-through key i.key j.key h (and_left (precedes i.key j.key) (precedes_all i.key (map (λ l. l.key) is)) k) in
+    let others = follows_case key i is h (and_right (precedes i.key j.key) (precedes_all i.key (map (λ l. l.key) is)) k) in
     ap (λ b. b && precedes_all key (map (λ l. l.key) is)) here ∙ others
 
 -- an ascending list is a front and what lies behind a key
@@ -122,7 +105,7 @@ cut_case : (key : PlainKey) (i : PlainInstance) (is : List PlainInstance) (b : B
 cut_case key i is true h up cut = record {
   front = [];
   whole = behind-all key (i ∷ is) (ap (λ b. b && precedes_all key (map (λ j. j.key) is)) h
-      ∙ follows_case key i is h (both_left (precedes_all i.key (map (λ j. j.key) is)) (ascend (map (λ j. j.key) is)) up));
+      ∙ follows_case key i is h (and_left (precedes_all i.key (map (λ j. j.key) is)) (ascend (map (λ j. j.key) is)) up));
 }
 cut_case key i is false h up cut = record {
   front = i ∷ cut.front;
@@ -132,15 +115,12 @@ cut_case key i is false h up cut = record {
 pub is_cut : (key : PlainKey) (is : List PlainInstance) → ascend (map (λ i. i.key) is) ≡ true → IsCut key is
 is_cut key [] up = record { front = []; whole = refl }
 is_cut key (i ∷ is) up = cut_case key i is (precedes key i.key) refl up
-    (is_cut key is (both_right (precedes_all i.key (map (λ j. j.key) is)) (ascend (map (λ j. j.key) is)) up))
+    (is_cut key is (and_right (precedes_all i.key (map (λ j. j.key) is)) (ascend (map (λ j. j.key) is)) up))
 
 -- the last key of two lists is that of the second, where that has one
 last_of_both : (front : List PlainInstance) (is : List PlainInstance) (key : PlainKey) → last_key is ≡ Some key → last_key (front ++ is) ≡ Some key
 last_of_both [] is key h = h
-last_of_both (i ∷ []) [] key h = absurd (none_is_some key h)
-  where
-    none_is_some : (key : PlainKey) → None ≡ Some key → ⊥
-    none_is_some key e = cc e
+last_of_both (i ∷ []) [] key h = absurd (none_is_some h)
 last_of_both (i ∷ []) (j ∷ is) key h = h
 last_of_both (i ∷ j ∷ front) is key h = last_of_both (j ∷ front) is key h
 
@@ -244,6 +224,11 @@ chosen : (new : List PlainInstance) (last : Option Key) → (if is_empty new the
 chosen [] last = refl
 chosen (i ∷ new) last = refl
 
+-- without a key none is told
+pub more-no-key : (new : List PlainInstance) → more_line (option_map key_view (if is_empty new then None else None)) ≡ []
+more-no-key [] = refl
+more-no-key (i ∷ new) = refl
+
 -- the line behind a page is that of the key after which the next page begins
 pub more-line : (s : Proposal) (after : Option PlainKey) (limit : ℕ) (new : List PlainInstance) (last : Option Key) → Ascends s
     → IsPageEnd limit (listed after s) new last
@@ -253,28 +238,15 @@ more-line s after limit new (Some key) up (last, left) =
     ap (more_text s) last
     ∙ some_more s (key_view key) new None refl (left_of s after (key_view key) (take limit (listed after s)) (drop limit (listed after s)) up parts last ∙ sym left)
     ∙ chosen new (Some key)
-more-line s after limit new None up (inl none) = ap (more_text s) none ∙ sym (nothing new)
-  where
-    nothing : (new : List PlainInstance) → more_line (option_map key_view (if is_empty new then None else None)) ≡ []
-    nothing [] = refl
-    nothing (i ∷ new) = refl
+more-line s after limit new None up (inl none) = ap (more_text s) none ∙ sym (more-no-key new)
 more-line s after limit new None up (inr left) =
     let parts : listed after s ≡ take limit (listed after s) ++ [] = sym (take-append-drop limit (listed after s)) ∙ ap (λ is. take limit (listed after s) ++ is) left in
-    none_more s after (take limit (listed after s)) (last_key (take limit (listed after s))) up parts refl ∙ sym (nothing new)
-  where
-    nothing : (new : List PlainInstance) → more_line (option_map key_view (if is_empty new then None else None)) ≡ []
-    nothing [] = refl
-    nothing (i ∷ new) = refl
+    none_more s after (take limit (listed after s)) (last_key (take limit (listed after s))) up parts refl ∙ sym (more-no-key new)
 
 -- with the key of the last instance it is told where one is left
 pub more-key : (new : List PlainInstance) (key : Key) → more_line (option_map key_view (if is_empty new then None else Some key)) ≡ more_behind new (key_view key)
 more-key [] key = refl
 more-key (i ∷ new) key = refl
-
--- without one it isn't
-pub more-no-key : (new : List PlainInstance) → more_line (option_map key_view (if is_empty new then None else None)) ≡ []
-more-no-key [] = refl
-more-no-key (i ∷ new) = refl
 
 -- at the start, or behind a key, the rest of the listing is left
 listed_at : (s : Proposal) (after : Option PlainKey) → pages.left_at (pages.behind after) s ≡ listed after s

@@ -9,6 +9,7 @@ use Rattle.cudf_check.specs.declared.outcome.RunError.{RunError}
 use Rattle.cudf_check.specs.declared.outcome.RunError.TheVariants.{Write}
 use Rattle.cudf_check.specs.Device.{SinkState}
 use Rattle.cudf_check.specs.Working.Printing.{Prints}
+use Rattle.cudf_check.proofs.CommonLemmas.{none_below}
 use Rattle.cudf_check.proofs.BufferLemmas.{Printed, Printed-nil, Printed-prefix, Printed-then}
 
 -- nothing went wrong
@@ -29,13 +30,10 @@ pub Prints-none : (a : SinkState) (p : List ℕ) → Prints a a p p done []
 Prints-none a p = let none = Printed-nil a.contents p in record {
   ok = none.ok;
   prefix = none.prefix;
-  failed = (λ e. absurd (cc e), λ below. absurd (none_below a.failures below));
+  failed = (λ e. absurd (cc e), λ below. absurd (none_below a.failures a.failures refl below));
   calm = refl;
   only = tt;
 }
-  where
-    none_below : (f : ℕ) → f < f → ⊥
-    none_below f below = omega arith
 
 -- a text, and then another
 pub Prints-then : {T : Type 0} (a b c : SinkState) (p q r : List ℕ) (result : Result T RunError) (t u : List ℕ)

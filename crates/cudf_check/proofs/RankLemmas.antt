@@ -13,17 +13,12 @@ use Rattle.cudf_check.specs.RankRuns.{ReadsAllOf, RanksRun}
 use Rattle.cudf_check.specs.Runs.{Change, IsUnfinished, IsTooLong}
 use Rattle.cudf_check.specs.Working.Answering.{Answers}
 use Rattle.cudf_check.specs.Working.InTurn.{ReadsInTurn}
+use Rattle.cudf_check.proofs.CommonLemmas.{none_below, same_error}
 use Rattle.cudf_check.proofs.InputsLemmas.{WasRead, unfinished_fails, too_long_fails, none_still}
 
 -- nothing was written
 abbrev still : SinkState → Change SinkState
 still out = record { before = out; after = out }
-
-none_below : (f g : ℕ) → f ≡ g → f < g → ⊥
-none_below f g same below = omega arith
-
-inner : {V : Type 0} {a b : RunError} → ◌≡◌ {0} {A = Result V RunError} (Err a) (Err b) → a ≡ b
-inner h = cc h
 
 -- the reading of the problem ended in an error, and so did the run
 pub problem_stopped : {D T : Type 0} (aims : List Aim) (mode : Mode) (state : D → SourceState) (problem : Change SourceState) (xs : List D) (out : SinkState)
@@ -35,19 +30,19 @@ problem_stopped aims mode state problem xs out reading e (Err y) is too_long unf
     let error : y ≡ e = same.1 in
     record {
       done = tt;
-      cut_short = λ h. absurd (no_write (is ∙ ap Err (sym error ∙ inner h)));
+      cut_short = λ h. absurd (no_write (is ∙ ap Err (sym error ∙ same_error h)));
       untouched = λ other. Keeps-refl out.contents;
-      read = (λ h. inl (unfinished.0 (is ∙ ap Err (sym error ∙ inner h))), read_back error);
-      too_long = (λ h. inl (too_long.0 (is ∙ ap Err (sym error ∙ inner h))), long_back error);
-      write = (λ h. absurd (no_write (is ∙ ap Err (sym error ∙ inner h))), λ below. absurd (none_below out.failures out.failures refl below));
+      read = (λ h. inl (unfinished.0 (is ∙ ap Err (sym error ∙ same_error h))), read_back error);
+      too_long = (λ h. inl (too_long.0 (is ∙ ap Err (sym error ∙ same_error h))), long_back error);
+      write = (λ h. absurd (no_write (is ∙ ap Err (sym error ∙ same_error h))), λ below. absurd (none_below out.failures out.failures refl below));
     }
   where
     read_back : y ≡ e → IsUnfinished problem ⊎ OfOne IsUnfinished (changes state xs xs) → IsErrOf {T = Outcome} (Err y) Read
-    read_back error (inl h) = ap Err (error ∙ inner (sym is ∙ unfinished.1 h))
+    read_back error (inl h) = ap Err (error ∙ same_error (sym is ∙ unfinished.1 h))
     read_back error (inr h) = absurd (none_still state IsUnfinished (unfinished_fails state) xs h)
 
     long_back : y ≡ e → IsTooLong problem ⊎ OfOne IsTooLong (changes state xs xs) → IsErrOf {T = Outcome} (Err y) TooLong
-    long_back error (inl h) = ap Err (error ∙ inner (sym is ∙ too_long.1 h))
+    long_back error (inl h) = ap Err (error ∙ same_error (sym is ∙ too_long.1 h))
     long_back error (inr h) = absurd (none_still state IsTooLong (too_long_fails state) xs h)
 
 -- the problem was read, and the reading of the solutions ended in an error, and so did the run
@@ -60,20 +55,20 @@ solutions_stopped aims mode state problem first olds news out texts reading e (E
     let error : y ≡ e = same.1 in
     record {
       done = tt;
-      cut_short = λ h. absurd (turns.no_write (is ∙ ap Err (sym error ∙ inner h)));
+      cut_short = λ h. absurd (turns.no_write (is ∙ ap Err (sym error ∙ same_error h)));
       untouched = λ other. Keeps-refl out.contents;
-      read = (λ h. inr (turns.read.0 (is ∙ ap Err (sym error ∙ inner h))), read_back error);
-      too_long = (λ h. inr (turns.too_long.0 (is ∙ ap Err (sym error ∙ inner h))), long_back error);
-      write = (λ h. absurd (turns.no_write (is ∙ ap Err (sym error ∙ inner h))), λ below. absurd (none_below out.failures out.failures refl below));
+      read = (λ h. inr (turns.read.0 (is ∙ ap Err (sym error ∙ same_error h))), read_back error);
+      too_long = (λ h. inr (turns.too_long.0 (is ∙ ap Err (sym error ∙ same_error h))), long_back error);
+      write = (λ h. absurd (turns.no_write (is ∙ ap Err (sym error ∙ same_error h))), λ below. absurd (none_below out.failures out.failures refl below));
     }
   where
     read_back : y ≡ e → IsUnfinished problem ⊎ OfOne IsUnfinished (changes state olds news) → IsErrOf {T = Outcome} (Err y) Read
     read_back error (inl h) = absurd (was.finished h)
-    read_back error (inr h) = ap Err (error ∙ inner (sym is ∙ turns.read.1 h))
+    read_back error (inr h) = ap Err (error ∙ same_error (sym is ∙ turns.read.1 h))
 
     long_back : y ≡ e → IsTooLong problem ⊎ OfOne IsTooLong (changes state olds news) → IsErrOf {T = Outcome} (Err y) TooLong
     long_back error (inl h) = absurd (was.short h)
-    long_back error (inr h) = ap Err (error ∙ inner (sym is ∙ turns.too_long.1 h))
+    long_back error (inr h) = ap Err (error ∙ same_error (sym is ∙ turns.too_long.1 h))
 
 -- all was read, and answered
 module _ {D T : Type 0} (aims : List Aim) (mode : Mode) (state : D → SourceState) (problem : Change SourceState) (first : List ℕ) (olds news : List D)

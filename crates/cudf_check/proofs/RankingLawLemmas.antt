@@ -1,6 +1,6 @@
 -- The ranking has all standings, and each precedes all later ones.
 use Rattle.std.proofs.Common.{◌≡◌, ◌+◌, ◌<◌, ℕ, Bool, true, false, not, ◌&&◌, ◌==◌, cond, if◌then◌else◌, List, [], ◌∷◌, ◌++◌, ◌⊎◌, inl, inr, Some, find, map, IsTrue, IsPermutation, refl, sym, ap, ◌∙◌, subst, append-nil, eqb-true, arith}
-use Rattle.std.proofs.lemmas.Bool.{eq-eqb}
+use Rattle.std.proofs.lemmas.Bool.{eq-eqb, and_from as both}
 use Rattle.std.proofs.lemmas.Cmp.{ranked, tied_itself, nat_cmp_total, on_total, then_total, back_total}
 use Rattle.std.proofs.lemmas.List.Elements.{All-from_recursion, recursion_from_All}
 use Rattle.std.proofs.lemmas.List.Sorted.{All-permutation, IsPermutation-refl, IsPermutation-sym, IsPermutation-trans, IsPermutation-append_left, IsPermutation-middle, IsPermutation-insert}
@@ -22,6 +22,7 @@ use Rattle.cudf_check.specs.RankReport.{standing_of}
 use Rattle.cudf_check.specs.declared.ranking.Judgement.{Judgement}
 use Rattle.cudf_check.specs.declared.ranking.Judgement.TheVariants.{Solution, NoSolution, SaysFail}
 use Rattle.cudf_check.specs.declared.ranking.Standing.{Standing}
+use Rattle.cudf_check.proofs.CommonLemmas.{and_left, and_right, is_less}
 use Rattle.cudf_check.proofs.RankingLemmas.{inserted}
 
 clash : (b : Bool) → b ≡ true → b ≡ false → ⊥
@@ -105,11 +106,6 @@ precedes_is aims x y = by x.judgement y.judgement
     by SaysFail NoSolution = refl
     by SaysFail SaysFail = ap (λ o. is_lt (ordering_then o places)) alike
 
-is_less : (o : Ordering) → is_lt o ≡ true → o ≡ Less
-is_less Less h = refl
-is_less Equal h = absurd (cc h)
-is_less Greater h = absurd (cc h)
-
 then_equal : (o p : Ordering) → ordering_then o p ≡ Equal → p ≡ Equal
 then_equal Less p h = absurd (cc h)
 then_equal Equal p h = h
@@ -132,18 +128,6 @@ precedes_on aims x y z h k = precedes_is aims x z ∙ ap is_lt ((rank_total aims
     (is_less (rank_cmp aims x y) (sym (precedes_is aims x y) ∙ h)) (is_less (rank_cmp aims y z) (sym (precedes_is aims y z) ∙ k)))
 
 -- ---- tests of lists
-
-and_left : (a b : Bool) → (a && b) ≡ true → a ≡ true
-and_left true b h = refl
-and_left false b h = h
-
-and_right : (a b : Bool) → (a && b) ≡ true → b ≡ true
-and_right true b h = h
-and_right false b h = absurd (cc h)
-
-both : (a b : Bool) → a ≡ true → b ≡ true → (a && b) ≡ true
-both true b h k = k
-both false b h k = h
 
 all_weaker : {X : Type 0} (p q : X → Bool) → ((x : X) → p x ≡ true → q x ≡ true) → (xs : List X) → list_all p xs ≡ true → list_all q xs ≡ true
 all_weaker p q implies [] h = refl
