@@ -12,7 +12,7 @@ use Rattle.std.specs.declared.cmp.Ordering.{Ordering}
 use Rattle.std.specs.declared.cmp.Ordering.TheVariants.{Less, Equal, Greater}
 use Rattle.cudf_document.specs.Universe.{PlainProblem}
 use Rattle.cudf_referee.specs.Aims.{count_of}
-use Rattle.cudf_referee.specs.Promises.Aims.{sign_cmp, aim_cmp, differ_in, compare}
+use Rattle.cudf_referee.specs.Comparing.{sign_cmp, aim_cmp, differ_in, compare}
 use Rattle.cudf_referee.specs.declared.aims.Aim.{Aim}
 use Rattle.cudf_referee.specs.declared.aims.Sign.{Sign}
 use Rattle.cudf_referee.specs.declared.aims.Sign.TheVariants.{Least, Most}

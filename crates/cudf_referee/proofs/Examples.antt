@@ -14,7 +14,8 @@ use Rattle.cudf_referee.specs.declared.criteria.Criteria.{Criteria}
 use Rattle.cudf_referee.specs.declared.key.Part.TheVariants.{Package, Request}
 use Rattle.cudf_referee.specs.declared.key.Rule.{Rule}
 use Rattle.cudf_referee.specs.declared.key.Rule.TheVariants.{Depends, Install, Remove}
-use Rattle.cudf_referee.specs.Promises.Aims.{criterion, compare}
+use Rattle.cudf_referee.specs.Comparing.{compare}
+use Rattle.cudf_referee.specs.Promises.Aims.{criterion}
 use Rattle.cudf_referee.specs.Criteria.{criteria, paranoid, trendy}
 use Rattle.cudf_referee.specs.Keys.{PlainKey}
 use Rattle.cudf_referee.specs.Proposals.{Proposal, proposal}

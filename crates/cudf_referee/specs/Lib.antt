@@ -1,4 +1,5 @@
 pub mod Aims
+pub mod Comparing
 pub mod Criteria
 pub mod Entries
 pub mod Instances

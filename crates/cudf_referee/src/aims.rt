@@ -1,7 +1,7 @@
 //! Aims: which counts are to be small or great, the weightiest first. Proposed statuses are compared by them.
 ghost use Rattle.std.specs.Prelude.{◌≡◌};
 ghost use Rattle.cudf_referee.specs.Aims.{count_text, sign_text};
-ghost use Rattle.cudf_referee.specs.Promises.Aims.{sign_cmp, aim_cmp, differ_in, compare};
+ghost use Rattle.cudf_referee.specs.Comparing.{sign_cmp, aim_cmp, differ_in, compare};
 
 mod reading;
 

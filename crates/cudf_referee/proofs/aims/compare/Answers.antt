@@ -4,7 +4,7 @@ use Rattle.std.specs.Option.{option_map_or}
 use Rattle.std.specs.declared.cmp.Ordering.TheVariants.{Equal}
 use Rattle.std.proofs.lemmas.Iterator.{YieldsList-from_slice}
 use Rattle.std.proofs.lemmas.Iterator.Search.{find_from_yields_List}
-use Rattle.cudf_referee.specs.Promises.Aims.{aim_cmp, differ_in}
+use Rattle.cudf_referee.specs.Comparing.{aim_cmp, differ_in}
 use Rattle.cudf_referee.proofs.aims.compare.Goals as goal
 
 pub returns-in-Some : goal.returns-in-Some
