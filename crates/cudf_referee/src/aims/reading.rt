@@ -15,7 +15,7 @@ use std::alloc::{AllocError, Global};
 /// # Errors
 ///
 /// `AllocError` where memory for the aims is refused.
-#[tactic(auto, unfolding(crate::specs::Aims::criterion))]
+#[tactic(auto, unfolding(crate::specs::Promises::Aims::criterion))]
 pub fn read_criterion(alloc: Global, text: &str) -> Result<Option<Vec<Aim>>, AllocError>
     ensures { IfOk result (λ r. option_map (λ aims. aims.items) r ≡ criterion text.now) }
 {
