@@ -1,7 +1,6 @@
 -- The standing of a name, with one more package.
-use Rattle.std.proofs.Common.{◌≡◌, ℕ, suc, ◌+◌, ◌<◌, ◌≤◌, max, Bool, true, false, not, ◌&&◌, ◌||◌, ◌==◌, nat_lt, cond, List, [], ◌∷◌, ◌++◌, length, get_or, take, map, filter, Bor, ◌^◌, bytes_eq, if◌then◌else◌, refl, ap, sym, subst, ◌∙◌, arith, eq-eqb, eqb-true}
-use Rattle.std.proofs.Math.ListN.{set}
-use Rattle.std.specs.List.{list_any, list_all, position_or_len, count_by, enumerate_from}
+use Rattle.std.proofs.Common.{◌≡◌, ℕ, suc, ◌+◌, ◌<◌, ◌≤◌, max, Bool, true, false, not, ◌&&◌, ◌||◌, ◌==◌, nat_lt, cond, List, [], ◌∷◌, ◌++◌, length, get_or, take, map, filter, ◌^◌, bytes_eq, if◌then◌else◌, refl, ap, sym, subst, ◌∙◌, arith, eq-eqb, eqb-true}
+use Rattle.std.specs.List.{list_any, list_all, count_by, enumerate_from}
 use Rattle.std.proofs.lemmas.Bool.{true≢false, false_from_ne_true, ltb-true, ltb-false, lt-ltb}
 use Rattle.std.proofs.lemmas.List.{append-nil, map-append, length-map, take-map, get_or-map, length-take-le, map_push, take_more}
 use Rattle.std.proofs.lemmas.List.Elements.{filter-append}
@@ -13,13 +12,12 @@ use Rattle.cudf_document.specs.Universe.{PlainPackage, package_id}
 use Rattle.cudf_document.proofs.FaultlessLemmas.{distinct-at}
 use Rattle.cudf_universe.specs.Satisfaction.{Placed}
 use Rattle.cudf_referee.specs.declared.counting.standing.Standing.{Standing}
-use Rattle.cudf_referee.specs.declared.counting.standings.Standings.{Standings}
 use Rattle.cudf_referee.specs.Criteria.{each_once, names_of, versions_of, is_among, is_same_set, greatest, at_most_max}
 use Rattle.cudf_referee.specs.Violations.{has_package}
-use Rattle.cudf_referee.specs.Working.Standings.{no_standing, differ, standing_with, held, names_held, standing_of, standings_of, StandsFor}
+use Rattle.cudf_referee.specs.Working.Standings.{differ, standing_with, held, names_held, standing_of, standings_of}
 use Rattle.cudf_referee.proofs.EntryLemmas.{enumerate-push}
 use Rattle.cudf_referee.proofs.ListLemmas.{and_false, and_true, or_true, count-map}
-use Rattle.cudf_referee.proofs.NameLemmas.{text_same, other_way, any_once, once_push, distinct-once, kept_others, at_number, same_text, same_count}
+use Rattle.cudf_referee.proofs.NameLemmas.{text_same, other_way, any_once, once_push, same_text, same_count}
 
 -- ---- truth
 
@@ -208,50 +206,15 @@ held_more was is xs p = ap names_of (held-push (either was is) xs p) ∙ by (was
     by true = ap each_once (map-append (λ (q : Placed). q.1.name) (held (either was is) xs) (p ∷ [])) ∙ once_push (map (λ q. q.1.name) (held (either was is) xs)) p.1.name
     by false = ap names_of (append-nil (held (either was is) xs))
 
--- a name more, without packages
-pub name_more : (was is : ℕ → Bool) (f : List ℕ) (names : List (List ℕ)) (rows rows' : List Standing) → rows ≡ map (standing_of was is []) names
-    → rows' ≡ (if list_any (bytes_eq f) names then rows else rows ++ no_standing ∷ []) → rows' ≡ map (standing_of was is []) (insert_key bytes_eq names f)
-name_more was is f names rows rows' rows_are pushed = pushed ∙ by (list_any (bytes_eq f) names)
-  where
-    by : (b : Bool) → (if b then rows else rows ++ no_standing ∷ []) ≡ map (standing_of was is []) (cond b names (names ++ f ∷ []))
-    by true = rows_are
-    by false = ap (λ zs. zs ++ no_standing ∷ []) rows_are ∙ sym (map-append (standing_of was is []) names (f ∷ []))
-
 -- ---- the standings of some names, with one package more
 
 module _ (was is : ℕ → Bool) (xs : List Placed) (p : Placed) where
-  other : (g : List ℕ) → bytes_eq p.1.name g ≡ false → standing_of was is (xs ++ p ∷ []) g ≡ standing_of was is xs g
-  other g e = standing-push was is xs p g ∙ ap (grown was is xs p g) e ∙ grown_other was is xs p g
+  pub standing-other : (g : List ℕ) → bytes_eq p.1.name g ≡ false → standing_of was is (xs ++ p ∷ []) g ≡ standing_of was is xs g
+  standing-other g e = standing-push was is xs p g ∙ ap (grown was is xs p g) e ∙ grown_other was is xs p g
 
-  here : is_among (versions_of p.1.name xs) p.1.version ≡ false
+  pub standing-own : is_among (versions_of p.1.name xs) p.1.version ≡ false
       → standing_of was is (xs ++ p ∷ []) p.1.name ≡ standing_with (standing_of was is xs p.1.name) p.1.version (was p.0) (is p.0)
-  here fresh = standing-push was is xs p p.1.name ∙ ap (grown was is xs p p.1.name) (text_same p.1.name p.1.name refl) ∙ grown_own was is xs p p.1.name fresh
-
-  -- a package of one of the names
-  pub stands_more : (all : List Placed) (rows now : List Standing) (n : ℕ) (row row' : Standing)
-      → is_among (versions_of p.1.name xs) p.1.version ≡ false → rows ≡ map (standing_of was is xs) (names_held was is all)
-      → list_any (bytes_eq p.1.name) (names_held was is all) ≡ true
-      → n ≡ position_or_len (bytes_eq p.1.name) (names_held was is all)
-      → row ≡ get_or rows n row
-      → row' ≡ standing_with row p.1.version (was p.0) (is p.0)
-      → now ≡ set rows n row'
-      → now ≡ map (standing_of was is (xs ++ p ∷ [])) (names_held was is all)
-  stands_more all rows now n row row' fresh rows_are known at read with_it written =
-      written ∙ (λ i. set (rows_are i) (at i) (with_it i))
-      ∙ ap (λ r. set old place (standing_with r p.1.version (was p.0) (is p.0))) (read ∙ (λ i. get_or (rows_are i) (at i) row))
-      ∙ at_number (standing_of was is xs) (standing_of was is (xs ++ p ∷ [])) (λ r. standing_with r p.1.version (was p.0) (is p.0)) p.1.name (names_held was is all) row
-      (distinct-once (map (λ q. q.1.name) (held (either was is) all))) known other (here fresh)
-    where
-      old : List Standing
-      old = map (standing_of was is xs) (names_held was is all)
-
-      place : ℕ
-      place = position_or_len (bytes_eq p.1.name) (names_held was is all)
-
-  -- a package of none of them
-  pub stands_on : (names : List (List ℕ)) (rows : List Standing) → rows ≡ map (standing_of was is xs) names → list_any (bytes_eq p.1.name) names ≡ false
-      → rows ≡ map (standing_of was is (xs ++ p ∷ [])) names
-  stands_on names rows rows_are unknown = rows_are ∙ kept_others (standing_of was is xs) (standing_of was is (xs ++ p ∷ [])) p.1.name names other unknown
+  standing-own fresh = standing-push was is xs p p.1.name ∙ ap (grown was is xs p p.1.name) (text_same p.1.name p.1.name refl) ∙ grown_own was is xs p p.1.name fresh
 
 -- ---- packages that come in turn
 
@@ -296,10 +259,6 @@ module _ {A : Type 0} (view : A → PlainPackage) where
       (λ j. enumerate_from 1 (map view (take i xs)) ++ (sym long j, view item) ∷ [])
       ∙ sym (enumerate-push 1 (map view (take i xs)) (view item))
       ∙ ap (enumerate_from 1) (ap (λ x. map view (take i xs) ++ view x ∷ []) is ∙ sym (map_push view (take i xs) (get_or xs i item)) ∙ ap (map view) (sym (take_more xs i item within)))
-
-pub same_length : (was is : ℕ → Bool) (names : List (List ℕ)) (packages : List Placed) (s : Standings) → StandsFor was is names packages s → length s.standings.items ≡ length s.names.keys
-same_length was is names packages s stands =
-    omega (arith, ap length stands.standings_are, length-map names (standing_of was is packages), ap length stands.names_are, length-map s.names.keys (λ (name : Bor (List ℕ)). name.now))
 
 -- ---- counting
 
@@ -420,7 +379,7 @@ named_anywhere f e (x ∷ xs) h = by (e x.0) (bytes_eq f x.1.name) refl h (named
 count_held : (was is : ℕ → Bool) (xs : List Placed) (test : Standing → Bool) → ((top top_installed : ℕ) → test (idle top top_installed) ≡ false)
     → count_by (λ f. test (standing_of was is xs f)) (names_of xs) ≡ count_by (λ f. test (standing_of was is xs f)) (names_held was is xs)
 count_held was is xs test quiet =
-    same_count passes (names_of xs) (names_held was is xs) (distinct-once (map (λ q. q.1.name) xs)) (distinct-once (map (λ q. q.1.name) (held (either was is) xs)))
+    same_count passes (map (λ q. q.1.name) xs) (map (λ q. q.1.name) (held (either was is) xs))
     (λ f passed. by f passed (list_any (bytes_eq f) (names_held was is xs)) refl)
   where
     passes : List ℕ → Bool

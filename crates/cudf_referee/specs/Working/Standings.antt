@@ -1,8 +1,10 @@
 -- What counting gathers of each name.
 use Rattle.std.specs.Prelude.{◌≡◌, ℕ, Bool, false, not, ◌||◌, List, map, filter, max, if◌then◌else◌}
+use Rattle.std.specs.Borrow.{Bor}
+use Rattle.std.specs.List.{AllByRecursion}
+use Rattle.indexmap.specs.IndexMap.{IndexMap, keys}
 use Rattle.cudf_universe.specs.Satisfaction.{Placed}
 use Rattle.cudf_referee.specs.declared.counting.standing.Standing.{Standing}
-use Rattle.cudf_referee.specs.declared.counting.standings.Standings.{Standings}
 use Rattle.cudf_referee.specs.Criteria.{names_of, versions_of, is_same_set, greatest}
 use Rattle.cudf_referee.specs.Violations.{has_package}
 
@@ -45,11 +47,7 @@ names_held was is packages = names_of (held (λ place. was place || is place) pa
 abbrev pub standings_of : (ℕ → Bool) → (ℕ → Bool) → List Placed → List Standing
 standings_of was is packages = map (standing_of was is packages) (names_held was is packages)
 
--- the names that were gathered
-abbrev pub names_in : Standings → List (List ℕ)
-names_in s = map (λ name. name.now) s.names.keys
-
 -- what was gathered of these packages for these names
-pub record StandsFor (was is : ℕ → Bool) (names : List (List ℕ)) (packages : List Placed) (s : Standings) : Type 0 where
-  pub names_are : names_in s ≡ names
-  pub standings_are : s.standings.items ≡ map (standing_of was is packages) names
+pub record StandsFor {S : Type 0} (was is : ℕ → Bool) (names : List (List ℕ)) (packages : List Placed) (m : IndexMap (Bor (List ℕ)) Standing S) : Type 0 where
+  pub names_are : map (λ name. name.now) (keys m) ≡ names
+  pub standings_are : AllByRecursion (λ e. e.1 ≡ standing_of was is packages e.0.now) m.entries

@@ -1,15 +1,20 @@
-use Rattle.std.proofs.Common.{◌≡◌, ◌<◌, length, map, take, subst, List, [], arith, ap, ◌∙◌}
+use Rattle.std.proofs.Common.{◌≡◌, ℕ, Bor, ◌<◌, length, map, take, subst, List, [], arith, ap, sym, ◌∙◌}
 use Rattle.std.specs.FinSet as set
 use Rattle.std.specs.List.{enumerate_from}
 use Rattle.std.proofs.lemmas.List.{take_all}
 use Rattle.cudf_document.specs.Promises.Views.{package_view}
 use Rattle.cudf_universe.specs.Satisfaction.{Placed}
-use Rattle.cudf_referee.specs.Working.Standings.{StandsFor, names_held}
+use Rattle.std.specs.Map.{keys_of}
+use Rattle.cudf_referee.specs.declared.counting.standing.Standing.{Standing}
+use Rattle.cudf_referee.proofs.NameLemmas.{EachHas}
+use Rattle.cudf_referee.specs.Working.Standings.{no_standing, StandsFor, names_held}
 use Rattle.cudf_referee.proofs.StandingLemmas.{next_places}
 use Rattle.cudf_referee.proofs.counting.standings.names_of_either.Goals as goal
 
 pub loop-index-init : goal.loop-index-init
-loop-index-init c = c.new-standings.ensures (set.contains c.args.before.now) (set.contains c.args.proposed.now)
+loop-index-init c =
+    let none = c.new-standings.ensures.empty in
+    record { names_are = ap (λ (es : List (Bor (List ℕ) × Standing)). map (λ k. k.now) (keys_of es)) none; standings_are = subst (EachHas (λ name. no_standing)) (sym none) tt }
 
 pub loop-index-preserved : goal.loop-index-preserved
 loop-index-preserved c =
@@ -19,7 +24,7 @@ loop-index-preserved c =
     let before = set.contains c.args.before.now in
     let proposed = set.contains c.args.proposed.now in
     let below : i < length xs = omega arith in
-    let P : List Placed → Type 0 = λ ps. StandsFor before proposed (names_held before proposed ps) [] c.add_held.new.self in
+    let P : List Placed → Type 0 = λ ps. StandsFor before proposed (names_held before proposed ps) [] c.add_held.new.standings in
     subst P (next_places package_view xs i item below c.package-item.is)
     (c.in_ok-add_held.ensures (enumerate_from 1 (map package_view (take i xs))) c.loop-index.invariant)
 

@@ -5,17 +5,12 @@ use Rattle.std.proofs.lemmas.List.{take_all}
 use Rattle.cudf_document.specs.Promises.Views.{package_view}
 use Rattle.cudf_universe.specs.Satisfaction.{Placed}
 use Rattle.cudf_referee.specs.Working.Standings.{StandsFor, names_held, standing_of}
-use Rattle.cudf_referee.proofs.StandingLemmas.{next_fresh, next_places, same_length}
+use Rattle.cudf_referee.proofs.NameLemmas.{values-each}
+use Rattle.cudf_referee.proofs.StandingLemmas.{next_fresh, next_places}
 use Rattle.cudf_referee.proofs.counting.standings.standings_of.Goals as goal
 
 pub loop-index-init : goal.loop-index-init
 loop-index-init c = c.in_ok-standings.ensures
-
-pub add-requires : goal.add-requires
-add-requires c =
-    let before = set.contains c.args.before.now in
-    let proposed = set.contains c.args.proposed.now in
-    same_length before proposed (names_held before proposed (enumerate_from 1 c.args.problem.now.packages)) (enumerate_from 1 (map package_view (take c.loop-index.index c.packages-package-items.result.now))) c.loop-index.standings c.loop-index.invariant
 
 pub loop-index-preserved : goal.loop-index-preserved
 loop-index-preserved c =
@@ -26,7 +21,7 @@ loop-index-preserved c =
     let proposed = set.contains c.args.proposed.now in
     let all = enumerate_from 1 c.args.problem.now.packages in
     let below : i < length xs = omega arith in
-    let P : List Placed → Type 0 = λ ps. StandsFor before proposed (names_held before proposed all) ps c.add.new.self in
+    let P : List Placed → Type 0 = λ ps. StandsFor before proposed (names_held before proposed all) ps c.add.new.standings in
     subst P (next_places package_view xs i item below c.package-item.is)
     (c.add.ensures all (enumerate_from 1 (map package_view (take i xs)))
     (next_fresh package_view xs c.args.problem.now.packages i item c.packages-package-items.ensures.packages c.packages-package-items.ensures.distinct below c.package-item.is)
@@ -38,5 +33,6 @@ returns c =
     let before = set.contains c.args.before.now in
     let proposed = set.contains c.args.proposed.now in
     let all : map package_view (take c.loop-index.index xs) ≡ c.args.problem.now.packages = ap (map package_view) (take_all c.loop-index.index xs (omega arith)) ∙ c.packages-package-items.ensures.packages in
-    c.loop-index.invariant.standings_are
+    values-each (standing_of before proposed (enumerate_from 1 (map package_view (take c.loop-index.index xs)))) c.loop-index.standings.entries c.loop-index.invariant.standings_are
+    ∙ ap (map (standing_of before proposed (enumerate_from 1 (map package_view (take c.loop-index.index xs))))) c.loop-index.invariant.names_are
     ∙ ap (λ ps. map (standing_of before proposed (enumerate_from 1 ps)) (names_held before proposed (enumerate_from 1 c.args.problem.now.packages))) all
