@@ -5,7 +5,7 @@ use Rattle.std.specs.Option.{is_none, IfSome}
 use Rattle.std.specs.List.{count_by, cons_option, list_any}
 use Rattle.std.specs.Global.{Vec}
 use Rattle.std.proofs.lemmas.List.{map-append, append-nil}
-use Rattle.std.proofs.lemmas.List.Elements.{filter-append}
+use Rattle.std.proofs.lemmas.List.Elements.{filter-append, filter_map-append}
 use Rattle.cudf_value.specs.Vpkgs.{PlainVpkg}
 use Rattle.cudf_universe.specs.declared.index.entries.Entries.{Entries}
 use Rattle.cudf_universe.specs.declared.index.gathered_names.Provision.{Provision}
@@ -60,16 +60,11 @@ provisions-push v f place xs e =
     by false = refl
 
 pub filter_map_push : {X Y : Type 0} (h : X → Option Y) (xs : List X) (x : X) → filter_map h (xs ++ x ∷ []) ≡ filter_map h xs ++ option_to_list (h x)
-filter_map_push {Y = Y} h [] x = by (h x)
+filter_map_push {Y = Y} h xs x = filter_map-append h xs (x ∷ []) ∙ ap (λ ys. filter_map h xs ++ ys) (by (h x))
   where
     by : (o : Option Y) → cons_option o [] ≡ option_to_list o
     by None = refl
     by (Some y) = refl
-filter_map_push {Y = Y} h (y ∷ ys) x = by (h y) (filter_map_push h ys x)
-  where
-    by : (o : Option Y) → filter_map h (ys ++ x ∷ []) ≡ filter_map h ys ++ option_to_list (h x) → cons_option o (filter_map h (ys ++ x ∷ [])) ≡ cons_option o (filter_map h ys) ++ option_to_list (h x)
-    by None rest = rest
-    by (Some z) rest = ap (λ zs. z ∷ zs) rest
 
 -- one entry first
 pub provisions-cons : (v : Bool) (f : List ℕ) (place : ℕ) (e : PlainVpkg) (es : List PlainVpkg)
@@ -114,19 +109,11 @@ module _ (f : List ℕ) where
       ap (map (λ (pair : Id). pair.1)) (filter-append (λ (pair : Id). bytes_eq pair.0 f) xs ys)
       ∙ map-append (λ (pair : Id). pair.1) (filter (λ (pair : Id). bytes_eq pair.0 f) xs) (filter (λ (pair : Id). bytes_eq pair.0 f) ys)
 
-  filter_map_append : (xs ys : List Provision) → filter_map (λ g. g.number) (xs ++ ys) ≡ filter_map (λ g. g.number) xs ++ filter_map (λ g. g.number) ys
-  filter_map_append [] ys = refl
-  filter_map_append (x ∷ xs) ys = by x.number (filter_map_append xs ys)
-    where
-      by : (o : Option ℕ) → filter_map (λ g. g.number) (xs ++ ys) ≡ filter_map (λ g. g.number) xs ++ filter_map (λ g. g.number) ys → cons_option o (filter_map (λ g. g.number) (xs ++ ys)) ≡ cons_option o (filter_map (λ g. g.number) xs) ++ filter_map (λ g. g.number) ys
-      by None rest = rest
-      by (Some n) rest = ap (λ ns. n ∷ ns) rest
-
   entry_numbers : (v : Bool) (place : ℕ) (es : List PlainVpkg) → named_numbers (filter_map entry_pair es) ≡ filter_map (λ g. g.number) (provisions_of v f place es)
   entry_numbers v place [] = refl
   entry_numbers v place (e ∷ es) =
       by e.bound (entry_numbers v place es)
-      ∙ sym (filter_map_append (one_given v (bytes_eq e.name f) (option_map (λ b. b.1) e.bound) place) (provisions_of v f place es))
+      ∙ sym (filter_map-append (λ g. g.number) (one_given v (bytes_eq e.name f) (option_map (λ b. b.1) e.bound) place) (provisions_of v f place es))
       ∙ ap (filter_map (λ g. g.number)) (sym (provisions-cons v f place e es))
     where
       with_number : (b : Bool) (n : ℕ) (rest : named_numbers (filter_map entry_pair es) ≡ filter_map (λ g. g.number) (provisions_of v f place es))
@@ -180,7 +167,7 @@ module _ (f : List ℕ) where
       numbers-append ((p.1.name, p.1.version) ∷ []) (filter_map entry_pair p.1.provides)
       ∙ ap (λ ns. ns ++ named_numbers (filter_map entry_pair p.1.provides)) (entry_numbers true p.0 (own_entry p.1 ∷ []))
       ∙ ap (λ ns. filter_map (λ g. g.number) (provisions_of true f p.0 (own_entry p.1 ∷ [])) ++ ns) (entry_numbers false p.0 p.1.provides)
-      ∙ sym (filter_map_append (provisions_of true f p.0 (own_entry p.1 ∷ [])) (provisions_of false f p.0 p.1.provides))
+      ∙ sym (filter_map-append (λ g. g.number) (provisions_of true f p.0 (own_entry p.1 ∷ [])) (provisions_of false f p.0 p.1.provides))
 
   numbers_given : (status : List Placed) → numbers_of f status ≡ filter_map (λ g. g.number) (given_of f status)
   numbers_given [] = refl
@@ -188,7 +175,7 @@ module _ (f : List ℕ) where
       numbers-append (package_pairs p.1) (gives ps)
       ∙ ap (λ ns. ns ++ numbers_of f ps) (pairs_numbers p)
       ∙ ap (λ ns. filter_map (λ g. g.number) (given_by f p) ++ ns) (numbers_given ps)
-      ∙ sym (filter_map_append (given_by f p) (given_of f ps))
+      ∙ sym (filter_map-append (λ g. g.number) (given_by f p) (given_of f ps))
 
   names_given_all : (status : List Placed) → count_by (λ given. bytes_eq given f) (gives_all_versions status) ≡ count_by (λ g. is_none g.number) (given_of f status)
   names_given_all [] = refl
