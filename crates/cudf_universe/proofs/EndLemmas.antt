@@ -33,21 +33,16 @@ nil_same : (xs ys : List ℕ) → length xs ≡ length ys → xs ≡ [] → ys �
 nil_same xs ys l e = nil_from_length ys (sym l ∙ ap length e)
 
 module _ (xs ys : List ℕ) (same : (p : ℕ → Bool) → count_by p xs ≡ count_by p ys) where
+  none_same : (o : Option ℕ) → IsNone o ↔ (xs ≡ []) → IsNone o ↔ (ys ≡ [])
+  none_same o none = (λ e. nil_same xs ys (length_same xs ys same) (none.0 e), λ e. none.1 (nil_same ys xs (sym (length_same xs ys same)) e))
+
   pub least_same : (o : Option ℕ) → IsLeast xs o → IsLeast ys o
-  least_same None l = record { none = (λ e. nil_same xs ys (length_same xs ys same) (l.none.0 e), λ e. refl); among = tt; bound = tt }
-  least_same (Some n) l = record {
-    none = (λ e. absurd (true≢false e), λ e. l.none.1 (nil_same ys xs (sym (length_same xs ys same)) e));
-    among = contains_same xs ys same n l.among;
-    bound = all_same xs ys same (λ m. n ≤ m) l.bound;
-  }
+  least_same None l = record { none = none_same None l.none; among = tt; bound = tt }
+  least_same (Some n) l = record { none = none_same (Some n) l.none; among = contains_same xs ys same n l.among; bound = all_same xs ys same (λ m. n ≤ m) l.bound }
 
   pub greatest_same : (o : Option ℕ) → IsGreatest xs o → IsGreatest ys o
-  greatest_same None l = record { none = (λ e. nil_same xs ys (length_same xs ys same) (l.none.0 e), λ e. refl); among = tt; bound = tt }
-  greatest_same (Some n) l = record {
-    none = (λ e. absurd (true≢false e), λ e. l.none.1 (nil_same ys xs (sym (length_same xs ys same)) e));
-    among = contains_same xs ys same n l.among;
-    bound = all_same xs ys same (λ m. m ≤ n) l.bound;
-  }
+  greatest_same None l = record { none = none_same None l.none; among = tt; bound = tt }
+  greatest_same (Some n) l = record { none = none_same (Some n) l.none; among = contains_same xs ys same n l.among; bound = all_same xs ys same (λ m. m ≤ n) l.bound }
 
 pub least_none : IsLeast [] None
 least_none = record { none = (λ _. refl, λ _. refl); among = tt; bound = tt }

@@ -4,12 +4,11 @@ use Rattle.std.specs.Prelude.{filter, filter_map, option_map, slice_get, option_
 use Rattle.std.specs.Option.{is_none, IfSome}
 use Rattle.std.specs.List.{count_by, cons_option, list_any}
 use Rattle.std.specs.Global.{Vec}
-use Rattle.std.proofs.lemmas.List.{map-append, append-nil}
+use Rattle.std.proofs.lemmas.List.{map-append, flat_map_more}
 use Rattle.std.proofs.lemmas.List.Elements.{filter-append, filter_map-append}
 use Rattle.cudf_value.specs.Vpkgs.{PlainVpkg}
 use Rattle.cudf_universe.specs.declared.index.entries.Entries.{Entries}
 use Rattle.cudf_universe.specs.declared.index.gathered_names.Provision.{Provision}
-use Rattle.std.proofs.lemmas.List.Concat.{flat_map-append}
 use Rattle.std.proofs.lemmas.List.Folds.{list_any-append}
 use Rattle.cudf_value.specs.declared.relop.Relop.{Relop}
 use Rattle.cudf_document.specs.Universe.{PlainPackage}
@@ -17,7 +16,7 @@ use Rattle.cudf_universe.specs.Satisfaction.{Placed, members, entry_pair, unvers
 use Rattle.cudf_document.specs.Ids.{Id}
 use Rattle.cudf_universe.specs.Working.Kept.{Keeps, IsSole, found, names_given, places_of}
 use Rattle.cudf_universe.specs.Working.Gathering.{row_items, provisions_of, own_entry, given_by, given_of, sole_place, Completes, CompletesAt}
-use Rattle.cudf_universe.proofs.MemberLemmas.{members-more}
+use Rattle.cudf_universe.proofs.MemberLemmas.{members_kept, members_left_out}
 use Rattle.cudf_universe.proofs.FoundLemmas.{found_at}
 use Rattle.cudf_universe.proofs.FirstLemmas.{sole_same}
 use Rattle.cudf_universe.proofs.CountLemmas.{count-cons, count-append}
@@ -81,18 +80,13 @@ provisions-cons v f place e es = by (bytes_eq e.name f)
 -- ---- one package more
 
 module _ {A : Type 0} (view : A → PlainPackage) (f : List ℕ) (holds : ℕ → Bool) (xs : List A) (i : ℕ) (d : A) (inside : i < length xs) where
-  given_more : (b : Bool) → holds (i + 1) ≡ b → given_of f (members holds (map view (take (i + 1) xs))) ≡ given_of f (members holds (map view (take i xs))) ++ given_of f (cond b ((i + 1, view (get_or xs i d)) ∷ []) [])
-  given_more b e =
-      ap (given_of f) (members-more view holds xs i d inside ∙ ap (λ c. members holds (map view (take i xs)) ++ cond c ((i + 1, view (get_or xs i d)) ∷ []) []) e)
-      ∙ flat_map-append (given_by f) (members holds (map view (take i xs))) (cond b ((i + 1, view (get_or xs i d)) ∷ []) [])
-
   pub given_kept : (done now : List Provision) → holds (i + 1) ≡ true → done ≡ given_of f (members holds (map view (take i xs))) → now ≡ done ++ given_by f (i + 1, view (get_or xs i d)) → now ≡ given_of f (members holds (map view (take (i + 1) xs)))
   given_kept done now e before more =
       more ∙ ap (λ ps. ps ++ given_by f (i + 1, view (get_or xs i d))) before
-      ∙ ap (λ ps. given_of f (members holds (map view (take i xs))) ++ ps) (sym (append-nil (given_by f (i + 1, view (get_or xs i d))))) ∙ sym (given_more true e)
+      ∙ flat_map_more (given_by f) [] (members holds (map view (take i xs))) (i + 1, view (get_or xs i d)) ∙ ap (given_of f) (sym (members_kept view holds xs i d inside e))
 
   pub given_left_out : (done : List Provision) → holds (i + 1) ≡ false → done ≡ given_of f (members holds (map view (take i xs))) → done ≡ given_of f (members holds (map view (take (i + 1) xs)))
-  given_left_out done e before = before ∙ sym (append-nil (given_of f (members holds (map view (take i xs))))) ∙ sym (given_more false e)
+  given_left_out done e before = before ∙ ap (given_of f) (sym (members_left_out view holds xs i d inside e))
 
 -- ---- what is gathered is what the status gives
 

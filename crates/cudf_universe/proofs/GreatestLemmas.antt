@@ -1,11 +1,10 @@
 -- The greatest number of each name, as it is gathered.
-use Rattle.std.proofs.Common.{◌≡◌, ℕ, ◌+◌, ◌<◌, ◌≤◌, Bool, true, false, cond, List, [], ◌∷◌, ◌++◌, length, get_or, take, map, Option, Some, None, refl, sym, ap, ◌∙◌, subst, arith, nat_lt, bytes_eq, max, append_assoc}
+use Rattle.std.proofs.Common.{◌≡◌, ℕ, ◌+◌, ◌<◌, ◌≤◌, Bool, true, false, cond, List, [], ◌∷◌, ◌++◌, length, get_or, take, map, Option, Some, None, refl, sym, ap, ◌∙◌, subst, arith, nat_lt, bytes_eq, max, append_assoc, length-append}
 use Rattle.std.proofs.Math.Nat.{max-eq_left, max-eq_right}
-use Rattle.std.specs.Prelude.{filter, filter_map, option_to_list, All, Contains}
+use Rattle.std.specs.Prelude.{filter, filter_map, option_to_list, Contains}
 use Rattle.std.proofs.lemmas.Bool.{true≢false, ltb-true, ltb-false}
-use Rattle.std.proofs.lemmas.List.{append-nil, map_push, take_more}
+use Rattle.std.proofs.lemmas.List.{append-nil, flat_map_more, map_push, take_more}
 use Rattle.std.proofs.lemmas.List.Elements.{All-push, Contains-push, Contains-append_left}
-use Rattle.std.proofs.lemmas.List.Concat.{flat_map-append}
 use Rattle.cudf_value.specs.declared.vpkg.Vpkg.{Vpkg}
 use Rattle.cudf_value.specs.Promises.Views.{vpkg_view}
 use Rattle.cudf_document.specs.Universe.{PlainPackage}
@@ -13,7 +12,7 @@ use Rattle.cudf_document.specs.Ids.{Id}
 use Rattle.cudf_universe.specs.Satisfaction.{Placed, entry_pair, members, gives, numbers_of, package_pairs}
 use Rattle.cudf_universe.specs.Promises.Members.{IsGreatest}
 use Rattle.cudf_universe.specs.Working.Greatest.{with_number, with_pairs, with_entries}
-use Rattle.cudf_universe.proofs.MemberLemmas.{members-more}
+use Rattle.cudf_universe.proofs.MemberLemmas.{members_kept, members_left_out}
 use Rattle.cudf_universe.proofs.GatheringLemmas.{filter_map_push}
 
 -- ---- pairs one after the other
@@ -46,20 +45,15 @@ module _ (f : List ℕ) where
     among = Contains-push [] n;
     bound = All-push (λ m. m ≤ n) [] n (λ k d inside. absurd (omega (arith, inside))) (omega arith);
   })
-  greatest_push ns n (Some m) is = by (nat_lt m n) refl
+  greatest_push ns n (Some m) is = record {
+    none = (λ e. absurd (true≢false e), λ e. absurd (omega (arith, ap length e, length-append ns (n ∷ []))));
+    among = by (nat_lt m n) refl;
+    bound = All-push (λ k. k ≤ max m n) ns n (λ k d inside. omega (arith, is.bound k d inside)) (omega arith);
+  }
     where
-      some_more : (o : ℕ) → Contains (ns ++ n ∷ []) o → All (λ k. k ≤ o) (ns ++ n ∷ []) → IsGreatest (ns ++ n ∷ []) (Some o)
-      some_more o among bound = record { none = (λ e. absurd (true≢false e), λ e. absurd (omega (arith, ap length e))); among = among; bound = bound }
-
-      by : (b : Bool) → nat_lt m n ≡ b → IsGreatest (ns ++ n ∷ []) (Some (max m n))
-      by true e =
-          let less : m < n = ltb-true m n e in
-          subst (λ o. IsGreatest (ns ++ n ∷ []) (Some o)) (sym (max-eq_right (omega (arith, less))))
-          (some_more n (Contains-push ns n) (All-push (λ k. k ≤ n) ns n (λ k d inside. omega (arith, is.bound k d inside, less)) (omega arith)))
-      by false e =
-          let more : n ≤ m = ltb-false m n e in
-          subst (λ o. IsGreatest (ns ++ n ∷ []) (Some o)) (sym (max-eq_left more))
-          (some_more m (Contains-append_left ns (n ∷ []) m is.among) (All-push (λ k. k ≤ m) ns n is.bound more))
+      by : (b : Bool) → nat_lt m n ≡ b → Contains (ns ++ n ∷ []) (max m n)
+      by true e = subst (Contains (ns ++ n ∷ [])) (sym (max-eq_right (omega (arith, ltb-true m n e)))) (Contains-push ns n)
+      by false e = subst (Contains (ns ++ n ∷ [])) (sym (max-eq_left (ltb-false m n e))) (Contains-append_left ns (n ∷ []) m is.among)
 
   -- the greatest of some numbers, and of those of the name in more pairs
   greatest_pairs : (pairs : List Id) (ns : List ℕ) (g : Option ℕ) → IsGreatest ns g → IsGreatest (ns ++ named_numbers pairs) (with_pairs f pairs g)
@@ -79,14 +73,6 @@ module _ (f : List ℕ) where
   pub greatest_of_status : (status : List Placed) → IsGreatest (numbers_of f status) (with_pairs f (gives status) None)
   greatest_of_status status = greatest_pairs (gives status) [] None (record { none = (λ e. refl, λ e. refl); among = tt; bound = tt })
 
-  -- one package more
-  pub greatest-more : (status : List Placed) (p : Placed) (old now : Option ℕ) → old ≡ with_pairs f (gives status) None → now ≡ with_pairs f (package_pairs p.1) old
-      → now ≡ with_pairs f (gives (status ++ p ∷ [])) None
-  greatest-more status p old now before more =
-      more ∙ ap (with_pairs f (package_pairs p.1)) before ∙ sym (pairs-append (gives status) (package_pairs p.1) None)
-      ∙ ap (λ pairs. with_pairs f (gives status ++ pairs) None) (sym (append-nil (package_pairs p.1)))
-      ∙ ap (λ pairs. with_pairs f pairs None) (sym (flat_map-append (λ (q : Placed). package_pairs q.1) status (p ∷ [])))
-
   -- one entry more
   pub entries-more : (es : List Vpkg) (i : ℕ) (d : Vpkg) (first old now : Option ℕ) (pair : Option Id) → i < length es → pair ≡ entry_pair (vpkg_view (get_or es i d))
       → old ≡ with_entries f (map vpkg_view (take i es)) first → now ≡ with_pairs f (option_to_list pair) old → now ≡ with_entries f (map vpkg_view (take (i + 1) es)) first
@@ -98,16 +84,15 @@ module _ (f : List ℕ) where
       ∙ ap (λ xs. with_entries f (map vpkg_view xs) first) (sym (take_more es i d inside))
 
 module _ {A : Type 0} (view : A → PlainPackage) (f : List ℕ) (holds : ℕ → Bool) (xs : List A) (i : ℕ) (d : A) (inside : i < length xs) where
-  members_now : (b : Bool) → holds (i + 1) ≡ b → members holds (map view (take (i + 1) xs)) ≡ members holds (map view (take i xs)) ++ cond b ((i + 1, view (get_or xs i d)) ∷ []) []
-  members_now b e = members-more view holds xs i d inside ∙ ap (λ c. members holds (map view (take i xs)) ++ cond c ((i + 1, view (get_or xs i d)) ∷ []) []) e
-
   pub greatest_kept : (old now : Option ℕ) → holds (i + 1) ≡ true → old ≡ with_pairs f (gives (members holds (map view (take i xs)))) None → now ≡ with_pairs f (package_pairs (view (get_or xs i d))) old
       → now ≡ with_pairs f (gives (members holds (map view (take (i + 1) xs)))) None
   greatest_kept old now e before more =
-      greatest-more f (members holds (map view (take i xs))) (i + 1, view (get_or xs i d)) old now before more
-      ∙ ap (λ ms. with_pairs f (gives ms) None) (sym (members_now true e))
+      let status = members holds (map view (take i xs)) in
+      let p : Placed = (i + 1, view (get_or xs i d)) in
+      more ∙ ap (with_pairs f (package_pairs p.1)) before ∙ sym (pairs-append f (gives status) (package_pairs p.1) None)
+      ∙ ap (λ pairs. with_pairs f pairs None) (flat_map_more (λ (q : Placed). package_pairs q.1) [] status p)
+      ∙ ap (λ ms. with_pairs f (gives ms) None) (sym (members_kept view holds xs i d inside e))
 
   pub greatest_left_out : (old : Option ℕ) → holds (i + 1) ≡ false → old ≡ with_pairs f (gives (members holds (map view (take i xs)))) None
       → old ≡ with_pairs f (gives (members holds (map view (take (i + 1) xs)))) None
-  greatest_left_out old e before =
-      before ∙ ap (λ ms. with_pairs f (gives ms) None) (sym (append-nil (members holds (map view (take i xs)))) ∙ sym (members_now false e))
+  greatest_left_out old e before = before ∙ ap (λ ms. with_pairs f (gives ms) None) (sym (members_left_out view holds xs i d inside e))
