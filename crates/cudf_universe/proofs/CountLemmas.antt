@@ -20,16 +20,6 @@ module _ {X : Type 0} where
   count-sum p q r each [] = refl
   count-sum p q r each (x ∷ xs) = omega (arith, count-cons p x xs, count-cons q x xs, count-cons r x xs, each x, count-sum p q r each xs)
 
-  pub count-same : (p q : X → Bool) → ((x : X) → p x ≡ q x) → (xs : List X) → count_by p xs ≡ count_by q xs
-  count-same p q each [] = refl
-  count-same p q each (x ∷ xs) = omega (arith, count-cons p x xs, count-cons q x xs, one_each x, count-same p q each xs)
-    where
-      one : Bool → ℕ
-      one b = cond b 1 0
-
-      one_each : (x : X) → one (p x) ≡ one (q x)
-      one_each x = ap one (each x)
-
   pub count-all : (xs : List X) → count_by (λ x. true) xs ≡ length xs
   count-all [] = refl
   count-all (x ∷ xs) = omega (arith, count-cons (λ y. true) x xs, count-all xs)

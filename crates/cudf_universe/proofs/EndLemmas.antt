@@ -1,25 +1,17 @@
 -- Lists with the same counts have the same ends.
-use Rattle.std.proofs.Common.{◌≡◌, ℕ, ◌<◌, ◌≤◌, ◌-◌, Bool, true, ◌==◌, List, [], ◌∷◌, length, get_or, Option, Some, None, refl, sym, ap, ◌∙◌, subst, arith, nat_lt, inl, inr}
+use Rattle.std.proofs.Common.{◌≡◌, ℕ, ◌<◌, ◌≤◌, ◌-◌, Bool, true, ◌==◌, List, [], length, get_or, Option, Some, None, refl, sym, ap, ◌∙◌, subst, arith, nat_lt}
 use Rattle.std.specs.Prelude.{Contains, All, IsNone, ◌↔◌}
 use Rattle.std.specs.List.Sorted.{IsNonDecreasing}
 use Rattle.std.specs.List.{count_by, list_any}
-use Rattle.std.proofs.lemmas.Bool.{eqb-true, eq-eqb, true≢false, or_cases}
-use Rattle.std.proofs.lemmas.List.{get_or_default}
-use Rattle.std.proofs.lemmas.List.Elements.{Contains-append_left, Contains-append_right, Contains-push}
-use Rattle.std.proofs.lemmas.List.Folds.{list_any_at}
+use Rattle.std.proofs.lemmas.Bool.{eqb-true, eq-eqb, true≢false}
+use Rattle.std.proofs.lemmas.List.{get_or_default, nil_from_length}
+use Rattle.std.proofs.lemmas.List.Folds.{list_any_at, Any-from_list_any}
 use Rattle.cudf_universe.specs.Promises.Members.{IsLeast, IsGreatest}
 use Rattle.cudf_universe.proofs.CountLemmas.{any-count, count-all}
 
-Contains-first : (x y : ℕ) (xs : List ℕ) → y ≡ x → Contains (y ∷ xs) x
-Contains-first x y xs e = subst (λ z. Contains (z ∷ xs) x) (sym e) (Contains-append_left (x ∷ []) xs x (Contains-push [] x))
-
 contains_any : (xs : List ℕ) (x : ℕ) → list_any (λ y. y == x) xs ≡ true → Contains xs x
-contains_any [] x e = absurd cc
-contains_any (y ∷ ys) x e =
-    elim (or_cases (y == x) (list_any (λ z. z == x) ys) e) [
-      | inl here ↦ Contains-first x y ys (eqb-true y x here)
-      | inr later ↦ Contains-append_right (y ∷ []) ys x (contains_any ys x later)
-    ]
+contains_any xs x e = let at = Any-from_list_any (λ y. y == x) xs e in
+    (at.0, at.2, get_or_default xs at.0 x at.1 at.2 ∙ at.3 ∙ eqb-true at.1 x at.4)
 
 any_contains : (xs : List ℕ) (x : ℕ) → Contains xs x → list_any (λ y. y == x) xs ≡ true
 any_contains xs x at = list_any_at (λ y. y == x) xs at.0 x at.1 (eq-eqb (get_or xs at.0 x) x at.2)
@@ -38,25 +30,19 @@ all_same xs ys same P all = λ k d inside.
     subst P at.2 (all at.0 (get_or ys k d) at.1)
 
 nil_same : (xs ys : List ℕ) → length xs ≡ length ys → xs ≡ [] → ys ≡ []
-nil_same xs [] l e = refl
-nil_same xs (y ∷ ys) l e = absurd (omega (arith, ap length e))
+nil_same xs ys l e = nil_from_length ys (sym l ∙ ap length e)
 
 module _ (xs ys : List ℕ) (same : (p : ℕ → Bool) → count_by p xs ≡ count_by p ys) where
+  none_same : (o : Option ℕ) → IsNone o ↔ (xs ≡ []) → IsNone o ↔ (ys ≡ [])
+  none_same o none = (λ e. nil_same xs ys (length_same xs ys same) (none.0 e), λ e. none.1 (nil_same ys xs (sym (length_same xs ys same)) e))
+
   pub least_same : (o : Option ℕ) → IsLeast xs o → IsLeast ys o
-  least_same None l = record { none = (λ e. nil_same xs ys (length_same xs ys same) (l.none.0 e), λ e. refl); among = tt; bound = tt }
-  least_same (Some n) l = record {
-    none = (λ e. absurd (true≢false e), λ e. l.none.1 (nil_same ys xs (sym (length_same xs ys same)) e));
-    among = contains_same xs ys same n l.among;
-    bound = all_same xs ys same (λ m. n ≤ m) l.bound;
-  }
+  least_same None l = record { none = none_same None l.none; among = tt; bound = tt }
+  least_same (Some n) l = record { none = none_same (Some n) l.none; among = contains_same xs ys same n l.among; bound = all_same xs ys same (λ m. n ≤ m) l.bound }
 
   pub greatest_same : (o : Option ℕ) → IsGreatest xs o → IsGreatest ys o
-  greatest_same None l = record { none = (λ e. nil_same xs ys (length_same xs ys same) (l.none.0 e), λ e. refl); among = tt; bound = tt }
-  greatest_same (Some n) l = record {
-    none = (λ e. absurd (true≢false e), λ e. l.none.1 (nil_same ys xs (sym (length_same xs ys same)) e));
-    among = contains_same xs ys same n l.among;
-    bound = all_same xs ys same (λ m. m ≤ n) l.bound;
-  }
+  greatest_same None l = record { none = none_same None l.none; among = tt; bound = tt }
+  greatest_same (Some n) l = record { none = none_same (Some n) l.none; among = contains_same xs ys same n l.among; bound = all_same xs ys same (λ m. m ≤ n) l.bound }
 
 pub least_none : IsLeast [] None
 least_none = record { none = (λ _. refl, λ _. refl); among = tt; bound = tt }
@@ -83,7 +69,3 @@ module _ (xs : List ℕ) (ordered : IsNonDecreasing xs) (n : ℕ) where
     among = (length xs - 1, omega arith, sym (last n));
     bound = λ k d inside. omega (arith, last d, ordered k (length xs - 1) d (omega arith) (omega arith));
   }
-
-pub nil_from_len : {X : Type 0} (xs : List X) → length xs ≡ 0 → xs ≡ []
-nil_from_len [] e = refl
-nil_from_len (x ∷ xs) e = absurd (omega arith)

@@ -40,13 +40,6 @@ module _ {K R : Type 0} (test : K → Bool) where
           rest ∙ moved (nat_lt (position_or_len test ks) (length ks)) (position_or_len test ks)
           ∙ ap (λ b. option_and_then (slice_get (r ∷ rs)) (cond b (Some (1 + position_or_len test ks)) None)) (sym (next (position_or_len test ks) (length ks)))
 
-  -- a key more, with a row
-  pub found_push : (keys : List K) (rows : List R) (k : K) (r : R) → length rows ≡ length keys → test k ≡ false → found test (keys ++ k ∷ []) (rows ++ r ∷ []) ≡ found test keys rows
-  found_push [] [] k r same other = ap (λ b. cond b (Some r) None) other
-  found_push [] (r' ∷ rs) k r same other = absurd (omega arith)
-  found_push (k' ∷ ks) [] k r same other = absurd (omega arith)
-  found_push (k' ∷ ks) (r' ∷ rs) k r same other = ap (λ o. cond (test k') (Some r') o) (found_push ks rs k r (omega arith) other)
-
 -- what is read at the place of a name is what is kept of it
 pub keeps_read : (name : List ℕ) (status now : List Placed) (keys : List (Bor (List ℕ))) (entries : List Entries) (at : Option ℕ) (kept : Option Entries)
     → status ≡ now → at ≡ position (λ k. bytes_eq name k.now) keys → kept ≡ option_and_then (slice_get entries) at

@@ -4,12 +4,11 @@ use Rattle.std.specs.Prelude.{filter, filter_map, option_map, slice_get, option_
 use Rattle.std.specs.Option.{is_none, IfSome}
 use Rattle.std.specs.List.{count_by, cons_option, list_any}
 use Rattle.std.specs.Global.{Vec}
-use Rattle.std.proofs.lemmas.List.{map-append, append-nil}
-use Rattle.std.proofs.lemmas.List.Elements.{filter-append}
+use Rattle.std.proofs.lemmas.List.{map-append, flat_map_more}
+use Rattle.std.proofs.lemmas.List.Elements.{filter-append, filter_map-append}
 use Rattle.cudf_value.specs.Vpkgs.{PlainVpkg}
 use Rattle.cudf_universe.specs.declared.index.entries.Entries.{Entries}
 use Rattle.cudf_universe.specs.declared.index.gathered_names.Provision.{Provision}
-use Rattle.std.proofs.lemmas.List.Concat.{flat_map-append}
 use Rattle.std.proofs.lemmas.List.Folds.{list_any-append}
 use Rattle.cudf_value.specs.declared.relop.Relop.{Relop}
 use Rattle.cudf_document.specs.Universe.{PlainPackage}
@@ -17,7 +16,7 @@ use Rattle.cudf_universe.specs.Satisfaction.{Placed, members, entry_pair, unvers
 use Rattle.cudf_document.specs.Ids.{Id}
 use Rattle.cudf_universe.specs.Working.Kept.{Keeps, IsSole, found, names_given, places_of}
 use Rattle.cudf_universe.specs.Working.Gathering.{row_items, provisions_of, own_entry, given_by, given_of, sole_place, Completes, CompletesAt}
-use Rattle.cudf_universe.proofs.MemberLemmas.{members-more}
+use Rattle.cudf_universe.proofs.MemberLemmas.{members_kept, members_left_out}
 use Rattle.cudf_universe.proofs.FoundLemmas.{found_at}
 use Rattle.cudf_universe.proofs.FirstLemmas.{sole_same}
 use Rattle.cudf_universe.proofs.CountLemmas.{count-cons, count-append}
@@ -60,16 +59,11 @@ provisions-push v f place xs e =
     by false = refl
 
 pub filter_map_push : {X Y : Type 0} (h : X → Option Y) (xs : List X) (x : X) → filter_map h (xs ++ x ∷ []) ≡ filter_map h xs ++ option_to_list (h x)
-filter_map_push {Y = Y} h [] x = by (h x)
+filter_map_push {Y = Y} h xs x = filter_map-append h xs (x ∷ []) ∙ ap (λ ys. filter_map h xs ++ ys) (by (h x))
   where
     by : (o : Option Y) → cons_option o [] ≡ option_to_list o
     by None = refl
     by (Some y) = refl
-filter_map_push {Y = Y} h (y ∷ ys) x = by (h y) (filter_map_push h ys x)
-  where
-    by : (o : Option Y) → filter_map h (ys ++ x ∷ []) ≡ filter_map h ys ++ option_to_list (h x) → cons_option o (filter_map h (ys ++ x ∷ [])) ≡ cons_option o (filter_map h ys) ++ option_to_list (h x)
-    by None rest = rest
-    by (Some z) rest = ap (λ zs. z ∷ zs) rest
 
 -- one entry first
 pub provisions-cons : (v : Bool) (f : List ℕ) (place : ℕ) (e : PlainVpkg) (es : List PlainVpkg)
@@ -86,18 +80,13 @@ provisions-cons v f place e es = by (bytes_eq e.name f)
 -- ---- one package more
 
 module _ {A : Type 0} (view : A → PlainPackage) (f : List ℕ) (holds : ℕ → Bool) (xs : List A) (i : ℕ) (d : A) (inside : i < length xs) where
-  given_more : (b : Bool) → holds (i + 1) ≡ b → given_of f (members holds (map view (take (i + 1) xs))) ≡ given_of f (members holds (map view (take i xs))) ++ given_of f (cond b ((i + 1, view (get_or xs i d)) ∷ []) [])
-  given_more b e =
-      ap (given_of f) (members-more view holds xs i d inside ∙ ap (λ c. members holds (map view (take i xs)) ++ cond c ((i + 1, view (get_or xs i d)) ∷ []) []) e)
-      ∙ flat_map-append (given_by f) (members holds (map view (take i xs))) (cond b ((i + 1, view (get_or xs i d)) ∷ []) [])
-
   pub given_kept : (done now : List Provision) → holds (i + 1) ≡ true → done ≡ given_of f (members holds (map view (take i xs))) → now ≡ done ++ given_by f (i + 1, view (get_or xs i d)) → now ≡ given_of f (members holds (map view (take (i + 1) xs)))
   given_kept done now e before more =
       more ∙ ap (λ ps. ps ++ given_by f (i + 1, view (get_or xs i d))) before
-      ∙ ap (λ ps. given_of f (members holds (map view (take i xs))) ++ ps) (sym (append-nil (given_by f (i + 1, view (get_or xs i d))))) ∙ sym (given_more true e)
+      ∙ flat_map_more (given_by f) [] (members holds (map view (take i xs))) (i + 1, view (get_or xs i d)) ∙ ap (given_of f) (sym (members_kept view holds xs i d inside e))
 
   pub given_left_out : (done : List Provision) → holds (i + 1) ≡ false → done ≡ given_of f (members holds (map view (take i xs))) → done ≡ given_of f (members holds (map view (take (i + 1) xs)))
-  given_left_out done e before = before ∙ sym (append-nil (given_of f (members holds (map view (take i xs))))) ∙ sym (given_more false e)
+  given_left_out done e before = before ∙ ap (given_of f) (sym (members_left_out view holds xs i d inside e))
 
 -- ---- what is gathered is what the status gives
 
@@ -114,19 +103,11 @@ module _ (f : List ℕ) where
       ap (map (λ (pair : Id). pair.1)) (filter-append (λ (pair : Id). bytes_eq pair.0 f) xs ys)
       ∙ map-append (λ (pair : Id). pair.1) (filter (λ (pair : Id). bytes_eq pair.0 f) xs) (filter (λ (pair : Id). bytes_eq pair.0 f) ys)
 
-  filter_map_append : (xs ys : List Provision) → filter_map (λ g. g.number) (xs ++ ys) ≡ filter_map (λ g. g.number) xs ++ filter_map (λ g. g.number) ys
-  filter_map_append [] ys = refl
-  filter_map_append (x ∷ xs) ys = by x.number (filter_map_append xs ys)
-    where
-      by : (o : Option ℕ) → filter_map (λ g. g.number) (xs ++ ys) ≡ filter_map (λ g. g.number) xs ++ filter_map (λ g. g.number) ys → cons_option o (filter_map (λ g. g.number) (xs ++ ys)) ≡ cons_option o (filter_map (λ g. g.number) xs) ++ filter_map (λ g. g.number) ys
-      by None rest = rest
-      by (Some n) rest = ap (λ ns. n ∷ ns) rest
-
   entry_numbers : (v : Bool) (place : ℕ) (es : List PlainVpkg) → named_numbers (filter_map entry_pair es) ≡ filter_map (λ g. g.number) (provisions_of v f place es)
   entry_numbers v place [] = refl
   entry_numbers v place (e ∷ es) =
       by e.bound (entry_numbers v place es)
-      ∙ sym (filter_map_append (one_given v (bytes_eq e.name f) (option_map (λ b. b.1) e.bound) place) (provisions_of v f place es))
+      ∙ sym (filter_map-append (λ g. g.number) (one_given v (bytes_eq e.name f) (option_map (λ b. b.1) e.bound) place) (provisions_of v f place es))
       ∙ ap (filter_map (λ g. g.number)) (sym (provisions-cons v f place e es))
     where
       with_number : (b : Bool) (n : ℕ) (rest : named_numbers (filter_map entry_pair es) ≡ filter_map (λ g. g.number) (provisions_of v f place es))
@@ -180,7 +161,7 @@ module _ (f : List ℕ) where
       numbers-append ((p.1.name, p.1.version) ∷ []) (filter_map entry_pair p.1.provides)
       ∙ ap (λ ns. ns ++ named_numbers (filter_map entry_pair p.1.provides)) (entry_numbers true p.0 (own_entry p.1 ∷ []))
       ∙ ap (λ ns. filter_map (λ g. g.number) (provisions_of true f p.0 (own_entry p.1 ∷ [])) ++ ns) (entry_numbers false p.0 p.1.provides)
-      ∙ sym (filter_map_append (provisions_of true f p.0 (own_entry p.1 ∷ [])) (provisions_of false f p.0 p.1.provides))
+      ∙ sym (filter_map-append (λ g. g.number) (provisions_of true f p.0 (own_entry p.1 ∷ [])) (provisions_of false f p.0 p.1.provides))
 
   numbers_given : (status : List Placed) → numbers_of f status ≡ filter_map (λ g. g.number) (given_of f status)
   numbers_given [] = refl
@@ -188,7 +169,7 @@ module _ (f : List ℕ) where
       numbers-append (package_pairs p.1) (gives ps)
       ∙ ap (λ ns. ns ++ numbers_of f ps) (pairs_numbers p)
       ∙ ap (λ ns. filter_map (λ g. g.number) (given_by f p) ++ ns) (numbers_given ps)
-      ∙ sym (filter_map_append (given_by f p) (given_of f ps))
+      ∙ sym (filter_map-append (λ g. g.number) (given_by f p) (given_of f ps))
 
   names_given_all : (status : List Placed) → count_by (λ given. bytes_eq given f) (gives_all_versions status) ≡ count_by (λ g. is_none g.number) (given_of f status)
   names_given_all [] = refl

@@ -1,8 +1,8 @@
 -- The packages that a status holds, one after the other.
-use Rattle.std.proofs.Common.{◌≡◌, ℕ, ◌+◌, ◌<◌, Bool, cond, List, [], ◌∷◌, ◌++◌, length, get_or, take, map, ap, ◌∙◌, arith}
+use Rattle.std.proofs.Common.{◌≡◌, ℕ, ◌+◌, ◌<◌, Bool, true, false, cond, List, [], ◌∷◌, ◌++◌, length, get_or, take, map, ap, ◌∙◌, arith}
 use Rattle.std.specs.Prelude.{filter}
 use Rattle.std.specs.List.{enumerate_from}
-use Rattle.std.proofs.lemmas.List.{length-map, length-take-le, map_push, take_more}
+use Rattle.std.proofs.lemmas.List.{append-nil, length-map, length-take-le, map_push, take_more}
 use Rattle.std.proofs.lemmas.List.Elements.{filter-append}
 use Rattle.cudf_document.specs.Universe.{PlainPackage}
 use Rattle.cudf_universe.specs.Satisfaction.{Placed, members}
@@ -20,10 +20,16 @@ members-push holds xs x =
     ∙ filter-append (λ (p : Placed). holds p.0) (enumerate_from 1 xs) ((1 + length xs, x) ∷ [])
 
 module _ {A : Type 0} (view : A → PlainPackage) (holds : ℕ → Bool) (xs : List A) (i : ℕ) (d : A) (inside : i < length xs) where
-  pub members-more : members holds (map view (take (i + 1) xs)) ≡ members holds (map view (take i xs)) ++ cond (holds (i + 1)) ((i + 1, view (get_or xs i d)) ∷ []) []
+  members-more : members holds (map view (take (i + 1) xs)) ≡ members holds (map view (take i xs)) ++ cond (holds (i + 1)) ((i + 1, view (get_or xs i d)) ∷ []) []
   members-more =
       let place : 1 + length (map view (take i xs)) ≡ i + 1 = omega (arith, length-map (take i xs) view, length-take-le i xs (omega arith)) in
       ap (λ ys. members holds (map view ys)) (take_more xs i d inside)
       ∙ ap (members holds) (map_push view (take i xs) (get_or xs i d))
       ∙ members-push holds (map view (take i xs)) (view (get_or xs i d))
       ∙ ap (λ n. members holds (map view (take i xs)) ++ cond (holds n) ((n, view (get_or xs i d)) ∷ []) []) place
+
+  pub members_kept : holds (i + 1) ≡ true → members holds (map view (take (i + 1) xs)) ≡ members holds (map view (take i xs)) ++ (i + 1, view (get_or xs i d)) ∷ []
+  members_kept e = members-more ∙ ap (λ b. members holds (map view (take i xs)) ++ cond b ((i + 1, view (get_or xs i d)) ∷ []) []) e
+
+  pub members_left_out : holds (i + 1) ≡ false → members holds (map view (take (i + 1) xs)) ≡ members holds (map view (take i xs))
+  members_left_out e = members-more ∙ ap (λ b. members holds (map view (take i xs)) ++ cond b ((i + 1, view (get_or xs i d)) ∷ []) []) e ∙ append-nil (members holds (map view (take i xs)))

@@ -7,6 +7,7 @@ use Rattle.std.proofs.Math.Dec.{ltb}
 use Rattle.std.specs.List.{count_by, list_any, flat_map, cons_option, enumerate_from}
 use Rattle.std.proofs.lemmas.Bool.{eqb-true, eq-eqb, ne_eqb, true≢false, ltb-true, ltb-false}
 use Rattle.std.proofs.lemmas.Bool.Decides.{nat_tests}
+use Rattle.std.proofs.lemmas.List.Recursion.{is_sum_by}
 use Rattle.cudf_value.specs.declared.relop.Relop.{Relop}
 use Rattle.cudf_value.specs.Vpkgs.{PlainVpkg, meets}
 use Rattle.cudf_universe.specs.declared.index.entries.Entries.{Entries}
@@ -22,24 +23,21 @@ use Rattle.cudf_universe.proofs.CountLemmas.{count-cons, count-append, any-count
 
 module _ {X Y : Type 0} where
   pub count-map : (p : Y → Bool) (h : X → Y) (xs : List X) → count_by p (map h xs) ≡ count_by (λ x. p (h x)) xs
-  count-map p h [] = refl
-  count-map p h (x ∷ xs) = omega (arith, count-cons p (h x) (map h xs), count-cons (λ y. p (h y)) x xs, count-map p h xs)
+  count-map p h xs = is_sum_by (λ ys. count_by p (map h ys)) (λ x. cond (p (h x)) 1 0) refl (λ x ys. count-cons p (h x) (map h ys)) xs
 
   pub count-filter_map : (p : Y → Bool) (h : X → Option Y) (xs : List X) → count_by p (filter_map h xs) ≡ count_by (λ x. option_map_or p (h x) false) xs
-  count-filter_map p h [] = refl
-  count-filter_map p h (x ∷ xs) = by (h x) ∙ ap (λ n. cond (option_map_or p (h x) false) 1 0 + n) (count-filter_map p h xs) ∙ sym (count-cons (λ y. option_map_or p (h y) false) x xs)
+  count-filter_map p h xs = is_sum_by (λ ys. count_by p (filter_map h ys)) (λ x. cond (option_map_or p (h x) false) 1 0) refl (λ x ys. by (h x) ys) xs
     where
-      by : (o : Option Y) → count_by p (cons_option o (filter_map h xs)) ≡ cond (option_map_or p o false) 1 0 + count_by p (filter_map h xs)
-      by None = omega arith
-      by (Some y) = count-cons p y (filter_map h xs)
+      by : (o : Option Y) (ys : List X) → count_by p (cons_option o (filter_map h ys)) ≡ cond (option_map_or p o false) 1 0 + count_by p (filter_map h ys)
+      by None ys = omega arith
+      by (Some y) ys = count-cons p y (filter_map h ys)
 
 pub count-filter : {X : Type 0} (p q : X → Bool) (xs : List X) → count_by p (filter q xs) ≡ count_by (λ x. q x && p x) xs
-count-filter p q [] = refl
-count-filter {X} p q (x ∷ xs) = by (q x) ∙ ap (λ n. cond (q x && p x) 1 0 + n) (count-filter p q xs) ∙ sym (count-cons (λ y. q y && p y) x xs)
+count-filter {X} p q xs = is_sum_by (λ ys. count_by p (filter q ys)) (λ x. cond (q x && p x) 1 0) refl (λ x ys. by (q x) x ys) xs
   where
-    by : (b : Bool) → count_by p (cond b (x ∷ filter q xs) (filter q xs)) ≡ cond (b && p x) 1 0 + count_by p (filter q xs)
-    by true = count-cons p x (filter q xs)
-    by false = omega arith
+    by : (b : Bool) (x : X) (ys : List X) → count_by p (cond b (x ∷ filter q ys) (filter q ys)) ≡ cond (b && p x) 1 0 + count_by p (filter q ys)
+    by true x ys = count-cons p x (filter q ys)
+    by false x ys = omega arith
 
 -- ---- satisfaction is a matter of counts
 

@@ -8,6 +8,7 @@ use Rattle.std.proofs.lemmas.Bool.Decides.{nat_tests}
 use Rattle.std.proofs.lemmas.List.Folds.{find-append}
 use Rattle.cudf_value.specs.declared.relop.Relop.{Relop}
 use Rattle.cudf_value.specs.Vpkgs.{PlainVpkg, meets}
+use Rattle.cudf_document.proofs.ListLemmas.{find_none}
 use Rattle.cudf_universe.specs.Satisfaction.{Placed, other_than, meets_alone, first_meeting, is_met_by, is_below_one}
 use Rattle.cudf_universe.specs.Working.Gathering.{provisions_of, own_entry, given_by, given_of, sole_place, Completes}
 use Rattle.cudf_universe.specs.Working.Members.{entry_meets, provision_meets, is_other}
@@ -30,14 +31,6 @@ module _ (except : Option ℕ) (bound : Option (Relop × ℕ)) where
   first-append xs ys = ap (option_map (λ g. g.place)) (find-append (meets_beside except bound) xs ys) ∙ mapped_or (find (meets_beside except bound) xs) (find (meets_beside except bound) ys)
 
 -- ---- a row in which none is found
-
-find_none : {X : Type 0} (p : X → Bool) (xs : List X) → list_any p xs ≡ false → find p xs ≡ None
-find_none p [] e = refl
-find_none {X} p (x ∷ xs) e = by (p x) e (find_none p xs)
-  where
-    by : (b : Bool) → (b || list_any p xs) ≡ false → (list_any p xs ≡ false → find p xs ≡ None) → cond b (Some x) (find p xs) ≡ None
-    by true e rest = absurd (true≢false e)
-    by false e rest = rest e
 
 module _ (except : Option ℕ) (bound : Option (Relop × ℕ)) where
   -- the counts tell whether one meets the bound

@@ -1,5 +1,5 @@
 //! The greatest number that a status gives of each name.
-ghost use Rattle.std.specs.Prelude.{◌≡◌, ◌≤◌, ◌+◌, ℕ, List, Some, None, length, map, bytes_eq, IfOk, OnOk, if◌then◌else◌};
+ghost use Rattle.std.specs.Prelude.{◌≡◌, ◌≤◌, ◌+◌, ℕ, List, None, map, bytes_eq, IfOk, OnOk, if◌then◌else◌};
 ghost use Rattle.std.specs.FinSet as set;
 ghost use Rattle.cudf_value.specs.Promises.Views.{vpkg_view};
 ghost use Rattle.cudf_document.specs.Promises.Views.{package_view};
@@ -10,7 +10,7 @@ ghost use Rattle.cudf_universe.specs.Working.Greatest.{kept_greatest, with_numbe
 use crate::steps::Steps;
 use cudf_document::{Package, Problem, Status};
 use cudf_value::Vpkg;
-use indexmap::IndexSet;
+use indexmap::IndexMap;
 use std::alloc::{AllocError, Global};
 use std::marker::Model;
 
@@ -107,45 +107,34 @@ impl<'i, 'p, 't> MeteredNumbers<'i, 'p, 't> {
     }
 }
 
-/// Names in the order in which they came, with the greatest number of each.
+/// Names with the greatest number of each.
 #[derive(Drop)]
 pub(crate) struct NumberedNames<'t> {
-    pub(crate) names: IndexSet<&'t str>,
-    pub(crate) numbers: Vec<u64>,
+    pub(crate) greatest: IndexMap<&'t str, u64>,
 }
 
 impl<'t> NumberedNames<'t> {
     fn new(alloc: Global) -> Self
-        ensures lengths { length result.numbers.items ≡ length result.names.keys }
-        ensures kept { (f : List ℕ) → kept_greatest f result ≡ None }
+        ensures { (f : List ℕ) → kept_greatest f result ≡ None }
     {
         NumberedNames {
-            names: IndexSet::new(alloc),
-            numbers: Vec::new(alloc),
+            greatest: IndexMap::new(alloc),
         }
     }
 
     /// Adds a number of the name.
     fn add(&mut self, name: &'t str, number: u64) -> Result<(), AllocError>
-        requires { length self.old.numbers.items ≡ length self.old.names.keys }
-        ensures lengths { OnOk result (length self.new.numbers.items ≡ length self.new.names.keys) }
-        ensures kept { OnOk result ((f : List ℕ) → kept_greatest f self.new
+        ensures { OnOk result ((f : List ℕ) → kept_greatest f self.new
             ≡ (if bytes_eq name.now f then with_number (kept_greatest f self.old) number else kept_greatest f self.old)) }
     {
-        let (index, is_new) = self.names.insert_full(name)?;
-        if is_new {
-            self.numbers.push(number)?;
-        } else {
-            self.numbers[index] = self.numbers[index].max(number);
-        }
+        let greatest = self.greatest.entry(name)?.or_insert(number);
+        *greatest = (*greatest).max(number);
         Ok(())
     }
 
     /// Adds all numbers that the package gives.
     fn add_package(&mut self, package: &Package<'t>) -> Result<(), AllocError>
-        requires { length self.old.numbers.items ≡ length self.old.names.keys }
-        ensures lengths { OnOk result (length self.new.numbers.items ≡ length self.new.names.keys) }
-        ensures kept { OnOk result ((f : List ℕ) → kept_greatest f self.new ≡ with_pairs f (package_pairs (package_view «package».now)) (kept_greatest f self.old)) }
+        ensures { OnOk result ((f : List ℕ) → kept_greatest f self.new ≡ with_pairs f (package_pairs (package_view «package».now)) (kept_greatest f self.old)) }
     {
         self.add(package.name, package.version)?;
         self.add_entries(&package.provides)?;
@@ -153,9 +142,7 @@ impl<'t> NumberedNames<'t> {
     }
 
     fn add_entries(&mut self, entries: &[Vpkg<'t>]) -> Result<(), AllocError>
-        requires { length self.old.numbers.items ≡ length self.old.names.keys }
-        ensures lengths { OnOk result (length self.new.numbers.items ≡ length self.new.names.keys) }
-        ensures kept { OnOk result ((f : List ℕ) → kept_greatest f self.new ≡ with_entries f (map vpkg_view entries.now) (kept_greatest f self.old)) }
+        ensures { OnOk result ((f : List ℕ) → kept_greatest f self.new ≡ with_entries f (map vpkg_view entries.now) (kept_greatest f self.old)) }
     {
         for entry in entries {
             if let Some((_, number)) = entry.bound {
@@ -169,8 +156,7 @@ impl<'t> NumberedNames<'t> {
     fn find(&self, name: &str) -> Option<u64>
         ensures { result ≡ kept_greatest name.now self.now }
     {
-        let index = self.names.get_index_of(&name)?;
-        self.numbers.get(index).copied()
+        self.greatest.get(name).copied()
     }
 }
 

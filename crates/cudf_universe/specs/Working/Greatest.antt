@@ -1,14 +1,14 @@
 -- The greatest number of each name, as it is gathered (own).
 use Rattle.std.specs.Prelude.{ℕ, max, List, [], ◌∷◌, bytes_eq, filter_map, Option, Some, None, if◌then◌else◌}
+use Rattle.indexmap.specs.IndexMap.{get_by}
 use Rattle.cudf_value.specs.Vpkgs.{PlainVpkg}
 use Rattle.cudf_document.specs.Ids.{Id}
 use Rattle.cudf_universe.specs.Satisfaction.{entry_pair}
-use Rattle.cudf_universe.specs.Working.Kept.{found}
 use Rattle.cudf_universe.specs.declared.greatest.NumberedNames.{NumberedNames}
 
 -- the number that is kept of a name
 abbrev pub kept_greatest : List ℕ → NumberedNames → Option ℕ
-kept_greatest f kept = found (λ k. bytes_eq f k.now) kept.names.keys kept.numbers.items
+kept_greatest f kept = get_by (λ k. bytes_eq f k.now) kept.greatest
 
 -- the greatest with one number more
 abbrev pub with_number : Option ℕ → ℕ → Option ℕ

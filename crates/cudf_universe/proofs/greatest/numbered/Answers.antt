@@ -1,4 +1,4 @@
-use Rattle.std.proofs.Common.{None, ap, sym, subst, ◌∙◌, length, map}
+use Rattle.std.proofs.Common.{None, ap, sym, subst, ◌∙◌, map}
 use Rattle.std.proofs.lemmas.List.{take_all}
 use Rattle.std.specs.FinSet as set
 use Rattle.cudf_document.specs.Promises.Views.{package_view}
@@ -10,24 +10,23 @@ use Rattle.cudf_universe.proofs.greatest.numbered.Goals as goal
 use Rattle.cudf_universe.proofs.greatest.numbered.Goals.{then-holds+in_ok-add_package, else-holds}
 
 pub loop-before-init : goal.loop-before-init
-loop-before-init c = (c.new-kept.ensures.lengths, λ f. c.new-kept.ensures.kept f ∙ sym (pairs_none f None))
+loop-before-init c = λ f. c.new-kept.ensures f ∙ sym (pairs_none f None)
 
 pub loop-before-preserved : goal.loop-before-preserved
-loop-before-preserved c =
+loop-before-preserved c = λ f.
     let holds = set.contains c.args.status.now in
     let packages = c.packages-package-items.result.now in
     let i = c.loop-before.before in
     let next = c.package-item.result in
+    let old = kept_greatest f c.loop-before.kept in
     elim c.if-holds.branch [
-      | then-holds+in_ok-add_package w ↦ (
-        ap (λ k. length k.numbers.items) w.kept-is ∙ w.in_ok-add_package.ensures.lengths ∙ sym (ap (λ k. length k.names.keys) w.kept-is),
-        λ f. ap (kept_greatest f) w.kept-is ∙ greatest_kept package_view f holds packages i next c.loop-before-test.true (kept_greatest f c.loop-before.kept) _ (sym c.holds.ensures ∙ w.if-holds.true) (c.loop-before.invariant.1 f)
-            (w.in_ok-add_package.ensures.kept f ∙ ap (λ p. with_pairs f (package_pairs (package_view p)) (kept_greatest f c.loop-before.kept)) c.package-item.is),
-      )
-      | else-holds w ↦ (
-        ap (λ k. length k.numbers.items) w.kept-is ∙ c.loop-before.invariant.0 ∙ sym (ap (λ k. length k.names.keys) w.kept-is),
-        λ f. ap (kept_greatest f) w.kept-is ∙ greatest_left_out package_view f holds packages i next c.loop-before-test.true (kept_greatest f c.loop-before.kept) (sym c.holds.ensures ∙ w.if-holds.false) (c.loop-before.invariant.1 f),
-      )
+      | then-holds+in_ok-add_package w ↦
+          ap (kept_greatest f) w.kept-is
+          ∙ greatest_kept package_view f holds packages i next c.loop-before-test.true old _ (sym c.holds.ensures ∙ w.if-holds.true) (c.loop-before.invariant f)
+          (w.in_ok-add_package.ensures f ∙ ap (λ p. with_pairs f (package_pairs (package_view p)) old) c.package-item.is)
+      | else-holds w ↦
+          ap (kept_greatest f) w.kept-is
+          ∙ greatest_left_out package_view f holds packages i next c.loop-before-test.true old (sym c.holds.ensures ∙ w.if-holds.false) (c.loop-before.invariant f)
     ]
 
 pub returns : goal.returns
@@ -35,5 +34,5 @@ returns c = λ f.
     let holds = set.contains c.args.status.now in
     let all = ap (map package_view) (take_all c.loop-before.before c.packages-package-items.result.now c.loop-before-test.false) ∙ c.packages-package-items.ensures.packages in
     subst (IsGreatest (numbers_of f (members holds c.args.problem.now.packages)))
-    (sym (c.loop-before.invariant.1 f ∙ ap (λ packages. with_pairs f (gives (members holds packages)) None) all))
+    (sym (c.loop-before.invariant f ∙ ap (λ packages. with_pairs f (gives (members holds packages)) None) all))
     (greatest_of_status f (members holds c.args.problem.now.packages))

@@ -1,4 +1,4 @@
-use Rattle.std.proofs.Common.{◌≡◌, ℕ, Some, None, [], ap, sym, ◌∙◌, length, get_or}
+use Rattle.std.proofs.Common.{◌≡◌, ℕ, Some, None, [], ap, sym, ◌∙◌, get_or}
 use Rattle.std.specs.Prelude.{option_map}
 use Rattle.cudf_value.specs.declared.relop.Relop.{Relop}
 use Rattle.cudf_value.specs.declared.vpkg.Vpkg.{Vpkg}
@@ -21,21 +21,18 @@ pair_none : (e : Vpkg) → e.bound ≡ None → None ≡ entry_pair (vpkg_view e
 pair_none e is = ap (option_map (λ bound. (e.name.now, bound.1))) (sym is)
 
 pub loop-entry-init : goal.loop-entry-init
-loop-entry-init c = (c.requires, λ f. sym (pairs_none f (kept_greatest f c.args.self.now)))
+loop-entry-init c = λ f. sym (pairs_none f (kept_greatest f c.args.self.now))
 
 pub loop-entry-preserved : goal.loop-entry-preserved
-loop-entry-preserved c =
+loop-entry-preserved c = λ f.
+    let more = entries-more f c.args.entries.now c.loop-entry.entry-index past (kept_greatest f c.args.self.now) (kept_greatest f c.loop-entry.self) in
     elim c.match-entry.branch [
-      | in-Some+in_ok-add w ↦ (
-        ap (λ k. length k.numbers.items) w.self-is ∙ w.in_ok-add.ensures.lengths ∙ sym (ap (λ k. length k.names.keys) w.self-is),
-        λ f. ap (kept_greatest f) w.self-is
-            ∙ entries-more f c.args.entries.now c.loop-entry.entry-index past (kept_greatest f c.args.self.now) (kept_greatest f c.loop-entry.self) (kept_greatest f w.add.new.self) _ c.loop-entry-test.true
-            (pair_some (get_or c.args.entries.now c.loop-entry.entry-index past) _ w.in-Some.number w.in-Some.is) (c.loop-entry.invariant.1 f) (w.in_ok-add.ensures.kept f ∙ sym (pairs_one f _ (kept_greatest f c.loop-entry.self))),
-      )
-      | in_default w ↦ (
-        ap (λ k. length k.numbers.items) w.self-is ∙ c.loop-entry.invariant.0 ∙ sym (ap (λ k. length k.names.keys) w.self-is),
-        λ f. ap (kept_greatest f) w.self-is
-            ∙ entries-more f c.args.entries.now c.loop-entry.entry-index past (kept_greatest f c.args.self.now) (kept_greatest f c.loop-entry.self) (kept_greatest f c.loop-entry.self) None c.loop-entry-test.true
-            (pair_none (get_or c.args.entries.now c.loop-entry.entry-index past) w.in_default.is) (c.loop-entry.invariant.1 f) (sym (pairs_none f (kept_greatest f c.loop-entry.self))),
-      )
+      | in-Some+in_ok-add w ↦
+          ap (kept_greatest f) w.self-is
+          ∙ more (kept_greatest f w.add.new.self) _ c.loop-entry-test.true
+          (pair_some (get_or c.args.entries.now c.loop-entry.entry-index past) _ w.in-Some.number w.in-Some.is) (c.loop-entry.invariant f) (w.in_ok-add.ensures f ∙ sym (pairs_one f _ (kept_greatest f c.loop-entry.self)))
+      | in_default w ↦
+          ap (kept_greatest f) w.self-is
+          ∙ more (kept_greatest f c.loop-entry.self) None c.loop-entry-test.true
+          (pair_none (get_or c.args.entries.now c.loop-entry.entry-index past) w.in_default.is) (c.loop-entry.invariant f) (sym (pairs_none f (kept_greatest f c.loop-entry.self)))
     ]

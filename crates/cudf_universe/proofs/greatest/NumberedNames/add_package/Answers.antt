@@ -7,10 +7,10 @@ use Rattle.cudf_universe.specs.Working.Greatest.{kept_greatest, with_entries}
 use Rattle.cudf_universe.proofs.GreatestLemmas.{pairs_first}
 use Rattle.cudf_universe.proofs.greatest.NumberedNames.add_package.Goals as goal
 
-pub returns-clause-kept : goal.returns-clause-kept
-returns-clause-kept c = λ f.
+pub returns : goal.returns
+returns c = λ f.
     let p = package_view c.args.«package».now in
-    c.in_ok-add_entries.ensures.kept f
+    c.in_ok-add_entries.ensures f
     ∙ ap (λ es. with_entries f (map vpkg_view es) (kept_greatest f c.add.new.self)) c.deref.ensures.value
-    ∙ ap (with_entries f p.provides) (c.in_ok-add.ensures.kept f)
+    ∙ ap (with_entries f p.provides) (c.in_ok-add.ensures f)
     ∙ sym (pairs_first f (p.name, p.version) (filter_map entry_pair p.provides) (kept_greatest f c.args.self.now))

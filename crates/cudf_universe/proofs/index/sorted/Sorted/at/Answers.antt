@@ -2,8 +2,5 @@ use Rattle.std.proofs.Common.{arith}
 use Rattle.std.proofs.lemmas.Grind.{common_steps}
 use Rattle.cudf_universe.proofs.index.sorted.Sorted.at.Goals as goal
 
-pub returns-clause-value : goal.returns-clause-value
-returns-clause-value c = grind (arith, common_steps)
-
-pub returns-clause-price : goal.returns-clause-price
-returns-clause-price c = grind (arith, common_steps)
+pub returns : goal.returns
+returns c = grind (arith, common_steps)
