@@ -1,6 +1,6 @@
 -- What is gathered of the stanzas of a problem, one after the other.
 use Rattle.std.proofs.Common.{◌≡◌, ℕ, Bool, true, false, not, ◌||◌, ◌&&◌, List, [], ◌∷◌, ◌++◌, Option, None, Some, is_some, is_none, nat_eq, max, find, filter_map, map, refl, sym, ap, ◌∙◌, if◌then◌else◌, option_map, option_to_list, bytes_eq}
-use Rattle.std.proofs.Math.Bool.{and-true, and-false}
+use Rattle.std.proofs.Math.Bool.{and-true, and-false, or-false}
 use Rattle.std.proofs.lemmas.Bool.{and_parts, eqb-true, not-true}
 use Rattle.std.proofs.lemmas.List.{append-nil, append_assoc, map_push}
 use Rattle.std.proofs.lemmas.List.Elements.{filter_map-append}
@@ -24,7 +24,7 @@ use Rattle.cudf_document.specs.ProblemFaults.{place_faults, property_faults, ver
 use Rattle.cudf_document.specs.Universe.{PlainPackage, package_id, package_with, package_of, packages_in, request_of, request_in}
 use Rattle.cudf_document.specs.Working.PackageFields.{package_fields_of, package_from}
 use Rattle.cudf_document.specs.Working.ProblemBuilders.{PlainBuilder, with_stanza, faults_inside, IsBuilt, IsListed, first_ids}
-use Rattle.cudf_document.proofs.ListLemmas.{or_false, list_any-insert_key, is_some-find, is_some-option_map}
+use Rattle.cudf_document.proofs.ListLemmas.{list_any-insert_key, is_some-find, is_some-option_map}
 use Rattle.cudf_document.proofs.NameLemmas.{same_bytes}
 use Rattle.cudf_document.proofs.FaultLemmas.{least-faults_or, least-append}
 
@@ -56,7 +56,7 @@ pub with_id-append : (ids : List Id) (o : Option Id) (id : Id) → is_among (wit
 with_id-append ids None id = ap (λ l. is_among l id) (sym (append-nil ids))
 with_id-append ids (Some new) id =
     list_any-insert_key is_id (is_id id) ids new (λ k same. ap (is_id id) (sym (same_pair new k same)))
-    ∙ (λ i. is_among ids id || sym (or_false (is_id id new)) i)
+    ∙ (λ i. is_among ids id || sym (or-false (is_id id new)) i)
     ∙ sym (list_any-append (is_id id) ids (new ∷ []))
 
 pub is_known-along : (ids others : List Id) (o : Option Id) → ((id : Id) → is_among ids id ≡ is_among others id) → is_known ids o ≡ is_known others o

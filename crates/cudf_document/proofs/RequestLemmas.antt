@@ -1,13 +1,11 @@
 -- The lists of a request.
-use Rattle.std.proofs.Common.{◌≡◌, ℕ, Bool, true, false, List, [], ◌∷◌, ◌++◌, Option, None, Some, refl, sym, ap, subst, ◌∙◌, if◌then◌else◌, bytes_eq, codes}
+use Rattle.std.proofs.Common.{◌≡◌, ℕ, Bool, true, false, List, [], ◌∷◌, ◌++◌, Option, None, Some, refl, sym, ap, ◌∙◌, if◌then◌else◌, bytes_eq, codes}
 use Rattle.std.specs.List.{list_any, flat_map}
 use Rattle.indexmap.specs.IndexSet.{insert_key}
 use Rattle.cudf_text.specs.declared.fault.Fault.{Fault}
 use Rattle.cudf_text.specs.declared.fault.Kind.TheVariants.{E7, E9}
 use Rattle.cudf_text.specs.Stanzas.{PlainProperty}
 use Rattle.cudf_document.specs.declared.stanza.postmark.Postmark.TheVariants.{Request as RequestMark}
-use Rattle.cudf_document.specs.declared.request.fields.RequestProperty.{RequestProperty}
-use Rattle.cudf_document.specs.declared.request.fields.RequestProperty.TheVariants.{Install, Remove, Upgrade}
 use Rattle.cudf_document.specs.Faults.{lesser, least}
 use Rattle.cudf_document.specs.Documents.{with_earlier, same_name, value_of}
 use Rattle.cudf_document.specs.Values.{list_value, request_tests, test_of, fails}
@@ -15,45 +13,15 @@ use Rattle.cudf_document.specs.ProblemFaults.{property_faults}
 use Rattle.cudf_document.specs.Working.PackageFields.{fault_on}
 use Rattle.cudf_document.specs.Working.RequestFields.{PlainRequestFields, request_property_named, request_property_test, request_fields_of, with_request_property, request_kind_after, request_fields_after}
 use Rattle.cudf_document.proofs.FaultLemmas.{faults-next}
-use Rattle.cudf_document.proofs.NameLemmas.{AreNames-more, same_bytes, value_of-repeated, value_next}
+use Rattle.cudf_document.proofs.NameLemmas.{AreNames-more, by_words, value_of-repeated, value_next}
 use Rattle.cudf_document.specs.Working.SeenNames.{AreNames}
 use Rattle.cudf_document.proofs.PropertyLemmas.{request_property}
 
-abbrev name_of : RequestProperty → List ℕ
-name_of Install = codes "install"
-name_of Remove = codes "remove"
-name_of Upgrade = codes "upgrade"
-
-record IsOther (name : List ℕ) : Type 0 where
-  not_install : bytes_eq name (codes "install") ≡ false
-  not_remove : bytes_eq name (codes "remove") ≡ false
-  not_upgrade : bytes_eq name (codes "upgrade") ≡ false
-
--- what holds at the name of each wish, and at any other name, holds
-by_request_property : (P : List ℕ → Type 0) → ((w : RequestProperty) → P (name_of w)) → (name : List ℕ) → (IsOther name → P name) → P name
-by_request_property P known name other =
-    at (codes "install") Install refl (λ not_install.
-    at (codes "remove") Remove refl (λ not_remove.
-    at (codes "upgrade") Upgrade refl (λ not_upgrade.
-    other (record { not_install = not_install; not_remove = not_remove; not_upgrade = not_upgrade }))))
-  where
-    at : (word : List ℕ) (w : RequestProperty) → name_of w ≡ word → (bytes_eq name word ≡ false → P name) → P name
-    at word w is rest = by (bytes_eq name word) refl
-      where
-        by : (b : Bool) → bytes_eq name word ≡ b → P name
-        by true same = subst P (is ∙ sym (same_bytes name word same)) (known w)
-        by false differs = rest differs
+abbrev words : List (List ℕ)
+words = codes "install" ∷ codes "remove" ∷ codes "upgrade" ∷ []
 
 pub test_of-request : (name : List ℕ) → test_of name request_tests ≡ request_property_test (request_property_named name)
-test_of-request name = by_request_property (λ n. test_of n request_tests ≡ request_property_test (request_property_named n)) known name other
-  where
-    known : (w : RequestProperty) → test_of (name_of w) request_tests ≡ request_property_test (request_property_named (name_of w))
-    known Install = refl
-    known Remove = refl
-    known Upgrade = refl
-
-    other : IsOther name → test_of name request_tests ≡ request_property_test (request_property_named name)
-    other o = simp (o.not_install, o.not_remove, o.not_upgrade)
+test_of-request name = by_words (λ n. test_of n request_tests ≡ request_property_test (request_property_named n)) words name refl refl refl (λ a b c. simp (a, b, c))
 
 -- the lists, each with what a text says of it, where the name is its own
 abbrev says : List PlainProperty → List ℕ → List ℕ → PlainRequestFields
@@ -64,15 +32,8 @@ says ps text name = record {
 }
 
 with_request_property-says : (ps : List PlainProperty) (text name : List ℕ) → with_request_property (request_property_named name) text (request_fields_of ps) ≡ says ps text name
-with_request_property-says ps text name = by_request_property (λ n. with_request_property (request_property_named n) text (request_fields_of ps) ≡ says ps text n) known name other
-  where
-    known : (w : RequestProperty) → with_request_property (request_property_named (name_of w)) text (request_fields_of ps) ≡ says ps text (name_of w)
-    known Install = refl
-    known Remove = refl
-    known Upgrade = refl
-
-    other : IsOther name → with_request_property (request_property_named name) text (request_fields_of ps) ≡ says ps text name
-    other o = simp (o.not_install, o.not_remove, o.not_upgrade)
+with_request_property-says ps text name =
+    by_words (λ n. with_request_property (request_property_named n) text (request_fields_of ps) ≡ says ps text n) words name refl refl refl (λ a b c. simp (a, b, c))
 
 request_fields_of-next : (ps : List PlainProperty) (p : PlainProperty)
     → (if list_any (same_name p) ps then request_fields_of ps else with_request_property (request_property_named p.name) p.value (request_fields_of ps)) ≡ request_fields_of (ps ++ p ∷ [])
