@@ -4,13 +4,13 @@ use Rattle.std.proofs.Math.Bool.{and-true}
 use Rattle.std.proofs.lemmas.List.{append_assoc, take-append-le, length-take}
 use Rattle.std.proofs.lemmas.List.Elements.{filter_map-append}
 use Rattle.std.proofs.lemmas.List.Folds.{list_all-append}
-use Rattle.std.specs.List.{list_all, cons_option}
+use Rattle.std.specs.List.{list_all}
 use Rattle.cudf_value.specs.Declarations.{PlainDeclaration}
 use Rattle.cudf_document.specs.Values.{declared_test, test_of}
 use Rattle.cudf_document.specs.Documents.{with_earlier}
 use Rattle.cudf_document.specs.Preamble.{is_declarable, all_declarable}
 use Rattle.cudf_document.specs.ProblemFaults.{name_without_default}
-use Rattle.cudf_document.proofs.ListLemmas.{with_earlier-push}
+use Rattle.cudf_document.proofs.ListLemmas.{as_list, with_earlier-push}
 
 -- the test of a declared name is that of its first declaration
 pub test_of-declared : (name : List ℕ) (ds : List PlainDeclaration)
@@ -78,8 +78,4 @@ named_unless d has is = by d.default has is
 pub required_more : (names more : List (List ℕ)) (ds : List PlainDeclaration) (d : PlainDeclaration) → names ≡ filter_map name_without_default ds
     → more ≡ names ++ option_to_list (name_without_default d) → more ≡ filter_map name_without_default (ds ++ d ∷ [])
 required_more names more ds d so_far more_is =
-    more_is ∙ (λ i. so_far i ++ by (name_without_default d) i) ∙ sym (filter_map-append name_without_default ds (d ∷ []))
-  where
-    by : (o : Option (List ℕ)) → option_to_list o ≡ cons_option o []
-    by None = refl
-    by (Some x) = refl
+    more_is ∙ (λ i. so_far i ++ as_list (name_without_default d) i) ∙ sym (filter_map-append name_without_default ds (d ∷ []))

@@ -1,9 +1,10 @@
 -- Lists: one more element, each with those before it, and keys.
-use Rattle.std.proofs.Common.{Result, Ok, Err, OnOk, ◌≡◌, ℕ, ◌+◌, ◌<◌, nat_lt, length, get_or, take, subst, Bool, true, false, not, ◌||◌, List, [], ◌∷◌, ◌++◌, map, Option, None, Some, find, position, refl, sym, ap, ◌∙◌, if◌then◌else◌, option_map, is_some, is_none, IsSome, rules, option_copied, Bor, bytes_eq}
+use Rattle.std.proofs.Common.{Result, Ok, Err, OnOk, ◌≡◌, ℕ, ◌+◌, ◌<◌, nat_lt, length, get_or, take, subst, Bool, true, false, not, ◌||◌, List, [], ◌∷◌, ◌++◌, map, Option, None, Some, find, position, refl, sym, ap, ◌∙◌, if◌then◌else◌, option_map, is_some, is_none, IsSome, rules, option_to_list, option_copied, Bor, bytes_eq}
 use Rattle.std.proofs.Math.Bool.{or-false, or_assoc}
 use Rattle.std.proofs.lemmas.List.{append_assoc, append-nil, length-map, map_push, map_more}
 use Rattle.std.proofs.lemmas.List.Folds.{list_any-append, list_all_at}
-use Rattle.std.specs.List.{list_any, list_all, prefix_len}
+use Rattle.std.specs.List.{list_any, list_all, prefix_len, cons_option}
+use Rattle.std.specs.Option.{option_or}
 use Rattle.std.specs.Map.{lookup}
 use Rattle.indexmap.specs.IndexSet.{insert_key}
 use Rattle.cudf_document.specs.Documents.{is_empty, with_earlier}
@@ -124,6 +125,14 @@ option_map-copied view (Some r) = refl
 pub option_map-none : {A B : Type 0} (view : A → B) (x : Option A) → option_map view x ≡ None → x ≡ None
 option_map-none view None none = refl
 option_map-none view (Some y) none = absurd cc
+
+pub as_list : {A : Type 0} (o : Option A) → option_to_list o ≡ cons_option o []
+as_list None = refl
+as_list (Some x) = refl
+
+pub option_or-none : {A : Type 0} (x : Option A) → option_or x None ≡ x
+option_or-none None = refl
+option_or-none (Some y) = refl
 
 -- ---- what is found
 

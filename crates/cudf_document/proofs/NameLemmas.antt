@@ -12,7 +12,7 @@ use Rattle.cudf_text.specs.Stanzas.{PlainProperty}
 use Rattle.cudf_document.specs.Working.SeenNames.{AreNames}
 use Rattle.cudf_document.specs.Documents.{has_name, same_name, value_of}
 use Rattle.cudf_document.specs.ProblemFaults.{lacks_one}
-use Rattle.cudf_document.proofs.ListLemmas.{is_some-find, find_none, list_any-map, list_any-insert_key}
+use Rattle.cudf_document.proofs.ListLemmas.{option_or-none, is_some-find, find_none, list_any-map, list_any-insert_key}
 
 -- ---- equal names
 
@@ -89,11 +89,7 @@ pub value_of-other : {A : Type 0} (read : List ℕ → Option A) (name : List �
     → bytes_eq p.name name ≡ false → value_of read name (ps ++ p ∷ []) ≡ value_of read name ps
 value_of-other read name ps p other =
     ap (option_and_then (λ q. read q.value))
-    (find-append (has_name name) ps (p ∷ []) ∙ ap (λ b. option_or (find (has_name name) ps) (if b then Some p else None)) other ∙ or_none (find (has_name name) ps))
-  where
-    or_none : {B : Type 0} (x : Option B) → option_or x None ≡ x
-    or_none None = refl
-    or_none (Some y) = refl
+    (find-append (has_name name) ps (p ∷ []) ∙ ap (λ b. option_or (find (has_name name) ps) (if b then Some p else None)) other ∙ option_or-none (find (has_name name) ps))
 
 -- the first of its name does
 pub value_of-new : {A : Type 0} (read : List ℕ → Option A) (name : List ℕ) (ps : List PlainProperty) (p : PlainProperty)

@@ -1,8 +1,6 @@
 -- The fields of a package.
 use Rattle.std.proofs.Common.{◌≡◌, ℕ, Bool, true, false, List, [], ◌∷◌, ◌++◌, map, Option, None, Some, is_some, find, refl, sym, ap, ◌∙◌, if◌then◌else◌, option_map, option_and_then, bytes_eq, codes}
-use Rattle.std.specs.List.{list_any, flat_map}
-use Rattle.indexmap.specs.IndexSet.{insert_key}
-use Rattle.cudf_text.specs.declared.fault.Fault.{Fault}
+use Rattle.std.specs.List.{list_any}
 use Rattle.cudf_text.specs.declared.fault.Kind.TheVariants.{E7}
 use Rattle.cudf_text.specs.Stanzas.{PlainProperty}
 use Rattle.cudf_text.specs.Chars.{trim}
@@ -11,14 +9,13 @@ use Rattle.cudf_value.specs.Declarations.{PlainDeclaration}
 use Rattle.cudf_document.specs.declared.stanza.postmark.Postmark.TheVariants.{Package as PackageMark}
 use Rattle.cudf_document.specs.declared.package.property.PackageProperty.{PackageProperty}
 use Rattle.cudf_document.specs.declared.package.property.PackageProperty.TheVariants.{Package, Version, Depends, Conflicts, Provides, Installed, Keep, WasInstalled, Recommends}
-use Rattle.cudf_document.specs.Faults.{lesser, least}
-use Rattle.cudf_document.specs.Documents.{with_earlier, same_name, value_of}
+use Rattle.cudf_document.specs.Faults.{least}
+use Rattle.cudf_document.specs.Documents.{same_name, value_of}
 use Rattle.cudf_document.specs.Values.{name_value, version_value, formula_value, list_value, exact_list_value, truth_value, keep_value, can_be, package_tests, declared_test, test_of}
 use Rattle.cudf_document.specs.Preamble.{is_formula_type, recommends_in}
 use Rattle.cudf_document.specs.ProblemFaults.{property_faults}
 use Rattle.cudf_document.specs.Working.PackageFields.{PlainPackageFields, package_property_named, package_property_test, wrong_kind, fault_on, package_fields_of, with_package_property, no_package_fields, kind_after, without_needs, is_need}
-use Rattle.cudf_document.proofs.FaultLemmas.{faults-next}
-use Rattle.cudf_document.proofs.NameLemmas.{AreNames-more, by_words, value_of-repeated, value_next}
+use Rattle.cudf_document.proofs.NameLemmas.{by_words, value_of-repeated, value_next}
 use Rattle.cudf_document.specs.Working.SeenNames.{AreNames}
 use Rattle.cudf_document.proofs.DeclarationLemmas.{test_of-declared}
 use Rattle.cudf_document.proofs.PropertyLemmas.{package_property}
@@ -147,25 +144,9 @@ bare-other ds ps p named is other new =
     ∙ ap (λ f. without_needs (with_package_property ds f p.value (package_fields_of ds ps))) is
     ∙ ap without_needs (package_fields_of-first ds ps p (package_fields_of ds ps) refl new)
 
--- ---- a package's properties, one after the other
-
-pub record IsJudgedTo (ds : List PlainDeclaration) (ps : List PlainProperty) (names : List (List ℕ)) (first : Option Fault) : Type 0 where
-  pub names_are : AreNames names ps
-  pub first_is : first ≡ least (flat_map (property_faults ds (Some PackageMark)) (with_earlier [] ps))
-
-pub IsJudgedTo-none : (ds : List PlainDeclaration) (names : List (List ℕ)) → names ≡ [] → IsJudgedTo ds [] names None
-IsJudgedTo-none ds names none = record { names_are = λ name. ap (list_any (bytes_eq name)) none; first_is = refl }
-
-pub IsJudgedTo-next : (ds : List PlainDeclaration) (ps : List PlainProperty) (names : List (List ℕ)) (first : Option Fault) (p : PlainProperty)
-    (more : List PlainProperty) (new_names : List (List ℕ)) (fault new_first : Option Fault)
-    → IsJudgedTo ds ps names first → more ≡ ps ++ p ∷ [] → new_names ≡ insert_key bytes_eq names p.name
-    → fault ≡ fault_on p.line (kind_after ds names p) → new_first ≡ lesser first fault
-    → IsJudgedTo ds more new_names new_first
-IsJudgedTo-next ds ps names first p more new_names fault new_first so_far more_is names_is fault_is lesser_is = record {
-  names_are = AreNames-more names ps p more new_names so_far.names_are more_is names_is;
-  first_is = lesser_is ∙ faults-next (property_faults ds (Some PackageMark)) ps p first fault so_far.first_is
-      (fault_is
-      ∙ ap (fault_on p.line) (λ i. if so_far.names_are p.name i then Some E7 else wrong_kind (sym (test_of-field ds p.name) i) p.value)
-      ∙ sym (package_property p.line (list_any (same_name p) ps) (test_of p.name (package_tests ++ map declared_test ds)) p.value))
-      ∙ ap (λ qs. least (flat_map (property_faults ds (Some PackageMark)) (with_earlier [] qs))) (sym more_is);
-}
+-- what is wrong with one more property
+pub package_fault : (ds : List PlainDeclaration) (ps : List PlainProperty) (names : List (List ℕ)) (p : PlainProperty) → AreNames names ps
+    → fault_on p.line (kind_after ds names p) ≡ least (property_faults ds (Some PackageMark) (ps, p))
+package_fault ds ps names p names_are =
+    ap (fault_on p.line) (λ i. if names_are p.name i then Some E7 else wrong_kind (sym (test_of-field ds p.name) i) p.value)
+    ∙ sym (package_property p.line (list_any (same_name p) ps) (test_of p.name (package_tests ++ map declared_test ds)) p.value)

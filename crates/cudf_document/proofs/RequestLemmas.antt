@@ -1,19 +1,16 @@
 -- The lists of a request.
-use Rattle.std.proofs.Common.{◌≡◌, ℕ, Bool, true, false, List, [], ◌∷◌, ◌++◌, Option, None, Some, refl, sym, ap, ◌∙◌, if◌then◌else◌, bytes_eq, codes}
-use Rattle.std.specs.List.{list_any, flat_map}
-use Rattle.indexmap.specs.IndexSet.{insert_key}
-use Rattle.cudf_text.specs.declared.fault.Fault.{Fault}
+use Rattle.std.proofs.Common.{◌≡◌, ℕ, Bool, true, false, List, [], ◌∷◌, ◌++◌, None, Some, refl, sym, ap, ◌∙◌, if◌then◌else◌, bytes_eq, codes}
+use Rattle.std.specs.List.{list_any}
 use Rattle.cudf_text.specs.declared.fault.Kind.TheVariants.{E7, E9}
 use Rattle.cudf_text.specs.Stanzas.{PlainProperty}
 use Rattle.cudf_document.specs.declared.stanza.postmark.Postmark.TheVariants.{Request as RequestMark}
-use Rattle.cudf_document.specs.Faults.{lesser, least}
-use Rattle.cudf_document.specs.Documents.{with_earlier, same_name, value_of}
+use Rattle.cudf_document.specs.Faults.{least}
+use Rattle.cudf_document.specs.Documents.{same_name, value_of}
 use Rattle.cudf_document.specs.Values.{list_value, request_tests, test_of, fails}
 use Rattle.cudf_document.specs.ProblemFaults.{property_faults}
 use Rattle.cudf_document.specs.Working.PackageFields.{fault_on}
 use Rattle.cudf_document.specs.Working.RequestFields.{PlainRequestFields, request_property_named, request_property_test, request_fields_of, with_request_property, request_kind_after, request_fields_after}
-use Rattle.cudf_document.proofs.FaultLemmas.{faults-next}
-use Rattle.cudf_document.proofs.NameLemmas.{AreNames-more, by_words, value_of-repeated, value_next}
+use Rattle.cudf_document.proofs.NameLemmas.{by_words, value_of-repeated, value_next}
 use Rattle.cudf_document.specs.Working.SeenNames.{AreNames}
 use Rattle.cudf_document.proofs.PropertyLemmas.{request_property}
 
@@ -52,29 +49,12 @@ request_fields_of-next ps p = by (list_any (same_name p) ps) refl
       upgrade = value_next list_value (codes "upgrade") ps p new i;
     })
 
--- what is known of the properties so far
-pub record IsAskedTo (ps : List PlainProperty) (names : List (List ℕ)) (first : Option Fault) : Type 0 where
-  pub names_are : AreNames names ps
-  pub first_is : first ≡ least (flat_map (property_faults [] (Some RequestMark)) (with_earlier [] ps))
-
--- none yet
-pub IsAskedTo-none : (names : List (List ℕ)) → names ≡ [] → IsAskedTo [] names None
-IsAskedTo-none names none = record { names_are = λ name. ap (list_any (bytes_eq name)) none; first_is = refl }
-
--- one more property
-pub IsAskedTo-next : (ps : List PlainProperty) (names : List (List ℕ)) (first : Option Fault) (p : PlainProperty)
-    (more : List PlainProperty) (new_names : List (List ℕ)) (fault new_first : Option Fault)
-    → IsAskedTo ps names first → more ≡ ps ++ p ∷ [] → new_names ≡ insert_key bytes_eq names p.name
-    → fault ≡ fault_on p.line (request_kind_after names p) → new_first ≡ lesser first fault
-    → IsAskedTo more new_names new_first
-IsAskedTo-next ps names first p more new_names fault new_first so_far more_is names_is fault_is lesser_is = record {
-  names_are = AreNames-more names ps p more new_names so_far.names_are more_is names_is;
-  first_is = lesser_is ∙ faults-next (property_faults [] (Some RequestMark)) ps p first fault so_far.first_is
-      (fault_is
-      ∙ ap (fault_on p.line) (λ i. if so_far.names_are p.name i then Some E7 else (if fails (sym (test_of-request p.name) i) p.value then Some E9 else None))
-      ∙ sym (request_property p.line (list_any (same_name p) ps) (fails (test_of p.name request_tests) p.value)))
-      ∙ ap (λ qs. least (flat_map (property_faults [] (Some RequestMark)) (with_earlier [] qs))) (sym more_is);
-}
+-- what is wrong with one more property
+pub request_fault : (ps : List PlainProperty) (names : List (List ℕ)) (p : PlainProperty) → AreNames names ps
+    → fault_on p.line (request_kind_after names p) ≡ least (property_faults [] (Some RequestMark) (ps, p))
+request_fault ps names p names_are =
+    ap (fault_on p.line) (λ i. if names_are p.name i then Some E7 else (if fails (sym (test_of-request p.name) i) p.value then Some E9 else None))
+    ∙ sym (request_property p.line (list_any (same_name p) ps) (fails (test_of p.name request_tests) p.value))
 
 -- what it asks for
 pub asked_next : (ps : List PlainProperty) (names : List (List ℕ)) (fields : PlainRequestFields) (p : PlainProperty) (more : List PlainProperty) (new_fields : PlainRequestFields)

@@ -1,5 +1,5 @@
 -- What a solution proposes, one stanza after the other.
-use Rattle.std.proofs.Common.{◌≡◌, ◌≢◌, ◌⊎◌, ℕ, suc, ◌+◌, ◌-◌, ◌<◌, ◌==◌, nat_lt, Bool, true, false, not, ◌||◌, List, [], ◌∷◌, ◌++◌, map, length, get_or, set, replicate, position, slice_get, Option, None, Some, is_some, filter_map, inl, inr, refl, sym, ap, subst, ◌∙◌, arith, if◌then◌else◌, option_map, option_and_then, option_to_list}
+use Rattle.std.proofs.Common.{◌≡◌, ◌≢◌, ◌⊎◌, ℕ, suc, ◌+◌, ◌-◌, ◌<◌, ◌==◌, nat_eq, nat_lt, Bool, true, false, not, ◌||◌, ◌&&◌, List, [], ◌∷◌, ◌++◌, map, length, get_or, set, replicate, position, slice_get, Option, None, Some, is_some, filter_map, inl, inr, refl, sym, ap, subst, ◌∙◌, arith, if◌then◌else◌, option_map, option_and_then, option_to_list}
 use Rattle.std.proofs.Math.Bool.{or-false, or-true}
 use Rattle.std.proofs.lemmas.Bool.{true≢false, cases_order}
 use Rattle.std.proofs.lemmas.Bool.Decides.{nat_tests}
@@ -26,19 +26,18 @@ use Rattle.cudf_document.specs.Working.Pairs.{ArePairs}
 use Rattle.cudf_document.specs.Working.SolutionBuilders.{ids_of}
 use Rattle.cudf_document.specs.Working.SolutionReaders.{IsSolutionRead}
 use Rattle.cudf_document.proofs.FaultLemmas.{least-append}
-use Rattle.cudf_document.proofs.BuilderLemmas.{same_pair, as_list}
-use Rattle.cudf_document.proofs.FaultlessLemmas.{same_id, distinct-places}
+use Rattle.cudf_document.proofs.BuilderLemmas.{same_pair}
+use Rattle.cudf_document.proofs.ListLemmas.{as_list}
+use Rattle.cudf_document.proofs.NameLemmas.{bytes_eq-sym}
+use Rattle.cudf_document.proofs.FaultlessLemmas.{distinct-places}
 
 -- ---- pairs
 
 is_id-sym : (x y : Id) → is_id x y ≡ is_id y x
-is_id-sym x y = by (is_id x y) (is_id y x) refl refl
+is_id-sym x y = λ i. bytes_eq-sym x.0 y.0 i && same_numbers i
   where
-    by : (a b : Bool) → is_id x y ≡ a → is_id y x ≡ b → is_id x y ≡ is_id y x
-    by true true p q = p ∙ sym q
-    by false false p q = p ∙ sym q
-    by true false p q = absurd (true≢false (sym (same_id x) ∙ (λ i. is_id (same_pair x y p i) x) ∙ q))
-    by false true p q = absurd (true≢false (sym (same_id y) ∙ (λ i. is_id (same_pair y x q i) y) ∙ p))
+    same_numbers : nat_eq x.1 y.1 ≡ nat_eq y.1 x.1
+    same_numbers = grind (arith, nat_tests)
 
 -- ---- places
 

@@ -1,12 +1,12 @@
 -- What is known of stanzas on the walk: as of those that are gathered.
-use Rattle.std.proofs.Common.{◌≡◌, ℕ, max, map, filter_map, Bool, true, false, not, ◌||◌, ◌&&◌, nat_lt, List, [], ◌∷◌, ◌++◌, Option, Some, None, refl, sym, ap, subst, ◌∙◌, if◌then◌else◌, ◌==◌, IsTrue}
+use Rattle.std.proofs.Common.{◌≡◌, ℕ, max, map, filter_map, Bool, true, false, not, ◌||◌, List, [], ◌∷◌, ◌++◌, Option, Some, None, inl, inr, refl, sym, ap, subst, ◌∙◌, ◌==◌, IsTrue}
 use Rattle.std.specs.List.{list_any, list_all, flat_map}
 use Rattle.std.specs.Option.{option_or}
 use Rattle.std.specs.Cow.{cow_str_bytes}
 use Rattle.std.specs.declared.alloc.Global.{Global}
 use Rattle.std.specs.declared.borrow.CowStr.{CowStr}
 use Rattle.std.proofs.Math.Bool.{and-false, or-false, or_comm}
-use Rattle.std.proofs.lemmas.Bool.{eqb-true}
+use Rattle.std.proofs.lemmas.Bool.{eqb-true, or_cases}
 use Rattle.std.proofs.lemmas.List.Folds.{list_any-append}
 use Rattle.cudf_text.specs.declared.fault.Fault.{Fault}
 use Rattle.cudf_text.specs.Chars.{is_blank}
@@ -37,30 +37,20 @@ use Rattle.cudf_document.proofs.BuilderLemmas.{problem_least, requested_is, stan
 -- ---- a joined value is no name
 
 no_name_char : (b : ℕ) → is_blank b ≡ true → is_pkgname_char b ≡ false
-no_name_char b h = by (b == 32) (b == 9) refl refl
-  where
-    by : (x y : Bool) → (b == 32) ≡ x → (b == 9) ≡ y → is_pkgname_char b ≡ false
-    by true y e f = ap is_pkgname_char (eqb-true b 32 e)
-    by false true e f = ap is_pkgname_char (eqb-true b 9 f)
-    by false false e f = let never : false ≡ true = rw (e, f) at h in absurd cc
+no_name_char b h = elim (or_cases (b == 32) (b == 9) h) [ inl e ↦ ap is_pkgname_char (eqb-true b 32 e) | inr e ↦ ap is_pkgname_char (eqb-true b 9 e) ]
 
 blank_no_name : (text : List ℕ) → list_any is_blank text ≡ true → list_all is_pkgname_char text ≡ false
 blank_no_name [] h = absurd cc
-blank_no_name (b ∷ text) h = by (blank_no_name text) (is_blank b) refl
-  where
-    by : (list_any is_blank text ≡ true → list_all is_pkgname_char text ≡ false) → (x : Bool) → is_blank b ≡ x → list_all is_pkgname_char (b ∷ text) ≡ false
-    by rest true e = rw (no_name_char b e) refl
-    by rest false e = let later : list_any is_blank text ≡ true = rw e at h in rw (rest later) (and-false (is_pkgname_char b))
+blank_no_name (b ∷ text) h = elim (or_cases (is_blank b) (list_any is_blank text) h) [
+  | inl e ↦ rw (no_name_char b e) refl
+  | inr later ↦ rw (blank_no_name text later) (and-false (is_pkgname_char b))
+]
 
 pub joined_no_name : (v : CowStr Global) → IsJoined v → is_owned v ≡ true → None ≡ name_value (cow_str_bytes v)
 unfolding is_pkgname
 joined_no_name v joined owned =
     let blank : list_any is_blank (cow_str_bytes v) ≡ true = rw owned at joined in
-    rw (blank_no_name (cow_str_bytes v) blank) (by (nat_lt 0 _))
-  where
-    by : (x : Bool) → ◌≡◌ {A = Option (List ℕ)} None (if x && false then Some (cow_str_bytes v) else None)
-    by true = refl
-    by false = refl
+    simp (blank_no_name (cow_str_bytes v) blank, and-false)
 
 -- ---- the walk
 
@@ -111,9 +101,6 @@ IsKnown-next mode required old new before s mark is_first place inside first ds 
 declared_later : (before : List PlainStanza) (s : PlainStanza) → false ≡ is_empty before → declared (before ++ s ∷ []) ≡ declared before
 declared_later [] s some = absurd cc
 declared_later (t ∷ before) s some = refl
-
-pub IsKnown-none : (mode : Mode) (k : Walk) → k.first ≡ None → k.ids ≡ [] → k.requested ≡ false → IsKnown mode k []
-IsKnown-none mode k first ids requested = record { first_is = first; ids_are = λ id. ap (λ l. list_any (is_id id) l) ids; listed_are = ids; requested_is = requested }
 
 pub required_none : (mode : Mode) → [] ≡ required_names mode []
 required_none Lenient = refl
