@@ -1,6 +1,6 @@
 -- What is gathered of the stanzas of a problem, one after the other.
 use Rattle.std.proofs.Common.{◌≡◌, ℕ, Bool, true, false, not, ◌||◌, ◌&&◌, List, [], ◌∷◌, ◌++◌, Option, None, Some, is_some, is_none, nat_eq, max, find, filter_map, map, refl, sym, ap, ◌∙◌, if◌then◌else◌, option_map, option_to_list, bytes_eq}
-use Rattle.std.proofs.Math.Bool.{and-true, and-false}
+use Rattle.std.proofs.Math.Bool.{not-not, and-true, and-false, or-false}
 use Rattle.std.proofs.lemmas.Bool.{and_parts, eqb-true, not-true}
 use Rattle.std.proofs.lemmas.List.{append-nil, append_assoc, map_push}
 use Rattle.std.proofs.lemmas.List.Elements.{filter_map-append}
@@ -10,8 +10,7 @@ use Rattle.std.specs.Option.{option_or}
 use Rattle.indexmap.specs.IndexSet.{insert_key}
 use Rattle.cudf_text.specs.declared.fault.Fault.{Fault}
 use Rattle.cudf_text.specs.declared.fault.Kind.TheVariants.{E4, E5, E6, E11, E12, E13, E14}
-use Rattle.cudf_text.specs.Stanzas.{PlainProperty, PlainStanza, PlainText}
-use Rattle.cudf_value.specs.Declarations.{PlainDeclaration}
+use Rattle.cudf_text.specs.Stanzas.{PlainStanza, PlainText}
 use Rattle.cudf_document.specs.declared.mode.Mode.{Mode}
 use Rattle.cudf_document.specs.declared.stanza.postmark.Postmark.{Postmark}
 use Rattle.cudf_document.specs.declared.stanza.postmark.Postmark.TheVariants.{Preamble, Package, Request}
@@ -24,7 +23,7 @@ use Rattle.cudf_document.specs.ProblemFaults.{place_faults, property_faults, ver
 use Rattle.cudf_document.specs.Universe.{PlainPackage, package_id, package_with, package_of, packages_in, request_of, request_in}
 use Rattle.cudf_document.specs.Working.PackageFields.{package_fields_of, package_from}
 use Rattle.cudf_document.specs.Working.ProblemBuilders.{PlainBuilder, with_stanza, faults_inside, IsBuilt, IsListed, first_ids}
-use Rattle.cudf_document.proofs.ListLemmas.{or_false, list_any-insert_key, is_some-find, is_some-option_map}
+use Rattle.cudf_document.proofs.ListLemmas.{as_list, option_or-none, list_any-insert_key, is_some-find, is_some-option_map}
 use Rattle.cudf_document.proofs.NameLemmas.{same_bytes}
 use Rattle.cudf_document.proofs.FaultLemmas.{least-faults_or, least-append}
 
@@ -56,7 +55,7 @@ pub with_id-append : (ids : List Id) (o : Option Id) (id : Id) → is_among (wit
 with_id-append ids None id = ap (λ l. is_among l id) (sym (append-nil ids))
 with_id-append ids (Some new) id =
     list_any-insert_key is_id (is_id id) ids new (λ k same. ap (is_id id) (sym (same_pair new k same)))
-    ∙ (λ i. is_among ids id || sym (or_false (is_id id new)) i)
+    ∙ (λ i. is_among ids id || sym (or-false (is_id id new)) i)
     ∙ sym (list_any-append (is_id id) ids (new ∷ []))
 
 pub is_known-along : (ids others : List Id) (o : Option Id) → ((id : Id) → is_among ids id ≡ is_among others id) → is_known ids o ≡ is_known others o
@@ -64,13 +63,6 @@ is_known-along ids others None same = refl
 is_known-along ids others (Some id) same = same id
 
 -- ---- packages
-
-package_from-is : (ds : List PlainDeclaration) (line : ℕ) (ps : List PlainProperty) → package_from line (package_fields_of ds ps) ≡ option_map (package_with ds line ps) (id_under (Some Package) ps)
-package_from-is ds line ps = by (id_under (Some Package) ps)
-  where
-    by : (o : Option Id) → option_map (λ id. package_with ds line ps (id.0, id.1)) o ≡ option_map (package_with ds line ps) o
-    by None = refl
-    by (Some id) = refl
 
 packages_before : (before : List PlainStanza) (s : PlainStanza) → filter_map (package_of (declared (before ++ s ∷ []))) before ≡ packages_in before
 packages_before [] s = refl
@@ -82,10 +74,6 @@ packages_in-push before s =
     filter_map-append (package_of (declared (before ++ s ∷ []))) before (s ∷ [])
     ∙ ap (λ l. l ++ cons_option (package_of (declared (before ++ s ∷ [])) s) []) (packages_before before s)
 
-pub as_list : {A : Type 0} (o : Option A) → option_to_list o ≡ cons_option o []
-as_list None = refl
-as_list (Some x) = refl
-
 -- ---- the request
 
 or_of : {A B : Type 0} (f : A → B) (x y : Option A) → option_map f (option_or x y) ≡ option_or (option_map f x) (option_map f y)
@@ -95,10 +83,6 @@ or_of f (Some x) y = refl
 request_in-push : (before : List PlainStanza) (s : PlainStanza)
     → request_in (before ++ s ∷ []) ≡ option_or (request_in before) (option_map request_of (if is_request s then Some s else None))
 request_in-push before s = ap (option_map request_of) (find-append is_request before (s ∷ [])) ∙ or_of request_of (find is_request before) (find is_request (s ∷ []))
-
-or_nothing : {A : Type 0} (x : Option A) → option_or x None ≡ x
-or_nothing None = refl
-or_nothing (Some x) = refl
 
 first_or : {A : Type 0} (x : Option A) (y : A) → (if is_some x then x else Some y) ≡ option_or x (Some y)
 first_or None y = refl
@@ -125,7 +109,7 @@ module _ (g : PlainBuilder) (before : List PlainStanza) (s : PlainStanza) (so_fa
   no_more_requests : is_request s ≡ false → g.request ≡ request_in (before ++ s ∷ [])
   no_more_requests none =
       so_far.request_is
-      ∙ sym (request_in-push before s ∙ ap (λ b. option_or (request_in before) (option_map request_of (if b then Some s else None))) none ∙ or_nothing (request_in before))
+      ∙ sym (request_in-push before s ∙ ap (λ b. option_or (request_in before) (option_map request_of (if b then Some s else None))) none ∙ option_or-none (request_in before))
 
   -- one more stanza
   pub IsBuilt-next : (mark : Option Postmark) (is_first : Bool) → postmark s ≡ mark → is_first ≡ is_empty before → IsBuilt (with_stanza mark is_first s g) (before ++ s ∷ [])
@@ -151,7 +135,6 @@ module _ (g : PlainBuilder) (before : List PlainStanza) (s : PlainStanza) (so_fa
         ∙ ap (λ l. is_among l id) (sym (filter_map-append id_of before (s ∷ [])));
     packages_are =
         (λ i. so_far.packages_are i ++ as_list (package_from s.line (package_fields_of g.declared s.properties)) i)
-        ∙ ap (λ o. packages_in before ++ cons_option o []) (package_from-is g.declared s.line s.properties)
         ∙ (λ i. packages_in before
         ++ cons_option (option_map (package_with ((so_far.declared_are ∙ sym (declared-other before s (ap marks_preamble marked))) i) s.line s.properties) (id_under (sym marked i) s.properties)) [])
         ∙ sym (packages_in-push before s);
@@ -175,18 +158,8 @@ module _ (g : PlainBuilder) (before : List PlainStanza) (s : PlainStanza) (so_fa
       ++ fault_if (marks_package mark && is_none (version_property s)) s.last E12
 
   inside_is : (mode : Mode) (mark : Postmark) → postmark s ≡ Some mark → faults_inside (Some mark) (required_names mode (declared before)) g s ≡ inner_faults mode before s
-  inside_is mode Preamble marked =
-      let lacks = lacks_one (required_names mode (declared before)) s.properties in
-      sym ((λ i. inner_of mode (marked i) (lacks && marks_package (marked i)))
-      ∙ ap (inner_of mode (Some Preamble)) (and-false lacks)
-      ∙ append-nil (flat_map (property_faults (declared before) (Some Preamble)) (with_earlier [] s.properties) ++ [])
-      ∙ append-nil (flat_map (property_faults (declared before) (Some Preamble)) (with_earlier [] s.properties)))
-  inside_is mode Request marked =
-      let lacks = lacks_one (required_names mode (declared before)) s.properties in
-      sym ((λ i. inner_of mode (marked i) (lacks && marks_package (marked i)))
-      ∙ ap (inner_of mode (Some Request)) (and-false lacks)
-      ∙ append-nil (flat_map (property_faults (declared before) (Some Request)) (with_earlier [] s.properties) ++ [])
-      ∙ append-nil (flat_map (property_faults (declared before) (Some Request)) (with_earlier [] s.properties)))
+  inside_is mode Preamble marked = simp (marked, and-false, append-nil)
+  inside_is mode Request marked = simp (marked, and-false, append-nil)
   inside_is mode Package marked =
       let required = required_names mode (declared before) in
       let lacks = lacks_one required s.properties in
@@ -280,10 +253,7 @@ place_least is_first is_late none preamble mark line none_is preamble_is =
     ∙ sym (least-append (fault_if (is_none mark) line E4 ++ fault_if (marks_preamble mark && not is_first) line E5) (fault_if is_late line E6))
 
 pub not_swap : (a b : Bool) → a ≡ not b → b ≡ not a
-not_swap true true h = absurd cc
-not_swap true false h = refl
-not_swap false true h = refl
-not_swap false false h = absurd cc
+not_swap a b h = sym (not-not b) ∙ ap not (sym h)
 
 pub is_none-from : {A : Type 0} (x : Option A) (b : Bool) → is_some x ≡ not b → b ≡ is_none x
 is_none-from None b h = not_swap false b h

@@ -1,15 +1,16 @@
 -- Declarations, one after the other.
 use Rattle.std.proofs.Common.{◌≡◌, ℕ, ◌≤◌, Bool, true, false, ◌&&◌, List, [], ◌∷◌, ◌++◌, map, length, take, Some, None, Option, find, filter_map, refl, sym, ap, ◌∙◌, arith, if◌then◌else◌, option_map, option_to_list, is_some, is_none, bytes_eq}
-use Rattle.std.proofs.lemmas.List.{append_assoc, append-nil, take-append-le, length-take, take_all}
+use Rattle.std.proofs.Math.Bool.{and-true}
+use Rattle.std.proofs.lemmas.List.{append_assoc, take-append-le, length-take}
 use Rattle.std.proofs.lemmas.List.Elements.{filter_map-append}
 use Rattle.std.proofs.lemmas.List.Folds.{list_all-append}
-use Rattle.std.specs.List.{list_all, cons_option}
+use Rattle.std.specs.List.{list_all}
 use Rattle.cudf_value.specs.Declarations.{PlainDeclaration}
 use Rattle.cudf_document.specs.Values.{declared_test, test_of}
 use Rattle.cudf_document.specs.Documents.{with_earlier}
 use Rattle.cudf_document.specs.Preamble.{is_declarable, all_declarable}
 use Rattle.cudf_document.specs.ProblemFaults.{name_without_default}
-use Rattle.cudf_document.proofs.ListLemmas.{with_earlier-push}
+use Rattle.cudf_document.proofs.ListLemmas.{as_list, with_earlier-push}
 
 -- the test of a declared name is that of its first declaration
 pub test_of-declared : (name : List ℕ) (ds : List PlainDeclaration)
@@ -23,26 +24,18 @@ test_of-declared name (d ∷ ds) = by (bytes_eq name d.name) (test_of-declared n
     by true rest = refl
     by false rest = rest
 
-and_true : (a : Bool) → (a && true) ≡ a
-and_true true = refl
-and_true false = refl
-
 pub all_declarable-push : (before ds : List PlainDeclaration) (d : PlainDeclaration)
     → all_declarable before (ds ++ d ∷ []) ≡ (all_declarable before ds && is_declarable (before ++ ds, d))
 all_declarable-push before ds d =
     ap (list_all is_declarable) (with_earlier-push before ds d)
     ∙ list_all-append is_declarable (with_earlier before ds) ((before ++ ds, d) ∷ [])
-    ∙ ap (λ b. all_declarable before ds && b) (and_true (is_declarable (before ++ ds, d)))
+    ∙ ap (λ b. all_declarable before ds && b) (and-true (is_declarable (before ++ ds, d)))
 
 -- what was added so far: all of them, as long as all could be
 pub record Added (before now ds : List PlainDeclaration) (all : Bool) : Type 0 where
   pub are_all : all ≡ all_declarable before ds
   pub added : all ≡ true → now ≡ before ++ ds
   pub kept : take (length before) now ≡ before
-
--- nothing
-pub Added-none : (before : List PlainDeclaration) → Added before before [] true
-Added-none before = record { are_all = refl; added = λ _. sym (append-nil before); kept = take_all (length before) before (omega arith) }
 
 -- one more, where it can stand after those that are there
 pub Added-next : (before now ds : List PlainDeclaration) (d : PlainDeclaration) (all is_added : Bool) (new : List PlainDeclaration)
@@ -85,8 +78,4 @@ named_unless d has is = by d.default has is
 pub required_more : (names more : List (List ℕ)) (ds : List PlainDeclaration) (d : PlainDeclaration) → names ≡ filter_map name_without_default ds
     → more ≡ names ++ option_to_list (name_without_default d) → more ≡ filter_map name_without_default (ds ++ d ∷ [])
 required_more names more ds d so_far more_is =
-    more_is ∙ (λ i. so_far i ++ by (name_without_default d) i) ∙ sym (filter_map-append name_without_default ds (d ∷ []))
-  where
-    by : (o : Option (List ℕ)) → option_to_list o ≡ cons_option o []
-    by None = refl
-    by (Some x) = refl
+    more_is ∙ (λ i. so_far i ++ as_list (name_without_default d) i) ∙ sym (filter_map-append name_without_default ds (d ∷ []))

@@ -47,10 +47,6 @@ pick-assoc {A} before along against f g h = by (before g f) (before h g) (before
     by false false true p q r = absurd (let t : before h f ≡ false = against h g f q p in cc)
     by false false false p q r = simp (p, q, r)
 
-pub lesser-none : (x : Option Fault) → lesser x None ≡ x
-lesser-none None = refl
-lesser-none (Some f) = refl
-
 pub lesser-assoc : (x y z : Option Fault) → lesser (lesser x y) z ≡ lesser x (lesser y z)
 lesser-assoc None y z = refl
 lesser-assoc (Some f) None z = refl

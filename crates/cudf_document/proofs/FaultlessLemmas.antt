@@ -1,5 +1,6 @@
 -- What follows where a problem has no fault.
 use Rattle.std.proofs.Common.{◌≡◌, ◌≢◌, ℕ, zero, suc, ◌<◌, nat_eq, Bool, true, false, not, ◌||◌, ◌&&◌, List, [], ◌∷◌, ◌++◌, map, take, length, get_or, max, Option, None, Some, is_some, is_none, find, filter, filter_map, count_by, AllPairs, refl, sym, ap, ◌∙◌, arith, if◌then◌else◌, option_map, option_and_then, option_to_list, bytes_eq, codes}
+use Rattle.std.proofs.Math.Bool.{not-not, or-false}
 use Rattle.std.proofs.lemmas.Bool.{true≢false, and_parts, and_from, not-true, not-false, not_from_false, false_from_ne_true, eq-eqb}
 use Rattle.std.proofs.lemmas.List.{append-nil, append_assoc, get_or-take, length-take-le, get_or-map, length-map}
 use Rattle.std.proofs.lemmas.List.Elements.{filter_map-append}
@@ -189,9 +190,8 @@ one_passes {A} p before (x ∷ xs) all none one =
     after : list_all (λ y. not (list_any p y.0)) (with_earlier (before ++ x ∷ []) xs) ≡ true
     after = (and_parts (not (list_any p before)) (list_all (λ y. not (list_any p y.0)) (with_earlier (before ++ x ∷ []) xs)) all).1
 
-    so_far : (b : Bool) → p x ≡ b → list_any p (before ++ x ∷ []) ≡ b
-    so_far true is = list_any-append p before (x ∷ []) ∙ (λ i. none i || (is i || false))
-    so_far false is = list_any-append p before (x ∷ []) ∙ (λ i. none i || (is i || false))
+    so_far : list_any p (before ++ x ∷ []) ≡ p x
+    so_far = list_any-append p before (x ∷ []) ∙ (λ i. none i || or-false (p x) i)
 
     nothing : (ys : List A) → list_any p (before ++ x ∷ []) ≡ true → list_all (λ y. not (list_any p y.0)) (with_earlier (before ++ x ∷ []) ys) ≡ true → ys ≡ []
     nothing [] there h = refl
@@ -202,8 +202,8 @@ one_passes {A} p before (x ∷ xs) all none one =
     by : (b : Bool) → p x ≡ b
         → (list_all (λ y. not (list_any p y.0)) (with_earlier (before ++ x ∷ []) xs) ≡ true → list_any p (before ++ x ∷ []) ≡ false → list_any p xs ≡ true → length (filter p xs) ≡ 1)
         → length (if b then x ∷ filter p xs else filter p xs) ≡ 1
-    by true is rest = ap (λ l. length (x ∷ filter p l)) (nothing xs (so_far true is) after)
-    by false is rest = rest after (so_far false is) (ap (λ b. b || list_any p xs) (sym is) ∙ one)
+    by true is rest = ap (λ l. length (x ∷ filter p l)) (nothing xs (so_far ∙ is) after)
+    by false is rest = rest after (so_far ∙ is) (ap (λ b. b || list_any p xs) (sym is) ∙ one)
 
 -- there is one request
 one_request : (text : PlainText) (mode : Mode) → problem_faults text mode ≡ [] → count_by is_request text.stanzas ≡ 1
@@ -226,14 +226,10 @@ value_there {A} read name known (p ∷ ps) test typed there =
     parts : (not (fails (test_of p.name known) p.value) ≡ true) × (list_all (λ q. not (fails (test_of q.name known) q.value)) ps ≡ true)
     parts = and_parts (not (fails (test_of p.name known) p.value)) (list_all (λ q. not (fails (test_of q.name known) q.value)) ps) typed
 
-    twice : (b : Bool) → not (not b) ≡ b
-    twice true = refl
-    twice false = refl
-
     by : (b : Bool) → bytes_eq p.name name ≡ b → (b || list_any (has_name name) ps) ≡ true → (list_any (has_name name) ps ≡ true → is_some (value_of read name ps) ≡ true)
         → is_some (option_and_then (λ q. read q.value) (if b then Some p else find (has_name name) ps)) ≡ true
     by true is there rest =
-        sym (twice (is_some (read p.value)))
+        sym (not-not (is_some (read p.value)))
         ∙ ap (λ t. not (fails t p.value)) (sym (ap (λ n. test_of n known) (same_bytes p.name name is) ∙ test))
         ∙ parts.0
     by false is there rest = rest there

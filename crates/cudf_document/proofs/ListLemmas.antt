@@ -1,8 +1,10 @@
 -- Lists: one more element, each with those before it, and keys.
-use Rattle.std.proofs.Common.{Result, Ok, Err, OnOk, ◌≡◌, ℕ, ◌+◌, ◌<◌, nat_lt, length, get_or, take, subst, Bool, true, false, not, ◌||◌, List, [], ◌∷◌, ◌++◌, map, Option, None, Some, find, position, refl, sym, ap, ◌∙◌, if◌then◌else◌, option_map, is_some, is_none, IsSome, rules, option_copied, Bor, bytes_eq}
+use Rattle.std.proofs.Common.{Result, Ok, Err, OnOk, ◌≡◌, ℕ, ◌+◌, ◌<◌, nat_lt, length, get_or, take, subst, Bool, true, false, not, ◌||◌, List, [], ◌∷◌, ◌++◌, map, Option, None, Some, find, position, refl, sym, ap, ◌∙◌, if◌then◌else◌, option_map, is_some, is_none, IsSome, rules, option_to_list, option_copied, Bor, bytes_eq}
+use Rattle.std.proofs.Math.Bool.{or-false, or_assoc}
 use Rattle.std.proofs.lemmas.List.{append_assoc, append-nil, length-map, map_push, map_more}
 use Rattle.std.proofs.lemmas.List.Folds.{list_any-append, list_all_at}
-use Rattle.std.specs.List.{list_any, list_all, prefix_len}
+use Rattle.std.specs.List.{list_any, list_all, prefix_len, cons_option}
+use Rattle.std.specs.Option.{option_or}
 use Rattle.std.specs.Map.{lookup}
 use Rattle.indexmap.specs.IndexSet.{insert_key}
 use Rattle.cudf_document.specs.Documents.{is_empty, with_earlier}
@@ -20,17 +22,9 @@ is_empty-push (y ∷ xs) x = refl
 
 -- ---- tests
 
-pub or_false : (a : Bool) → (a || false) ≡ a
-or_false true = refl
-or_false false = refl
-
-pub or_assoc : (a b c : Bool) → (a || (b || c)) ≡ (a || b || c)
-or_assoc true b c = refl
-or_assoc false b c = refl
-
 alike_or : (a b c : Bool) → a ≡ b → (a || c) ≡ (a || c || b)
 alike_or true true c same = refl
-alike_or false false c same = sym (or_false c)
+alike_or false false c same = sym (or-false c)
 alike_or true false c same = absurd cc
 alike_or false true c same = absurd cc
 
@@ -115,11 +109,11 @@ list_any-insert_key {A} same test keys key alike = by (list_any (same key) keys)
         at : (b : Bool) → same key k ≡ b → (b || list_any (same key) ks) ≡ true → (list_any (same key) ks ≡ true → list_any test ks ≡ (list_any test ks || test key))
             → (test k || list_any test ks) ≡ (test k || list_any test ks || test key)
         at true here there more = alike_or (test k) (test key) (list_any test ks) (alike k here)
-        at false here there more = ap (λ b. test k || b) (more there) ∙ or_assoc (test k) (list_any test ks) (test key)
+        at false here there more = ap (λ b. test k || b) (more there) ∙ sym (or_assoc (test k) (list_any test ks) (test key))
 
     by : (b : Bool) → list_any (same key) keys ≡ b → list_any test (if b then keys else keys ++ key ∷ []) ≡ (list_any test keys || test key)
     by true there = among keys there
-    by false there = list_any-append test keys (key ∷ []) ∙ ap (λ b. list_any test keys || b) (or_false (test key))
+    by false there = list_any-append test keys (key ∷ []) ∙ ap (λ b. list_any test keys || b) (or-false (test key))
 
 -- ---- options
 
@@ -131,6 +125,14 @@ option_map-copied view (Some r) = refl
 pub option_map-none : {A B : Type 0} (view : A → B) (x : Option A) → option_map view x ≡ None → x ≡ None
 option_map-none view None none = refl
 option_map-none view (Some y) none = absurd cc
+
+pub as_list : {A : Type 0} (o : Option A) → option_to_list o ≡ cons_option o []
+as_list None = refl
+as_list (Some x) = refl
+
+pub option_or-none : {A : Type 0} (x : Option A) → option_or x None ≡ x
+option_or-none None = refl
+option_or-none (Some y) = refl
 
 -- ---- what is found
 
@@ -167,11 +169,6 @@ is_none-find test xs = by (find test xs) ∙ ap not (is_some-find test xs)
     by : {A : Type 0} (x : Option A) → is_none x ≡ not (is_some x)
     by None = refl
     by (Some y) = refl
-
--- what holds anyway holds of a success
-pub OnOk-always : {A E : Type 0} {P : Type 0} (r : Result A E) → P → OnOk r P
-OnOk-always (Ok x) p = p
-OnOk-always (Err e) p = tt
 
 pub OnOk-along : {A E : Type 0} {P Q : Type 0} (r : Result A E) → (P → Q) → OnOk r P → OnOk r Q
 OnOk-along (Ok x) f p = f p

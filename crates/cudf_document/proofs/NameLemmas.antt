@@ -1,5 +1,6 @@
 -- Names of properties, and what the first property of a name says.
-use Rattle.std.proofs.Common.{◌≡◌, ℕ, Bool, true, false, not, ◌||◌, List, [], ◌∷◌, ◌++◌, map, Bor, Option, None, Some, is_some, find, refl, sym, ap, ◌∙◌, if◌then◌else◌, option_and_then, bytes_eq}
+use Rattle.std.proofs.Common.{◌≡◌, ℕ, Bool, true, false, not, ◌||◌, List, [], ◌∷◌, ◌++◌, map, Bor, Option, None, Some, is_some, find, refl, sym, ap, subst, ◌∙◌, if◌then◌else◌, option_and_then, bytes_eq}
+use Rattle.std.proofs.Math.Bool.{or-false}
 use Rattle.std.proofs.lemmas.Bool.{true≢false}
 use Rattle.std.proofs.lemmas.Slice.Eq.{bytes_eq-Decides}
 use Rattle.std.proofs.lemmas.List.{append_assoc, map_push}
@@ -11,7 +12,7 @@ use Rattle.cudf_text.specs.Stanzas.{PlainProperty}
 use Rattle.cudf_document.specs.Working.SeenNames.{AreNames}
 use Rattle.cudf_document.specs.Documents.{has_name, same_name, value_of}
 use Rattle.cudf_document.specs.ProblemFaults.{lacks_one}
-use Rattle.cudf_document.proofs.ListLemmas.{or_false, is_some-find, find_none, list_any-map, list_any-insert_key}
+use Rattle.cudf_document.proofs.ListLemmas.{option_or-none, is_some-find, find_none, list_any-map, list_any-insert_key}
 
 -- ---- equal names
 
@@ -30,12 +31,32 @@ bytes_eq-sym xs ys = by (bytes_eq xs ys) (bytes_eq ys xs) refl refl
     by true false p q = absurd (true≢false (sym ((bytes_eq-Decides ys xs).1 (sym (same_bytes xs ys p))) ∙ q))
     by false true p q = absurd (true≢false (sym ((bytes_eq-Decides xs ys).1 (sym (same_bytes ys xs q))) ∙ p))
 
+-- ---- a name is one of some words, or another
+
+-- the rest, behind what holds at each of the words
+abbrev pub Each : (List ℕ → Type 0) → List (List ℕ) → Type 0 → Type 0
+Each P [] rest = rest
+Each P (word ∷ words) rest = P word → Each P words rest
+
+Each-along : (P : List ℕ → Type 0) (words : List (List ℕ)) {S T : Type 0} → (S → T) → Each P words S → Each P words T
+Each-along P [] f each = f each
+Each-along P (word ∷ words) f each = λ here. Each-along P words f (each here)
+
+-- what holds at each of the words, and at a name that is none of them, holds at any name
+pub by_words : (P : List ℕ → Type 0) (words : List (List ℕ)) (name : List ℕ) → Each P words (Each (λ word. bytes_eq name word ≡ false) words (P name) → P name)
+by_words P [] name = λ other. other
+by_words P (word ∷ words) name = λ known. Each-along P words (λ rest other. by known (bytes_eq name word) refl (λ differs. rest (other differs))) (by_words P words name)
+  where
+    by : P word → (b : Bool) → bytes_eq name word ≡ b → (bytes_eq name word ≡ false → P name) → P name
+    by known true same other = subst P (sym (same_bytes name word same)) known
+    by known false differs other = other differs
+
 -- ---- the names that were seen
 
 pub AreNames-next : (names : List (List ℕ)) (ps : List PlainProperty) (p : PlainProperty) → AreNames names ps → AreNames (insert_key bytes_eq names p.name) (ps ++ p ∷ [])
 AreNames-next names ps p are name =
     list_any-insert_key bytes_eq (bytes_eq name) names p.name (λ k same. ap (bytes_eq name) (sym (same_bytes p.name k same)))
-    ∙ (λ i. are name i || sym (or_false (bytes_eq name p.name)) i)
+    ∙ (λ i. are name i || sym (or-false (bytes_eq name p.name)) i)
     ∙ sym (list_any-append (λ q. bytes_eq name q.name) ps (p ∷ []))
 
 pub AreNames-more : (names : List (List ℕ)) (ps : List PlainProperty) (p : PlainProperty) (more : List PlainProperty) (new_names : List (List ℕ))
@@ -68,11 +89,7 @@ pub value_of-other : {A : Type 0} (read : List ℕ → Option A) (name : List �
     → bytes_eq p.name name ≡ false → value_of read name (ps ++ p ∷ []) ≡ value_of read name ps
 value_of-other read name ps p other =
     ap (option_and_then (λ q. read q.value))
-    (find-append (has_name name) ps (p ∷ []) ∙ ap (λ b. option_or (find (has_name name) ps) (if b then Some p else None)) other ∙ or_none (find (has_name name) ps))
-  where
-    or_none : {B : Type 0} (x : Option B) → option_or x None ≡ x
-    or_none None = refl
-    or_none (Some y) = refl
+    (find-append (has_name name) ps (p ∷ []) ∙ ap (λ b. option_or (find (has_name name) ps) (if b then Some p else None)) other ∙ option_or-none (find (has_name name) ps))
 
 -- the first of its name does
 pub value_of-new : {A : Type 0} (read : List ℕ → Option A) (name : List ℕ) (ps : List PlainProperty) (p : PlainProperty)

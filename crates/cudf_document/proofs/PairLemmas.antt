@@ -1,5 +1,5 @@
 -- The pairs of a solution's packages, one stanza after the other.
-use Rattle.std.proofs.Common.{◌≡◌, Bool, ◌||◌, List, [], ◌∷◌, ◌++◌, Option, None, filter_map, refl, sym, ap, ◌∙◌}
+use Rattle.std.proofs.Common.{◌≡◌, Bool, ◌||◌, List, [], ◌∷◌, ◌++◌, Option, filter_map, refl, sym, ap, ◌∙◌}
 use Rattle.std.proofs.lemmas.List.Elements.{filter_map-append}
 use Rattle.std.proofs.lemmas.List.Folds.{list_any-append}
 use Rattle.std.specs.List.{cons_option}
@@ -14,7 +14,7 @@ use Rattle.cudf_document.specs.Faults.{lesser, least, fault_if}
 use Rattle.cudf_document.specs.Ids.{Id, is_id, is_among, is_known, id_of}
 use Rattle.cudf_document.specs.Promises.Packages.{with_id}
 use Rattle.cudf_document.specs.ProblemFaults.{version_property}
-use Rattle.cudf_document.specs.SolutionFaults.{repeated_pair_faults, repeated_pairs_faults}
+use Rattle.cudf_document.specs.SolutionFaults.{repeated_pair_faults}
 use Rattle.cudf_document.specs.Working.Pairs.{ArePairs}
 use Rattle.cudf_document.proofs.BuilderLemmas.{with_id-append, is_known-along}
 use Rattle.cudf_document.proofs.FaultLemmas.{faults-next}
@@ -28,20 +28,6 @@ picked-push pick ids seen s so_far id =
     ∙ ap (λ b. b || is_among (cons_option (pick s) []) id) (so_far id)
     ∙ sym (list_any-append (is_id id) (filter_map pick seen) (cons_option (pick s) []))
     ∙ ap (λ l. is_among l id) (sym (filter_map-append pick seen (s ∷ [])))
-
-pub none_repeated : (mode : Mode) → None ≡ least (repeated_pairs_faults mode [])
-none_repeated Lenient = refl
-none_repeated Strict = refl
-
--- leniently no pair counts
-pub ArePairs-lenient : (mode : Mode) (p : Pairs) (seen : List PlainStanza) (s : PlainStanza) → p.mode ≡ Lenient
-    → ArePairs mode seen p → ArePairs mode (seen ++ s ∷ []) p
-ArePairs-lenient Lenient p seen s lenient so_far = record {
-  mode_is = so_far.mode_is;
-  first_is = so_far.first_is;
-  ids_are = λ strict. absurd cc;
-}
-ArePairs-lenient Strict p seen s lenient so_far = absurd (let strict = so_far.mode_is in cc)
 
 -- strictly one more does
 pub ArePairs-strict : (mode : Mode) (old new : Pairs) (seen : List PlainStanza) (s : PlainStanza) (id : Option Id) (is_repeated : Bool) (fault : Option Fault)

@@ -1,22 +1,18 @@
 -- The properties of a preamble, one after the other.
 use Rattle.std.proofs.Common.{◌≡◌, ℕ, List, [], ◌∷◌, ◌++◌, Option, None, Some, is_none, refl, sym, ap, ◌∙◌, if◌then◌else◌, bytes_eq, codes}
-use Rattle.std.specs.List.{list_any, flat_map}
+use Rattle.std.specs.List.{list_any}
 use Rattle.indexmap.specs.IndexSet.{insert_key}
 use Rattle.cudf_text.specs.declared.fault.Fault.{Fault}
 use Rattle.cudf_text.specs.declared.fault.Kind.TheVariants.{E7, E10}
 use Rattle.cudf_text.specs.Stanzas.{PlainProperty}
 use Rattle.cudf_value.specs.Declarations.{PlainDeclaration}
 use Rattle.cudf_document.specs.declared.stanza.postmark.Postmark.TheVariants.{Preamble as PreambleMark}
-use Rattle.cudf_document.specs.Faults.{lesser, least}
-use Rattle.cudf_document.specs.Documents.{with_earlier, has_name, same_name}
+use Rattle.cudf_document.specs.Faults.{lesser}
+use Rattle.cudf_document.specs.Documents.{has_name, same_name}
 use Rattle.cudf_document.specs.Preamble.{declared_by, is_bad_declaration, added_by, declared_after}
-use Rattle.cudf_document.specs.ProblemFaults.{property_faults}
 use Rattle.cudf_document.specs.Working.PackageFields.{fault_on}
 use Rattle.cudf_document.specs.Working.ProblemBuilders.{preamble_kind_after}
-use Rattle.cudf_document.proofs.FaultLemmas.{faults-next}
-use Rattle.cudf_document.proofs.NameLemmas.{AreNames-more}
-use Rattle.cudf_document.specs.Working.SeenNames.{AreNames}
-use Rattle.cudf_document.proofs.PropertyLemmas.{preamble_property}
+use Rattle.cudf_document.proofs.PropertyLemmas.{IsJudgedTo, IsJudgedTo-next, preamble_property}
 
 -- what is declared after one more property
 pub declared_after-push : (before : List PlainDeclaration) (ps : List PlainProperty) (p : PlainProperty)
@@ -26,8 +22,7 @@ declared_after-push before (q ∷ ps) p = declared_after-push (before ++ added_b
 
 -- what is known of the properties so far
 pub record IsDeclaredTo (ps : List PlainProperty) (names : List (List ℕ)) (first : Option Fault) (ds : List PlainDeclaration) : Type 0 where
-  pub names_are : AreNames names ps
-  pub first_is : first ≡ least (flat_map (property_faults [] (Some PreambleMark)) (with_earlier [] ps))
+  pub judged : IsJudgedTo [] (Some PreambleMark) ps names first
   pub declared_are : ds ≡ declared_after [] ps
 
 -- one more property
@@ -37,12 +32,11 @@ pub IsDeclaredTo-next : (ps : List PlainProperty) (names : List (List ℕ)) (fir
     → fault ≡ fault_on p.line (preamble_kind_after ds names p) → new_first ≡ lesser first fault → new_ds ≡ ds ++ added_by ds p
     → IsDeclaredTo more new_names new_first new_ds
 IsDeclaredTo-next ps names first ds p more new_names fault new_first new_ds so_far more_is names_is fault_is lesser_is ds_is = record {
-  names_are = AreNames-more names ps p more new_names so_far.names_are more_is names_is;
-  first_is = lesser_is ∙ faults-next (property_faults [] (Some PreambleMark)) ps p first fault so_far.first_is
+  judged = IsJudgedTo-next [] (Some PreambleMark) ps names first p more new_names fault new_first so_far.judged more_is names_is
       (fault_is
       ∙ ap (fault_on p.line) (λ i. if has_name (codes "property") p then (if is_bad_declaration (so_far.declared_are i) p then Some E10 else None)
-      else (if so_far.names_are p.name i then Some E7 else None))
+      else (if so_far.judged.names_are p.name i then Some E7 else None))
       ∙ sym (preamble_property p.line (list_any (same_name p) ps) (has_name (codes "property") p) (is_none (declared_by (declared_after [] ps) p.value))))
-      ∙ ap (λ qs. least (flat_map (property_faults [] (Some PreambleMark)) (with_earlier [] qs))) (sym more_is);
+      lesser_is;
   declared_are = ds_is ∙ ap (λ l. l ++ added_by l p) so_far.declared_are ∙ sym (declared_after-push [] ps p) ∙ ap (declared_after []) (sym more_is);
 }

@@ -1,5 +1,16 @@
 -- The faults of one property.
-use Rattle.std.proofs.Common.{◌≡◌, ℕ, ◌≤◌, Bool, true, false, not, ◌||◌, ◌&&◌, ◌==◌, nat_lt, List, [], ◌++◌, Option, None, Some, is_none, refl, ap, arith, if◌then◌else◌}
+use Rattle.std.proofs.Common.{◌≡◌, ℕ, ◌≤◌, Bool, true, false, not, ◌||◌, ◌&&◌, ◌==◌, nat_lt, List, [], ◌∷◌, ◌++◌, Option, None, Some, is_none, refl, sym, ap, ◌∙◌, arith, if◌then◌else◌, bytes_eq}
+use Rattle.std.specs.List.{list_any, flat_map}
+use Rattle.indexmap.specs.IndexSet.{insert_key}
+use Rattle.cudf_text.specs.declared.fault.Fault.{Fault}
+use Rattle.cudf_text.specs.Stanzas.{PlainProperty}
+use Rattle.cudf_value.specs.Declarations.{PlainDeclaration}
+use Rattle.cudf_document.specs.declared.stanza.postmark.Postmark.{Postmark}
+use Rattle.cudf_document.specs.Documents.{with_earlier}
+use Rattle.cudf_document.specs.ProblemFaults.{property_faults}
+use Rattle.cudf_document.specs.Working.SeenNames.{AreNames}
+use Rattle.cudf_document.proofs.FaultLemmas.{faults-next}
+use Rattle.cudf_document.proofs.NameLemmas.{AreNames-more}
 use Rattle.std.proofs.lemmas.Bool.Decides.{nat_tests}
 use Rattle.cudf_text.specs.declared.fault.Kind.{Kind}
 use Rattle.cudf_text.specs.declared.fault.Kind.TheVariants.{E7, E8, E9, E10}
@@ -54,3 +65,23 @@ counted_property n true true = refl
 counted_property n true false = lesser_on_line n E7 E9 (omega arith)
 counted_property n false true = refl
 counted_property n false false = refl
+
+-- ---- the properties of a stanza, one after the other
+
+-- what is known of those so far
+pub record IsJudgedTo (ds : List PlainDeclaration) (mark : Option Postmark) (ps : List PlainProperty) (names : List (List ℕ)) (first : Option Fault) : Type 0 where
+  pub names_are : AreNames names ps
+  pub first_is : first ≡ least (flat_map (property_faults ds mark) (with_earlier [] ps))
+
+pub IsJudgedTo-none : (ds : List PlainDeclaration) (mark : Option Postmark) (names : List (List ℕ)) → names ≡ [] → IsJudgedTo ds mark [] names None
+IsJudgedTo-none ds mark names none = record { names_are = λ name. ap (list_any (bytes_eq name)) none; first_is = refl }
+
+pub IsJudgedTo-next : (ds : List PlainDeclaration) (mark : Option Postmark) (ps : List PlainProperty) (names : List (List ℕ)) (first : Option Fault) (p : PlainProperty)
+    (more : List PlainProperty) (new_names : List (List ℕ)) (fault new_first : Option Fault)
+    → IsJudgedTo ds mark ps names first → more ≡ ps ++ p ∷ [] → new_names ≡ insert_key bytes_eq names p.name
+    → fault ≡ least (property_faults ds mark (ps, p)) → new_first ≡ lesser first fault → IsJudgedTo ds mark more new_names new_first
+IsJudgedTo-next ds mark ps names first p more new_names fault new_first so_far more_is names_is fault_is lesser_is = record {
+  names_are = AreNames-more names ps p more new_names so_far.names_are more_is names_is;
+  first_is = lesser_is ∙ faults-next (property_faults ds mark) ps p first fault so_far.first_is fault_is
+      ∙ ap (λ qs. least (flat_map (property_faults ds mark) (with_earlier [] qs))) (sym more_is);
+}

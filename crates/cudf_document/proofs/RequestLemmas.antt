@@ -1,59 +1,24 @@
 -- The lists of a request.
-use Rattle.std.proofs.Common.{◌≡◌, ℕ, Bool, true, false, List, [], ◌∷◌, ◌++◌, Option, None, Some, refl, sym, ap, subst, ◌∙◌, if◌then◌else◌, bytes_eq, codes}
-use Rattle.std.specs.List.{list_any, flat_map}
-use Rattle.indexmap.specs.IndexSet.{insert_key}
-use Rattle.cudf_text.specs.declared.fault.Fault.{Fault}
+use Rattle.std.proofs.Common.{◌≡◌, ℕ, Bool, true, false, List, [], ◌∷◌, ◌++◌, None, Some, refl, sym, ap, ◌∙◌, if◌then◌else◌, bytes_eq, codes}
+use Rattle.std.specs.List.{list_any}
 use Rattle.cudf_text.specs.declared.fault.Kind.TheVariants.{E7, E9}
 use Rattle.cudf_text.specs.Stanzas.{PlainProperty}
 use Rattle.cudf_document.specs.declared.stanza.postmark.Postmark.TheVariants.{Request as RequestMark}
-use Rattle.cudf_document.specs.declared.request.fields.RequestProperty.{RequestProperty}
-use Rattle.cudf_document.specs.declared.request.fields.RequestProperty.TheVariants.{Install, Remove, Upgrade}
-use Rattle.cudf_document.specs.Faults.{lesser, least}
-use Rattle.cudf_document.specs.Documents.{with_earlier, same_name, value_of}
+use Rattle.cudf_document.specs.Faults.{least}
+use Rattle.cudf_document.specs.Documents.{same_name, value_of}
 use Rattle.cudf_document.specs.Values.{list_value, request_tests, test_of, fails}
 use Rattle.cudf_document.specs.ProblemFaults.{property_faults}
 use Rattle.cudf_document.specs.Working.PackageFields.{fault_on}
 use Rattle.cudf_document.specs.Working.RequestFields.{PlainRequestFields, request_property_named, request_property_test, request_fields_of, with_request_property, request_kind_after, request_fields_after}
-use Rattle.cudf_document.proofs.FaultLemmas.{faults-next}
-use Rattle.cudf_document.proofs.NameLemmas.{AreNames-more, same_bytes, value_of-repeated, value_next}
+use Rattle.cudf_document.proofs.NameLemmas.{by_words, value_of-repeated, value_next}
 use Rattle.cudf_document.specs.Working.SeenNames.{AreNames}
 use Rattle.cudf_document.proofs.PropertyLemmas.{request_property}
 
-abbrev name_of : RequestProperty → List ℕ
-name_of Install = codes "install"
-name_of Remove = codes "remove"
-name_of Upgrade = codes "upgrade"
-
-record IsOther (name : List ℕ) : Type 0 where
-  not_install : bytes_eq name (codes "install") ≡ false
-  not_remove : bytes_eq name (codes "remove") ≡ false
-  not_upgrade : bytes_eq name (codes "upgrade") ≡ false
-
--- what holds at the name of each wish, and at any other name, holds
-by_request_property : (P : List ℕ → Type 0) → ((w : RequestProperty) → P (name_of w)) → (name : List ℕ) → (IsOther name → P name) → P name
-by_request_property P known name other =
-    at (codes "install") Install refl (λ not_install.
-    at (codes "remove") Remove refl (λ not_remove.
-    at (codes "upgrade") Upgrade refl (λ not_upgrade.
-    other (record { not_install = not_install; not_remove = not_remove; not_upgrade = not_upgrade }))))
-  where
-    at : (word : List ℕ) (w : RequestProperty) → name_of w ≡ word → (bytes_eq name word ≡ false → P name) → P name
-    at word w is rest = by (bytes_eq name word) refl
-      where
-        by : (b : Bool) → bytes_eq name word ≡ b → P name
-        by true same = subst P (is ∙ sym (same_bytes name word same)) (known w)
-        by false differs = rest differs
+abbrev words : List (List ℕ)
+words = codes "install" ∷ codes "remove" ∷ codes "upgrade" ∷ []
 
 pub test_of-request : (name : List ℕ) → test_of name request_tests ≡ request_property_test (request_property_named name)
-test_of-request name = by_request_property (λ n. test_of n request_tests ≡ request_property_test (request_property_named n)) known name other
-  where
-    known : (w : RequestProperty) → test_of (name_of w) request_tests ≡ request_property_test (request_property_named (name_of w))
-    known Install = refl
-    known Remove = refl
-    known Upgrade = refl
-
-    other : IsOther name → test_of name request_tests ≡ request_property_test (request_property_named name)
-    other o = simp (o.not_install, o.not_remove, o.not_upgrade)
+test_of-request name = by_words (λ n. test_of n request_tests ≡ request_property_test (request_property_named n)) words name refl refl refl (λ a b c. simp (a, b, c))
 
 -- the lists, each with what a text says of it, where the name is its own
 abbrev says : List PlainProperty → List ℕ → List ℕ → PlainRequestFields
@@ -64,15 +29,8 @@ says ps text name = record {
 }
 
 with_request_property-says : (ps : List PlainProperty) (text name : List ℕ) → with_request_property (request_property_named name) text (request_fields_of ps) ≡ says ps text name
-with_request_property-says ps text name = by_request_property (λ n. with_request_property (request_property_named n) text (request_fields_of ps) ≡ says ps text n) known name other
-  where
-    known : (w : RequestProperty) → with_request_property (request_property_named (name_of w)) text (request_fields_of ps) ≡ says ps text (name_of w)
-    known Install = refl
-    known Remove = refl
-    known Upgrade = refl
-
-    other : IsOther name → with_request_property (request_property_named name) text (request_fields_of ps) ≡ says ps text name
-    other o = simp (o.not_install, o.not_remove, o.not_upgrade)
+with_request_property-says ps text name =
+    by_words (λ n. with_request_property (request_property_named n) text (request_fields_of ps) ≡ says ps text n) words name refl refl refl (λ a b c. simp (a, b, c))
 
 request_fields_of-next : (ps : List PlainProperty) (p : PlainProperty)
     → (if list_any (same_name p) ps then request_fields_of ps else with_request_property (request_property_named p.name) p.value (request_fields_of ps)) ≡ request_fields_of (ps ++ p ∷ [])
@@ -91,29 +49,12 @@ request_fields_of-next ps p = by (list_any (same_name p) ps) refl
       upgrade = value_next list_value (codes "upgrade") ps p new i;
     })
 
--- what is known of the properties so far
-pub record IsAskedTo (ps : List PlainProperty) (names : List (List ℕ)) (first : Option Fault) : Type 0 where
-  pub names_are : AreNames names ps
-  pub first_is : first ≡ least (flat_map (property_faults [] (Some RequestMark)) (with_earlier [] ps))
-
--- none yet
-pub IsAskedTo-none : (names : List (List ℕ)) → names ≡ [] → IsAskedTo [] names None
-IsAskedTo-none names none = record { names_are = λ name. ap (list_any (bytes_eq name)) none; first_is = refl }
-
--- one more property
-pub IsAskedTo-next : (ps : List PlainProperty) (names : List (List ℕ)) (first : Option Fault) (p : PlainProperty)
-    (more : List PlainProperty) (new_names : List (List ℕ)) (fault new_first : Option Fault)
-    → IsAskedTo ps names first → more ≡ ps ++ p ∷ [] → new_names ≡ insert_key bytes_eq names p.name
-    → fault ≡ fault_on p.line (request_kind_after names p) → new_first ≡ lesser first fault
-    → IsAskedTo more new_names new_first
-IsAskedTo-next ps names first p more new_names fault new_first so_far more_is names_is fault_is lesser_is = record {
-  names_are = AreNames-more names ps p more new_names so_far.names_are more_is names_is;
-  first_is = lesser_is ∙ faults-next (property_faults [] (Some RequestMark)) ps p first fault so_far.first_is
-      (fault_is
-      ∙ ap (fault_on p.line) (λ i. if so_far.names_are p.name i then Some E7 else (if fails (sym (test_of-request p.name) i) p.value then Some E9 else None))
-      ∙ sym (request_property p.line (list_any (same_name p) ps) (fails (test_of p.name request_tests) p.value)))
-      ∙ ap (λ qs. least (flat_map (property_faults [] (Some RequestMark)) (with_earlier [] qs))) (sym more_is);
-}
+-- what is wrong with one more property
+pub request_fault : (ps : List PlainProperty) (names : List (List ℕ)) (p : PlainProperty) → AreNames names ps
+    → fault_on p.line (request_kind_after names p) ≡ least (property_faults [] (Some RequestMark) (ps, p))
+request_fault ps names p names_are =
+    ap (fault_on p.line) (λ i. if names_are p.name i then Some E7 else (if fails (sym (test_of-request p.name) i) p.value then Some E9 else None))
+    ∙ sym (request_property p.line (list_any (same_name p) ps) (fails (test_of p.name request_tests) p.value))
 
 -- what it asks for
 pub asked_next : (ps : List PlainProperty) (names : List (List ℕ)) (fields : PlainRequestFields) (p : PlainProperty) (more : List PlainProperty) (new_fields : PlainRequestFields)

@@ -1,5 +1,6 @@
 -- What a solution proposes, one stanza after the other.
-use Rattle.std.proofs.Common.{◌≡◌, ◌≢◌, ◌⊎◌, ℕ, suc, ◌+◌, ◌-◌, ◌<◌, ◌==◌, nat_lt, Bool, true, false, not, ◌||◌, List, [], ◌∷◌, ◌++◌, map, length, get_or, set, replicate, position, slice_get, Option, None, Some, is_some, filter_map, inl, inr, refl, sym, ap, subst, ◌∙◌, arith, if◌then◌else◌, option_map, option_and_then, option_to_list}
+use Rattle.std.proofs.Common.{◌≡◌, ◌≢◌, ◌⊎◌, ℕ, suc, ◌+◌, ◌-◌, ◌<◌, ◌==◌, nat_eq, nat_lt, Bool, true, false, not, ◌||◌, ◌&&◌, List, [], ◌∷◌, ◌++◌, map, length, get_or, set, replicate, position, slice_get, Option, None, Some, is_some, filter_map, inl, inr, refl, sym, ap, subst, ◌∙◌, arith, if◌then◌else◌, option_map, option_and_then, option_to_list}
+use Rattle.std.proofs.Math.Bool.{or-false, or-true}
 use Rattle.std.proofs.lemmas.Bool.{true≢false, cases_order}
 use Rattle.std.proofs.lemmas.Bool.Decides.{nat_tests}
 use Rattle.std.proofs.lemmas.List.{append-nil, length_push, length-set, length-map, get_or-set_same, get_or-set_other, get_or-map, same_lists}
@@ -24,21 +25,19 @@ use Rattle.cudf_document.specs.Promises.Views.{unknown_view}
 use Rattle.cudf_document.specs.Working.Pairs.{ArePairs}
 use Rattle.cudf_document.specs.Working.SolutionBuilders.{ids_of}
 use Rattle.cudf_document.specs.Working.SolutionReaders.{IsSolutionRead}
-use Rattle.cudf_document.proofs.ListLemmas.{or_false}
 use Rattle.cudf_document.proofs.FaultLemmas.{least-append}
-use Rattle.cudf_document.proofs.BuilderLemmas.{same_pair, as_list}
-use Rattle.cudf_document.proofs.FaultlessLemmas.{same_id, distinct-places}
+use Rattle.cudf_document.proofs.BuilderLemmas.{same_pair}
+use Rattle.cudf_document.proofs.ListLemmas.{as_list}
+use Rattle.cudf_document.proofs.NameLemmas.{bytes_eq-sym}
+use Rattle.cudf_document.proofs.FaultlessLemmas.{distinct-places}
 
 -- ---- pairs
 
 is_id-sym : (x y : Id) → is_id x y ≡ is_id y x
-is_id-sym x y = by (is_id x y) (is_id y x) refl refl
+is_id-sym x y = λ i. bytes_eq-sym x.0 y.0 i && same_numbers i
   where
-    by : (a b : Bool) → is_id x y ≡ a → is_id y x ≡ b → is_id x y ≡ is_id y x
-    by true true p q = p ∙ sym q
-    by false false p q = p ∙ sym q
-    by true false p q = absurd (true≢false (sym (same_id x) ∙ (λ i. is_id (same_pair x y p i) x) ∙ q))
-    by false true p q = absurd (true≢false (sym (same_id y) ∙ (λ i. is_id (same_pair y x q i) y) ∙ p))
+    same_numbers : nat_eq x.1 y.1 ≡ nat_eq y.1 x.1
+    same_numbers = grind (arith, nat_tests)
 
 -- ---- places
 
@@ -78,7 +77,7 @@ unflagged seen (x ∷ ids) id none = by (is_id id x) refl none (unflagged seen i
     by false is h rest = λ i. same i ∷ rest h i
       where
         same : is_among seen x ≡ is_among (seen ++ id ∷ []) x
-        same = sym (list_any-append (is_id x) seen (id ∷ []) ∙ (λ j. is_among seen x || ((is_id-sym x id ∙ is) j || false)) ∙ or_false (is_among seen x))
+        same = sym (list_any-append (is_id x) seen (id ∷ []) ∙ (λ j. is_among seen x || ((is_id-sym x id ∙ is) j || false)) ∙ or-false (is_among seen x))
 
 module _ (seen ids : List Id) (id : Id) (distinct : are_distinct ids ≡ true) (i : ℕ) (found : position (is_id id) ids ≡ Some i) where
   within : i < length ids
@@ -96,11 +95,7 @@ module _ (seen ids : List Id) (id : Id) (distinct : are_distinct ids ≡ true) (
       by (inr (inr above)) = distinct-places ids i k id distinct above lt
 
   among_more : (x : Id) → is_among (seen ++ id ∷ []) x ≡ (is_among seen x || is_id x id)
-  among_more x = list_any-append (is_id x) seen (id ∷ []) ∙ ap (λ b. is_among seen x || b) (or_false (is_id x id))
-
-  or_true : (a : Bool) → (a || true) ≡ true
-  or_true true = refl
-  or_true false = refl
+  among_more x = list_any-append (is_id x) seen (id ∷ []) ∙ ap (λ b. is_among seen x || b) (or-false (is_id x id))
 
   flag_at_place : (k : ℕ) (d : Bool) → k < length ids → get_or (set (map (is_among seen) ids) i true) k d ≡ is_among (seen ++ id ∷ []) (get_or ids k id)
   flag_at_place k d lt = by (cases_order k i)
@@ -110,12 +105,12 @@ module _ (seen ids : List Id) (id : Id) (distinct : are_distinct ids ≡ true) (
           ap (λ n. get_or (set (map (is_among seen) ids) i true) n d) e
           ∙ get_or-set_same (map (is_among seen) ids) i true d (subst (λ n. i < n) (sym (length-map ids (is_among seen))) within)
           ∙ sym (among_more (get_or ids j id) ∙ ap (λ n. is_among seen (get_or ids j id) || is_id (get_or ids n id) id) e
-          ∙ ap (λ b. is_among seen (get_or ids j id) || b) (is_id-sym (get_or ids i id) id ∙ there) ∙ or_true (is_among seen (get_or ids j id)))
+          ∙ ap (λ b. is_among seen (get_or ids j id) || b) (is_id-sym (get_or ids i id) id ∙ there) ∙ or-true (is_among seen (get_or ids j id)))
 
       elsewhere : k ≢ i → get_or (set (map (is_among seen) ids) i true) k d ≡ is_among (seen ++ id ∷ []) (get_or ids k id)
       elsewhere ne =
           get_or-set_other (map (is_among seen) ids) i k true d ne ∙ get_or-map (is_among seen) ids k id d lt
-          ∙ sym (among_more (get_or ids k id) ∙ ap (λ b. is_among seen (get_or ids k id) || b) (apart k lt ne) ∙ or_false (is_among seen (get_or ids k id)))
+          ∙ sym (among_more (get_or ids k id) ∙ ap (λ b. is_among seen (get_or ids k id) || b) (apart k lt ne) ∙ or-false (is_among seen (get_or ids k id)))
 
       by : (k ≡ i) ⊎ ((k < i) ⊎ (i < k)) → get_or (set (map (is_among seen) ids) i true) k d ≡ is_among (seen ++ id ∷ []) (get_or ids k id)
       by (inl e) = at_place k e

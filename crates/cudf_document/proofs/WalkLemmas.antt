@@ -1,11 +1,12 @@
 -- What is known of stanzas on the walk: as of those that are gathered.
-use Rattle.std.proofs.Common.{◌≡◌, ℕ, max, map, filter_map, Bool, true, false, not, ◌||◌, ◌&&◌, nat_lt, List, [], ◌∷◌, ◌++◌, Option, Some, None, refl, sym, ap, subst, ◌∙◌, if◌then◌else◌, ◌==◌, IsTrue}
+use Rattle.std.proofs.Common.{◌≡◌, ℕ, max, map, filter_map, Bool, true, false, not, ◌||◌, List, [], ◌∷◌, ◌++◌, Option, Some, None, inl, inr, refl, sym, ap, subst, ◌∙◌, ◌==◌, IsTrue}
 use Rattle.std.specs.List.{list_any, list_all, flat_map}
 use Rattle.std.specs.Option.{option_or}
 use Rattle.std.specs.Cow.{cow_str_bytes}
 use Rattle.std.specs.declared.alloc.Global.{Global}
 use Rattle.std.specs.declared.borrow.CowStr.{CowStr}
-use Rattle.std.proofs.lemmas.Bool.{eqb-true}
+use Rattle.std.proofs.Math.Bool.{and-false, or-false, or_comm}
+use Rattle.std.proofs.lemmas.Bool.{eqb-true, or_cases}
 use Rattle.std.proofs.lemmas.List.Folds.{list_any-append}
 use Rattle.cudf_text.specs.declared.fault.Fault.{Fault}
 use Rattle.cudf_text.specs.Chars.{is_blank}
@@ -29,41 +30,27 @@ use Rattle.cudf_document.specs.Universe.{package_id, packages_in, request_in}
 use Rattle.cudf_document.specs.Values.{name_value}
 use Rattle.cudf_document.specs.Working.ProblemBuilders.{PlainBuilder, with_stanza, faults_inside, IsBuilt, first_ids}
 use Rattle.cudf_document.specs.Working.Walks.{IsKnown, IsSoFar, GoesOn, IsWhole, judged_faults, judged_ids}
-use Rattle.cudf_document.proofs.ListLemmas.{or_false, is_empty-push}
+use Rattle.cudf_document.proofs.ListLemmas.{is_empty-push}
 use Rattle.cudf_document.proofs.FaultLemmas.{faults-next}
 use Rattle.cudf_document.proofs.BuilderLemmas.{problem_least, requested_is, stanza_least, IsBuilt-next, listed_next}
 
 -- ---- a joined value is no name
 
 no_name_char : (b : ℕ) → is_blank b ≡ true → is_pkgname_char b ≡ false
-no_name_char b h = by (b == 32) (b == 9) refl refl
-  where
-    by : (x y : Bool) → (b == 32) ≡ x → (b == 9) ≡ y → is_pkgname_char b ≡ false
-    by true y e f = ap is_pkgname_char (eqb-true b 32 e)
-    by false true e f = ap is_pkgname_char (eqb-true b 9 f)
-    by false false e f = let never : false ≡ true = rw (e, f) at h in absurd cc
-
-and_false : (x : Bool) → (x && false) ≡ false
-and_false true = refl
-and_false false = refl
+no_name_char b h = elim (or_cases (b == 32) (b == 9) h) [ inl e ↦ ap is_pkgname_char (eqb-true b 32 e) | inr e ↦ ap is_pkgname_char (eqb-true b 9 e) ]
 
 blank_no_name : (text : List ℕ) → list_any is_blank text ≡ true → list_all is_pkgname_char text ≡ false
 blank_no_name [] h = absurd cc
-blank_no_name (b ∷ text) h = by (blank_no_name text) (is_blank b) refl
-  where
-    by : (list_any is_blank text ≡ true → list_all is_pkgname_char text ≡ false) → (x : Bool) → is_blank b ≡ x → list_all is_pkgname_char (b ∷ text) ≡ false
-    by rest true e = rw (no_name_char b e) refl
-    by rest false e = let later : list_any is_blank text ≡ true = rw e at h in rw (rest later) (and_false (is_pkgname_char b))
+blank_no_name (b ∷ text) h = elim (or_cases (is_blank b) (list_any is_blank text) h) [
+  | inl e ↦ rw (no_name_char b e) refl
+  | inr later ↦ rw (blank_no_name text later) (and-false (is_pkgname_char b))
+]
 
 pub joined_no_name : (v : CowStr Global) → IsJoined v → is_owned v ≡ true → None ≡ name_value (cow_str_bytes v)
 unfolding is_pkgname
 joined_no_name v joined owned =
     let blank : list_any is_blank (cow_str_bytes v) ≡ true = rw owned at joined in
-    rw (blank_no_name (cow_str_bytes v) blank) (by (nat_lt 0 _))
-  where
-    by : (x : Bool) → ◌≡◌ {A = Option (List ℕ)} None (if x && false then Some (cow_str_bytes v) else None)
-    by true = refl
-    by false = refl
+    simp (blank_no_name (cow_str_bytes v) blank, and-false)
 
 -- ---- the walk
 
@@ -86,12 +73,6 @@ ids_inside (Some Preamble) is_first k before s = refl
 ids_inside (Some Request) is_first k before s = refl
 ids_inside None is_first k before s = refl
 
-or_swap : (a b : Bool) → (a || b) ≡ (b || a)
-or_swap true true = refl
-or_swap true false = refl
-or_swap false true = refl
-or_swap false false = refl
-
 pub IsKnown-next : (mode : Mode) (required : List (List ℕ)) (old new : Walk) (before : List PlainStanza) (s : PlainStanza) (mark : Option Postmark) (is_first : Bool) (place inside : Option Fault)
     → is_first ≡ is_empty before → old.declarations ≡ declared before → required ≡ required_names mode (declared before) → IsKnown mode old before → mark ≡ postmark s
     → place ≡ least (place_faults is_first old.requested mark s.line) → inside ≡ least (judged_faults mark required old.declarations old.ids s)
@@ -112,17 +93,14 @@ IsKnown-next mode required old new before s mark is_first place inside first ds 
           ∙ (IsBuilt-next g before s builder mark is_first (sym marked) first).ids_are id;
       listed_are = ids_are ∙ ids_inside mark is_first old before s ∙ listed_next mark is_first s g so_far.listed_are
           ∙ ap (λ l. first_ids [] (map package_id l)) (IsBuilt-next g before s builder mark is_first (sym marked) first).packages_are;
-      requested_is = requested ∙ or_swap (marks_request mark) old.requested
-          ∙ (λ i. so_far.requested_is i || (ap marks_request marked ∙ sym (or_false (is_request s))) i)
+      requested_is = requested ∙ or_comm (marks_request mark) old.requested
+          ∙ (λ i. so_far.requested_is i || (ap marks_request marked ∙ sym (or-false (is_request s))) i)
           ∙ sym (list_any-append is_request before (s ∷ []));
     }
 
 declared_later : (before : List PlainStanza) (s : PlainStanza) → false ≡ is_empty before → declared (before ++ s ∷ []) ≡ declared before
 declared_later [] s some = absurd cc
 declared_later (t ∷ before) s some = refl
-
-pub IsKnown-none : (mode : Mode) (k : Walk) → k.first ≡ None → k.ids ≡ [] → k.requested ≡ false → IsKnown mode k []
-IsKnown-none mode k first ids requested = record { first_is = first; ids_are = λ id. ap (λ l. list_any (is_id id) l) ids; listed_are = ids; requested_is = requested }
 
 pub required_none : (mode : Mode) → [] ≡ required_names mode []
 required_none Lenient = refl

@@ -14,14 +14,14 @@ mod request;
 mod solution;
 mod stanza;
 
-pub use problem::chosen::Chosen;
 pub use error::ReadError;
-pub use problem::lint::first_fault;
 pub use mode::Mode;
 pub use package::{Keep, Package};
 pub use problem::Problem;
+pub use problem::chosen::Chosen;
+pub use problem::lint::first_fault;
 pub use problem::reader::read_problem;
-pub use request::Request;
-pub use solution::{Solution, Unknown, read_solution, solution_of};
 pub use problem::source::{Room, problem_for, problem_of};
+pub use request::Request;
 pub use solution::status::{Status, initial};
+pub use solution::{Solution, Unknown, read_solution, solution_of};

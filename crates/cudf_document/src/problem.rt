@@ -6,8 +6,8 @@ pub(crate) mod reader;
 pub(crate) mod source;
 pub(crate) mod walk;
 
-use crate::package::ids::Ids;
 use crate::package::Package;
+use crate::package::ids::Ids;
 use crate::request::Request;
 use cudf_value::Formula;
 use std::marker::Model;

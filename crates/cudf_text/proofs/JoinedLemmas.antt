@@ -1,17 +1,13 @@
 -- The cut of one input, by its lines.
-use Rattle.std.proofs.Common.{◌≡◌, ℕ, ◌+◌, ◌-◌, ◌≤◌, suc, Bool, true, false, List, [], ◌∷◌, ◌++◌, length, map, take, drop, refl, sym, ◌∙◌, ap, inl, inr, arith}
+use Rattle.std.proofs.Common.{◌≡◌, ℕ, ◌+◌, ◌-◌, ◌≤◌, suc, Bool, false, List, [], ◌∷◌, ◌++◌, length, map, take, drop, refl, sym, ◌∙◌, ap, inl, inr, arith}
 use Rattle.std.specs.List.{concat, onto_first, position_or_len}
-use Rattle.std.proofs.lemmas.List.{append_assoc, append_cancel_right, drop-drop, drop-map, drop_all, length-drop, nil_from_length, take-append-drop}
+use Rattle.std.proofs.lemmas.List.{append_assoc, append_cancel_right, drop-drop, drop-map, length-drop, take-append-drop}
 use Rattle.std.proofs.lemmas.Bool.{cases_Bool}
 use Rattle.cudf_text.specs.Joined.{len_through, begins_request, problem_len, problem_part, solution_part}
 use Rattle.cudf_text.specs.Chars.{is_blank_text}
 use Rattle.cudf_text.specs.Lines.{is_lf, line_text, lines, raw_lines}
 
 -- ---- one search for a line
-
-pub after-found : (test : List ℕ → Bool) (rest line after raw : List ℕ) → raw_lines rest ≡ raw ∷ raw_lines after → line ≡ line_text raw → test line ≡ true
-    → raw_lines after ≡ drop (len_through test (lines rest)) (raw_lines rest)
-after-found test rest line after raw e is t = let passes : test (line_text raw) ≡ true = rw (← is) t in rw e (rw passes refl)
 
 pub after-passed : (test : List ℕ → Bool) (rest line after raw : List ℕ) → raw_lines rest ≡ raw ∷ raw_lines after → line ≡ line_text raw → test line ≡ false
     → drop (len_through test (lines after)) (raw_lines after) ≡ drop (len_through test (lines rest)) (raw_lines rest)
@@ -20,9 +16,6 @@ after-passed test rest line after raw e is t =
     let n : ℕ = position_or_len test (lines after) in
     let next : 1 + n + 1 ≡ suc (n + 1) = omega arith in
     rw e (rw fails (rw next refl))
-
-pub after-end : (n : ℕ) (rest : List ℕ) → length rest ≡ 0 → raw_lines rest ≡ drop n (raw_lines rest)
-after-end n rest e = rw (nil_from_length rest e) (sym (drop_all n [] (omega arith)))
 
 pub suffix-next : (text rest after : List ℕ) (n : ℕ) → length rest ≤ length text → n ≤ length rest → drop (length text - length rest) text ≡ rest → after ≡ drop n rest
     → drop (length text - length after) text ≡ after

@@ -1,8 +1,9 @@
 -- A name line is known by the characters at its front.
-use Rattle.std.proofs.Common.{◌≡◌, ℕ, zero, suc, ◌+◌, ◌<◌, Bool, true, false, ◌&&◌, nat_lt, List, [], ◌∷◌, length, take, drop, position, refl, sym, ap, ◌∙◌, arith, if◌then◌else◌}
+use Rattle.std.proofs.Common.{◌≡◌, ℕ, zero, suc, ◌+◌, ◌<◌, Bool, true, false, nat_lt, List, [], ◌∷◌, length, take, drop, position, refl, sym, ap, ◌∙◌, arith, if◌then◌else◌}
 use Rattle.std.specs.Prelude.{slice_index}
 use Rattle.std.specs.List.{list_all, prefix_len, position_or_len}
 use Rattle.std.specs.Char.{is_ascii_alphabetic}
+use Rattle.std.proofs.Math.Bool.{and-false}
 use Rattle.std.proofs.lemmas.Bool.{true≢false, and_parts, eqb-true, false_from_ne_true, lt-ltb, ltb-true}
 use Rattle.cudf_text.specs.Chars.{is_ident_char, is_ident, trim}
 use Rattle.cudf_text.specs.Lines.{named, faulty, is_colon, class_by_colon}
@@ -59,17 +60,13 @@ lost (b ∷ line) h inside = by (is_ident_char b) refl (lost line)
         let differs : is_colon b ≡ false = rw e at h in
         rw (differs, one_more (first_colon line)) (rw e refl)
 
-and_false : (x : Bool) → (x && false) ≡ false
-and_false true = refl
-and_false false = refl
-
 is_ident-from : (text : List ℕ) → is_ascii_alphabetic (slice_index text 0) ≡ true → list_all is_ident_char text ≡ true → is_ident text ≡ true
 unfolding is_ident
 is_ident-from text letter all = rw (letter, all) refl
 
 no_ident-all : (text : List ℕ) → list_all is_ident_char text ≡ false → is_ident text ≡ false
 unfolding is_ident
-no_ident-all text all = rw all (and_false (is_ascii_alphabetic (slice_index text 0)))
+no_ident-all text all = rw all (and-false (is_ascii_alphabetic (slice_index text 0)))
 
 no_ident-first : (line : List ℕ) (n : ℕ) → is_ascii_alphabetic (slice_index line 0) ≡ false → is_ident (take n line) ≡ false
 unfolding is_ident

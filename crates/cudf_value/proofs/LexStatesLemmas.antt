@@ -108,10 +108,6 @@ pub whole_piece : (text : List ℕ) (n : ℕ) (state : LexState) → n ≡ lengt
 whole_piece text n state all len is outside =
     pieces_last text (omega arith) ∙ rw (whole_state text n state all is, outside) refl
 
--- the text goes on between quotes, or was closed before its end
-pub quotable_step : (text : List ℕ) (n : ℕ) (state : LexState) → n < length text → is_outside state ≡ false
-    → is_quotable_from (next_state state (get_or text n 0)) (drop (n + 1) text) ≡ is_quotable_from state (drop n text)
-quotable_step text n state inside quoted = rw (drop-cons text n 0 inside, add-one, quoted) refl
-
+-- the text was closed before its end
 pub quotable_closed : (text : List ℕ) (n : ℕ) (state : LexState) → n < length text → is_outside state ≡ true → is_quotable_from state (drop n text) ≡ false
 quotable_closed text n state inside closed = rw (drop-cons text n 0 inside, closed) refl

@@ -1,9 +1,10 @@
 -- What std's `parse` says of a text is what the definitions of numbers say.
-use Rattle.std.proofs.Common.{◌≡◌, ◌≢◌, inl, inr, get_or, ℕ, ◌+◌, ◌^◌, ◌<◌, ℤ, pos, neg_ℤ, true, ◌&&◌, nat_lt, List, length, drop, Option, Some, None, option_map, Result, Ok, Err, refl, ap, ◌∙◌, arith}
+use Rattle.std.proofs.Common.{◌≡◌, ◌≢◌, inl, inr, get_or, ℕ, ◌+◌, ◌^◌, ◌<◌, ℤ, pos, neg_ℤ, true, ◌&&◌, nat_lt, List, length, drop, Some, option_map, Result, Ok, Err, refl, ap, ◌∙◌, arith}
 use Rattle.std.specs.Result.{OkIff, result_ok}
 use Rattle.std.specs.Str.{all_ascii_digits}
 use Rattle.std.specs.Str.Parse.{digits_value, without_leading_plus, ParsesUnsigned, ParsesSigned}
 use Rattle.std.proofs.lemmas.Bool.{and_from, and_parts, lt-ltb, ltb-true, eq-eqb, ne_eqb, cases_eq, false_from_ne_true}
+use Rattle.std.proofs.lemmas.Iterator.Adapters.{option_map_id}
 use Rattle.std.proofs.lemmas.Str.Parse.{IsNumeralModel, numerals_by_value, tells_all_ascii_digits, parse_signed_minus, parse_signed_plus, parse_signed_plain}
 use mir.Syntax.{w64}
 use Rattle.cudf_value.specs.Numbers.{is_number_below, number_below, natural, signed}
@@ -34,16 +35,12 @@ number_read : {T E : Type 0} (f : ℕ → T) (limit : ℕ) (ds : List ℕ) (r : 
 number_read f limit ds (Ok x) h = rw (test_true limit ds h.0) (ap Some h.1)
 number_read f limit ds (Err e) h = rw (false_from_ne_true (is_number_below limit ds) (λ t. h (test_tells limit ds t))) refl
 
-map_same : {T : Type 0} (o : Option T) → option_map (λ x. x) o ≡ o
-map_same None = refl
-map_same (Some x) = refl
-
 pub natural_read : {E : Type 0} (bs : List ℕ) (r : Result ℕ E) → ParsesUnsigned 64 10 bs r → result_ok r ≡ natural bs
 unfolding natural
 natural_read bs r h =
     number_read (λ n. n) (2 ^ 64) (without_leading_plus bs) r
     (OkIff-along r _ (λ p. (own.from _ p.0.1, p.0.0, p.1)) (λ q. ((q.1, own.to _ q.0), q.2)) h)
-    ∙ map_same (number_below (2 ^ 64) (without_leading_plus bs))
+    ∙ option_map_id (number_below (2 ^ 64) (without_leading_plus bs))
 
 -- the same at a minus, at a plus, and at neither
 minus_read : {E : Type 0} (bs : List ℕ) (r : Result ℤ E) → ParsesSigned w64 10 bs r → get_or bs 0 0 ≡ 45 → result_ok r ≡ signed bs

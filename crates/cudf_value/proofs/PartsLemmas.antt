@@ -7,7 +7,7 @@ use Rattle.std.proofs.lemmas.List.{map_push, append_assoc}
 use Rattle.std.proofs.lemmas.List.Elements.{All-from_get_or}
 use Rattle.std.proofs.lemmas.List.Sums.{fails_before_first}
 use Rattle.std.proofs.lemmas.List.Splits.{slice_split_first, slice_split_none}
-use Rattle.cudf_value.specs.Parts.{all_some, parts, read_parts}
+use Rattle.cudf_value.specs.Parts.{all_some, parts}
 
 -- the values of what was read, and of what is left
 abbrev pub onto : {A : Type 0} → List A → Option (List A) → Option (List A)
@@ -27,14 +27,6 @@ read_step view read all done x text more so_far is =
     ∙ onto-onto (map view done) (view x) (all_some (map read more))
     ∙ ap (onto (map view done)) (sym value)
     ∙ so_far
-
--- the same of the parts of a text
-pub parts_step : {A X : Type 0} (view : X → A) (separator : ℕ) (read : List ℕ → Option A) (all : Option (List A)) (done : List X) (x : X) (text part more : List ℕ)
-    → onto (map view done) (read_parts separator read text) ≡ all → parts separator text ≡ part ∷ parts separator more → Some (view x) ≡ read part
-    → onto (map view (done ++ x ∷ [])) (read_parts separator read more) ≡ all
-parts_step view separator read all done x text part more so_far cut is =
-    read_step view read all done x part (parts separator more)
-    (ap (λ ps. onto (map view done) (all_some (map read ps))) (sym cut) ∙ so_far) is
 
 -- a separator is found: the first part stands before it
 pub split_found : (separator : ℕ) (text : List ℕ) (n : ℕ) → position (λ b. b == separator) text ≡ Some n

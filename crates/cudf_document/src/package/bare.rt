@@ -9,9 +9,9 @@ ghost use Rattle.cudf_document.specs.Working.SeenNames.{AreNames};
 ghost use Rattle.cudf_document.specs.declared.stanza.postmark.Postmark.TheVariants.{Package as PackageMark};
 
 use crate::declaration::declarations::Declarations;
-use crate::property::fields::{Fields, judge_property, read_properties};
 use crate::package::fields::PackageFields;
 use crate::package::property::{PackageProperty, package_property_named};
+use crate::property::fields::{Fields, judge_property, read_properties};
 use crate::property::seen_names::SeenNames;
 use cudf_text::{Fault, Kind, Property, Stanza};
 use std::alloc::{AllocError, Global};

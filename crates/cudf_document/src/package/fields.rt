@@ -9,11 +9,11 @@ ghost use Rattle.cudf_document.specs.Working.PackageFields.{package_fields_view,
 ghost use Rattle.cudf_document.specs.Working.SeenNames.{AreNames};
 ghost use Rattle.cudf_document.specs.declared.stanza.postmark.Postmark.TheVariants.{Package as PackageMark};
 
-use crate::property::borrowed::source_value;
 use crate::declaration::declarations::{Declarations, mistyped_unless};
-use crate::property::fields::{Fields, judge_property, read_properties};
-use crate::package::{Keep, Package};
 use crate::package::property::{PackageProperty, package_property_named};
+use crate::package::{Keep, Package};
+use crate::property::borrowed::source_value;
+use crate::property::fields::{Fields, judge_property, read_properties};
 use crate::property::seen_names::SeenNames;
 use cudf_text::{Fault, Kind, Property, Stanza};
 use cudf_value::{

@@ -4,11 +4,11 @@ ghost use Rattle.cudf_document.specs.Faults.{least};
 ghost use Rattle.cudf_document.specs.ProblemFaults.{problem_faults};
 
 use crate::declaration::declarations::Declarations;
-use crate::property::fields::judge_package;
 use crate::mode::Mode;
-use crate::request::fields::read_request;
-use crate::property::seen_names::SeenNames;
 use crate::problem::walk::{Kept, Walk, walk_all};
+use crate::property::fields::judge_package;
+use crate::property::seen_names::SeenNames;
+use crate::request::fields::read_request;
 use cudf_text::{Fault, Stanza, Stanzas};
 use std::alloc::{AllocError, Global};
 

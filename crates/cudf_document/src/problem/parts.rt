@@ -4,18 +4,18 @@ ghost use Rattle.cudf_document.specs.Ids.{is_among};
 ghost use Rattle.cudf_document.specs.Promises.Views.{package_view};
 ghost use Rattle.cudf_document.specs.Working.PackageFields.{passes};
 
-use crate::package::bare::read_bare_package;
-use crate::property::borrowed::are_borrowed;
-use crate::problem::chosen::Chosen;
 use crate::declaration::declarations::Declarations;
 use crate::package::Package;
+use crate::package::bare::read_bare_package;
 use crate::package::fields::{PackageFields, read_package};
-use crate::stanza::postmark::is_preamble;
 use crate::problem::Problem;
+use crate::problem::chosen::Chosen;
+use crate::problem::walk::{Kept, Walk};
+use crate::property::borrowed::are_borrowed;
+use crate::property::seen_names::SeenNames;
 use crate::request::Request;
 use crate::request::fields::read_request;
-use crate::property::seen_names::SeenNames;
-use crate::problem::walk::{Kept, Walk};
+use crate::stanza::postmark::is_preamble;
 use cudf_text::{Fault, Stanza};
 use std::alloc::{AllocError, Global};
 

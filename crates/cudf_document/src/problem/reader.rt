@@ -7,13 +7,13 @@ ghost use Rattle.cudf_document.specs.Universe.{plain_problem};
 ghost use Rattle.cudf_document.specs.Working.Kept.{IsParts};
 ghost use Rattle.cudf_document.specs.Working.Walks.{IsWhole};
 
-use crate::property::borrowed::lend;
+use crate::declaration::required::require;
 use crate::error::ReadError;
 use crate::mode::Mode;
-use crate::problem::parts::Parts;
 use crate::problem::Problem;
-use crate::declaration::required::require;
+use crate::problem::parts::Parts;
 use crate::problem::walk::Walk;
+use crate::property::borrowed::lend;
 use cudf_text::{Stanza, Text};
 use std::alloc::{AllocError, Global};
 

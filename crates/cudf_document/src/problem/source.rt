@@ -7,11 +7,11 @@ ghost use Rattle.cudf_document.specs.Promises.Thin.{IsThinFor, thin_problem};
 ghost use Rattle.cudf_document.specs.Universe.{plain_problem};
 ghost use Rattle.cudf_document.specs.Working.Kept.{kept_by};
 
-use crate::problem::chosen::Chosen;
 use crate::error::ReadError;
 use crate::mode::Mode;
-use crate::problem::parts::Parts;
 use crate::problem::Problem;
+use crate::problem::chosen::Chosen;
+use crate::problem::parts::Parts;
 use crate::problem::reader::read_problem;
 use crate::problem::walk::{Walk, walk_all};
 use cudf_text::{Stanza, Stanzas, Text};

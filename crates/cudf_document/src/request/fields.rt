@@ -9,11 +9,11 @@ ghost use Rattle.cudf_document.specs.Working.Borrows.{are_borrowed};
 ghost use Rattle.cudf_document.specs.Working.RequestFields.{request_property_named, request_property_test, mistyped_kind};
 ghost use Rattle.cudf_document.specs.declared.stanza.postmark.Postmark.TheVariants.{Request as RequestMark};
 
-use crate::property::borrowed::source_value;
 use crate::declaration::declarations::mistyped_unless;
 use crate::fault::{fault_on, keep_lesser};
-use crate::request::Request;
+use crate::property::borrowed::source_value;
 use crate::property::seen_names::SeenNames;
+use crate::request::Request;
 use cudf_text::{Fault, Kind, Property, Stanza};
 use cudf_value::{Vpkg, is_vpkglist, read_vpkglist};
 use std::alloc::{AllocError, Global};
