@@ -64,7 +64,7 @@ behind-all key (i ∷ is) h =
 -- the first of several comes before the last one
 before_last : (first key : PlainKey) (i : PlainInstance) (front back : List PlainInstance) → precedes_all first (map (λ j. j.key) ((i ∷ front) ++ back)) ≡ true
     → last_key (i ∷ front) ≡ Some key → precedes first key ≡ true
-before_last first key i [] back h last = 
+before_last first key i [] back h last =
     ap (precedes first) (sym (some_of last)) ∙ and_left (precedes first i.key) (precedes_all first (map (λ j. j.key) back)) h
 before_last first key i (j ∷ front) back h last =
     before_last first key j front back (and_right (precedes first i.key) (precedes_all first (map (λ k. k.key) ((j ∷ front) ++ back))) h) last
