@@ -9,7 +9,7 @@ use Rattle.cudf_value.specs.declared.relop.Relop.{Relop}
 use Rattle.cudf_value.specs.Vpkgs.{PlainVpkg, meets}
 use Rattle.cudf_universe.specs.Satisfaction.{Placed, entry_pair, name_unless, unversioned_name, package_pairs, gives, gives_all_versions, is_met_by, is_below_one, satisfies, meets_alone}
 use Rattle.cudf_document.specs.Ids.{Id}
-use Rattle.cudf_document.proofs.ListLemmas.{or_assoc}
+use Rattle.std.proofs.Math.Bool.{or_assoc}
 use Rattle.cudf_universe.specs.Promises.Members.{MemberAlone}
 use Rattle.cudf_universe.specs.Working.Members.{provision_meets, entry_meets}
 
