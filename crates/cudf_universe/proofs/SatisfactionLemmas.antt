@@ -1,5 +1,5 @@
 -- A status satisfies what one of its packages satisfies, and a package what its name and version or one of its entries meets.
-use Rattle.std.proofs.Common.{◌≡◌, ℕ, Bool, true, false, not, ◌&&◌, ◌||◌, List, [], ◌∷◌, ◌++◌, Option, Some, None, refl, sym, ap, ◌∙◌, bytes_eq}
+use Rattle.std.proofs.Common.{◌≡◌, ℕ, Bool, true, false, not, ◌&&◌, ◌||◌, List, [], ◌∷◌, ◌++◌, Option, Some, None, refl, ap, ◌∙◌, bytes_eq}
 use Rattle.std.specs.Prelude.{filter_map, option_map}
 use Rattle.std.specs.List.{list_any, cons_option}
 use Rattle.std.proofs.lemmas.List.Folds.{list_any-append}
@@ -50,7 +50,7 @@ entry_first : (v : PlainVpkg) (name : List ℕ) (bound : Option (Relop × ℕ)) 
 entry_first v name None pairs names =
     or_split false (list_any (is_met_by v) pairs) (bytes_eq name v.name) (list_any (is_named v) names) (not (is_below_one v.bound))
 entry_first v name (Some given) pairs names =
-    sym (or_assoc (bytes_eq name v.name && meets v.bound given.1) (list_any (is_met_by v) pairs) (list_any (is_named v) names && not (is_below_one v.bound)))
+    (or_assoc (bytes_eq name v.name && meets v.bound given.1) (list_any (is_met_by v) pairs) (list_any (is_named v) names && not (is_below_one v.bound)))
 
 entries_meet : (v : PlainVpkg) (entries : List PlainVpkg)
     → (list_any (is_met_by v) (filter_map entry_pair entries) || (list_any (is_named v) (filter_map unversioned_name entries) && not (is_below_one v.bound)))
@@ -65,5 +65,5 @@ pub meets_alone-parts : (v : PlainVpkg) (p : Placed) → meets_alone v p ≡ (is
 meets_alone-parts v p =
     ap (λ pairs. (is_met_by v (p.1.name, p.1.version) || list_any (is_met_by v) pairs) || (list_any (is_named v) (gives_all_versions (p ∷ [])) && not (is_below_one v.bound))) (append-nil (filter_map entry_pair p.1.provides))
     ∙ ap (λ names. (is_met_by v (p.1.name, p.1.version) || list_any (is_met_by v) (filter_map entry_pair p.1.provides)) || (list_any (is_named v) names && not (is_below_one v.bound))) (append-nil (filter_map unversioned_name p.1.provides))
-    ∙ sym (or_assoc (is_met_by v (p.1.name, p.1.version)) (list_any (is_met_by v) (filter_map entry_pair p.1.provides)) (list_any (is_named v) (filter_map unversioned_name p.1.provides) && not (is_below_one v.bound)))
+    ∙ (or_assoc (is_met_by v (p.1.name, p.1.version)) (list_any (is_met_by v) (filter_map entry_pair p.1.provides)) (list_any (is_named v) (filter_map unversioned_name p.1.provides) && not (is_below_one v.bound)))
     ∙ ap (λ b. is_met_by v (p.1.name, p.1.version) || b) (entries_meet v p.1.provides)
