@@ -10,8 +10,8 @@ use Rattle.cudf_document.specs.declared.package.Keep.TheVariants.{Version, Packa
 use Rattle.cudf_document.specs.Ids.{Id}
 use Rattle.cudf_document.specs.Promises.Thin.{thinned, thin_package, thin_problem}
 use Rattle.cudf_document.specs.Universe.{PlainPackage, PlainProblem, PlainRequest, package_at, package_id}
+use Rattle.cudf_document.proofs.ListLemmas.{list_any-map}
 use Rattle.cudf_universe.specs.Satisfaction.{Placed, members, numbers_of, package_pairs, satisfies, satisfies_clause}
-use Rattle.cudf_universe.proofs.SearchLemmas.{list_any-map}
 use Rattle.cudf_referee.specs.declared.key.Aspect.TheVariants.{Unsatisfied, Many, Lower}
 use Rattle.cudf_referee.specs.Criteria.{universe, is_touched, each_once, names_of, versions_of, is_among, is_same_set, greatest, at_most_max, criteria}
 use Rattle.cudf_referee.specs.Entries.{those}
@@ -43,7 +43,7 @@ numbers_same k name qs =
     (flat_map-map (λ p. package_pairs p.1) (second (thin_package k)) qs)
 
 has_same : (k : Id → Bool) (name : List ℕ) (qs : List Placed) → has_package (map (second (thin_package k)) qs) name ≡ has_package qs name
-has_same k name qs = list_any-map (λ p. bytes_eq p.1.name name) (second (thin_package k)) qs
+has_same k name qs = list_any-map (second (thin_package k)) (λ p. bytes_eq p.1.name name) qs
 
 versions_same : (k : Id → Bool) (name : List ℕ) (qs : List Placed) → versions_of name (map (second (thin_package k)) qs) ≡ versions_of name qs
 versions_same k name qs =
@@ -55,7 +55,7 @@ names_same k qs = ap each_once (map-map (λ p. p.1.name) (second (thin_package k
 
 -- a status holds the same places
 held_same : (k : Id → Bool) (qs : List Placed) (place : ℕ) → holds_place (map (second (thin_package k)) qs) place ≡ holds_place qs place
-held_same k qs place = list_any-map (λ p. p.0 == place) (second (thin_package k)) qs
+held_same k qs place = list_any-map (second (thin_package k)) (λ p. p.0 == place) qs
 
 -- those of them that pass a test of their places
 members_thin : (k : Id → Bool) (was : ℕ → Bool) (xs : List PlainPackage)

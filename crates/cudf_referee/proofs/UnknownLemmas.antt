@@ -5,36 +5,14 @@ use Rattle.cudf_document.specs.declared.solution.Unknown.{Unknown}
 use Rattle.cudf_document.specs.Statuses.{PlainUnknown, ascend_above}
 use Rattle.cudf_document.specs.Promises.Views.{unknown_view}
 use Rattle.cudf_universe.specs.Promises.Prices.{digits_within, digits}
+use Rattle.cudf_universe.proofs.PriceLemmas.{digits_within-fuel, digits_within-mono, digits-halved}
 use Rattle.cudf_referee.specs.Working.Places.{stanza_numbers}
 use Rattle.cudf_referee.specs.Working.Searches.{unknown_left}
 use Rattle.cudf_referee.proofs.ListLemmas.{and_left, and_right}
 
 -- ---- digits
 
-digits_within-fuel : (f g n : ℕ) → n ≤ f → n ≤ g → digits_within f n ≡ digits_within g n
-unfolding digits_within
-digits_within-fuel zero zero n a b = refl
-digits_within-fuel zero (suc g) zero a b = refl
-digits_within-fuel zero (suc g) (suc n) a b = absurd (omega arith)
-digits_within-fuel (suc f) zero zero a b = refl
-digits_within-fuel (suc f) zero (suc n) a b = absurd (omega arith)
-digits_within-fuel (suc f) (suc g) zero a b = refl
-digits_within-fuel (suc f) (suc g) (suc n) a b = ap (λ k. k + 1) (digits_within-fuel f g (suc n / 2) (omega arith) (omega arith))
-
-digits_within-mono : (f m n : ℕ) → m ≤ n → digits_within f m ≤ digits_within f n
-unfolding digits_within
-digits_within-mono zero m n h = omega arith
-digits_within-mono (suc f) zero n h = omega arith
-digits_within-mono (suc f) (suc m) zero h = absurd (omega arith)
-digits_within-mono (suc f) (suc m) (suc n) h = omega (arith, digits_within-mono f (suc m / 2) (suc n / 2) (omega arith))
-
--- half of a number has a digit less
-digits-halved : (m n : ℕ) → 0 < n → m + m ≤ n → digits m + 1 ≤ digits n
-unfolding digits digits_within
-digits-halved m zero positive h = absurd (omega arith)
-digits-halved m (suc k) positive h = omega (arith, digits_within-fuel m k m (omega arith) (omega arith), digits_within-mono k m (suc k / 2) (omega arith))
-
--- and at most a digit less
+-- half of a number has at most a digit less
 digits-doubled : (m n : ℕ) → n ≤ m + m + 1 → digits n ≤ digits m + 1
 unfolding digits digits_within
 digits-doubled m zero h = omega arith

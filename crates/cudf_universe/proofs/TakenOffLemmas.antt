@@ -1,5 +1,5 @@
 -- Counts of what a status gives, and of what it gives without one package.
-use Rattle.std.proofs.Common.{◌≡◌, ℕ, ◌+◌, ◌<◌, zero, suc, Bool, true, false, not, cond, ◌||◌, ◌&&◌, ◌==◌, List, [], ◌∷◌, length, get_or, map, Option, Some, None, refl, sym, ap, ◌∙◌, arith, nat_lt, bytes_eq, subst, Bor}
+use Rattle.std.proofs.Common.{◌≡◌, ℕ, ◌+◌, ◌<◌, ◌≤◌, zero, suc, Bool, true, false, not, cond, ◌||◌, ◌&&◌, ◌==◌, List, [], ◌∷◌, length, get_or, map, Option, Some, None, refl, sym, ap, ◌∙◌, arith, nat_lt, bytes_eq, subst, Bor}
 use Rattle.std.specs.Prelude.{filter, filter_map, find, option_map, slice_get, if◌then◌else◌}
 use Rattle.std.specs.Option.{option_map_or, is_some, IfSome}
 use Rattle.std.proofs.lemmas.Option.{slice_get_past, slice_get_read}
@@ -73,21 +73,19 @@ module _ (holds : ℕ → Bool) where
       by false rest = rest
       by true rest = ap (λ b. cond (not b) ((n, x) ∷ without place (held (n + 1) xs)) (without place (held (n + 1) xs))) (ne_eqb n place (λ e. omega arith)) ∙ ap (λ ps. (n, x) ∷ ps) rest
 
-  pub find_below : (place n : ℕ) (xs : List PlainPackage) → place < n → find (λ q. q.0 == place) (held n xs) ≡ None
-  find_below place n [] below = refl
-  find_below place n (x ∷ xs) below = by (holds n) (find_below place (n + 1) xs (omega arith))
-    where
-      by : (b : Bool) → find (λ q. q.0 == place) (held (n + 1) xs) ≡ None → find (λ q. q.0 == place) (cond b ((n, x) ∷ held (n + 1) xs) (held (n + 1) xs)) ≡ None
-      by false rest = rest
-      by true rest = ap (λ b. cond b (Some (n, x)) (find (λ q. q.0 == place) (held (n + 1) xs))) (ne_eqb n place (λ e. omega arith)) ∙ rest
-
-  pub find_unheld : (place n : ℕ) (xs : List PlainPackage) → holds place ≡ false → find (λ q. q.0 == place) (held n xs) ≡ None
-  find_unheld place n [] not_held = refl
-  find_unheld place n (x ∷ xs) not_held = by (holds n) refl (find_unheld place (n + 1) xs not_held)
+  find_absent : (place n : ℕ) (xs : List PlainPackage) → ((k : ℕ) → n ≤ k → holds k ≡ true → (k == place) ≡ false) → find (λ q. q.0 == place) (held n xs) ≡ None
+  find_absent place n [] other = refl
+  find_absent place n (x ∷ xs) other = by (holds n) refl (find_absent place (n + 1) xs (λ k more. other k (omega arith)))
     where
       by : (b : Bool) → holds n ≡ b → find (λ q. q.0 == place) (held (n + 1) xs) ≡ None → find (λ q. q.0 == place) (cond b ((n, x) ∷ held (n + 1) xs) (held (n + 1) xs)) ≡ None
       by false e rest = rest
-      by true e rest = ap (λ b. cond b (Some (n, x)) (find (λ q. q.0 == place) (held (n + 1) xs))) (ne_eqb n place (λ same. true≢false (sym e ∙ ap holds same ∙ not_held))) ∙ rest
+      by true e rest = ap (λ b. cond b (Some (n, x)) (find (λ q. q.0 == place) (held (n + 1) xs))) (other n (omega arith) e) ∙ rest
+
+  pub find_below : (place n : ℕ) (xs : List PlainPackage) → place < n → find (λ q. q.0 == place) (held n xs) ≡ None
+  find_below place n xs below = find_absent place n xs (λ k more is. ne_eqb k place (λ e. omega arith))
+
+  pub find_unheld : (place n : ℕ) (xs : List PlainPackage) → holds place ≡ false → find (λ q. q.0 == place) (held n xs) ≡ None
+  find_unheld place n xs not_held = find_absent place n xs (λ k more is. ne_eqb k place (λ same. true≢false (sym is ∙ ap holds same ∙ not_held)))
 
   pub find_at_place : (k n : ℕ) (xs : List PlainPackage) → holds (n + k) ≡ true → find (λ q. q.0 == n + k) (held n xs) ≡ option_map (λ x. (n + k, x)) (slice_get xs k)
   find_at_place k n [] e = refl
@@ -137,17 +135,6 @@ module _ (holds : ℕ → Bool) where
     pub split_members : (place : ℕ) (packages : List PlainPackage) → counted (members holds packages) ≡ counted (without place (members holds packages)) + own_count (find (λ q. q.0 == place) (members holds packages))
     split_members place packages = split_from place 1 packages
 
-none_below : (u : ℕ) → nat_lt u 0 ≡ false
-none_below u = grind (arith, nat_tests)
-
-and_true : (b : Bool) → (b && true) ≡ b
-and_true true = refl
-and_true false = refl
-
-and_false : (b : Bool) → (b && false) ≡ false
-and_false true = refl
-and_false false = refl
-
 -- ---- what is kept
 
 module _ (name : List ℕ) (status : List Placed) (kept : Option Entries) (keeps : Keeps name status kept) where
@@ -168,8 +155,8 @@ module _ (name : List ℕ) (status : List Placed) (kept : Option Entries) (keeps
       ∙ beside_kept n u bound
     where
       unless : (b : Bool) (k : ℕ) → nat_lt u (if b then 0 else k) ≡ (nat_lt u k && not b)
-      unless true k = none_below u ∙ sym (and_false (nat_lt u k))
-      unless false k = sym (and_true (nat_lt u k))
+      unless true k = grind (arith, nat_tests)
+      unless false k = grind (arith, nat_tests)
 
 -- a name of which nothing is kept
 pub none_kept : (v : PlainVpkg) (status : List Placed) → Keeps v.name status None → satisfies status v ≡ false
@@ -205,20 +192,21 @@ got xs i (Some x) e h = sym (slice_get_read xs (length xs) i x.now refl (ltb-tru
 -- ---- the package at a place of a status, and the others
 
 module _ (holds : ℕ → Bool) (packages : List PlainPackage) (status : List Placed) (view : members holds packages ≡ status) where
+  split_status : {Y : Type 0} (g : Placed → List Y) (p : Y → Bool) (place : ℕ) (o : Option Placed) → o ≡ find (λ q. q.0 == place) status
+      → count_by p (flat_map g status) ≡ count_by p (flat_map g (without place status)) + own_count holds g p o
+  split_status g p place o e =
+      subst (λ s. count_by p (flat_map g s) ≡ count_by p (flat_map g (without place s)) + own_count holds g p (find (λ q. q.0 == place) s)) view (split_members holds g p place packages)
+      ∙ ap (λ q. count_by p (flat_map g (without place status)) + own_count holds g p q) (sym e)
+
   pub numbers_split : (v : PlainVpkg) (place : ℕ) (o : Option Placed) → o ≡ find (λ q. q.0 == place) status
       → count_by (meets v.bound) (numbers_of v.name status) ≡ count_by (meets v.bound) (numbers_of v.name (without place status)) + own_count holds (λ q. package_pairs q.1) (is_met_by v) o
   numbers_split v place o e =
-      let split : count_by (is_met_by v) (gives status) ≡ count_by (is_met_by v) (gives (without place status)) + own_count holds (λ q. package_pairs q.1) (is_met_by v) (find (λ q. q.0 == place) status)
-      = subst (λ s. count_by (is_met_by v) (gives s) ≡ count_by (is_met_by v) (gives (without place s)) + own_count holds (λ q. package_pairs q.1) (is_met_by v) (find (λ q. q.0 == place) s)) view (split_members holds (λ q. package_pairs q.1) (is_met_by v) place packages) in
-      count-numbers v status ∙ split
-      ∙ ap (λ n. n + own_count holds (λ q. package_pairs q.1) (is_met_by v) (find (λ q. q.0 == place) status)) (sym (count-numbers v (without place status)))
-      ∙ ap (λ p. count_by (meets v.bound) (numbers_of v.name (without place status)) + own_count holds (λ q. package_pairs q.1) (is_met_by v) p) (sym e)
+      count-numbers v status ∙ split_status (λ q. package_pairs q.1) (is_met_by v) place o e
+      ∙ ap (λ n. n + own_count holds (λ q. package_pairs q.1) (is_met_by v) o) (sym (count-numbers v (without place status)))
 
   pub names_split : (name : List ℕ) (place : ℕ) (o : Option Placed) → o ≡ find (λ q. q.0 == place) status
       → count_by (λ given. bytes_eq given name) (gives_all_versions status) ≡ count_by (λ given. bytes_eq given name) (gives_all_versions (without place status)) + own_count holds (λ q. filter_map unversioned_name q.1.provides) (λ given. bytes_eq given name) o
-  names_split name place o e =
-      subst (λ s. count_by (λ given. bytes_eq given name) (gives_all_versions s) ≡ count_by (λ given. bytes_eq given name) (gives_all_versions (without place s)) + own_count holds (λ q. filter_map unversioned_name q.1.provides) (λ given. bytes_eq given name) (find (λ q. q.0 == place) s)) view (split_members holds (λ q. filter_map unversioned_name q.1.provides) (λ given. bytes_eq given name) place packages)
-      ∙ ap (λ p. count_by (λ given. bytes_eq given name) (gives_all_versions (without place status)) + own_count holds (λ q. filter_map unversioned_name q.1.provides) (λ given. bytes_eq given name) p) (sym e)
+  names_split name place o e = split_status (λ q. filter_map unversioned_name q.1.provides) (λ given. bytes_eq given name) place o e
 
 -- ---- what a package gives, entry by entry
 

@@ -1,4 +1,4 @@
-use Rattle.std.proofs.Common.{◌≡◌, ℕ, ◌+◌, ◌-◌, ◌<◌, ◌==◌, Bool, true, false, refl, ap, sym, ◌∙◌, List, Option, None, Some, arith, map, subst, length, get_or, Bor}
+use Rattle.std.proofs.Common.{◌≡◌, ℕ, ◌+◌, ◌-◌, ◌<◌, ◌==◌, Bool, true, false, ap, sym, ◌∙◌, List, Option, None, arith, map, subst, length, get_or, Bor}
 use Rattle.std.specs.Prelude.{option_map, find, slice_get}
 use Rattle.std.specs.Option.{is_some, IfSome}
 use Rattle.std.proofs.Math.Dec.{ltb}
@@ -7,6 +7,7 @@ use Rattle.std.specs.FinSet as set
 use Rattle.std.proofs.lemmas.Option.{slice_get-map}
 use Rattle.cudf_document.specs.Universe.{PlainPackage}
 use Rattle.cudf_document.specs.Promises.Views.{package_view}
+use Rattle.cudf_document.proofs.ListLemmas.{option_map-option_map}
 use Rattle.cudf_universe.specs.Satisfaction.{Placed, members}
 use Rattle.cudf_universe.proofs.TakenOffLemmas.{got, find_below, find_unheld, find_at_place}
 use Rattle.cudf_universe.proofs.index.Index.member.Goals as goal
@@ -29,21 +30,13 @@ returns-then-place-eq0 c = none_at_zero (set.contains c.self.inside.status) c.se
 -- a package that is read of the universe
 read_view : (xs : List Package) (packages : List PlainPackage) (k : ℕ) (o : Option (Bor Package)) → map package_view xs ≡ packages → option_map (λ x. x.now) o ≡ slice_get xs k → option_map (λ x. package_view x.now) o ≡ slice_get packages k
 read_view xs packages k o view read =
-    both o ∙ ap (option_map package_view) read ∙ sym (slice_get-map package_view xs k) ∙ ap (λ ps. slice_get ps k) view
-  where
-    both : (o : Option (Bor Package)) → option_map (λ x. package_view x.now) o ≡ option_map package_view (option_map (λ x. x.now) o)
-    both None = refl
-    both (Some x) = refl
-
-placed_view : (place : ℕ) (o : Option (Bor Package)) → option_map {U = Placed} (λ x. (place, package_view x.now)) o ≡ option_map {U = Placed} (λ p. (place, p)) (option_map (λ x. package_view x.now) o)
-placed_view place None = refl
-placed_view place (Some x) = refl
+    sym (option_map-option_map package_view (λ (x : Bor Package). x.now) o) ∙ ap (option_map package_view) read ∙ sym (slice_get-map package_view xs k) ∙ ap (λ ps. slice_get ps k) view
 
 module _ (holds : ℕ → Bool) (packages : List PlainPackage) (status : List Placed) (place : ℕ) (xs : List Package) (o : Option (Bor Package)) where
   member_found : members holds packages ≡ status → 0 < place → holds place ≡ true → map package_view xs ≡ packages → is_some o ≡ ltb (place - 1) (length xs) → IfSome o (λ x. x.now ≡ get_or xs (place - 1) x.now)
       → option_map {U = Placed} (λ x. (place, package_view x.now)) o ≡ find (λ q. q.0 == place) status
   member_found view positive held same is at =
-      placed_view place o
+      sym (option_map-option_map {C = Placed} (λ p. (place, p)) (λ (x : Bor Package). package_view x.now) o)
       ∙ ap (option_map {U = Placed} (λ p. (place, p))) (read_view xs packages (place - 1) o same (got xs (place - 1) o is at))
       ∙ at_place holds packages status place (place - 1) view (omega arith) held
 

@@ -5,9 +5,9 @@ use Rattle.std.proofs.lemmas.List.Folds.{list_any_at}
 use Rattle.std.proofs.lemmas.List.Sums.{sum_by-cons}
 use Rattle.cudf_value.specs.declared.formula.Atom.{Atom}
 use Rattle.cudf_value.specs.Promises.Views.{atom_view}
+use Rattle.cudf_document.proofs.ListLemmas.{list_any-map}
 use Rattle.cudf_universe.specs.Satisfaction.{Placed, satisfies_atom}
 use Rattle.cudf_universe.specs.Promises.Prices.{atom_lookups, clause_lookups}
-use Rattle.cudf_universe.proofs.SearchLemmas.{list_any-map}
 use Rattle.cudf_universe.proofs.index.Index.satisfies_clause_counting.Goals as goal
 
 module _ (status : List Placed) (atoms read : List Atom) (same : read ≡ atoms) where
@@ -15,13 +15,13 @@ module _ (status : List Placed) (atoms read : List Atom) (same : read ≡ atoms)
   one_satisfied i d found inside satisfied is =
       sym (list_any_at (λ a. satisfies_atom status (atom_view a)) read i d inside (sym is ∙ satisfied))
       ∙ ap (list_any (λ a. satisfies_atom status (atom_view a))) same
-      ∙ sym (list_any-map (satisfies_atom status) atom_view atoms)
+      ∙ sym (list_any-map atom_view (satisfies_atom status) atoms)
 
   none_satisfied : (i : ℕ) → length read ≤ i → list_any (λ a. satisfies_atom status (atom_view a)) (take i read) ≡ false → false ≡ list_any (satisfies_atom status) (map atom_view atoms)
   none_satisfied i end none =
       sym none
       ∙ ap (list_any (λ a. satisfies_atom status (atom_view a))) (take_all i read end ∙ same)
-      ∙ sym (list_any-map (satisfies_atom status) atom_view atoms)
+      ∙ sym (list_any-map atom_view (satisfies_atom status) atoms)
 
 pub returns-then-satisfies_atom_counting-clause-answer : goal.returns-then-satisfies_atom_counting-clause-answer
 returns-then-satisfies_atom_counting-clause-answer c =
