@@ -1,5 +1,5 @@
 -- The standing of a name, with one more package.
-use Rattle.std.proofs.Common.{◌≡◌, ℕ, ◌+◌, ◌<◌, ◌≤◌, max, Bool, true, false, not, ◌&&◌, ◌||◌, ◌==◌, nat_lt, cond, List, [], ◌∷◌, ◌++◌, length, get_or, take, map, filter, ◌^◌, bytes_eq, if◌then◌else◌, refl, ap, sym, ◌∙◌, arith, eq-eqb}
+use Rattle.std.proofs.Common.{◌≡◌, ℕ, ◌+◌, ◌<◌, ◌≤◌, max, Bool, true, false, not, ◌&&◌, ◌||◌, ◌==◌, nat_lt, cond, List, [], ◌∷◌, ◌++◌, length, get_or, take, map, filter, ◌^◌, bytes_eq, if◌then◌else◌, refl, ap, sym, ◌∙◌, arith}
 use Rattle.std.specs.List.{list_any, list_all, count_by, enumerate_from}
 use Rattle.std.proofs.lemmas.Bool.{true≢false}
 use Rattle.std.proofs.lemmas.List.{append-nil, map-append, length-map, take-map, get_or-map, length-take-le, map_push, take_more}
@@ -30,12 +30,6 @@ or_false : (a : Bool) → (a || false) ≡ a
 or_false a = grind (arith, common_steps)
 
 -- ---- sets of numbers
-
-same_number : (n : ℕ) → (n == n) ≡ true
-same_number n = eq-eqb n n refl
-
-other_number : (m n : ℕ) → (m == n) ≡ false → (n == m) ≡ false
-other_number m n e = grind (arith, nat_tests)
 
 -- a number more is as none, where it isn't asked about
 among_more : (ys : List ℕ) (v : ℕ) (zs : List ℕ) → is_among zs v ≡ false → list_all (is_among (ys ++ v ∷ [])) zs ≡ list_all (is_among ys) zs
@@ -71,19 +65,11 @@ greatest_if xs v false = ap greatest (append-nil xs) ∙ omega arith
 -- ---- packages of a name
 
 has-push : (xs : List Placed) (p : Placed) (b : Bool) (f : List ℕ) → has_package (xs ++ cond b (p ∷ []) []) f ≡ (has_package xs f || (b && bytes_eq p.1.name f))
-has-push xs p true f = list_any-append (λ q. bytes_eq q.1.name f) xs (p ∷ []) ∙ ap (λ c. has_package xs f || c) (or_false (bytes_eq p.1.name f))
-has-push xs p false f = list_any-append (λ q. bytes_eq q.1.name f) xs []
+has-push xs p b f = grind (arith, common_steps, list_any-append (λ q. bytes_eq q.1.name f) xs (cond b (p ∷ []) []))
 
 versions-push : (xs : List Placed) (p : Placed) (b : Bool) (f : List ℕ) → versions_of f (xs ++ cond b (p ∷ []) []) ≡ versions_of f xs ++ cond (b && bytes_eq p.1.name f) (p.1.version ∷ []) []
-versions-push xs p b f =
-    ap (map (λ (q : Placed). q.1.version)) (filter-append (λ (q : Placed). bytes_eq q.1.name f) xs (cond b (p ∷ []) []))
-    ∙ map-append (λ (q : Placed). q.1.version) (filter (λ (q : Placed). bytes_eq q.1.name f) xs) (filter (λ (q : Placed). bytes_eq q.1.name f) (cond b (p ∷ []) []))
-    ∙ ap (λ vs. versions_of f xs ++ vs) (by b (bytes_eq p.1.name f) refl)
-  where
-    by : (b e : Bool) → bytes_eq p.1.name f ≡ e → versions_of f (cond b (p ∷ []) []) ≡ cond (b && e) (p.1.version ∷ []) []
-    by true true is = λ i. map (λ (q : Placed). q.1.version) (cond (is i) (p ∷ []) [])
-    by true false is = λ i. map (λ (q : Placed). q.1.version) (cond (is i) (p ∷ []) [])
-    by false e is = refl
+versions-push [] p b f = grind (arith, common_steps)
+versions-push (x ∷ xs) p b f = grind (arith, common_steps, versions-push xs p b f)
 
 held-push : (t : ℕ → Bool) (xs : List Placed) (p : Placed) → held t (xs ++ p ∷ []) ≡ held t xs ++ cond (t p.0) (p ∷ []) []
 held-push t xs p = filter-append (λ (q : Placed). t q.0) xs (p ∷ [])
@@ -293,11 +279,8 @@ idle_unheld was is xs f none = λ i. record {
 
 -- the names of some packages are among those of all
 named_anywhere : (f : List ℕ) (e : ℕ → Bool) (xs : List Placed) → has_package (held e xs) f ≡ true → has_package xs f ≡ true
-named_anywhere f e xs h = by (has_package xs f) refl
-  where
-    by : (b : Bool) → has_package xs f ≡ b → has_package xs f ≡ true
-    by true there = there
-    by false none = absurd (true≢false (sym h ∙ any_less (is_named f) (λ p. e p.0) xs none))
+named_anywhere f e [] h = h
+named_anywhere f e (x ∷ xs) h = grind (arith, common_steps, named_anywhere f e xs)
 
 -- the names that a status has are counted as all are, where no other passes the test
 count_held : (was is : ℕ → Bool) (xs : List Placed) (test : Standing → Bool) → ((top top_installed : ℕ) → test (idle top top_installed) ≡ false)
