@@ -1,10 +1,10 @@
 -- The stops of the walk that come after a key are those that are left behind it.
-use Rattle.std.proofs.Common.{◌≡◌, ℕ, zero, suc, ◌+◌, ◌-◌, ◌<◌, ◌≤◌, Bool, true, false, ◌&&◌, inl, inr, nat_lt, nat_le, List, [], ◌∷◌, ◌++◌, map, filter, drop, cond, arith, refl, ap, sym, ◌∙◌, subst, Option, Some, None}
+use Rattle.std.proofs.Common.{◌≡◌, ℕ, zero, suc, not, ◌==◌, ◌+◌, ◌-◌, ◌<◌, ◌≤◌, Bool, true, false, ◌&&◌, inl, inr, nat_lt, nat_le, List, [], ◌∷◌, ◌++◌, map, filter, drop, cond, arith, refl, ap, sym, ◌∙◌, subst, Option, Some, None}
 use Rattle.std.specs.Prelude.{slice_get}
 use Rattle.std.proofs.lemmas.Bool.{cases_lt, ltb-true}
 use Rattle.std.proofs.lemmas.Bool.Decides.{nat_tests}
 use Rattle.std.proofs.lemmas.Cmp.{nat_cmp_total, nat_list_cmp_total, tied_itself}
-use Rattle.std.proofs.lemmas.List.Elements.{filter-append}
+use Rattle.std.proofs.lemmas.List.Elements.{filter-append, filter_agree}
 use Rattle.std.specs.Cmp.{nat_cmp_is}
 use Rattle.std.specs.Cmp.Lexicographic.{slice_cmp}
 use Rattle.std.specs.List.{flat_map, enumerate_from}
@@ -28,7 +28,7 @@ use Rattle.cudf_referee.specs.Proposals.{Proposal, holds_place}
 use Rattle.cudf_referee.specs.Promises.Sites.{Site, conjunct, conflicts_entry, kept_version, kept_package, kept_feature, install_entry, remove_entry, upgrade_entry, unknown_stanza, site_key, package_key, needed_sites, kept_sites, package_sites, upgrade_sites, request_sites, Stop, at_site, package_end, package_stops, walk, precedes, is_after}
 use Rattle.cudf_referee.specs.Working.Searches.{passed, entries_left, needed_left, kept_left, package_sites_left, package_left, aspects_after, aspects_left, upgrade_left, request_left, unknown_left, packages_left, stops_left}
 use Rattle.cudf_referee.proofs.AscentLemmas.{Below, same_first, less_first, Climbs, from_lower, to_higher, climbs-over, site_ranks, package_climbs, packages_climb, entry_climbs, entries_climb, request_climbs}
-use Rattle.cudf_referee.proofs.ListLemmas.{and_left, and_right, filter-map, filter-same, all_kept, none_kept}
+use Rattle.cudf_referee.proofs.ListLemmas.{and_left, and_right, filter-map, all_kept, none_kept}
 use Rattle.cudf_referee.proofs.PositionLemmas.{stop_ranks, is_after-ranks}
 
 -- ---- what is kept of a list
@@ -61,7 +61,7 @@ dropped_below ranks low (x ∷ xs) high h =
     (λ i. cond (not_below (ranks x) high (climbs-over ranks (ranks x) xs high h.1) i) (x ∷ more i) (more i))
 
 pub after-ranks : (key : PlainKey) (xs : List Stop) → filter (is_after key) xs ≡ filter (ranks_after (key_ranks key) stop_ranks) xs
-after-ranks key xs = filter-same (is_after key) (ranks_after (key_ranks key) stop_ranks) (is_after-ranks key) xs
+after-ranks key xs = filter_agree (is_after key) (ranks_after (key_ranks key) stop_ranks) (is_after-ranks key) xs
 
 -- ---- the entries of a rule
 
@@ -86,44 +86,27 @@ later_places n m (suc i) (x ∷ xs) h =
 
 -- without an aspect the place decides
 place_decides : (place k aspect : ℕ) → is_lt (ordering_then (nat_cmp place k) (slice_cmp nat_cmp (aspect ∷ []) (0 ∷ []))) ≡ nat_lt place k
-place_decides place k aspect =
-    elim (cases_lt place k) [ inl below ↦ at_lower below | inr above ↦ elim (cases_lt k place) [ inl higher ↦ at_higher higher | inr l ↦ at_same aspect (omega arith) ] ]
+place_decides place k aspect = by (nat_lt place k) (place == k) aspect
   where
-    at_lower : place < k → is_lt (ordering_then (nat_cmp place k) (slice_cmp nat_cmp (aspect ∷ []) (0 ∷ []))) ≡ nat_lt place k
-    at_lower below = sym (ap (λ o. is_lt (ordering_then o (slice_cmp nat_cmp (aspect ∷ []) (0 ∷ [])))) (nat_cmp_is place k Less below)) ∙ grind (arith, nat_tests)
-
-    at_higher : k < place → is_lt (ordering_then (nat_cmp place k) (slice_cmp nat_cmp (aspect ∷ []) (0 ∷ []))) ≡ nat_lt place k
-    at_higher above = sym (ap (λ o. is_lt (ordering_then o (slice_cmp nat_cmp (aspect ∷ []) (0 ∷ [])))) (nat_cmp_is place k Greater above)) ∙ grind (arith, nat_tests)
-
-    at_same : (aspect : ℕ) → place ≡ k → is_lt (ordering_then (nat_cmp place k) (slice_cmp nat_cmp (aspect ∷ []) (0 ∷ []))) ≡ nat_lt place k
-    at_same zero same = sym (ap (λ o. is_lt (ordering_then o (slice_cmp nat_cmp (0 ∷ []) (0 ∷ [])))) (nat_cmp_is place k Equal same)) ∙ grind (arith, nat_tests)
-    at_same (suc n) same = sym (λ i. is_lt (ordering_then (nat_cmp_is place k Equal same i) (ordering_then (nat_cmp_is (suc n) 0 Greater (omega arith) i) Equal))) ∙ grind (arith, nat_tests)
+    by : (below same : Bool) (aspect : ℕ) → is_lt (ordering_then (cond below Less (cond same Equal Greater)) (slice_cmp nat_cmp (aspect ∷ []) (0 ∷ []))) ≡ below
+    by true same aspect = refl
+    by false false aspect = refl
+    by false true zero = refl
+    by false true (suc n) = sym (ap (λ o. is_lt (ordering_then o Equal)) (nat_cmp_is (suc n) 0 Greater (omega arith)))
 
 by_ranks : {A : Type 0} (a b place aspect : ℕ) (xs : List A)
     → filter (λ x. is_lt (slice_cmp nat_cmp (a ∷ place ∷ aspect ∷ []) (b ∷ x.0 ∷ 0 ∷ []))) (enumerate_from 1 xs)
     ≡ entries_left (cond (nat_lt a b) (Some 0) (cond (nat_lt b a) None (Some place))) xs
-by_ranks {A = A} a b place aspect xs =
-    elim (cases_lt a b) [ inl below ↦ at_lower below (grind (arith, nat_tests)) | inr k ↦ elim (cases_lt b a) [ inl above ↦ at_higher above (grind (arith, nat_tests)) (grind (arith, nat_tests)) | inr l ↦ at_same (omega arith) (grind (arith, nat_tests)) (grind (arith, nat_tests)) ] ]
+by_ranks {A = A} a b place aspect xs = by (nat_lt a b) (a == b) (nat_lt b a) (λ e. grind (arith, nat_tests))
   where
-    later : ℕ × A → Bool
-    later x = is_lt (slice_cmp nat_cmp (a ∷ place ∷ aspect ∷ []) (b ∷ x.0 ∷ 0 ∷ []))
-
-    at_lower : a < b → nat_lt a b ≡ true → filter later (enumerate_from 1 xs) ≡ entries_left (cond (nat_lt a b) (Some 0) (cond (nat_lt b a) None (Some place))) xs
-    at_lower below lower =
-        all_kept later (λ x. sym (ap (λ o. is_lt (ordering_then o (slice_cmp nat_cmp (place ∷ aspect ∷ []) (x.0 ∷ 0 ∷ [])))) (nat_cmp_is a b Less below))) (enumerate_from 1 xs)
-        ∙ ap (λ t. entries_left (cond t (Some 0) (cond (nat_lt b a) None (Some place))) xs) (sym lower)
-
-    at_higher : b < a → nat_lt a b ≡ false → nat_lt b a ≡ true → filter later (enumerate_from 1 xs) ≡ entries_left (cond (nat_lt a b) (Some 0) (cond (nat_lt b a) None (Some place))) xs
-    at_higher above lower higher =
-        none_kept later (λ x. sym (ap (λ o. is_lt (ordering_then o (slice_cmp nat_cmp (place ∷ aspect ∷ []) (x.0 ∷ 0 ∷ [])))) (nat_cmp_is a b Greater above))) (enumerate_from 1 xs)
-        ∙ (λ i. entries_left (cond (sym lower i) (Some 0) (cond (sym higher i) None (Some place))) xs)
-
-    at_same : a ≡ b → nat_lt a b ≡ false → nat_lt b a ≡ false → filter later (enumerate_from 1 xs) ≡ entries_left (cond (nat_lt a b) (Some 0) (cond (nat_lt b a) None (Some place))) xs
-    at_same same lower higher =
-        filter-same later (λ x. nat_lt place x.0)
-        (λ x. sym (ap (λ o. is_lt (ordering_then o (slice_cmp nat_cmp (place ∷ aspect ∷ []) (x.0 ∷ 0 ∷ [])))) (nat_cmp_is a b Equal same)) ∙ place_decides place x.0 aspect) (enumerate_from 1 xs)
-        ∙ later_places place 1 place xs (omega arith)
-        ∙ (λ i. entries_left (cond (sym lower i) (Some 0) (cond (sym higher i) None (Some place))) xs)
+    by : (below same above : Bool) → (below ≡ false → same ≡ not above)
+        → filter (λ (x : ℕ × A). is_lt (ordering_then (cond below Less (cond same Equal Greater)) (slice_cmp nat_cmp (place ∷ aspect ∷ []) (x.0 ∷ 0 ∷ [])))) (enumerate_from 1 xs)
+        ≡ entries_left (cond below (Some 0) (cond above None (Some place))) xs
+    by true same above h = all_kept (λ x. true) (λ x. refl) (enumerate_from 1 xs)
+    by false false true h = none_kept (λ x. false) (λ x. refl) (enumerate_from 1 xs)
+    by false true false h = filter_agree _ (λ x. nat_lt place x.0) (λ x. place_decides place x.0 aspect) (enumerate_from 1 xs) ∙ later_places place 1 place xs (omega arith)
+    by false true true h = absurd (cc (h refl))
+    by false false false h = absurd (cc (h refl))
 
 entries_after : {A : Type 0} (key : PlainKey) (r : Rule) (xs : List A) → filter (λ x. entry_after key r x.0) (enumerate_from 1 xs) ≡ entries_left (passed key r) xs
 entries_after key r xs = by_ranks (rule_rank key.rule) (rule_rank r) key.place (aspect_rank key.aspect) xs
@@ -133,7 +116,7 @@ made_after : {A : Type 0} (key : PlainKey) (r : Rule) (make : ℕ × A → Site)
     → filter (λ x. precedes key (site_key x)) (map make (enumerate_from 1 xs)) ≡ map make (entries_left (passed key r) xs)
 made_after key r make xs same =
     filter-map (λ x. precedes key (site_key x)) make (enumerate_from 1 xs)
-    ∙ ap (map make) (filter-same (λ x. precedes key (site_key (make x))) (λ x. entry_after key r x.0) same (enumerate_from 1 xs) ∙ entries_after key r xs)
+    ∙ ap (map make) (filter_agree (λ x. precedes key (site_key (make x))) (λ x. entry_after key r x.0) same (enumerate_from 1 xs) ∙ entries_after key r xs)
 
 -- ---- a key's package
 
@@ -341,7 +324,7 @@ pub unknown_after : (place : ℕ) (aspect : Option Aspect) (unknown : List Plain
     → filter (λ x. precedes (key_of part.Solution rule.Unknown place aspect) (site_key x)) (map unknown_stanza unknown) ≡ map unknown_stanza (unknown_left place unknown)
 unknown_after place aspect unknown =
     filter-map (λ x. precedes (key_of part.Solution rule.Unknown place aspect) (site_key x)) unknown_stanza unknown
-    ∙ ap (map unknown_stanza) (filter-same (λ u. precedes (key_of part.Solution rule.Unknown place aspect) (site_key (unknown_stanza u))) (λ u. nat_lt place u.stanza)
+    ∙ ap (map unknown_stanza) (filter_agree (λ u. precedes (key_of part.Solution rule.Unknown place aspect) (site_key (unknown_stanza u))) (λ u. nat_lt place u.stanza)
     (λ u. place_decides place u.stanza (aspect_rank aspect)) unknown)
 
 -- the unknown stanzas come after the keys of the other parts

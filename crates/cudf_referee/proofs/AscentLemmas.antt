@@ -130,16 +130,10 @@ climbs-rule {A = A} make part place rule ranks xs =
 -- ---- packages
 
 kept_climb : (k : Keep) (p : Placed) → Climbs site_ranks (1 ∷ p.0 ∷ 3 ∷ []) (kept_sites k p) (1 ∷ p.0 ∷ 4 ∷ [])
-kept_climb k p = by k
-  where
-    at_place : (ms ns : List ℕ) → Below ms ns → Below (1 ∷ p.0 ∷ ms) (1 ∷ p.0 ∷ ns)
-    at_place ms ns h = same_first p.0 ms ns h
-
-    by : (k : Keep) → Climbs site_ranks (1 ∷ p.0 ∷ 3 ∷ []) (kept_sites k p) (1 ∷ p.0 ∷ 4 ∷ [])
-    by Version = (at_place (3 ∷ []) (3 ∷ 1 ∷ 0 ∷ []) refl, at_place (3 ∷ 1 ∷ 0 ∷ []) (4 ∷ []) refl)
-    by Package = (at_place (3 ∷ []) (3 ∷ 1 ∷ 0 ∷ []) refl, at_place (3 ∷ 1 ∷ 0 ∷ []) (4 ∷ []) refl)
-    by Feature = climbs-rule (λ v. kept_feature p v.0 v.1) 1 p.0 3 (λ x. refl) p.1.provides
-    by Nothing = at_place (3 ∷ []) (4 ∷ []) refl
+kept_climb Version p = (same_first p.0 (3 ∷ []) (3 ∷ 1 ∷ 0 ∷ []) refl, same_first p.0 (3 ∷ 1 ∷ 0 ∷ []) (4 ∷ []) refl)
+kept_climb Package p = (same_first p.0 (3 ∷ []) (3 ∷ 1 ∷ 0 ∷ []) refl, same_first p.0 (3 ∷ 1 ∷ 0 ∷ []) (4 ∷ []) refl)
+kept_climb Feature p = climbs-rule (λ v. kept_feature p v.0 v.1) 1 p.0 3 (λ x. refl) p.1.provides
+kept_climb Nothing p = same_first p.0 (3 ∷ []) (4 ∷ []) refl
 
 pub package_climbs : (s : Proposal) (p : Placed) → Climbs stop_ranks (1 ∷ p.0 ∷ []) (package_stops s p) (1 ∷ (p.0 + 1) ∷ [])
 package_climbs s p =
@@ -172,10 +166,7 @@ packages_climb s n packages = climbs-flat_map stop_ranks (package_stops s) (λ m
 -- ---- the request
 
 pub entry_climbs : (v : ℕ × PlainVpkg) → Climbs site_ranks (2 ∷ 0 ∷ 6 ∷ v.0 ∷ []) (upgrade_sites v) (2 ∷ 0 ∷ 6 ∷ (v.0 + 1) ∷ [])
-entry_climbs v = (at_entry [] (1 ∷ []) refl, (at_entry (1 ∷ []) (2 ∷ []) refl, (at_entry (2 ∷ []) (3 ∷ []) refl, next_first v.0 (3 ∷ []) [])))
-  where
-    at_entry : (ms ns : List ℕ) → Below ms ns → Below (2 ∷ 0 ∷ 6 ∷ v.0 ∷ ms) (2 ∷ 0 ∷ 6 ∷ v.0 ∷ ns)
-    at_entry ms ns h = same_first v.0 ms ns h
+entry_climbs v = (same_first v.0 [] (1 ∷ []) refl, (same_first v.0 (1 ∷ []) (2 ∷ []) refl, (same_first v.0 (2 ∷ []) (3 ∷ []) refl, next_first v.0 (3 ∷ []) [])))
 
 pub entries_climb : (n : ℕ) (vs : List PlainVpkg) → Climbs site_ranks (2 ∷ 0 ∷ 6 ∷ n ∷ []) (flat_map upgrade_sites (enumerate_from n vs)) (3 ∷ [])
 entries_climb n vs = climbs-flat_map site_ranks upgrade_sites (λ m. 2 ∷ 0 ∷ 6 ∷ m ∷ []) (3 ∷ []) entry_climbs (λ m. refl) n vs

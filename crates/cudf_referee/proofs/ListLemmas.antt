@@ -1,9 +1,10 @@
 -- Tests, and lists: what passes, how many do, and which are empty.
-use Rattle.std.proofs.Common.{◌≡◌, ℕ, ◌+◌, ◌<◌, Bool, true, false, not, ◌&&◌, ◌||◌, List, [], ◌∷◌, ◌++◌, length, take, get_or, map, filter, cond, refl, ap, sym, ◌∙◌}
+use Rattle.std.proofs.Common.{◌≡◌, ℕ, ◌+◌, ◌<◌, Bool, true, false, not, ◌&&◌, ◌||◌, List, [], ◌∷◌, ◌++◌, length, take, get_or, map, filter, cond, refl, ap, sym, ◌∙◌, arith}
 use Rattle.std.proofs.lemmas.List.{map-append, take_more}
 use Rattle.std.proofs.lemmas.List.Sums.{sum_by-cons}
 use Rattle.std.specs.List.{count_by, list_all, list_any, flat_map, enumerate_from}
 use Rattle.cudf_document.specs.Documents.{is_empty}
+use Rattle.std.proofs.lemmas.Grind.{common_steps}
 
 pub and_true : (a : Bool) → (a && true) ≡ a
 and_true true = refl
@@ -27,10 +28,7 @@ and_right false b h = absurd (cc h)
 
 -- the middle two change places
 pub and_swap : (a b c d : Bool) → ((a && b) && (c && d)) ≡ ((a && c) && (b && d))
-and_swap true b true d = refl
-and_swap true true false d = refl
-and_swap true false false d = refl
-and_swap false b c d = refl
+and_swap a b c d = grind (arith, common_steps)
 
 pub not_not : (a : Bool) → not (not a) ≡ a
 not_not true = refl
@@ -42,17 +40,10 @@ false_from_not false h = refl
 
 -- ---- what is kept of a list
 
-kept_case : {A B : Type 0} (b : Bool) (f : A → B) (x : A) (xs : List A) (ys : List B) → ys ≡ map f xs → cond b (f x ∷ ys) ys ≡ map f (cond b (x ∷ xs) xs)
-kept_case true f x xs ys h = ap (λ zs. f x ∷ zs) h
-kept_case false f x xs ys h = h
-
 -- a test of what is made is a test of what it is made of
 pub filter-map : {A B : Type 0} (test : B → Bool) (f : A → B) (xs : List A) → filter test (map f xs) ≡ map f (filter (λ x. test (f x)) xs)
 filter-map test f [] = refl
-filter-map test f (x ∷ xs) = kept_case (test (f x)) f x (filter (λ y. test (f y)) xs) (filter test (map f xs)) (filter-map test f xs)
-
-pub filter-same : {A : Type 0} (p q : A → Bool) → ((x : A) → p x ≡ q x) → (xs : List A) → filter p xs ≡ filter q xs
-filter-same p q same xs = ap (λ test. filter test xs) (λ i x. same x i)
+filter-map test f (x ∷ xs) = grind (arith, common_steps, filter-map test f xs)
 
 pub all_kept : {A : Type 0} (test : A → Bool) → ((x : A) → test x ≡ true) → (xs : List A) → filter test xs ≡ xs
 all_kept test h [] = refl
@@ -61,6 +52,16 @@ all_kept test h (x ∷ xs) = (λ i. cond (h x i) (x ∷ all_kept test h xs i) (a
 pub none_kept : {A : Type 0} (test : A → Bool) → ((x : A) → test x ≡ false) → (xs : List A) → filter test xs ≡ []
 none_kept test h [] = refl
 none_kept test h (x ∷ xs) = (λ i. cond (h x i) (x ∷ none_kept test h xs i) (none_kept test h xs i))
+
+-- what passes both tests is what passes one of what passes the other
+pub filter-both : {A : Type 0} (p q : A → Bool) (xs : List A) → filter (λ x. p x && q x) xs ≡ filter q (filter p xs)
+filter-both p q [] = refl
+filter-both p q (x ∷ xs) = grind (arith, common_steps, filter-both p q xs)
+
+pub weaker_case : (a b : Bool) → (b ≡ true → a ≡ true) → (a && b) ≡ b
+weaker_case true b h = refl
+weaker_case false true h = h refl
+weaker_case false false h = refl
 
 -- ---- how many pass
 
@@ -89,13 +90,9 @@ pub is_empty-flat_map : {A B : Type 0} (f : A → List B) (xs : List A) → is_e
 is_empty-flat_map f [] = refl
 is_empty-flat_map f (x ∷ xs) = is_empty-append (f x) (flat_map f xs) ∙ ap (λ b. is_empty (f x) && b) (is_empty-flat_map f xs)
 
-is_empty-cond : {A : Type 0} (b : Bool) (x : A) (xs : List A) (rest : Bool) → is_empty xs ≡ rest → is_empty (cond b (x ∷ xs) xs) ≡ (not b && rest)
-is_empty-cond true x xs rest h = refl
-is_empty-cond false x xs rest h = h
-
 pub is_empty-filter : {A : Type 0} (test : A → Bool) (xs : List A) → is_empty (filter test xs) ≡ list_all (λ x. not (test x)) xs
 is_empty-filter test [] = refl
-is_empty-filter test (x ∷ xs) = is_empty-cond (test x) x (filter test xs) (list_all (λ x. not (test x)) xs) (is_empty-filter test xs)
+is_empty-filter test (x ∷ xs) = grind (arith, common_steps, is_empty-filter test xs)
 
 -- a test of the elements alone doesn't see their numbers
 pub list_all-enumerate : {A : Type 0} (p : A → Bool) (n : ℕ) (xs : List A) → list_all (λ x. p x.1) (enumerate_from n xs) ≡ list_all p xs
@@ -104,27 +101,17 @@ list_all-enumerate p n (x ∷ xs) = ap (λ b. p x && b) (list_all-enumerate p (n
 
 pub list_all-and : {A : Type 0} (p q : A → Bool) (xs : List A) → list_all (λ x. p x && q x) xs ≡ (list_all p xs && list_all q xs)
 list_all-and p q [] = refl
-list_all-and p q (x ∷ xs) = ap (λ b. (p x && q x) && b) (list_all-and p q xs) ∙ and_swap (p x) (q x) (list_all p xs) (list_all q xs)
-
-filter_step : {A : Type 0} (t a rest : Bool) (p : A → Bool) (x : A) (xs : List A) → p x ≡ a → list_all p xs ≡ rest
-    → (cond t a true && rest) ≡ list_all p (cond t (x ∷ xs) xs)
-filter_step true a rest p x xs here below = λ i. sym here i && sym below i
-filter_step false a rest p x xs here below = sym below
+list_all-and p q (x ∷ xs) = grind (arith, common_steps, list_all-and p q xs)
 
 -- a test where another holds is a test of those that pass the other
 pub list_all-filter : {A : Type 0} (t p : A → Bool) (xs : List A) → list_all (λ x. cond (t x) (p x) true) xs ≡ list_all p (filter t xs)
 list_all-filter t p [] = refl
-list_all-filter t p (x ∷ xs) = ap (λ b. cond (t x) (p x) true && b) (list_all-filter t p xs)
-    ∙ filter_step (t x) (p x) (list_all p (filter t xs)) p x (filter t xs) refl refl
-
-not_or : (a b : Bool) → not (a || b) ≡ (not a && not b)
-not_or true b = refl
-not_or false b = refl
+list_all-filter t p (x ∷ xs) = grind (arith, common_steps, list_all-filter t p xs)
 
 -- none passes
 pub list_any-none : {A : Type 0} (p : A → Bool) (xs : List A) → not (list_any p xs) ≡ list_all (λ x. not (p x)) xs
 list_any-none p [] = refl
-list_any-none p (x ∷ xs) = not_or (p x) (list_any p xs) ∙ ap (λ b. not (p x) && b) (list_any-none p xs)
+list_any-none p (x ∷ xs) = grind (arith, common_steps, list_any-none p xs)
 
 -- one more of what is made of the first ones
 pub map-more : {A B : Type 0} (f : A → B) (xs : List A) (n : ℕ) (x : A) (made : List B) (y : B) (more : List B) → n < length xs → made ≡ map f (take n xs) → x ≡ get_or xs n x → y ≡ f x

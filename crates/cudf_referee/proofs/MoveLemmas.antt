@@ -1,5 +1,5 @@
 -- A search of the stops ahead goes to the first instance that is left, for what the way there costs.
-use Rattle.std.proofs.Common.{◌≡◌, ℕ, ◌+◌, Bool, true, false, not, ◌&&◌, List, [], ◌∷◌, filter, cond, length, arith, refl, ap, sym, ◌∙◌, subst, Option, Some, None, option_map}
+use Rattle.std.proofs.Common.{◌≡◌, ℕ, ◌+◌, Bool, true, false, not, List, [], ◌∷◌, filter, cond, length, arith, refl, ap, sym, ◌∙◌, subst, Option, Some, None, option_map}
 use Rattle.std.proofs.lemmas.Cmp.{nat_list_cmp_total, tied_itself}
 use Rattle.std.proofs.lemmas.List.Sums.{sum_by-cons}
 use Rattle.std.specs.Prelude.{sum_by, is_some}
@@ -22,7 +22,7 @@ use Rattle.cudf_referee.specs.Working.Places.{IsFitting, ahead}
 use Rattle.cudf_referee.specs.Working.Searches.{or_later, first_given, unless_found, sum_to_first, cost_to_first, least_to_first, Finds}
 use Rattle.cudf_referee.specs.Working.Walkers.{stops_behind}
 use Rattle.cudf_referee.proofs.AheadLemmas.{not_below, kept_above, after-ranks, after-left}
-use Rattle.cudf_referee.proofs.ListLemmas.{all_kept, none_kept}
+use Rattle.cudf_referee.proofs.ListLemmas.{all_kept, none_kept, filter-both, weaker_case}
 use Rattle.cudf_referee.proofs.AscentLemmas.{Below, chained, Climbs, from_lower, climbs-filter, walk-climbs}
 use Rattle.cudf_referee.proofs.PositionLemmas.{stop_ranks, is_after-ranks, IsLater, later-key, later-start}
 use Rattle.cudf_referee.proofs.SiteLemmas.{key_at, left-walk}
@@ -111,15 +111,6 @@ sum_first number s low (x ∷ xs) high h = by (given_at s x) refl (sum_first num
     by None e more = sum_on number s x xs high h.1 e more
     by (Some i) e more = sum_there number s x xs high h.1 i e
 
-filter_case : {A : Type 0} (p q : Bool) (test : A → Bool) (x : A) (both first : List A) → test x ≡ q → both ≡ filter test first → cond (p && q) (x ∷ both) both ≡ filter test (cond p (x ∷ first) first)
-filter_case true q test x both first here h = λ i. cond (sym here i) (x ∷ h i) (h i)
-filter_case false q test x both first here h = h
-
--- what passes both tests is what passes one of what passes the other
-filter-both : {A : Type 0} (p q : A → Bool) (xs : List A) → filter (λ x. p x && q x) xs ≡ filter q (filter p xs)
-filter-both p q [] = refl
-filter-both p q (x ∷ xs) = filter_case (p x) (q x) q x (filter (λ y. p y && q y) xs) (filter p xs) refl (filter-both p q xs)
-
 -- the stops to the first instance that is left are those to its position
 sum-ahead : (number : Stop → ℕ) (s : Proposal) (old : PlainPosition) → ascend_above 0 s.unknown ≡ true
     → sum_to_first number s (ahead s old) ≡ sum_by number (stops_between s old (at_instance (first_given s (ahead s old))))
@@ -187,11 +178,6 @@ found_later : (s : Proposal) (old : PlainPosition) (i : PlainInstance) → first
 found_later s at_start i h = later-start (at_key i.key)
 found_later s (at_key key) i h = later-key key i.key (found_after s key i (walk s) h)
 found_later s at_end i h = absurd (cc (sym (ap (first_given s) (none_kept (is_ahead at_end) (λ x. refl) (walk s))) ∙ h))
-
-weaker_case : (a b : Bool) → (b ≡ true → a ≡ true) → (a && b) ≡ b
-weaker_case true b h = refl
-weaker_case false true h = h refl
-weaker_case false false h = refl
 
 -- the stops behind the instance lie ahead
 ahead_there : (s : Proposal) (old : PlainPosition) (i : PlainInstance) → first_given s (ahead s old) ≡ Some i → filter (is_after i.key) (ahead s old) ≡ filter (is_after i.key) (walk s)

@@ -1,5 +1,5 @@
 -- Names that stand once each, and what is kept of each of them.
-use Rattle.std.proofs.Common.{◌≡◌, ◌≢◌, ℕ, Bool, true, false, not, ◌&&◌, ◌||◌, cond, List, [], ◌∷◌, ◌++◌, map, filter, Bor, bytes_eq, Some, refl, ap, sym, ◌∙◌}
+use Rattle.std.proofs.Common.{◌≡◌, ◌≢◌, ℕ, Bool, true, false, not, ◌&&◌, cond, List, [], ◌∷◌, ◌++◌, map, filter, Bor, bytes_eq, Some, refl, ap, sym, ◌∙◌, arith}
 use Rattle.std.specs.List.{list_any, count_by, AllByRecursion, IsDistinct}
 use Rattle.std.specs.Map.{keys_of, values_of, lookup, set_value}
 use Rattle.std.specs.Set.{is_member}
@@ -19,6 +19,7 @@ use Rattle.indexmap.specs.IndexMap.{insert_entry}
 use Rattle.indexmap.specs.IndexSet.{insert_key}
 use Rattle.cudf_referee.specs.Criteria.{each_once}
 use Rattle.cudf_referee.proofs.ListLemmas.{and_false}
+use Rattle.std.proofs.lemmas.Grind.{common_steps}
 
 abbrev Name : Type 0
 Name = List ℕ
@@ -44,41 +45,13 @@ none_filtered x zs = any-filter_same (bytes_eq x) (λ o. not (bytes_eq x o)) fal
 -- one name more
 pub once_push : (xs : List Name) (x : Name) → each_once (xs ++ x ∷ []) ≡ insert_key bytes_eq (each_once xs) x
 once_push [] x = refl
-once_push (y ∷ ys) x = ap (λ zs. y ∷ filter (λ o. not (bytes_eq y o)) zs) (once_push ys x) ∙ by (bytes_eq x y) (list_any (bytes_eq x) (each_once ys)) refl refl
-  where
-    zs : List Name
-    zs = each_once ys
-
-    less : List Name → List Name
-    less = filter (λ o. not (bytes_eq y o))
-
-    by : (b c : Bool) → bytes_eq x y ≡ b → list_any (bytes_eq x) (each_once ys) ≡ c
-        → y ∷ filter (λ o. not (bytes_eq y o)) (cond (list_any (bytes_eq x) (each_once ys)) (each_once ys) (each_once ys ++ x ∷ []))
-        ≡ cond (bytes_eq x y || list_any (bytes_eq x) (filter (λ o. not (bytes_eq y o)) (each_once ys))) (y ∷ filter (λ o. not (bytes_eq y o)) (each_once ys)) ((y ∷ filter (λ o. not (bytes_eq y o)) (each_once ys)) ++ x ∷ [])
-    by true true e f =
-        (λ i. y ∷ filter (λ o. not (bytes_eq y o)) (cond (f i) (each_once ys) (each_once ys ++ x ∷ [])))
-        ∙ (λ i. cond (sym e i || list_any (bytes_eq x) (filter (λ o. not (bytes_eq y o)) (each_once ys))) (y ∷ filter (λ o. not (bytes_eq y o)) (each_once ys)) ((y ∷ filter (λ o. not (bytes_eq y o)) (each_once ys)) ++ x ∷ []))
-    by true false e f =
-        (λ i. y ∷ filter (λ o. not (bytes_eq y o)) (cond (f i) (each_once ys) (each_once ys ++ x ∷ [])))
-        ∙ ap (λ l. y ∷ l) (filter-append (λ o. not (bytes_eq y o)) (each_once ys) (x ∷ []) ∙ (λ i. filter (λ o. not (bytes_eq y o)) (each_once ys) ++ cond (not (text_same y x (sym (same_text x y e)) i)) (x ∷ []) []) ∙ append-nil (filter (λ o. not (bytes_eq y o)) (each_once ys)))
-        ∙ (λ i. cond (sym e i || list_any (bytes_eq x) (filter (λ o. not (bytes_eq y o)) (each_once ys))) (y ∷ filter (λ o. not (bytes_eq y o)) (each_once ys)) ((y ∷ filter (λ o. not (bytes_eq y o)) (each_once ys)) ++ x ∷ []))
-    by false true e f =
-        (λ i. y ∷ filter (λ o. not (bytes_eq y o)) (cond (f i) (each_once ys) (each_once ys ++ x ∷ [])))
-        ∙ (λ i. cond (sym e i || sym (any_filtered x y (each_once ys) e ∙ f) i) (y ∷ filter (λ o. not (bytes_eq y o)) (each_once ys)) ((y ∷ filter (λ o. not (bytes_eq y o)) (each_once ys)) ++ x ∷ []))
-    by false false e f =
-        (λ i. y ∷ filter (λ o. not (bytes_eq y o)) (cond (f i) (each_once ys) (each_once ys ++ x ∷ [])))
-        ∙ ap (λ l. y ∷ l) (filter-append (λ o. not (bytes_eq y o)) (each_once ys) (x ∷ []) ∙ (λ i. filter (λ o. not (bytes_eq y o)) (each_once ys) ++ cond (not (other_way x y e i)) (x ∷ []) []))
-        ∙ (λ i. cond (sym e i || sym (any_filtered x y (each_once ys) e ∙ f) i) (y ∷ filter (λ o. not (bytes_eq y o)) (each_once ys)) ((y ∷ filter (λ o. not (bytes_eq y o)) (each_once ys)) ++ x ∷ []))
+once_push (y ∷ ys) x =
+    grind (arith, common_steps, once_push ys x, filter-append (λ o. not (bytes_eq y o)) (each_once ys) (x ∷ []), any_filtered x y (each_once ys), same_text x y, text_same y x, append-nil (filter (λ o. not (bytes_eq y o)) (each_once ys)), nat_list_eq_equiv.symm x y)
 
 -- the same names are there
 pub any_once : (f : Name) (xs : List Name) → list_any (bytes_eq f) (each_once xs) ≡ list_any (bytes_eq f) xs
 any_once f [] = refl
-any_once f (x ∷ xs) = by (bytes_eq f x) refl (any_once f xs)
-  where
-    by : (b : Bool) → bytes_eq f x ≡ b → list_any (bytes_eq f) (each_once xs) ≡ list_any (bytes_eq f) xs
-        → (bytes_eq f x || list_any (bytes_eq f) (filter (λ o. not (bytes_eq x o)) (each_once xs))) ≡ (bytes_eq f x || list_any (bytes_eq f) xs)
-    by true e rest = (λ i. e i || list_any (bytes_eq f) (filter (λ o. not (bytes_eq x o)) (each_once xs))) ∙ (λ i. sym e i || list_any (bytes_eq f) xs)
-    by false e rest = ap (λ b. bytes_eq f x || b) (any_filtered f x (each_once xs) e ∙ rest)
+any_once f (x ∷ xs) = grind (arith, common_steps, any_once f xs, any_filtered f x (each_once xs))
 
 -- no name stands twice
 distinct-filter : (t : Name → Bool) (xs : List Name) → IsDistinct bytes_eq xs → IsDistinct bytes_eq (filter t xs)
@@ -135,28 +108,12 @@ values-each F (e ∷ es) h = λ i. h.0 i ∷ values-each F es h.1 i
 -- one name more, which has the same as any
 pub inserted-each : {R : Type 0} (r : R) (q : Bor Name) (es : List (Entry R)) → EachHas (λ f. r) es → EachHas (λ f. r) (insert_entry eq_now es q r)
 inserted-each r q [] h = (refl, tt)
-inserted-each r q (e ∷ es) h = by (eq_now q e.0) (inserted-each r q es h.1)
-  where
-    by : (b : Bool) → EachHas (λ f. r) (insert_entry eq_now es q r) → EachHas (λ f. r) (cond b ((e.0, r) ∷ es) (e ∷ insert_entry eq_now es q r))
-    by true rest = (refl, h.1)
-    by false rest = (h.0, rest)
+inserted-each r q (e ∷ es) h = elim (eq_now q e.0) as (λ b. EachHas (λ f. r) (cond b ((e.0, r) ∷ es) (e ∷ insert_entry eq_now es q r))) [ true ↦ (refl, h.1) | false ↦ (h.0, inserted-each r q es h.1) ]
 
 pub inserted-names : {R : Type 0} (r : R) (q : Bor Name) (es : List (Entry R))
     → map (λ k. k.now) (keys_of (insert_entry eq_now es q r)) ≡ insert_key bytes_eq (map (λ k. k.now) (keys_of es)) q.now
 inserted-names r q [] = refl
-inserted-names r q (e ∷ es) = by (eq_now q e.0) (inserted-names r q es)
-  where
-    names : List Name
-    names = map (λ k. k.now) (keys_of es)
-
-    cons-cond : (c : Bool) (xs ys : List Name) → e.0.now ∷ cond c xs ys ≡ cond c (e.0.now ∷ xs) (e.0.now ∷ ys)
-    cons-cond true xs ys = refl
-    cons-cond false xs ys = refl
-
-    by : (b : Bool) → map (λ k. k.now) (keys_of (insert_entry eq_now es q r)) ≡ insert_key bytes_eq names q.now
-        → map (λ k. k.now) (keys_of (cond b ((e.0, r) ∷ es) (e ∷ insert_entry eq_now es q r))) ≡ cond (b || list_any (bytes_eq q.now) names) (e.0.now ∷ names) (e.0.now ∷ names ++ q.now ∷ [])
-    by true rest = refl
-    by false rest = ap (λ ns. e.0.now ∷ ns) rest ∙ cons-cond (list_any (bytes_eq q.now) names) names (names ++ q.now ∷ [])
+inserted-names r q (e ∷ es) = grind (arith, common_steps, inserted-names r q es)
 
 -- names that aren't this one keep what they have
 module _ {R : Type 0} (F F' : Name → R) (q : Bor Name) (other : (f : Name) → bytes_eq q.now f ≡ false → F' f ≡ F f) where

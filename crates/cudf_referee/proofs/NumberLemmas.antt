@@ -1,30 +1,19 @@
 -- Several numbers and lower numbers, by the least and the greatest of them.
-use Rattle.std.proofs.Common.{◌≡◌, ℕ, zero, suc, ◌<◌, ◌≤◌, Bool, true, false, not, ◌||◌, ◌==◌, nat_lt, List, [], ◌∷◌, length, get_or, refl, ap, ◌∙◌, arith, eq-eqb, eqb-true, All, Contains}
+use Rattle.std.proofs.Common.{◌≡◌, ℕ, ◌≤◌, Bool, true, false, not, ◌==◌, nat_lt, List, [], ◌∷◌, get_or, refl, ap, ◌∙◌, arith, eq-eqb, eqb-true, All, Contains, Some}
 use Rattle.std.specs.List.{list_any}
 use Rattle.std.proofs.lemmas.Bool.{le-ltb, ltb-false}
-use Rattle.cudf_referee.proofs.ListLemmas.{or_true}
-
--- none passes
-pub list_any-false : {A : Type 0} (p : A → Bool) (xs : List A) → All (λ x. p x ≡ false) xs → list_any p xs ≡ false
-list_any-false p [] h = refl
-list_any-false p (x ∷ xs) h = λ i. h 0 x first i || list_any-false p xs (λ k d below. h (suc k) d (omega arith)) i
-  where
-    first : 0 < length (x ∷ xs)
-    first = omega arith
-
-passes_at : {A : Type 0} (p : A → Bool) (xs : List A) (d : A) (k : ℕ) → k < length xs → p (get_or xs k d) ≡ true → list_any p xs ≡ true
-passes_at p [] d k below h = absurd (omega arith)
-passes_at p (x ∷ xs) d zero below h = ap (λ b. b || list_any p xs) h
-passes_at p (x ∷ xs) d (suc k) below h = ap (λ b. p x || b) (passes_at p xs d k (omega arith) h) ∙ or_true (p x)
+use Rattle.std.proofs.lemmas.List.Folds.{list_any_none}
+use Rattle.std.proofs.lemmas.Map.Keys.{any_passes_from_place}
+use Rattle.std.proofs.lemmas.Option.{slice_get-get_or}
 
 -- one of them passes
-pub list_any-true : {A : Type 0} (p : A → Bool) (xs : List A) (x : A) → Contains xs x → p x ≡ true → list_any p xs ≡ true
-list_any-true p xs x here h = passes_at p xs x here.0 here.1 (ap p here.2 ∙ h)
+list_any-true : {A : Type 0} (p : A → Bool) (xs : List A) (x : A) → Contains xs x → p x ≡ true → list_any p xs ≡ true
+list_any-true p xs x here h = any_passes_from_place p xs here.0 x (slice_get-get_or xs here.0 x here.1 ∙ ap Some here.2) h
 
 many_case : (ns : List ℕ) (a b : ℕ) (same : Bool) → (a == b) ≡ same → Contains ns a → All (λ m. a ≤ m) ns → Contains ns b → All (λ m. m ≤ b) ns
     → list_any (λ m. list_any (λ n. not (m == n)) ns) ns ≡ not same
-many_case ns a b true is has_a least has_b greatest = list_any-false (λ m. list_any (λ n. not (m == n)) ns) ns
-    (λ k d k_in. list_any-false (λ n. not (get_or ns k d == n)) ns (λ j e j_in. ap not (eq-eqb (get_or ns k d) (get_or ns j e)
+many_case ns a b true is has_a least has_b greatest = list_any_none (λ m. list_any (λ n. not (m == n)) ns) ns
+    (λ k d k_in. list_any_none (λ n. not (get_or ns k d == n)) ns (λ j e j_in. ap not (eq-eqb (get_or ns k d) (get_or ns j e)
     (omega (arith, least k d k_in, greatest k d k_in, least j e j_in, greatest j e j_in, eqb-true a b is)))))
 many_case ns a b false is has_a least has_b greatest = list_any-true (λ m. list_any (λ n. not (m == n)) ns) ns a has_a
     (list_any-true (λ n. not (a == n)) ns b has_b (ap not is))
@@ -38,8 +27,8 @@ lower_case : (before ns : List ℕ) (a b : ℕ) (is_lower : Bool) → nat_lt a b
     → list_any (λ n. list_any (λ m. nat_lt n m) before) ns ≡ is_lower
 lower_case before ns a b true is has_a least has_b greatest = list_any-true (λ n. list_any (λ m. nat_lt n m) before) ns a has_a
     (list_any-true (λ m. nat_lt a m) before b has_b is)
-lower_case before ns a b false is has_a least has_b greatest = list_any-false (λ n. list_any (λ m. nat_lt n m) before) ns
-    (λ k d k_in. list_any-false (λ m. nat_lt (get_or ns k d) m) before (λ j e j_in. le-ltb (get_or ns k d) (get_or before j e)
+lower_case before ns a b false is has_a least has_b greatest = list_any_none (λ n. list_any (λ m. nat_lt n m) before) ns
+    (λ k d k_in. list_any_none (λ m. nat_lt (get_or ns k d) m) before (λ j e j_in. le-ltb (get_or ns k d) (get_or before j e)
     (omega (arith, least k d k_in, greatest j e j_in, ltb-false a b is))))
 
 -- a number is below one of those before exactly where the least is below the greatest before

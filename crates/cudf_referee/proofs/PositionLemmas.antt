@@ -1,9 +1,7 @@
 -- Keys and positions of the walk in order, and what it costs to go from one to another.
-use Rattle.std.proofs.Common.{◌≡◌, ℕ, ◌+◌, ◌<◌, Bool, true, false, not, ◌&&◌, inl, inr, nat_le, List, [], ◌∷◌, filter, cond, arith, refl, ap, sym, ◌∙◌, lit<}
-use Rattle.std.proofs.lemmas.Bool.{cases_lt}
+use Rattle.std.proofs.Common.{◌≡◌, ℕ, ◌+◌, ◌<◌, ◌==◌, Bool, true, false, not, ◌&&◌, ◌||◌, nat_lt, nat_le, List, [], ◌∷◌, filter, cond, arith, refl, ap, sym, ◌∙◌, lit<}
 use Rattle.std.proofs.lemmas.Bool.Decides.{nat_tests}
 use Rattle.std.proofs.lemmas.Cmp.{nat_list_cmp_total, tied_itself}
-use Rattle.std.proofs.lemmas.List.Sums.{sum_by-cons}
 use Rattle.std.specs.Prelude.{sum_by}
 use Rattle.std.specs.Cmp.{nat_cmp_is}
 use Rattle.std.specs.Cmp.Lexicographic.{slice_cmp}
@@ -17,6 +15,7 @@ use Rattle.cudf_referee.specs.declared.key.Rule.TheVariants.{Depends, Conflicts,
 use Rattle.cudf_referee.specs.Keys.{PlainKey, part_rank, part_place, rule_rank, aspect_rank, key_ranks}
 use Rattle.cudf_referee.specs.Proposals.{Proposal}
 use Rattle.cudf_referee.specs.Promises.Sites.{Stop, at_site, package_end, site_key, walk, stop_cost, PlainPosition, at_start, at_key, at_end, precedes, precedes_end, is_after, is_ahead, cost_between}
+use Rattle.std.proofs.lemmas.Grind.{common_steps}
 
 -- ---- keys
 
@@ -58,17 +57,12 @@ rule_below Unknown = lit< tt
 
 end_ranks : (p : Part) (n r : ℕ) (more : List ℕ) → r < 8
     → precedes_end p n ≡ is_lt (slice_cmp nat_cmp (part_rank p ∷ part_place p ∷ r ∷ more) (1 ∷ n ∷ 8 ∷ []))
-end_ranks (Package m) n r more h =
-    elim (cases_lt m n) [ inl below ↦ at_lower below | inr k ↦ elim (cases_lt n m) [ inl above ↦ at_higher above | inr l ↦ at_same (omega arith) ] ]
+end_ranks (Package m) n r more h = by (nat_lt m n) (m == n) (grind (arith, nat_tests))
   where
-    at_lower : m < n → nat_le m n ≡ is_lt (ordering_then (nat_cmp m n) (ordering_then (nat_cmp r 8) (slice_cmp nat_cmp more [])))
-    at_lower below = grind (arith, nat_tests) ∙ ap (λ o. is_lt (ordering_then o (ordering_then (nat_cmp r 8) (slice_cmp nat_cmp more [])))) (nat_cmp_is m n Less below)
-
-    at_higher : n < m → nat_le m n ≡ is_lt (ordering_then (nat_cmp m n) (ordering_then (nat_cmp r 8) (slice_cmp nat_cmp more [])))
-    at_higher above = grind (arith, nat_tests) ∙ ap (λ o. is_lt (ordering_then o (ordering_then (nat_cmp r 8) (slice_cmp nat_cmp more [])))) (nat_cmp_is m n Greater above)
-
-    at_same : m ≡ n → nat_le m n ≡ is_lt (ordering_then (nat_cmp m n) (ordering_then (nat_cmp r 8) (slice_cmp nat_cmp more [])))
-    at_same same = grind (arith, nat_tests) ∙ (λ i. is_lt (ordering_then (nat_cmp_is m n Equal same i) (ordering_then (nat_cmp_is r 8 Less h i) (slice_cmp nat_cmp more []))))
+    by : (below same : Bool) → nat_le m n ≡ (below || same) → nat_le m n ≡ is_lt (ordering_then (cond below Less (cond same Equal Greater)) (ordering_then (nat_cmp r 8) (slice_cmp nat_cmp more [])))
+    by true same e = e
+    by false true e = e ∙ ap (λ o. is_lt (ordering_then o (slice_cmp nat_cmp more []))) (nat_cmp_is r 8 Less h)
+    by false false e = e
 end_ranks Request n r more h = refl
 end_ranks Solution n r more h = refl
 
@@ -97,28 +91,10 @@ later-start b = record { ahead = λ x k. refl }
 pub later-chained : (a b c : PlainPosition) → IsLater a b → IsLater b c → IsLater a c
 later-chained a b c h k = record { ahead = λ x l. h.ahead x (k.ahead x l) }
 
-later_one : (n a b c more all : ℕ) → more ≡ n + b → all ≡ n + c → a + b ≡ c → a + more ≡ all
-later_one n a b c more all h k same = omega arith
-
-earlier_one : (n a b c more all : ℕ) → more ≡ n + a → all ≡ n + c → a + b ≡ c → more + b ≡ all
-earlier_one n a b c more all h k same = omega arith
-
-joined_case : {A : Type 0} (f : A → ℕ) (x : A) (p q r : Bool) (front back both : List A) → (q ≡ true → p ≡ true) → (r ≡ true → q ≡ true)
-    → sum_by f front + sum_by f back ≡ sum_by f both
-    → sum_by f (cond (p && not q) (x ∷ front) front) + sum_by f (cond (q && not r) (x ∷ back) back) ≡ sum_by f (cond (p && not r) (x ∷ both) both)
-joined_case f x true true true front back both h k same = same
-joined_case f x true true false front back both h k same = later_one (f x) (sum_by f front) (sum_by f back) (sum_by f both) (sum_by f (x ∷ back)) (sum_by f (x ∷ both)) (sum_by-cons f x back) (sum_by-cons f x both) same
-joined_case f x true false true front back both h k same = absurd (cc (k refl))
-joined_case f x true false false front back both h k same = earlier_one (f x) (sum_by f front) (sum_by f back) (sum_by f both) (sum_by f (x ∷ front)) (sum_by f (x ∷ both)) (sum_by-cons f x front) (sum_by-cons f x both) same
-joined_case f x false true r front back both h k same = absurd (cc (h refl))
-joined_case f x false false true front back both h k same = absurd (cc (k refl))
-joined_case f x false false false front back both h k same = same
-
 joined : {A : Type 0} (f : A → ℕ) (p q r : A → Bool) → ((x : A) → q x ≡ true → p x ≡ true) → ((x : A) → r x ≡ true → q x ≡ true) → (xs : List A)
     → sum_by f (filter (λ x. p x && not (q x)) xs) + sum_by f (filter (λ x. q x && not (r x)) xs) ≡ sum_by f (filter (λ x. p x && not (r x)) xs)
 joined f p q r h k [] = refl
-joined f p q r h k (x ∷ xs) = joined_case f x (p x) (q x) (r x) (filter (λ x. p x && not (q x)) xs) (filter (λ x. q x && not (r x)) xs) (filter (λ x. p x && not (r x)) xs)
-    (h x) (k x) (joined f p q r h k xs)
+joined f p q r h k (x ∷ xs) = grind (arith, common_steps, joined f p q r h k xs, h x, k x)
 
 -- going on from a position that lies between costs no more and no less
 pub cost_between-joined : (s : Proposal) (a b c : PlainPosition) → IsLater a b → IsLater b c → cost_between s a b + cost_between s b c ≡ cost_between s a c

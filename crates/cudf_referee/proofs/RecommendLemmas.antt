@@ -1,12 +1,14 @@
 -- Recommended conjuncts that aren't satisfied, package by package.
-use Rattle.std.proofs.Common.{◌≡◌, ℕ, zero, suc, ◌+◌, ◌-◌, ◌<◌, ◌≤◌, ◌^◌, min, Bool, true, false, not, cond, List, [], ◌∷◌, ◌++◌, length, get_or, take, map, filter, Some, None, refl, ap, sym, ◌∙◌, arith}
+use Rattle.std.proofs.Common.{◌≡◌, ℕ, ◌+◌, ◌-◌, ◌<◌, ◌≤◌, ◌^◌, min, Bool, true, false, not, cond, List, [], ◌∷◌, ◌++◌, length, get_or, take, map, filter, Some, None, refl, ap, sym, ◌∙◌, arith}
 use Rattle.std.specs.Prelude.{slice_get, unwrap_or, option_and_then, if◌then◌else◌}
 use Rattle.std.specs.Option.{option_or}
 use Rattle.std.specs.List.{flat_map, count_by, enumerate_from}
 use Rattle.std.proofs.lemmas.Bool.{ne_eqb}
 use Rattle.std.proofs.lemmas.List.{append-nil, length-append, length-map, length-take-le, take_more, take_all}
+use Rattle.std.proofs.lemmas.Option.{slice_get-get_or}
 use Rattle.std.proofs.lemmas.List.Concat.{flat_map-append}
 use Rattle.std.proofs.lemmas.List.Elements.{filter-append}
+use Rattle.std.proofs.lemmas.Grind.{common_steps}
 use Rattle.cudf_document.specs.declared.package.Keep.TheVariants.{Nothing}
 use Rattle.cudf_document.specs.Universe.{PlainPackage, PlainProblem, package_at}
 use Rattle.cudf_document.specs.Promises.Packages.{recommends_at}
@@ -15,17 +17,11 @@ use Rattle.cudf_referee.specs.Criteria.{at_most_max}
 use Rattle.cudf_referee.specs.Entries.{those}
 use Rattle.cudf_referee.specs.Proposals.{Proposal, recommended}
 use Rattle.cudf_referee.proofs.EntryLemmas.{enumerate-push}
-use Rattle.cudf_referee.proofs.ListLemmas.{count-cons}
 
 -- as many pass with their places as without
 length-those : {A : Type 0} (test : A → Bool) (n : ℕ) (xs : List A) → length (filter (λ (x : ℕ × A). test x.1) (enumerate_from n xs)) ≡ count_by test xs
-length-those {A = A} test n [] = refl
-length-those {A = A} test n (x ∷ xs) = by (test x) (length-those test (n + 1) xs) ∙ sym (count-cons test x xs)
-  where
-    by : (b : Bool) → length (filter (λ (y : ℕ × A). test y.1) (enumerate_from (n + 1) xs)) ≡ count_by test xs
-        → length (cond b ((n, x) ∷ filter (λ (y : ℕ × A). test y.1) (enumerate_from (n + 1) xs)) (filter (λ (y : ℕ × A). test y.1) (enumerate_from (n + 1) xs))) ≡ cond b 1 0 + count_by test xs
-    by true rest = ap suc rest ∙ omega arith
-    by false rest = rest ∙ omega arith
+length-those test n [] = refl
+length-those test n (x ∷ xs) = grind (arith, common_steps, length-those test (n + 1) xs)
 
 -- the triples of one package
 abbrev triples : Proposal → Placed → List (List ℕ × ℕ × ℕ)
@@ -68,18 +64,13 @@ module _ (s : Proposal) (is : ℕ → Bool) (packages : List PlainPackage) (i : 
   pub counted_left_out : (before : ℕ) → is (i + 1) ≡ false → before ≡ at_most_max (counted s is (take i packages)) → before ≡ at_most_max (counted s is (take (i + 1) packages))
   counted_left_out before e so_far = let all = counted_more false e in omega (arith, all, so_far)
 
-pub slice_get_at : {A : Type 0} (xs : List A) (i : ℕ) (d : A) → i < length xs → slice_get xs i ≡ Some (get_or xs i d)
-slice_get_at [] i d inside = absurd (omega arith)
-slice_get_at (x ∷ xs) zero d inside = refl
-slice_get_at (x ∷ xs) (suc i) d inside = slice_get_at xs i d (omega arith)
-
 -- what is recommended at a place
 pub recommended_at : (problem : PlainProblem) (s : Proposal) (i : ℕ) (d : PlainPackage) → s.recommends ≡ problem.recommends → i < length problem.packages
     → unwrap_or (recommends_at problem (i + 1)) [] ≡ recommended s (i + 1, get_or problem.packages i d)
 recommended_at problem s i d same inside =
     let place : package_at problem (i + 1) ≡ Some (get_or problem.packages i d) =
     (λ j. if ne_eqb (i + 1) 0 (λ e. omega arith) j then None else slice_get problem.packages (i + 1 - 1))
-    ∙ ap (slice_get problem.packages) {x = i + 1 - 1} {y = i} (omega arith) ∙ slice_get_at problem.packages i d inside in
+    ∙ ap (slice_get problem.packages) {x = i + 1 - 1} {y = i} (omega arith) ∙ slice_get-get_or problem.packages i d inside in
     λ j. unwrap_or (option_or (option_and_then (λ p. p.recommends) (place j)) (sym same j)) []
 
 -- what stands for a package past the end

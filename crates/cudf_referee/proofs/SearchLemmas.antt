@@ -4,7 +4,7 @@ use Rattle.std.specs.List.{All, enumerate_from}
 use Rattle.std.specs.Prelude.{option_map, slice_get}
 use Rattle.std.specs.Slice.{IsItemAt}
 use Rattle.std.proofs.lemmas.Bool.{ltb-true}
-use Rattle.std.proofs.lemmas.Option.{slice_get_within, slice_get_past, get_or_from_slice_get}
+use Rattle.std.proofs.lemmas.Option.{slice_get-get_or, slice_get_within, slice_get_past, get_or_from_slice_get}
 use Rattle.std.proofs.Math.ListN.{get_or-map}
 use Rattle.std.proofs.lemmas.List.{at_drop_more, at_drop_all, drop_min, length-map, get_or-drop}
 use Rattle.std.proofs.lemmas.List.FromFn.{length-enumerate_from, get_or-enumerate_from}
@@ -16,7 +16,6 @@ use Rattle.cudf_referee.specs.Violations.{unknown_instance}
 use Rattle.cudf_referee.specs.Working.Behind.{unknown_stops}
 use Rattle.cudf_referee.specs.Working.Judged.{given_at}
 use Rattle.cudf_referee.specs.Working.Passes.{Passes, EntriesPass, stops_from, entry_stops, count_passed}
-use Rattle.cudf_referee.proofs.RecommendLemmas.{slice_get_at}
 use Rattle.cudf_referee.specs.Working.Searches.{Finds, first_given, sum_to_first, cost_to_first, least_to_first, or_later, unless_found, entries_left}
 
 -- ---- one stop, and several
@@ -125,11 +124,7 @@ pub numbered : {A B : Type 0} (view : B → A) (xs : List B) (n : ℕ) (d : B) �
 numbered view xs n d below = numbered-one (map view xs) n (view d) (omega (arith, length-map xs view)) ∙ (λ i. (n + 1, get_or-map view xs n d i))
 
 pub passes-at : (s : Proposal) (all left left' : List Stop) (old now : ℕ) → left ≡ left' → Passes s all left old now → Passes s all left' old now
-passes-at s all left left' old now same passes = record {
-  given = passes.given ∙ ap (first_given s) same;
-  price = omega (arith, passes.price, ap (cost_to_first s) same);
-  grows = omega (arith, passes.grows, ap (least_to_first s) same);
-}
+passes-at s all left left' old now same passes = subst (λ (l : List Stop). Passes s all l old now) same passes
 
 -- the next stop
 stops-next : {A : Type 0} (make : ℕ × A → Site) (xs : List A) (n : ℕ) (d : A) → n < length xs
@@ -229,11 +224,7 @@ Finds-nothing s n = record { given = refl; price = omega arith; grows = omega ar
 
 -- of stops that are the same
 pub Finds-at : (s : Proposal) (stops stops' : List Stop) (found : Option PlainInstance) (old new : ℕ) → stops ≡ stops' → Finds s stops found old new → Finds s stops' found old new
-Finds-at s stops stops' found old new same finds = record {
-  given = finds.given ∙ ap (first_given s) same;
-  price = omega (arith, finds.price, ap (cost_to_first s) same);
-  grows = omega (arith, finds.grows, ap (least_to_first s) same);
-}
+Finds-at s stops stops' found old new same finds = subst (λ (l : List Stop). Finds s l found old new) same finds
 
 -- what is found of entries is found of what is seen of them
 map-seen : {A B : Type 0} (view : B → A) (make : ℕ × A → Site) (k n : ℕ) (xs : List B)
@@ -277,16 +268,22 @@ stops-end s make all xs i old now end passes = Passes-end s all old now (passes-
 
 -- ---- the turns of a loop over entries that have several stops each
 
-block-next : {A B : Type 0} (G : List (ℕ × A) → List Stop) (F : ℕ × A → List Stop) (view : B → A) (xs : List B) (n : ℕ) (d : B)
-    → ((e : ℕ × A) (es : List (ℕ × A)) → G (e ∷ es) ≡ F e ++ G es) → n < length xs
-    → G (drop n (enumerate_from 1 (map view xs))) ≡ F (n + 1, view (get_or xs n d)) ++ G (drop (n + 1) (enumerate_from 1 (map view xs)))
-block-next G F view xs n d goes below =
-    at_drop_more G (enumerate_from 1 (map view xs)) n (0, view d) within
-    ∙ ap (λ e. G (e ∷ drop (n + 1) (enumerate_from 1 (map view xs)))) (numbered view xs n d below)
-    ∙ goes (n + 1, view (get_or xs n d)) (drop (n + 1) (enumerate_from 1 (map view xs)))
+block-next : {A B : Type 0} (G : List (ℕ × A) → List Stop) (F : ℕ × A → List Stop) (view : B → A) (ys xs : List B) (first i : ℕ) (d item : B)
+    → ((e : ℕ × A) (es : List (ℕ × A)) → G (e ∷ es) ≡ F e ++ G es) → ys ≡ xs → i < length (rest_of ys first) → item ≡ get_or (rest_of ys first) i d
+    → G (drop (first + i) (enumerate_from 1 (map view xs))) ≡ F (first + i + 1, view item) ++ G (drop (first + i + 1) (enumerate_from 1 (map view xs)))
+block-next {A = A} G F view ys xs first i d item goes same below is =
+    at_drop_more G (enumerate_from 1 (map view xs)) n (0, view d) (omega (arith, inside, length-map xs view, length-enumerate_from 1 (map view xs)))
+    ∙ ap (λ e. G (e ∷ more)) (numbered view xs n d inside ∙ ap (λ x. (n + 1, view x)) (sym (read-rest ys xs first i d item same below is)))
+    ∙ goes (n + 1, view item) more
   where
-    within : n < length (enumerate_from 1 (map view xs))
-    within = omega (arith, length-map xs view, length-enumerate_from 1 (map view xs))
+    n : ℕ
+    n = first + i
+
+    more : List (ℕ × A)
+    more = drop (n + 1) (enumerate_from 1 (map view xs))
+
+    inside : n < length xs
+    inside = within-rest ys xs first i same below
 
 pub blocks-more : {A B : Type 0} (s : Proposal) (G : List (ℕ × A) → List Stop) (F : ℕ × A → List Stop) (view : B → A) (all : List Stop) (ys xs : List B) (first i : ℕ) (d item : B) (old now new : ℕ)
     → ((e : ℕ × A) (es : List (ℕ × A)) → G (e ∷ es) ≡ F e ++ G es)
@@ -295,7 +292,7 @@ pub blocks-more : {A B : Type 0} (s : Proposal) (G : List (ℕ × A) → List St
 blocks-more s G F view all ys xs first i d item old now new goes same below is finds passes =
     passes-at s all _ _ old new (ap (λ n. G (drop n (enumerate_from 1 (map view xs)))) (add_assoc first i 1))
     (Passes-more s all (F (first + i + 1, view item)) (G (drop (first + i + 1) (enumerate_from 1 (map view xs)))) old now new
-    (passes-at s all _ _ old now (block-next G F view xs (first + i) d goes (within-rest ys xs first i same below) ∙ ap (λ x. F (first + i + 1, view x) ++ G (drop (first + i + 1) (enumerate_from 1 (map view xs)))) (sym (read-rest ys xs first i d item same below is))) passes) finds)
+    (passes-at s all _ _ old now (block-next G F view ys xs first i d item goes same below is) passes) finds)
 
 pub blocks-found : {A B : Type 0} (s : Proposal) (G : List (ℕ × A) → List Stop) (F : ℕ × A → List Stop) (view : B → A) (all : List Stop) (ys xs : List B) (first i : ℕ) (d item : B) (instance : PlainInstance) (old now new : ℕ)
     → ((e : ℕ × A) (es : List (ℕ × A)) → G (e ∷ es) ≡ F e ++ G es)
@@ -303,7 +300,7 @@ pub blocks-found : {A B : Type 0} (s : Proposal) (G : List (ℕ × A) → List S
     → Passes s all (G (drop (first + i) (enumerate_from 1 (map view xs)))) old now → Finds s all (Some instance) old new
 blocks-found s G F view all ys xs first i d item instance old now new goes same below is finds passes =
     Passes-found s all (F (first + i + 1, view item)) (G (drop (first + i + 1) (enumerate_from 1 (map view xs)))) instance old now new
-    (passes-at s all _ _ old now (block-next G F view xs (first + i) d goes (within-rest ys xs first i same below) ∙ ap (λ x. F (first + i + 1, view x) ++ G (drop (first + i + 1) (enumerate_from 1 (map view xs)))) (sym (read-rest ys xs first i d item same below is))) passes) finds
+    (passes-at s all _ _ old now (block-next G F view ys xs first i d item goes same below is) passes) finds
 
 pub blocks-end : {A B : Type 0} (s : Proposal) (G : List (ℕ × A) → List Stop) (view : B → A) (all : List Stop) (ys xs : List B) (first i old now : ℕ)
     → G [] ≡ [] → ys ≡ xs → length (rest_of ys first) ≤ i → Passes s all (G (drop (first + i) (enumerate_from 1 (map view xs)))) old now → Finds s all None old now
@@ -323,14 +320,14 @@ blocks-start s G xs first old = passes-at s (G (drop first xs)) _ _ old old (ap 
 -- ---- one element of a list
 
 pub item-some : {A : Type 0} (xs : List A) (i : ℕ) (item : Bor A) → IsItemAt xs i (Some item) → slice_get xs i ≡ Some item.now
-item-some xs i item is = slice_get_at xs i item.now (ltb-true i (length xs) (sym is.0)) ∙ ap Some (sym is.1)
+item-some xs i item is = slice_get-get_or xs i item.now (ltb-true i (length xs) (sym is.0)) ∙ ap Some (sym is.1)
 
 pub item-none : {A : Type 0} (xs : List A) (i : ℕ) → IsItemAt xs i None → length xs ≤ i
 item-none xs i is = is.3
 
 pub numbered-some : {A B : Type 0} (view : B → A) (xs : List B) (i : ℕ) (x : B) → slice_get xs i ≡ Some x → slice_get (enumerate_from 1 (map view xs)) i ≡ Some (i + 1, view x)
 numbered-some view xs i x is =
-    slice_get_at (enumerate_from 1 (map view xs)) i (0, view x) (omega (arith, slice_get_within xs i x is, length-map xs view, length-enumerate_from 1 (map view xs)))
+    slice_get-get_or (enumerate_from 1 (map view xs)) i (0, view x) (omega (arith, slice_get_within xs i x is, length-map xs view, length-enumerate_from 1 (map view xs)))
     ∙ ap Some (numbered view xs i x below ∙ ap (λ y. (i + 1, view y)) (get_or_from_slice_get xs i x x is))
   where
     below : i < length xs

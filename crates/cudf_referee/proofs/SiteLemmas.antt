@@ -1,7 +1,8 @@
 -- The listing is what is violated of the sites, and what is left after a position is what the stops ahead give.
-use Rattle.std.proofs.Common.{◌≡◌, ℕ, Bool, true, false, not, List, [], ◌∷◌, ◌++◌, map, filter, cond, Option, Some, None, refl, ap, sym, ◌∙◌, append_assoc}
+use Rattle.std.proofs.Common.{◌≡◌, ℕ, Bool, true, false, not, List, [], ◌∷◌, ◌++◌, map, filter, cond, Option, Some, None, refl, ap, sym, ◌∙◌, append_assoc, arith}
 use Rattle.std.specs.Prelude.{filter_map}
 use Rattle.std.specs.List.{flat_map, enumerate_from, cons_option}
+use Rattle.std.proofs.lemmas.List.{append-nil}
 use Rattle.std.proofs.lemmas.List.Elements.{filter_map-append}
 use Rattle.cudf_value.specs.Vpkgs.{PlainVpkg}
 use Rattle.cudf_document.specs.declared.package.Keep.{Keep}
@@ -16,19 +17,15 @@ use Rattle.cudf_referee.specs.Promises.Sites.{Site, conjunct, conflicts_entry, k
 use Rattle.cudf_referee.specs.Promises.Pages.{left_at}
 use Rattle.cudf_referee.specs.Working.Judged.{instance_at, is_violated, judged, given_at, all_given}
 use Rattle.cudf_referee.proofs.ListLemmas.{all_kept, none_kept}
+use Rattle.std.proofs.lemmas.Grind.{common_steps}
 
 -- ---- the listing is what is violated of the sites
-
-kept_case : {A : Type 0} (b : Bool) (f : A → PlainInstance) (x : A) (kept : List A) (is : List PlainInstance) → is ≡ map f kept
-    → cons_option (cond b (Some (f x)) None) is ≡ map f (cond b (x ∷ kept) kept)
-kept_case true f x kept is h = ap (λ js. f x ∷ js) h
-kept_case false f x kept is h = h
 
 -- of sites made from entries, those that pass are violated
 of_entries : {A : Type 0} (s : Proposal) (make : A → Site) (xs : List A)
     → filter_map (judged s) (map make xs) ≡ map (λ x. instance_at s (make x)) (filter (λ x. is_violated s (make x)) xs)
 of_entries s make [] = refl
-of_entries s make (x ∷ xs) = kept_case (is_violated s (make x)) (λ y. instance_at s (make y)) x (filter (λ y. is_violated s (make y)) xs) (filter_map (judged s) (map make xs)) (of_entries s make xs)
+of_entries s make (x ∷ xs) = grind (arith, common_steps, of_entries s make xs)
 
 one : (b : Bool) (i : PlainInstance) → cons_option (cond b (Some i) None) [] ≡ cond b (i ∷ []) []
 one true i = refl
@@ -96,12 +93,8 @@ sites_given : (s : Proposal) (xs : List Site) → all_given s (map at_site xs) �
 sites_given s [] = refl
 sites_given s (x ∷ xs) = ap (cons_option (judged s x)) (sites_given s xs)
 
-append_nil : {A : Type 0} (xs : List A) → xs ++ [] ≡ xs
-append_nil [] = refl
-append_nil (x ∷ xs) = ap (λ ys. x ∷ ys) (append_nil xs)
-
 stops_given : (s : Proposal) (p : Placed) → all_given s (package_stops s p) ≡ filter_map (judged s) (package_sites s p)
-stops_given s p = filter_map-append (given_at s) (map at_site (package_sites s p)) (package_end p.0 ∷ []) ∙ append_nil (all_given s (map at_site (package_sites s p))) ∙ sites_given s (package_sites s p)
+stops_given s p = filter_map-append (given_at s) (map at_site (package_sites s p)) (package_end p.0 ∷ []) ∙ append-nil (all_given s (map at_site (package_sites s p))) ∙ sites_given s (package_sites s p)
 
 -- the sites and the walk give the same
 pub walk-sites : (s : Proposal) → all_given s (walk s) ≡ filter_map (judged s) (sites s)

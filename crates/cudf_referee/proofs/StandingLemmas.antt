@@ -1,7 +1,7 @@
 -- The standing of a name, with one more package.
-use Rattle.std.proofs.Common.{◌≡◌, ℕ, suc, ◌+◌, ◌<◌, ◌≤◌, max, Bool, true, false, not, ◌&&◌, ◌||◌, ◌==◌, nat_lt, cond, List, [], ◌∷◌, ◌++◌, length, get_or, take, map, filter, ◌^◌, bytes_eq, if◌then◌else◌, refl, ap, sym, subst, ◌∙◌, arith, eq-eqb, eqb-true}
+use Rattle.std.proofs.Common.{◌≡◌, ℕ, ◌+◌, ◌<◌, ◌≤◌, max, Bool, true, false, not, ◌&&◌, ◌||◌, ◌==◌, nat_lt, cond, List, [], ◌∷◌, ◌++◌, length, get_or, take, map, filter, ◌^◌, bytes_eq, if◌then◌else◌, refl, ap, sym, ◌∙◌, arith}
 use Rattle.std.specs.List.{list_any, list_all, count_by, enumerate_from}
-use Rattle.std.proofs.lemmas.Bool.{true≢false, false_from_ne_true, ltb-true, ltb-false, lt-ltb}
+use Rattle.std.proofs.lemmas.Bool.{true≢false}
 use Rattle.std.proofs.lemmas.List.{append-nil, map-append, length-map, take-map, get_or-map, length-take-le, map_push, take_more}
 use Rattle.std.proofs.lemmas.List.Elements.{filter-append}
 use Rattle.std.proofs.lemmas.List.Folds.{list_any-append, list_all-append}
@@ -10,59 +10,48 @@ use Rattle.cudf_document.specs.Promises.Packages.{are_distinct}
 use Rattle.cudf_document.specs.Ids.{is_among as is_among_ids}
 use Rattle.cudf_document.specs.Universe.{PlainPackage, package_id}
 use Rattle.cudf_document.proofs.FaultlessLemmas.{distinct-at}
+use Rattle.std.proofs.lemmas.Cmp.{nat_list_eq_equiv}
+use Rattle.cudf_document.specs.Documents.{is_empty}
+use Rattle.cudf_universe.proofs.SearchLemmas.{list_any-map}
 use Rattle.cudf_universe.specs.Satisfaction.{Placed}
 use Rattle.cudf_referee.specs.declared.counting.standing.Standing.{Standing}
 use Rattle.cudf_referee.specs.Criteria.{each_once, names_of, versions_of, is_among, is_same_set, greatest, at_most_max}
 use Rattle.cudf_referee.specs.Violations.{has_package}
 use Rattle.cudf_referee.specs.Working.Standings.{differ, standing_with, held, names_held, standing_of, standings_of}
 use Rattle.cudf_referee.proofs.EntryLemmas.{enumerate-push}
-use Rattle.cudf_referee.proofs.ListLemmas.{and_false, and_true, or_true, count-map}
-use Rattle.cudf_referee.proofs.NameLemmas.{text_same, other_way, any_once, once_push, same_text, same_count}
+use Rattle.cudf_referee.proofs.ListLemmas.{and_false, and_true, or_true, count-map, filter-both, weaker_case, is_empty-map, is_empty-filter, list_any-none}
+use Rattle.cudf_referee.proofs.NameLemmas.{text_same, any_once, once_push, same_count}
+use Rattle.std.proofs.lemmas.Grind.{common_steps}
+use Rattle.std.proofs.lemmas.Bool.Decides.{nat_tests}
 
 -- ---- truth
 
 or_false : (a : Bool) → (a || false) ≡ a
-or_false true = refl
-or_false false = refl
+or_false a = grind (arith, common_steps)
 
 -- ---- sets of numbers
 
-same_number : (n : ℕ) → (n == n) ≡ true
-same_number n = eq-eqb n n refl
-
-other_number : (m n : ℕ) → (m == n) ≡ false → (n == m) ≡ false
-other_number m n e = false_from_ne_true (n == m) (λ h. true≢false (sym (eq-eqb m n (sym (eqb-true n m h))) ∙ e))
-
--- a number more on both sides is as none, where it is new to one
-half : (xs ys : List ℕ) (v : ℕ) → is_among xs v ≡ false → list_all (is_among (ys ++ v ∷ [])) (xs ++ v ∷ []) ≡ list_all (is_among ys) xs
-half xs ys v fresh =
-    list_all-append (is_among (ys ++ v ∷ [])) xs (v ∷ [])
-    ∙ (λ i. list_all (is_among (ys ++ v ∷ [])) xs && ((list_any-append (λ m. m == v) ys (v ∷ []) ∙ (λ j. is_among ys v || (same_number v j || false)) ∙ or_true (is_among ys v)) i && true))
-    ∙ and_true (list_all (is_among (ys ++ v ∷ [])) xs)
-    ∙ rest xs fresh
-  where
-    rest : (zs : List ℕ) → is_among zs v ≡ false → list_all (is_among (ys ++ v ∷ [])) zs ≡ list_all (is_among ys) zs
-    rest [] none = refl
-    rest (z ∷ zs) none = by (z == v) refl none (rest zs)
-      where
-        by : (b : Bool) → (z == v) ≡ b → (b || is_among zs v) ≡ false → (is_among zs v ≡ false → list_all (is_among (ys ++ v ∷ [])) zs ≡ list_all (is_among ys) zs)
-            → list_all (is_among (ys ++ v ∷ [])) (z ∷ zs) ≡ list_all (is_among ys) (z ∷ zs)
-        by true e h below = absurd (true≢false h)
-        by false e h below = λ i. (list_any-append (λ m. m == z) ys (v ∷ []) ∙ (λ j. is_among ys z || (other_number z v e j || false)) ∙ or_false (is_among ys z)) i && below h i
+-- a number more is as none, where it isn't asked about
+among_more : (ys : List ℕ) (v : ℕ) (zs : List ℕ) → is_among zs v ≡ false → list_all (is_among (ys ++ v ∷ [])) zs ≡ list_all (is_among ys) zs
+among_more ys v [] none = refl
+among_more ys v (z ∷ zs) none = grind (arith, common_steps, nat_tests, among_more ys v zs, list_any-append (λ m. m == z) ys (v ∷ []))
 
 -- a version more of one status or of both
 same_push : (xs ys : List ℕ) (v : ℕ) (a b : Bool) → is_among xs v ≡ false → is_among ys v ≡ false
     → not (is_same_set (xs ++ cond a (v ∷ []) []) (ys ++ cond b (v ∷ []) [])) ≡ (not (is_same_set xs ys) || differ a b)
-same_push xs ys v true true new_x new_y = (λ i. not (half xs ys v new_x i && half ys xs v new_y i)) ∙ sym (or_false (not (is_same_set xs ys)))
-same_push xs ys v true false new_x new_y =
-    (λ i. not (is_same_set (xs ++ v ∷ []) (append-nil ys i)))
-    ∙ (λ i. not ((list_all-append (is_among ys) xs (v ∷ []) ∙ (λ j. list_all (is_among ys) xs && (new_y j && true)) ∙ and_false (list_all (is_among ys) xs)) i && list_all (is_among (xs ++ v ∷ [])) ys))
-    ∙ sym (or_true (not (is_same_set xs ys)))
-same_push xs ys v false true new_x new_y =
-    (λ i. not (is_same_set (append-nil xs i) (ys ++ v ∷ [])))
-    ∙ (λ i. not (list_all (is_among (ys ++ v ∷ [])) xs && (list_all-append (is_among xs) ys (v ∷ []) ∙ (λ j. list_all (is_among xs) ys && (new_x j && true)) ∙ and_false (list_all (is_among xs) ys)) i))
-    ∙ (λ i. not (and_false (list_all (is_among (ys ++ v ∷ [])) xs) i))
-    ∙ sym (or_true (not (is_same_set xs ys)))
+same_push xs ys v true true new_x new_y = grind (
+  arith,
+  common_steps,
+  nat_tests,
+  list_all-append (is_among (ys ++ v ∷ [])) xs (v ∷ []),
+  list_all-append (is_among (xs ++ v ∷ [])) ys (v ∷ []),
+  among_more ys v xs new_x,
+  among_more xs v ys new_y,
+  list_any-append (λ m. m == v) ys (v ∷ []),
+  list_any-append (λ m. m == v) xs (v ∷ []),
+)
+same_push xs ys v true false new_x new_y = rw append-nil (grind (arith, common_steps, list_all-append (is_among ys) xs (v ∷ [])))
+same_push xs ys v false true new_x new_y = rw append-nil (grind (arith, common_steps, list_all-append (is_among xs) ys (v ∷ [])))
 same_push xs ys v false false new_x new_y = (λ i. not (is_same_set (append-nil xs i) (append-nil ys i))) ∙ sym (or_false (not (is_same_set xs ys)))
 
 greatest_push : (xs : List ℕ) (v : ℕ) → greatest (xs ++ v ∷ []) ≡ max (greatest xs) v
@@ -76,44 +65,26 @@ greatest_if xs v false = ap greatest (append-nil xs) ∙ omega arith
 -- ---- packages of a name
 
 has-push : (xs : List Placed) (p : Placed) (b : Bool) (f : List ℕ) → has_package (xs ++ cond b (p ∷ []) []) f ≡ (has_package xs f || (b && bytes_eq p.1.name f))
-has-push xs p true f = list_any-append (λ q. bytes_eq q.1.name f) xs (p ∷ []) ∙ ap (λ c. has_package xs f || c) (or_false (bytes_eq p.1.name f))
-has-push xs p false f = list_any-append (λ q. bytes_eq q.1.name f) xs []
+has-push xs p b f = grind (arith, common_steps, list_any-append (λ q. bytes_eq q.1.name f) xs (cond b (p ∷ []) []))
 
 versions-push : (xs : List Placed) (p : Placed) (b : Bool) (f : List ℕ) → versions_of f (xs ++ cond b (p ∷ []) []) ≡ versions_of f xs ++ cond (b && bytes_eq p.1.name f) (p.1.version ∷ []) []
-versions-push xs p b f =
-    ap (map (λ (q : Placed). q.1.version)) (filter-append (λ (q : Placed). bytes_eq q.1.name f) xs (cond b (p ∷ []) []))
-    ∙ map-append (λ (q : Placed). q.1.version) (filter (λ (q : Placed). bytes_eq q.1.name f) xs) (filter (λ (q : Placed). bytes_eq q.1.name f) (cond b (p ∷ []) []))
-    ∙ ap (λ vs. versions_of f xs ++ vs) (by b (bytes_eq p.1.name f) refl)
-  where
-    by : (b e : Bool) → bytes_eq p.1.name f ≡ e → versions_of f (cond b (p ∷ []) []) ≡ cond (b && e) (p.1.version ∷ []) []
-    by true true is = λ i. map (λ (q : Placed). q.1.version) (cond (is i) (p ∷ []) [])
-    by true false is = λ i. map (λ (q : Placed). q.1.version) (cond (is i) (p ∷ []) [])
-    by false e is = refl
+versions-push [] p b f = grind (arith, common_steps)
+versions-push (x ∷ xs) p b f = grind (arith, common_steps, versions-push xs p b f)
 
 held-push : (t : ℕ → Bool) (xs : List Placed) (p : Placed) → held t (xs ++ p ∷ []) ≡ held t xs ++ cond (t p.0) (p ∷ []) []
 held-push t xs p = filter-append (λ (q : Placed). t q.0) xs (p ∷ [])
 
+abbrev is_named : List ℕ → Placed → Bool
+is_named f p = bytes_eq p.1.name f
+
+any_less : {A : Type 0} (p q : A → Bool) (xs : List A) → list_any p xs ≡ false → list_any p (filter q xs) ≡ false
+any_less p q [] none = refl
+any_less p q (x ∷ xs) none = grind (arith, common_steps, any_less p q xs)
+
 -- what isn't among all versions isn't among those of a status
 fresh_held : (t : ℕ → Bool) (f : List ℕ) (v : ℕ) (xs : List Placed) → is_among (versions_of f xs) v ≡ false → is_among (versions_of f (held t xs)) v ≡ false
 fresh_held t f v [] fresh = refl
-fresh_held t f v (x ∷ xs) fresh = by (bytes_eq x.1.name f) (t x.0) refl fresh (fresh_held t f v xs)
-  where
-    by : (e b : Bool) → bytes_eq x.1.name f ≡ e → is_among (map (λ q. q.1.version) (cond e (x ∷ filter (λ q. bytes_eq q.1.name f) xs) (filter (λ q. bytes_eq q.1.name f) xs))) v ≡ false
-        → (is_among (versions_of f xs) v ≡ false → is_among (versions_of f (held t xs)) v ≡ false)
-        → is_among (versions_of f (cond b (x ∷ held t xs) (held t xs))) v ≡ false
-    by true b is h below = by_version (x.1.version == v) b refl h below
-      where
-        by_version : (w b : Bool) → (x.1.version == v) ≡ w → (w || is_among (versions_of f xs) v) ≡ false
-            → (is_among (versions_of f xs) v ≡ false → is_among (versions_of f (held t xs)) v ≡ false)
-            → is_among (versions_of f (cond b (x ∷ held t xs) (held t xs))) v ≡ false
-        by_version true b ev h below = absurd (true≢false h)
-        by_version false true ev h below =
-            (λ i. is_among (map (λ q. q.1.version) (cond (is i) (x ∷ filter (λ q. bytes_eq q.1.name f) (held t xs)) (filter (λ q. bytes_eq q.1.name f) (held t xs)))) v)
-            ∙ (λ i. ev i || below h i)
-        by_version false false ev h below = below h
-    by false true is h below =
-        (λ i. is_among (map (λ q. q.1.version) (cond (is i) (x ∷ filter (λ q. bytes_eq q.1.name f) (held t xs)) (filter (λ q. bytes_eq q.1.name f) (held t xs)))) v) ∙ below h
-    by false false is h below = below h
+fresh_held t f v (x ∷ xs) fresh = grind (arith, common_steps, fresh_held t f v xs)
 
 -- ---- one package more
 
@@ -165,32 +136,18 @@ grown_own was is xs p f fresh =
       greatest_installed = ((λ j. greatest (versions_of f (held is xs) ++ cond (and_true (is p.0) j) (p.1.version ∷ []) [])) ∙ greatest_if (versions_of f (held is xs)) p.1.version (is p.0)) i;
     }
 
--- ---- names without packages
+-- ---- names and their packages
 
-abbrev is_named : List ℕ → Placed → Bool
-is_named f p = bytes_eq p.1.name f
+-- a name is there where a package has it, and then it has a version
+named : (f : List ℕ) (xs : List Placed) → list_any (bytes_eq f) (map (λ p. p.1.name) xs) ≡ has_package xs f
+named f xs = list_any-map (bytes_eq f) (λ p. p.1.name) xs ∙ ap (λ t. list_any t xs) (λ i p. nat_list_eq_equiv.symm f p.1.name i)
 
-none_named : (f : List ℕ) (t : ℕ → Bool) (xs : List Placed) → list_any (bytes_eq f) (map (λ p. p.1.name) xs) ≡ false
-    → (filter (is_named f) xs ≡ []) × (filter (is_named f) (held t xs) ≡ []) × (has_package (held t xs) f ≡ false)
-none_named f t [] none = (refl, refl, refl)
-none_named f t (x ∷ xs) none = by (bytes_eq f x.1.name) (t x.0) refl none (none_named f t xs)
-  where
-    by : (e b : Bool) → bytes_eq f x.1.name ≡ e → (e || list_any (bytes_eq f) (map (λ p. p.1.name) xs)) ≡ false
-        → (list_any (bytes_eq f) (map (λ p. p.1.name) xs) ≡ false → (filter (is_named f) xs ≡ []) × (filter (is_named f) (held t xs) ≡ []) × (has_package (held t xs) f ≡ false))
-        → (filter (is_named f) (x ∷ xs) ≡ []) × (filter (is_named f) (cond b (x ∷ held t xs) (held t xs)) ≡ []) × (has_package (cond b (x ∷ held t xs) (held t xs)) f ≡ false)
-    by true b is h below = absurd (true≢false h)
-    by false true is h below =
-        let other = other_way f x.1.name is in (
-          (λ i. cond (other i) (x ∷ filter (is_named f) xs) (filter (is_named f) xs)) ∙ (below h).0,
-          (λ i. cond (other i) (x ∷ filter (is_named f) (held t xs)) (filter (is_named f) (held t xs))) ∙ (below h).1,
-          (λ i. other i || (below h).2 i),
-        )
-    by false false is h below =
-        let other = other_way f x.1.name is in (
-          (λ i. cond (other i) (x ∷ filter (is_named f) xs) (filter (is_named f) xs)) ∙ (below h).0,
-          (below h).1,
-          (below h).2,
-        )
+empty-versions : (f : List ℕ) (xs : List Placed) → is_empty (versions_of f xs) ≡ not (has_package xs f)
+empty-versions f xs = is_empty-map (λ (p : Placed). p.1.version) (filter (is_named f) xs) ∙ is_empty-filter (is_named f) xs ∙ sym (list_any-none (is_named f) xs)
+
+no_versions : (vs : List ℕ) → is_empty vs ≡ true → vs ≡ []
+no_versions [] h = refl
+no_versions (v ∷ vs) h = absurd (cc h)
 
 -- ---- the names that a status has
 
@@ -221,19 +178,8 @@ module _ (was is : ℕ → Bool) (xs : List Placed) (p : Placed) where
 among_versions : (name : List ℕ) (version k : ℕ) (xs : List PlainPackage) → is_among_ids (map package_id xs) (name, version) ≡ false
     → is_among (versions_of name (enumerate_from k xs)) version ≡ false
 among_versions name version k [] fresh = refl
-among_versions name version k (x ∷ xs) fresh = by (bytes_eq name x.name) (version == x.version) refl refl fresh (among_versions name version (k + 1) xs)
-  where
-    by : (e v : Bool) → bytes_eq name x.name ≡ e → (version == x.version) ≡ v → ((e && v) || is_among_ids (map package_id xs) (name, version)) ≡ false
-        → (is_among_ids (map package_id xs) (name, version) ≡ false → is_among (versions_of name (enumerate_from (k + 1) xs)) version ≡ false)
-        → is_among (versions_of name ((k, x) ∷ enumerate_from (k + 1) xs)) version ≡ false
-    by true true e v h below = absurd (true≢false h)
-    by true false e v h below =
-        let own : bytes_eq x.name name ≡ true = text_same x.name name (sym (same_text name x.name e)) in
-        (λ i. is_among (map (λ q. q.1.version) (cond (own i) ((k, x) ∷ filter (is_named name) (enumerate_from (k + 1) xs)) (filter (is_named name) (enumerate_from (k + 1) xs)))) version)
-        ∙ (λ i. other_number version x.version v i || below h i)
-    by false v e is h below =
-        (λ i. is_among (map (λ q. q.1.version) (cond (other_way name x.name e i) ((k, x) ∷ filter (is_named name) (enumerate_from (k + 1) xs)) (filter (is_named name) (enumerate_from (k + 1) xs)))) version)
-        ∙ below h
+among_versions name version k (x ∷ xs) fresh =
+    grind (arith, common_steps, nat_tests, among_versions name version (k + 1) xs, nat_list_eq_equiv.symm name x.name)
 
 -- of packages with distinct pairs, the next one's version is new to its name
 fresh_at : (ps : List PlainPackage) (i : ℕ) (d : PlainPackage) → are_distinct (map package_id ps) ≡ true → i < length ps
@@ -267,45 +213,20 @@ capped n small = omega arith
 
 -- the greatest is one of them
 greatest_among : (xs : List ℕ) (x : ℕ) → is_among (x ∷ xs) (greatest (x ∷ xs)) ≡ true
-greatest_among [] x = ap (λ b. b || false) (eq-eqb x (max x 0) (omega arith))
-greatest_among (y ∷ ys) x = by (nat_lt (greatest (y ∷ ys)) x) refl (greatest_among ys y)
-  where
-    by : (b : Bool) → nat_lt (greatest (y ∷ ys)) x ≡ b → is_among (y ∷ ys) (greatest (y ∷ ys)) ≡ true → is_among (x ∷ y ∷ ys) (greatest (x ∷ y ∷ ys)) ≡ true
-    by true less rest =
-        let is : x ≡ max x (greatest (y ∷ ys)) = omega (arith, ltb-true (greatest (y ∷ ys)) x less) in
-        ap (λ b. b || is_among (y ∷ ys) (greatest (x ∷ y ∷ ys))) (eq-eqb x (greatest (x ∷ y ∷ ys)) is)
-    by false least rest =
-        let is : greatest (y ∷ ys) ≡ max x (greatest (y ∷ ys)) = omega (arith, ltb-false (greatest (y ∷ ys)) x least) in
-        ap (λ b. (x == greatest (x ∷ y ∷ ys)) || b) (ap (is_among (y ∷ ys)) (sym is) ∙ rest) ∙ or_true (x == greatest (x ∷ y ∷ ys))
+greatest_among [] x = grind (arith, nat_tests)
+greatest_among (y ∷ ys) x = grind (arith, nat_tests, greatest_among ys y)
 
 among_least : (xs : List ℕ) (n : ℕ) → is_among xs n ≡ true → n ≤ greatest xs
 among_least [] n h = absurd (true≢false (sym h))
-among_least (x ∷ xs) n h = by (x == n) refl h (among_least xs n)
-  where
-    by : (b : Bool) → (x == n) ≡ b → (b || is_among xs n) ≡ true → (is_among xs n ≡ true → n ≤ greatest xs) → n ≤ greatest (x ∷ xs)
-    by true e h rest = omega (arith, eqb-true x n e)
-    by false e h rest = omega (arith, rest h)
+among_least (x ∷ xs) n h = grind (arith, nat_tests, among_least xs n)
 
 held_least : (t : ℕ → Bool) (f : List ℕ) (xs : List Placed) → greatest (versions_of f (held t xs)) ≤ greatest (versions_of f xs)
 held_least t f [] = omega arith
-held_least t f (x ∷ xs) = by (bytes_eq x.1.name f) (t x.0) refl (held_least t f xs)
-  where
-    by : (e b : Bool) → bytes_eq x.1.name f ≡ e → greatest (versions_of f (held t xs)) ≤ greatest (versions_of f xs)
-        → greatest (versions_of f (cond b (x ∷ held t xs) (held t xs))) ≤ greatest (map (λ q. q.1.version) (cond e (x ∷ filter (is_named f) xs) (filter (is_named f) xs)))
-    by true true is rest = subst (λ c. greatest (map (λ q. q.1.version) (cond c (x ∷ filter (is_named f) (held t xs)) (filter (is_named f) (held t xs)))) ≤ max x.1.version (greatest (versions_of f xs))) (sym is) (omega arith)
-    by true false is rest = omega arith
-    by false true is rest = subst (λ c. greatest (map (λ q. q.1.version) (cond c (x ∷ filter (is_named f) (held t xs)) (filter (is_named f) (held t xs)))) ≤ greatest (versions_of f xs)) (sym is) rest
-    by false false is rest = rest
+held_least t f (x ∷ xs) = grind (arith, common_steps, held_least t f xs)
 
 -- a name with a package has a version
 some_version : (f : List ℕ) (xs : List Placed) → has_package xs f ≡ true → versions_of f xs ≡ [] → ⊥
-some_version f [] has none = true≢false (sym has)
-some_version f (x ∷ xs) has none = by (bytes_eq x.1.name f) refl has none (some_version f xs)
-  where
-    by : (e : Bool) → bytes_eq x.1.name f ≡ e → (e || has_package xs f) ≡ true → map (λ q. q.1.version) (cond e (x ∷ filter (is_named f) xs) (filter (is_named f) xs)) ≡ []
-        → (has_package xs f ≡ true → versions_of f xs ≡ [] → ⊥) → ⊥
-    by true e h none rest = let none_long : suc (length (versions_of f xs)) ≡ 0 = ap length none in absurd (omega arith)
-    by false e h none rest = rest h none
+some_version f xs has none = true≢false (sym (ap is_empty none) ∙ empty-versions f xs ∙ ap not has)
 
 pub outdated : (is : ℕ → Bool) (xs : List Placed) (f : List ℕ)
     → (has_package (held is xs) f && nat_lt (greatest (versions_of f (held is xs))) (greatest (versions_of f xs)))
@@ -314,14 +235,7 @@ outdated is xs f = by (has_package (held is xs) f) refl
   where
     least : (vs : List ℕ) (top : ℕ) → greatest vs ≤ top → (vs ≡ [] → ⊥) → (b : Bool) → is_among vs top ≡ b → nat_lt (greatest vs) top ≡ not b
     least [] top up some b among = absurd (some refl)
-    least (v ∷ vs) top up some true among = false_from_ne_true (nat_lt (greatest (v ∷ vs)) top) (λ h. absurd (omega (arith, among_least (v ∷ vs) top among, ltb-true (greatest (v ∷ vs)) top h)))
-    least (v ∷ vs) top up some false among = lt-ltb (greatest (v ∷ vs)) top (by_lt (nat_lt (greatest (v ∷ vs)) top) refl)
-      where
-        by_lt : (b : Bool) → nat_lt (greatest (v ∷ vs)) top ≡ b → greatest (v ∷ vs) < top
-        by_lt true e = ltb-true (greatest (v ∷ vs)) top e
-        by_lt false e =
-            let is : greatest (v ∷ vs) ≡ top = omega (arith, up, ltb-false (greatest (v ∷ vs)) top e) in
-            absurd (true≢false (sym (greatest_among vs v) ∙ ap (is_among (v ∷ vs)) is ∙ among))
+    least (v ∷ vs) top up some b among = grind (arith, nat_tests, among_least (v ∷ vs) top, greatest_among vs v)
 
     by : (b : Bool) → has_package (held is xs) f ≡ b
         → (b && nat_lt (greatest (versions_of f (held is xs))) (greatest (versions_of f xs))) ≡ (b && not (is_among (versions_of f (held is xs)) (greatest (versions_of f xs))))
@@ -335,45 +249,38 @@ abbrev pub idle : ℕ → ℕ → Standing
 idle top top_installed = record { was_installed = false; is_installed = false; is_changed = false; greatest = top; greatest_installed = top_installed }
 
 held_within : (t e : ℕ → Bool) (xs : List Placed) → ((n : ℕ) → t n ≡ true → e n ≡ true) → held t (held e xs) ≡ held t xs
-held_within t e [] within = refl
-held_within t e (x ∷ xs) within = by (e x.0) (t x.0) refl refl (held_within t e xs within)
-  where
-    by : (a b : Bool) → e x.0 ≡ a → t x.0 ≡ b → held t (held e xs) ≡ held t xs → held t (cond a (x ∷ held e xs) (held e xs)) ≡ cond b (x ∷ held t xs) (held t xs)
-    by true true is_e is_t below = (λ i. cond (is_t i) (x ∷ held t (held e xs)) (held t (held e xs))) ∙ ap (λ ps. x ∷ ps) below
-    by true false is_e is_t below = (λ i. cond (is_t i) (x ∷ held t (held e xs)) (held t (held e xs))) ∙ below
-    by false true is_e is_t below = absurd (true≢false (sym (within x.0 is_t) ∙ is_e))
-    by false false is_e is_t below = below
+held_within t e xs within = sym (filter-both (λ (p : Placed). e p.0) (λ p. t p.0) xs) ∙ ap (λ test. filter test xs) (λ j (p : Placed). weaker_case (e p.0) (t p.0) (within p.0) j)
 
 idle_unheld : (was is : ℕ → Bool) (xs : List Placed) (f : List ℕ) → list_any (bytes_eq f) (names_held was is xs) ≡ false
     → standing_of was is xs f ≡ idle (greatest (versions_of f xs)) (greatest (versions_of f (held is xs)))
-idle_unheld was is xs f none =
-    let e = either was is in
-    let unnamed : list_any (bytes_eq f) (map (λ p. p.1.name) (held e xs)) ≡ false = sym (any_once f (map (λ p. p.1.name) (held e xs))) ∙ none in
-    let w = none_named f was (held e xs) unnamed in
-    let n = none_named f is (held e xs) unnamed in
-    let same_was : held was xs ≡ held was (held e xs) = sym (held_within was e xs (λ k h. ap (λ b. b || is k) h)) in
-    let same_is : held is xs ≡ held is (held e xs) = sym (held_within is e xs (λ k h. ap (λ b. was k || b) h ∙ or_true (was k))) in
-    let old = ap (filter (is_named f)) same_was ∙ w.1 in
-    let new = ap (filter (is_named f)) same_is ∙ n.1 in
-    λ i. record {
-      was_installed = (ap (λ ps. has_package ps f) same_was ∙ w.2) i;
-      is_installed = (ap (λ ps. has_package ps f) same_is ∙ n.2) i;
-      is_changed = not (is_same_set (map (λ q. q.1.version) (old i)) (map (λ q. q.1.version) (new i)));
-      greatest = greatest (versions_of f xs);
-      greatest_installed = greatest (versions_of f (held is xs));
-    }
+idle_unheld was is xs f none = λ i. record {
+  was_installed = has was from_was i;
+  is_installed = has is from_is i;
+  is_changed = not (is_same_set (versions was from_was i) (versions is from_is i));
+  greatest = greatest (versions_of f xs);
+  greatest_installed = greatest (versions_of f (held is xs));
+}
+  where
+    e : ℕ → Bool
+    e = either was is
+
+    from_was : (n : ℕ) → was n ≡ true → e n ≡ true
+    from_was n h = ap (λ b. b || is n) h
+
+    from_is : (n : ℕ) → is n ≡ true → e n ≡ true
+    from_is n h = ap (λ b. was n || b) h ∙ or_true (was n)
+
+    has : (t : ℕ → Bool) → ((n : ℕ) → t n ≡ true → e n ≡ true) → has_package (held t xs) f ≡ false
+    has t within = ap (λ ps. has_package ps f) (sym (held_within t e xs within))
+        ∙ any_less (is_named f) (λ p. t p.0) (held e xs) (sym (named f (held e xs)) ∙ sym (any_once f (map (λ p. p.1.name) (held e xs))) ∙ none)
+
+    versions : (t : ℕ → Bool) → ((n : ℕ) → t n ≡ true → e n ≡ true) → versions_of f (held t xs) ≡ []
+    versions t within = no_versions (versions_of f (held t xs)) (empty-versions f (held t xs) ∙ ap not (has t within))
 
 -- the names of some packages are among those of all
-named_anywhere : (f : List ℕ) (e : ℕ → Bool) (xs : List Placed) → list_any (bytes_eq f) (map (λ p. p.1.name) (held e xs)) ≡ true → list_any (bytes_eq f) (map (λ p. p.1.name) xs) ≡ true
+named_anywhere : (f : List ℕ) (e : ℕ → Bool) (xs : List Placed) → has_package (held e xs) f ≡ true → has_package xs f ≡ true
 named_anywhere f e [] h = h
-named_anywhere f e (x ∷ xs) h = by (e x.0) (bytes_eq f x.1.name) refl h (named_anywhere f e xs)
-  where
-    by : (a b : Bool) → bytes_eq f x.1.name ≡ b → list_any (bytes_eq f) (map (λ p. p.1.name) (cond a (x ∷ held e xs) (held e xs))) ≡ true
-        → (list_any (bytes_eq f) (map (λ p. p.1.name) (held e xs)) ≡ true → list_any (bytes_eq f) (map (λ p. p.1.name) xs) ≡ true)
-        → (b || list_any (bytes_eq f) (map (λ p. p.1.name) xs)) ≡ true
-    by a true same h below = refl
-    by true false same h below = below ((λ i. sym same i || list_any (bytes_eq f) (map (λ p. p.1.name) (held e xs))) ∙ h)
-    by false false same h below = below h
+named_anywhere f e (x ∷ xs) h = grind (arith, common_steps, named_anywhere f e xs)
 
 -- the names that a status has are counted as all are, where no other passes the test
 count_held : (was is : ℕ → Bool) (xs : List Placed) (test : Standing → Bool) → ((top top_installed : ℕ) → test (idle top top_installed) ≡ false)
@@ -387,7 +294,7 @@ count_held was is xs test quiet =
 
     by : (f : List ℕ) → passes f ≡ true → (b : Bool) → list_any (bytes_eq f) (names_held was is xs) ≡ b → list_any (bytes_eq f) (names_of xs) ≡ b
     by f passed true there =
-        any_once f (map (λ q. q.1.name) xs) ∙ named_anywhere f (either was is) xs (sym (any_once f (map (λ q. q.1.name) (held (either was is) xs))) ∙ there)
+        any_once f (map (λ q. q.1.name) xs) ∙ named f xs ∙ named_anywhere f (either was is) xs (sym (named f (held (either was is) xs)) ∙ sym (any_once f (map (λ q. q.1.name) (held (either was is) xs))) ∙ there)
     by f passed false none = absurd (true≢false (sym passed ∙ ap test (idle_unheld was is xs f none) ∙ quiet (greatest (versions_of f xs)) (greatest (versions_of f (held is xs)))))
 
 -- the count of the names of a status's universe, from the standings

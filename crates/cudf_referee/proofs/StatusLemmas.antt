@@ -1,33 +1,22 @@
 -- Which places a list of packages with their places holds, where some of them were left out.
-use Rattle.std.proofs.Common.{◌≡◌, ℕ, zero, suc, ◌+◌, ◌<◌, Bool, true, false, ◌&&◌, ◌||◌, ◌==◌, List, [], ◌∷◌, ◌++◌, length, filter, cond, refl, ap, sym, ◌∙◌, arith, eq-eqb, eqb-true}
+use Rattle.std.proofs.Common.{◌≡◌, ℕ, zero, suc, ◌+◌, ◌<◌, Bool, true, false, ◌&&◌, ◌||◌, ◌==◌, List, [], ◌∷◌, ◌++◌, length, filter, cond, refl, ap, ◌∙◌, arith, eq-eqb}
 use Rattle.std.specs.List.{list_any, list_all, flat_map, enumerate_from}
 use Rattle.cudf_referee.proofs.ListLemmas.{and_true, or_true, and_left, and_right}
+use Rattle.std.proofs.lemmas.Grind.{common_steps}
+use Rattle.std.proofs.lemmas.Bool.Decides.{nat_tests}
 
 -- the list has this place
 abbrev pub holds : {A : Type 0} → List (ℕ × A) → ℕ → Bool
 holds xs n = list_any (λ p. p.0 == n) xs
 
-filter_case : {A : Type 0} (tx tn b rest : Bool) (n : ℕ) (x : ℕ × A) (xs : List (ℕ × A)) → (b ≡ true → tx ≡ tn) → (x.0 == n) ≡ b
-    → holds xs n ≡ (tn && rest) → holds (cond tx (x ∷ xs) xs) n ≡ (tn && (b || rest))
-filter_case true tn true rest n x xs same here below = (λ i. here i || below i) ∙ sym (ap (λ t. t && true) (sym (same refl)))
-filter_case true tn false rest n x xs same here below = λ i. here i || below i
-filter_case false tn true rest n x xs same here below = below ∙ ap (λ t. t && rest) (sym (same refl)) ∙ ap (λ t. t && true) (same refl)
-filter_case false tn false rest n x xs same here below = below
-
 -- of those that pass a test of their places, the places that are there and pass it
 pub holds-filter : {A : Type 0} (t : ℕ → Bool) (xs : List (ℕ × A)) (n : ℕ) → holds (filter (λ p. t p.0) xs) n ≡ (t n && holds xs n)
 holds-filter t [] n = elim (t n) as (λ b. false ≡ (b && false)) [ true ↦ refl | false ↦ refl ]
-holds-filter t (x ∷ xs) n = filter_case (t x.0) (t n) (x.0 == n) (holds xs n) n x (filter (λ p. t p.0) xs)
-    (λ same. ap t (eqb-true x.0 n same)) refl (holds-filter t xs n)
+holds-filter t (x ∷ xs) n = grind (arith, common_steps, nat_tests, holds-filter t xs n)
 
 weaker : {A : Type 0} (q r : A → Bool) (xs : List A) → list_all q xs ≡ true → list_all (λ x. r x || q x) xs ≡ true
 weaker q r [] h = refl
-weaker q r (x ∷ xs) h = weaker_case q r x xs (q x) refl h (weaker q r xs)
-  where
-    weaker_case : {A : Type 0} (q r : A → Bool) (x : A) (xs : List A) (b : Bool) → q x ≡ b → (q x && list_all q xs) ≡ true
-        → (list_all q xs ≡ true → list_all (λ x. r x || q x) xs ≡ true) → ((r x || q x) && list_all (λ x. r x || q x) xs) ≡ true
-    weaker_case q r x xs true here h below = (λ i. (r x || here i) && below (sym (ap (λ b. b && list_all q xs) here) ∙ h) i) ∙ ap (λ b. b && true) (or_true (r x))
-    weaker_case q r x xs false here h below = absurd (cc (sym (ap (λ b. b && list_all q xs) here) ∙ h))
+weaker q r (x ∷ xs) h = grind (arith, common_steps, weaker q r xs)
 
 -- a list holds its own places
 pub holds-own : {A : Type 0} (xs : List (ℕ × A)) → list_all (λ p. holds xs p.0) xs ≡ true
@@ -38,16 +27,7 @@ holds-own (x ∷ xs) = (λ i. (eq-eqb x.0 x.0 refl i || holds xs x.0) && weaker 
 pub list_all-held : {A : Type 0} (t : ℕ → Bool) (p : ℕ × A → Bool) (zs xs : List (ℕ × A)) → list_all (λ x. holds zs x.0) xs ≡ true
     → list_all (λ x. cond (t x.0 && holds zs x.0) (p x) true) xs ≡ list_all (λ x. cond (t x.0) (p x) true) xs
 list_all-held t p zs [] h = refl
-list_all-held t p zs (x ∷ xs) h = held_case t p zs x xs (holds zs x.0) refl h (list_all-held t p zs xs)
-  where
-    held_case : {A : Type 0} (t : ℕ → Bool) (p : ℕ × A → Bool) (zs : List (ℕ × A)) (x : ℕ × A) (xs : List (ℕ × A)) (b : Bool) → holds zs x.0 ≡ b
-        → (holds zs x.0 && list_all (λ x. holds zs x.0) xs) ≡ true
-        → (list_all (λ x. holds zs x.0) xs ≡ true → list_all (λ x. cond (t x.0 && holds zs x.0) (p x) true) xs ≡ list_all (λ x. cond (t x.0) (p x) true) xs)
-        → (cond (t x.0 && holds zs x.0) (p x) true && list_all (λ x. cond (t x.0 && holds zs x.0) (p x) true) xs)
-        ≡ (cond (t x.0) (p x) true && list_all (λ x. cond (t x.0) (p x) true) xs)
-    held_case t p zs x xs true here h below = λ i. cond ((ap (λ b. t x.0 && b) here ∙ and_true (t x.0)) i) (p x) true
-        && below (sym (ap (λ b. b && list_all (λ x. holds zs x.0) xs) here) ∙ h) i
-    held_case t p zs x xs false here h below = absurd (cc (sym (ap (λ b. b && list_all (λ x. holds zs x.0) xs) here) ∙ h))
+list_all-held t p zs (x ∷ xs) h = grind (arith, common_steps, list_all-held t p zs xs)
 
 -- the place of an element is there
 pub holds-enumerate : {A : Type 0} (n : ℕ) (xs : List A) (i : ℕ) → i < length xs → holds (enumerate_from n xs) (n + i) ≡ true

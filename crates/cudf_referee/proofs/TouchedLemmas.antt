@@ -1,8 +1,9 @@
 -- Counting the packages that one of the two statuses has and the other hasn't.
-use Rattle.std.proofs.Common.{◌≡◌, ℕ, ◌+◌, ◌-◌, ◌^◌, ◌<◌, Bool, true, false, not, ◌&&◌, ◌||◌, [], length, take, get_or, min, refl, ap, sym, ◌∙◌, arith}
+use Rattle.std.proofs.Common.{◌≡◌, ℕ, ◌+◌, ◌-◌, ◌^◌, ◌<◌, Bool, true, false, not, ◌&&◌, ◌||◌, [], length, take, get_or, min, ap, sym, ◌∙◌, arith}
 use Rattle.std.specs.List.{count_by}
 use Rattle.std.proofs.lemmas.List.Sums.{count_by_more_yes, count_by_more_no}
 use Rattle.std.proofs.lemmas.List.FromFn.{get_or-enumerate_from, length-enumerate_from}
+use Rattle.std.proofs.lemmas.Grind.{common_steps}
 use Rattle.cudf_document.specs.Universe.{PlainProblem}
 use Rattle.cudf_universe.specs.Satisfaction.{Placed}
 use Rattle.cudf_referee.specs.Criteria.{is_touched, at_most_max, universe}
@@ -15,10 +16,7 @@ abbrev one_alone : Bool → Bool → Bool
 one_alone a b = (a && not b) || (b && not a)
 
 one_alone_differ : (a b : Bool) → one_alone a b ≡ differ a b
-one_alone_differ true true = refl
-one_alone_differ true false = refl
-one_alone_differ false true = refl
-one_alone_differ false false = refl
+one_alone_differ a b = grind (arith, common_steps)
 
 module _ (problem : PlainProblem) (was is : ℕ → Bool) (i : ℕ) (d : Placed) (below : i < length problem.packages) where
   abbrev pub s : Proposal
