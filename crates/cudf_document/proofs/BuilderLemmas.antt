@@ -34,10 +34,8 @@ declared-push [] s = refl
 declared-push (t ∷ before) s = refl
 
 pub declared_under_no_preamble : (mark : Option Postmark) (s : PlainStanza) → marks_preamble mark ≡ false → declared_under mark s ≡ []
-declared_under_no_preamble None s h = refl
 declared_under_no_preamble (Some Preamble) s h = absurd cc
-declared_under_no_preamble (Some Package) s h = refl
-declared_under_no_preamble (Some Request) s h = refl
+declared_under_no_preamble _ s h = refl
 
 -- a stanza that is no preamble declares nothing
 declared-other : (before : List PlainStanza) (s : PlainStanza) → marks_preamble (postmark s) ≡ false → declared (before ++ s ∷ []) ≡ declared before
@@ -214,10 +212,8 @@ listed_more ids packages (Some i) make same so_far =
     ∙ first_ids-push [] (map package_id packages) i)
 
 pub listed_next : (mark : Option Postmark) (is_first : Bool) (s : PlainStanza) (g : PlainBuilder) → IsListed g → IsListed (with_stanza mark is_first s g)
-listed_next None is_first s g so_far = so_far
-listed_next (Some Preamble) is_first s g so_far = so_far
-listed_next (Some Request) is_first s g so_far = so_far
 listed_next (Some Package) is_first s g so_far = listed_more g.ids g.packages (id_under (Some Package) s.properties) _ (λ i. refl) so_far
+listed_next _ is_first s g so_far = so_far
 
 -- pairs of which none stands twice are all there
 first_ids-distinct : (before xs : List Id) → list_all (λ x. not (is_among x.0 x.1)) (with_earlier before xs) ≡ true → first_ids before xs ≡ before ++ xs

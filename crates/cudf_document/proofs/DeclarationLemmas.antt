@@ -53,8 +53,7 @@ Added-next before now ds d all is_added new so_far is new_is = record {
 
     more : (a b : Bool) → (a ≡ true → now ≡ before ++ ds) → new ≡ (if b then now ++ d ∷ [] else now) → (a && b) ≡ true → new ≡ before ++ (ds ++ d ∷ [])
     more true true there pushed _ = pushed ∙ ap (λ l. l ++ d ∷ []) (there refl) ∙ append_assoc before ds (d ∷ [])
-    more true false there pushed h = absurd cc
-    more false b there pushed h = absurd cc
+    more _ _ there pushed h = absurd cc
 
     inside : length before ≤ length now
     inside = let n = length-take (length before) now in let m = ap length so_far.kept in omega (arith, n, m)
@@ -70,10 +69,9 @@ pub named_unless : (d : PlainDeclaration) (has : Bool) → has ≡ is_some d.def
 named_unless d has is = by d.default has is
   where
     by : (o : Option (List ℕ)) (b : Bool) → b ≡ is_some o → option_to_list (if is_none o then Some d.name else None) ≡ (if b then [] else d.name ∷ [])
-    by None true h = absurd cc
     by None false h = refl
     by (Some x) true h = refl
-    by (Some x) false h = absurd cc
+    by _ _ h = absurd cc
 
 pub required_more : (names more : List (List ℕ)) (ds : List PlainDeclaration) (d : PlainDeclaration) → names ≡ filter_map name_without_default ds
     → more ≡ names ++ option_to_list (name_without_default d) → more ≡ filter_map name_without_default (ds ++ d ∷ [])

@@ -1,33 +1,23 @@
 -- The order of faults, and the least of several.
-use Rattle.std.proofs.Common.{◌≡◌, ℕ, Bool, true, false, ◌||◌, ◌&&◌, ◌==◌, nat_lt, List, [], ◌∷◌, ◌++◌, Option, None, Some, refl, sym, ap, ◌∙◌, arith, if◌then◌else◌}
+use Rattle.std.proofs.Common.{◌≡◌, Bool, true, false, List, [], ◌∷◌, ◌++◌, Option, None, Some, refl, sym, ap, ◌∙◌, arith, if◌then◌else◌}
 use Rattle.std.proofs.lemmas.Bool.Decides.{nat_tests}
 use Rattle.std.proofs.lemmas.List.Concat.{flat_map-append}
 use Rattle.std.proofs.lemmas.List.{append-nil}
 use Rattle.std.specs.List.{flat_map}
 use Rattle.std.specs.Option.{option_or}
 use Rattle.cudf_text.specs.declared.fault.Fault.{Fault}
-use Rattle.cudf_document.specs.Faults.{rank, precedes, lesser, least}
+use Rattle.cudf_document.specs.Faults.{precedes, lesser, least}
 use Rattle.cudf_document.specs.Documents.{with_earlier}
 use Rattle.cudf_document.specs.ProblemFaults.{faults_or}
 use Rattle.cudf_document.proofs.ListLemmas.{with_earlier-push}
 
 -- ---- the order
 
--- the first of two pairs of numbers is on an earlier line, or on the same and of a lesser kind
-abbrev lower : ℕ → ℕ → ℕ → ℕ → Bool
-lower a k b l = nat_lt a b || a == b && nat_lt k l
-
-lower_along : (a k b l c m : ℕ) → lower a k b l ≡ true → lower b l c m ≡ true → lower a k c m ≡ true
-lower_along a k b l c m p q = grind (arith, nat_tests)
-
-higher_along : (a k b l c m : ℕ) → lower a k b l ≡ false → lower b l c m ≡ false → lower a k c m ≡ false
-higher_along a k b l c m p q = grind (arith, nat_tests)
-
 pub precedes_along : (f g h : Fault) → precedes f g ≡ true → precedes g h ≡ true → precedes f h ≡ true
-precedes_along f g h p q = lower_along f.line (rank f.kind) g.line (rank g.kind) h.line (rank h.kind) p q
+precedes_along f g h p q = grind (arith, nat_tests)
 
 pub follows_along : (f g h : Fault) → precedes f g ≡ false → precedes g h ≡ false → precedes f h ≡ false
-follows_along f g h p q = higher_along f.line (rank f.kind) g.line (rank g.kind) h.line (rank h.kind) p q
+follows_along f g h p q = grind (arith, nat_tests)
 
 -- ---- the lesser of two
 

@@ -246,16 +246,12 @@ named_package (p ∷ ps) marked =
     by false false false h = absurd cc
 
 both_there : (name : Option (List ℕ)) (version : Option ℕ) → is_some name ≡ true → is_some version ≡ true → is_some (id_with name version) ≡ true
-both_there None version a b = absurd cc
-both_there (Some n) None a b = absurd cc
 both_there (Some n) (Some v) a b = refl
+both_there _ _ a b = absurd cc
 
 -- a package stanza without faults has a name and a version
 id_there : (before : List PlainStanza) (s : PlainStanza) (mark : Option Postmark) → postmark s ≡ mark → IsClean before s
     → (not (marks_package mark) || is_some (id_under mark s.properties)) ≡ true
-id_there before s None marked c = refl
-id_there before s (Some Preamble) marked c = refl
-id_there before s (Some Request) marked c = refl
 id_there before s (Some Package) marked c =
     let known = tests (declared before) (Some Package) in
     let typed : list_all (λ p. not (fails (test_of p.name known) p.value)) s.properties ≡ true =
@@ -269,6 +265,7 @@ id_there before s (Some Package) marked c =
     is_there : {A : Type 0} (o : Option A) → is_none o ≡ false → is_some o ≡ true
     is_there None h = absurd cc
     is_there (Some x) h = refl
+id_there before s _ marked c = refl
 
 pub faultless_is_sound : (text : PlainText) (mode : Mode) → problem_faults text mode ≡ [] → IsSound text
 faultless_is_sound text mode none = record {

@@ -19,23 +19,7 @@ kind_numbered n = if n == 1 then E1 else (if n == 2 then E2 else (if n == 3 then
 
 numbered : (k : Kind) → kind_numbered (rank k) ≡ k
 numbered E1 = refl
-numbered E2 = refl
-numbered E3 = refl
-numbered E4 = refl
-numbered E5 = refl
-numbered E6 = refl
-numbered E7 = refl
-numbered E8 = refl
-numbered E9 = refl
-numbered E10 = refl
-numbered E11 = refl
-numbered E12 = refl
-numbered E13 = refl
-numbered E14 = refl
-numbered E15 = refl
-
-same_kind : (k l : Kind) → rank k ≡ rank l → k ≡ l
-same_kind k l same = sym (numbered k) ∙ ap kind_numbered same ∙ numbered l
+numbered _ = refl
 
 same_place : (a k b l : ℕ) → (nat_lt a b || a == b && nat_lt k l) ≡ false → (nat_lt b a || b == a && nat_lt l k) ≡ false → (a ≡ b) × (k ≡ l)
 same_place a k b l p q = (grind (arith, nat_tests), grind (arith, nat_tests))
@@ -47,7 +31,7 @@ not_both a k b l p q = grind (arith, nat_tests)
 same_fault : (f g : Fault) → precedes f g ≡ false → precedes g f ≡ false → f ≡ g
 same_fault f g p q =
     let places = same_place f.line (rank f.kind) g.line (rank g.kind) p q in
-    λ i. record { line = places.0 i; kind = same_kind f.kind g.kind places.1 i }
+    λ i. record { line = places.0 i; kind = (sym (numbered f.kind) ∙ ap kind_numbered places.1 ∙ numbered g.kind) i }
 
 -- ---- the least is the first
 

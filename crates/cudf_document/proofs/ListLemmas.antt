@@ -23,10 +23,9 @@ is_empty-push (y ∷ xs) x = refl
 -- ---- tests
 
 alike_or : (a b c : Bool) → a ≡ b → (a || c) ≡ (a || c || b)
-alike_or true true c same = refl
-alike_or false false c same = sym (or-false c)
-alike_or true false c same = absurd cc
+alike_or true b c same = refl
 alike_or false true c same = absurd cc
+alike_or false false c same = sym (or-false c)
 
 -- ---- tests through a view
 

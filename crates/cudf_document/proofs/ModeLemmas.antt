@@ -9,7 +9,7 @@ use Rattle.cudf_text.specs.Stanzas.{PlainProperty, PlainStanza, PlainText}
 use Rattle.cudf_value.specs.Declarations.{PlainDeclaration}
 use Rattle.cudf_document.specs.declared.mode.Mode.TheVariants.{Lenient, Strict}
 use Rattle.cudf_document.specs.declared.stanza.postmark.Postmark.{Postmark}
-use Rattle.cudf_document.specs.declared.stanza.postmark.Postmark.TheVariants.{Preamble, Package, Request}
+use Rattle.cudf_document.specs.declared.stanza.postmark.Postmark.TheVariants.{Package}
 use Rattle.cudf_document.specs.Faults.{fault_if}
 use Rattle.cudf_document.specs.Documents.{is_empty, with_earlier, postmark, marks_preamble, marks_package, is_request, same_name, line_of}
 use Rattle.cudf_document.specs.Ids.{id_of, is_known}
@@ -102,9 +102,6 @@ module _ (line : Option Fault) where
   unversioned_told : (s : PlainStanza) → All (IsTold line) (unversioned_faults s)
   unversioned_told s = told_if E12 refl (marks_package (postmark s) && is_none (version_property s)) s.last
 
-  unmarked_told : (mark : Option Postmark) (n : ℕ) → All (IsTold line) (fault_if (is_none mark) n E4)
-  unmarked_told mark n = told_if E4 refl (is_none mark) n
-
   stanza_told : (x : List PlainStanza × PlainStanza) → All (IsTold line) (stanza_faults Lenient x)
   stanza_told (before, s) =
       let late_preamble = told_if E5 refl (marks_preamble (postmark s) && not (is_empty before)) s.line in
@@ -112,7 +109,7 @@ module _ (line : Option Fault) where
       let properties = told-flat_map (property_faults (declared before) (postmark s)) (property_told (declared before) (postmark s)) (with_earlier [] s.properties) in
       let repeated = told_if E11 refl (is_known (filter_map id_of before) (id_of s)) (line_of (version_property s)) in
       told-faults_or (place_faults (is_empty before) (list_any is_request before) (postmark s) s.line) (inner_faults Lenient before s)
-      (both_told _ _ (both_told _ _ (unmarked_told (postmark s) s.line) late_preamble) late)
+      (both_told _ _ (both_told _ _ (told_if E4 refl (is_none (postmark s)) s.line) late_preamble) late)
       (both_told _ _ (both_told _ _ properties repeated) (unversioned_told s))
 
   value_told : (x : List PlainProperty × PlainProperty) → All (IsTold line) (value_faults x)
@@ -121,13 +118,11 @@ module _ (line : Option Fault) where
       (told_if E9 refl (fails (test_of p.name solution_tests) p.value) p.line)
 
   values_told : (mark : Option Postmark) (ps : List PlainProperty) → All (IsTold line) (values_faults mark ps)
-  values_told None ps = All-nil (IsTold line)
-  values_told (Some Preamble) ps = All-nil (IsTold line)
   values_told (Some Package) ps = told-flat_map value_faults value_told (with_earlier [] ps)
-  values_told (Some Request) ps = All-nil (IsTold line)
+  values_told _ ps = All-nil (IsTold line)
 
   solution_stanza_told : (s : PlainStanza) → All (IsTold line) (solution_stanza_faults s)
-  solution_stanza_told s = both_told _ _ (both_told _ _ (unmarked_told (postmark s) s.line) (values_told (postmark s) s.properties)) (unversioned_told s)
+  solution_stanza_told s = both_told _ _ (both_told _ _ (told_if E4 refl (is_none (postmark s)) s.line) (values_told (postmark s) s.properties)) (unversioned_told s)
 
 -- ---- a document
 

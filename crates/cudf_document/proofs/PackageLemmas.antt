@@ -8,7 +8,7 @@ use Rattle.cudf_value.specs.Types.{PlainType, vpkgformula_type, is_of_type}
 use Rattle.cudf_value.specs.Declarations.{PlainDeclaration}
 use Rattle.cudf_document.specs.declared.stanza.postmark.Postmark.TheVariants.{Package as PackageMark}
 use Rattle.cudf_document.specs.declared.package.property.PackageProperty.{PackageProperty}
-use Rattle.cudf_document.specs.declared.package.property.PackageProperty.TheVariants.{Package, Version, Depends, Conflicts, Provides, Installed, Keep, WasInstalled, Recommends}
+use Rattle.cudf_document.specs.declared.package.property.PackageProperty.TheVariants.{Depends, Conflicts, Recommends}
 use Rattle.cudf_document.specs.Faults.{least}
 use Rattle.cudf_document.specs.Documents.{same_name, value_of}
 use Rattle.cudf_document.specs.Values.{name_value, version_value, formula_value, list_value, exact_list_value, truth_value, keep_value, can_be, package_tests, declared_test, test_of}
@@ -118,14 +118,10 @@ need_left ds _ text v need = absurd cc
 
 other_set : (ds : List PlainDeclaration) (named : Option PackageProperty) (text : List ℕ) (v : PlainPackageFields)
     → is_need named ≡ false → with_package_property ds named text (without_needs v) ≡ without_needs (with_package_property ds named text v)
-other_set ds (Some Package) text v other = refl
-other_set ds (Some Version) text v other = refl
-other_set ds (Some Provides) text v other = refl
-other_set ds (Some Installed) text v other = refl
-other_set ds (Some Keep) text v other = refl
-other_set ds (Some WasInstalled) text v other = refl
-other_set ds None text v other = refl
-other_set ds _ text v other = absurd cc
+other_set ds (Some Depends) text v other = absurd cc
+other_set ds (Some Conflicts) text v other = absurd cc
+other_set ds (Some Recommends) text v other = absurd cc
+other_set ds _ text v other = refl
 
 -- a property that says what the package needs changes nothing else
 pub bare-need : (ds : List PlainDeclaration) (ps : List PlainProperty) (p : PlainProperty) (named : Option PackageProperty) → named ≡ package_property_named p.name

@@ -1,7 +1,7 @@
 -- What a solution proposes, one stanza after the other.
 use Rattle.std.proofs.Common.{◌≡◌, ◌≢◌, ◌⊎◌, ℕ, suc, ◌+◌, ◌-◌, ◌<◌, ◌==◌, nat_eq, nat_lt, Bool, true, false, not, ◌||◌, ◌&&◌, List, [], ◌∷◌, ◌++◌, map, length, get_or, set, replicate, position, slice_get, Option, None, Some, is_some, filter_map, inl, inr, refl, sym, ap, subst, ◌∙◌, arith, if◌then◌else◌, option_map, option_and_then, option_to_list}
 use Rattle.std.proofs.Math.Bool.{or-false, or-true}
-use Rattle.std.proofs.lemmas.Bool.{true≢false, cases_order}
+use Rattle.std.proofs.lemmas.Bool.{true≢false, cases_order, cases_eq}
 use Rattle.std.proofs.lemmas.Bool.Decides.{nat_tests}
 use Rattle.std.proofs.lemmas.List.{append-nil, length_push, length-set, length-map, get_or-set_same, get_or-set_other, get_or-map, same_lists}
 use Rattle.std.proofs.lemmas.List.Concat.{flat_map-append}
@@ -98,7 +98,7 @@ module _ (seen ids : List Id) (id : Id) (distinct : are_distinct ids ≡ true) (
   among_more x = list_any-append (is_id x) seen (id ∷ []) ∙ ap (λ b. is_among seen x || b) (or-false (is_id x id))
 
   flag_at_place : (k : ℕ) (d : Bool) → k < length ids → get_or (set (map (is_among seen) ids) i true) k d ≡ is_among (seen ++ id ∷ []) (get_or ids k id)
-  flag_at_place k d lt = by (cases_order k i)
+  flag_at_place k d lt = elim (cases_eq k i) [ inl e ↦ at_place k e | inr ne ↦ elsewhere ne ]
     where
       at_place : (j : ℕ) → j ≡ i → get_or (set (map (is_among seen) ids) i true) j d ≡ is_among (seen ++ id ∷ []) (get_or ids j id)
       at_place j e =
@@ -111,11 +111,6 @@ module _ (seen ids : List Id) (id : Id) (distinct : are_distinct ids ≡ true) (
       elsewhere ne =
           get_or-set_other (map (is_among seen) ids) i k true d ne ∙ get_or-map (is_among seen) ids k id d lt
           ∙ sym (among_more (get_or ids k id) ∙ ap (λ b. is_among seen (get_or ids k id) || b) (apart k lt ne) ∙ or-false (is_among seen (get_or ids k id)))
-
-      by : (k ≡ i) ⊎ ((k < i) ⊎ (i < k)) → get_or (set (map (is_among seen) ids) i true) k d ≡ is_among (seen ++ id ∷ []) (get_or ids k id)
-      by (inl e) = at_place k e
-      by (inr (inl below)) = elsewhere (λ e. omega (arith, e))
-      by (inr (inr above)) = elsewhere (λ e. omega (arith, e))
 
   -- a pair at a place sets that flag alone
   flagged : set (map (is_among seen) ids) i true ≡ map (is_among (seen ++ id ∷ [])) ids

@@ -47,14 +47,10 @@ value_after {A} read name ps p = by (bytes_eq p.name name) (list_any (same_name 
     by : (same again : Bool) → bytes_eq p.name name ≡ same → list_any (same_name p) ps ≡ again
         → (if same then (if list_any (has_name name) ps then value_of read name ps else read p.value) else value_of read name ps)
         ≡ value_of read name (ps ++ p ∷ [])
-    by true true same again =
-        ap (λ b. if b then value_of read name ps else read p.value) (sym (has_same_name name p ps same) ∙ again) ∙ sym (value_of-repeated read name ps p again)
-    by true false same again =
-        ap (λ b. if b then value_of read name ps else read p.value) (sym (has_same_name name p ps same) ∙ again)
-        ∙ ap (λ b. if b then read p.value else value_of read name ps) (sym same) ∙ sym (value_next read name ps p again)
+    by true true same again = rw (← has_same_name name p ps same, again) (sym (value_of-repeated read name ps p again))
+    by true false same again = rw (← has_same_name name p ps same, again) (sym (rw same at (value_next read name ps p again)))
     by false true same again = sym (value_of-repeated read name ps p again)
-    by false false same again =
-        ap (λ b. if b then read p.value else value_of read name ps) (sym same) ∙ sym (value_next read name ps p again)
+    by false false same again = sym (rw same at (value_next read name ps p again))
 
 named_after : (name : List ℕ) (ps : List PlainProperty) (p : PlainProperty) → (list_any (has_name name) ps || bytes_eq p.name name) ≡ list_any (has_name name) (ps ++ p ∷ [])
 named_after name ps p =

@@ -1,12 +1,12 @@
 -- What is known of stanzas on the walk: as of those that are gathered.
-use Rattle.std.proofs.Common.{◌≡◌, ℕ, max, map, filter_map, Bool, true, false, not, ◌||◌, List, [], ◌∷◌, ◌++◌, Option, Some, None, inl, inr, refl, sym, ap, subst, ◌∙◌, ◌==◌, IsTrue}
+use Rattle.std.proofs.Common.{◌≡◌, ℕ, max, map, filter_map, Bool, true, false, not, ◌||◌, List, [], ◌∷◌, ◌++◌, Option, Some, None, inl, inr, refl, sym, ap, subst, ◌∙◌, IsTrue}
 use Rattle.std.specs.List.{list_any, list_all, flat_map}
 use Rattle.std.specs.Option.{option_or}
 use Rattle.std.specs.Cow.{cow_str_bytes}
 use Rattle.std.specs.declared.alloc.Global.{Global}
 use Rattle.std.specs.declared.borrow.CowStr.{CowStr}
 use Rattle.std.proofs.Math.Bool.{and-false, or-false, or_comm}
-use Rattle.std.proofs.lemmas.Bool.{eqb-true, or_cases}
+use Rattle.std.proofs.lemmas.Bool.{or_cases}
 use Rattle.std.proofs.lemmas.List.Folds.{list_any-append}
 use Rattle.cudf_text.specs.declared.fault.Fault.{Fault}
 use Rattle.cudf_text.specs.Chars.{is_blank}
@@ -14,11 +14,12 @@ use Rattle.cudf_text.specs.Promises.Joins.{is_owned, IsJoined}
 use Rattle.cudf_text.specs.Stanzas.{PlainStanza, PlainText}
 use Rattle.cudf_value.specs.Chars.{is_pkgname_char}
 use Rattle.cudf_value.specs.Words.{is_pkgname}
+use Rattle.cudf_value.proofs.VpkgLemmas.{blank_no_name as no_name_char}
 use Rattle.cudf_document.specs.declared.mode.Mode.{Mode}
 use Rattle.cudf_document.specs.declared.mode.Mode.TheVariants.{Lenient, Strict}
 use Rattle.cudf_document.specs.declared.problem.walk.Walk.{Walk}
 use Rattle.cudf_document.specs.declared.stanza.postmark.Postmark.{Postmark}
-use Rattle.cudf_document.specs.declared.stanza.postmark.Postmark.TheVariants.{Preamble, Package, Request}
+use Rattle.cudf_document.specs.declared.stanza.postmark.Postmark.TheVariants.{Package}
 use Rattle.cudf_document.specs.Faults.{lesser, least, fault_if}
 use Rattle.cudf_text.specs.declared.fault.Kind.TheVariants.{E13}
 use Rattle.std.proofs.lemmas.List.{append_assoc, append-nil}
@@ -35,9 +36,6 @@ use Rattle.cudf_document.proofs.FaultLemmas.{faults-next}
 use Rattle.cudf_document.proofs.BuilderLemmas.{problem_least, requested_is, stanza_least, IsBuilt-next, listed_next}
 
 -- ---- a joined value is no name
-
-no_name_char : (b : ℕ) → is_blank b ≡ true → is_pkgname_char b ≡ false
-no_name_char b h = elim (or_cases (b == 32) (b == 9) h) [ inl e ↦ ap is_pkgname_char (eqb-true b 32 e) | inr e ↦ ap is_pkgname_char (eqb-true b 9 e) ]
 
 blank_no_name : (text : List ℕ) → list_any is_blank text ≡ true → list_all is_pkgname_char text ≡ false
 blank_no_name [] h = absurd cc
@@ -63,15 +61,11 @@ is_built mode k before so_far ds = record { declared_are = ds; ids_are = so_far.
 judged_inside : (mark : Option Postmark) (required : List (List ℕ)) (k : Walk) (before : List PlainStanza) (s : PlainStanza)
     → judged_faults mark required k.declarations k.ids s ≡ faults_inside mark required (as_builder k before) s
 judged_inside (Some Package) required k before s = refl
-judged_inside (Some Preamble) required k before s = refl
-judged_inside (Some Request) required k before s = refl
-judged_inside None required k before s = refl
+judged_inside _ required k before s = refl
 
 ids_inside : (mark : Option Postmark) (is_first : Bool) (k : Walk) (before : List PlainStanza) (s : PlainStanza) → judged_ids mark k.ids s ≡ (with_stanza mark is_first s (as_builder k before)).ids
 ids_inside (Some Package) is_first k before s = refl
-ids_inside (Some Preamble) is_first k before s = refl
-ids_inside (Some Request) is_first k before s = refl
-ids_inside None is_first k before s = refl
+ids_inside _ is_first k before s = refl
 
 pub IsKnown-next : (mode : Mode) (required : List (List ℕ)) (old new : Walk) (before : List PlainStanza) (s : PlainStanza) (mark : Option Postmark) (is_first : Bool) (place inside : Option Fault)
     → is_first ≡ is_empty before → old.declarations ≡ declared before → required ≡ required_names mode (declared before) → IsKnown mode old before → mark ≡ postmark s

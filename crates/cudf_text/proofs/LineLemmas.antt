@@ -17,17 +17,12 @@ boundary_after bs n u pos ascii l =
     subst P e (lead_after_ascii bs (n - 1) u (ascii l) (omega arith))
 
 -- what a search for a byte gives
-place-none : (b : ℕ) (text : List ℕ) → IsFirstByte (is_byte b) text None → position_or_len (λ x. eqb x b) text ≡ length text
-place-none b text h =
-    position_or_len_is (λ x. eqb x b) text (length text) 0 (omega arith) (λ k l. false_from_ne_true _ (h k (omega arith) l)) (λ l. absurd (omega arith))
-
-place-some : (b : ℕ) (text : List ℕ) (k : ℕ) → IsFirstByte (is_byte b) text (Some k) → position_or_len (λ x. eqb x b) text ≡ k
-place-some b text k h =
-    position_or_len_is (λ x. eqb x b) text k 0 (let l : k < length text = h.0.high in omega arith) (λ j l. false_from_ne_true _ (h.0.before j (omega arith) l)) (λ _. h.1)
-
 pub place-is : (b : ℕ) (text : List ℕ) (r : Option ℕ) → IsFirstByte (is_byte b) text r → unwrap_or r (length text) ≡ position_or_len (λ x. eqb x b) text
-place-is b text None h = sym (place-none b text h)
-place-is b text (Some k) h = sym (place-some b text k h)
+place-is b text None h =
+    sym (position_or_len_is (λ x. eqb x b) text (length text) 0 (omega arith) (λ k l. false_from_ne_true _ (h k (omega arith) l)) (λ l. absurd (omega arith)))
+place-is b text (Some k) h =
+    let l : k < length text = h.0.high in
+    sym (position_or_len_is (λ x. eqb x b) text k 0 (omega arith) (λ j l. false_from_ne_true _ (h.0.before j (omega arith) l)) (λ _. h.1))
 
 -- the first line with its end goes through the first LF
 onto_first_line : (b : ℕ) (bs : List ℕ) (n : ℕ) → raw_lines bs ≡ take (n + 1) bs ∷ raw_lines (drop (n + 1) bs)

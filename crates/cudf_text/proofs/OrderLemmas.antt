@@ -7,7 +7,7 @@ use Rattle.std.proofs.lemmas.Bool.{le-leb, lt-leb}
 use Rattle.cudf_text.specs.declared.fault.Fault.{Fault}
 use Rattle.cudf_text.specs.declared.fault.Kind.{Kind}
 use Rattle.cudf_text.specs.declared.fault.Kind.TheVariants.{E2, E3}
-use Rattle.cudf_text.specs.Lines.{Class, comment, blank, continuation, named, faulty, NumberedLine, is_no_comment, class, lines, judged_lines}
+use Rattle.cudf_text.specs.Lines.{Class, comment, blank, continuation, faulty, NumberedLine, is_no_comment, class, lines, judged_lines}
 use Rattle.cudf_text.specs.LineFaults.{is_open, line_fault, line_faults, first_fault, is_read, read_lines}
 use Rattle.cudf_text.specs.Working.Reading.{read_after, fault_after}
 
@@ -24,10 +24,7 @@ Ascends-below n m ((k, c) ∷ ls) less up = let first = up.0 in (omega arith, up
 Ascends-filter : (n : ℕ) (ls : List NumberedLine) → Ascends n ls → Ascends n (filter is_no_comment ls)
 Ascends-filter n [] up = tt
 Ascends-filter n ((m, comment) ∷ ls) up = Ascends-below n m (filter is_no_comment ls) up.0 (Ascends-filter m ls up.1)
-Ascends-filter n ((m, blank) ∷ ls) up = (up.0, Ascends-filter m ls up.1)
-Ascends-filter n ((m, continuation text) ∷ ls) up = (up.0, Ascends-filter m ls up.1)
-Ascends-filter n ((m, named name text) ∷ ls) up = (up.0, Ascends-filter m ls up.1)
-Ascends-filter n ((m, faulty) ∷ ls) up = (up.0, Ascends-filter m ls up.1)
+Ascends-filter n ((m, _) ∷ ls) up = (up.0, Ascends-filter m ls up.1)
 
 Ascends-numbered : (n m : ℕ) (classes : List Class) → n < m → Ascends n (enumerate_from m classes)
 Ascends-numbered n m [] less = tt
@@ -58,12 +55,10 @@ continued-above n m false fault less is = less
 
 above : (n : ℕ) (before : Class) (ls : List NumberedLine) → Ascends n ls → IsAbove n (fault_after before ls)
 above n before [] up = tt
-above n before ((m, comment) ∷ ls) up = above n comment ls (Ascends-below n m ls up.0 up.1)
-above n before ((m, blank) ∷ ls) up = above n blank ls (Ascends-below n m ls up.0 up.1)
-above n before ((m, named name text) ∷ ls) up = above n (named name text) ls (Ascends-below n m ls up.0 up.1)
 above n before ((m, faulty) ∷ ls) up = up.0
 above n before ((m, continuation text) ∷ ls) up =
     continued-above n m (is_open before) (fault_after (continuation text) ls) up.0 (above n (continuation text) ls (Ascends-below n m ls up.0 up.1))
+above n before ((m, c) ∷ ls) up = above n c ls (Ascends-below n m ls up.0 up.1)
 
 none_after : (m : ℕ) (kind : Kind) (n : ℕ) (ls : List NumberedLine) → m ≤ n → Ascends n ls → filter (is_read (on m kind)) ls ≡ []
 none_after m kind n [] least up = refl
@@ -88,20 +83,15 @@ continued-read m text false fault ls rest less up e = stops m (continuation text
 
 read_is : (n : ℕ) (before : Class) (ls : List NumberedLine) → Ascends n ls → filter (is_read (fault_after before ls)) ls ≡ read_after before ls
 read_is n before [] up = refl
-read_is n before ((m, comment) ∷ ls) up = goes_on m comment ls _ _ (above m comment ls up.1) (read_is m comment ls up.1)
-read_is n before ((m, blank) ∷ ls) up = goes_on m blank ls _ _ (above m blank ls up.1) (read_is m blank ls up.1)
-read_is n before ((m, named name text) ∷ ls) up = goes_on m (named name text) ls _ _ (above m (named name text) ls up.1) (read_is m (named name text) ls up.1)
 read_is n before ((m, faulty) ∷ ls) up = stops m faulty E2 ls up.1
 read_is n before ((m, continuation text) ∷ ls) up =
     continued-read m text (is_open before) (fault_after (continuation text) ls) ls _ (above m (continuation text) ls up.1) up.1 (read_is m (continuation text) ls up.1)
+read_is n before ((m, c) ∷ ls) up = goes_on m c ls _ _ (above m c ls up.1) (read_is m c ls up.1)
 
 -- ---- of a whole text
-
-judged_ascend : (text : List ℕ) → Ascends 0 (judged_lines text)
-judged_ascend text = Ascends-filter 0 _ (Ascends-numbered 0 1 (map class (lines text)) (omega arith))
 
 pub first_fault-is : (text : List ℕ) → first_fault text ≡ fault_after blank (judged_lines text)
 first_fault-is text = first_is blank (judged_lines text)
 
 pub read_lines-is : (text : List ℕ) → read_lines text ≡ read_after blank (judged_lines text)
-read_lines-is text = ap (λ f. filter (is_read f) (judged_lines text)) (first_fault-is text) ∙ read_is 0 blank (judged_lines text) (judged_ascend text)
+read_lines-is text = ap (λ f. filter (is_read f) (judged_lines text)) (first_fault-is text) ∙ read_is 0 blank (judged_lines text) (Ascends-filter 0 _ (Ascends-numbered 0 1 (map class (lines text)) (omega arith)))

@@ -62,10 +62,7 @@ IsNoContinuation l = continuations (l ∷ []) ≡ []
 continuations-push_other : (ls : List NumberedLine) (l : NumberedLine) → IsNoContinuation l → continuations (ls ++ l ∷ []) ≡ continuations ls
 continuations-push_other [] l other = other
 continuations-push_other ((m, continuation text) ∷ ls) l other = ap (λ texts. text ∷ texts) (continuations-push_other ls l other)
-continuations-push_other ((m, comment) ∷ ls) l other = refl
-continuations-push_other ((m, blank) ∷ ls) l other = refl
-continuations-push_other ((m, named name text) ∷ ls) l other = refl
-continuations-push_other ((m, faulty) ∷ ls) l other = refl
+continuations-push_other ((m, _) ∷ ls) l other = refl
 
 abbrev property : ℕ → List ℕ → TrackedValue → TrackedProperty
 property n name value = record { line = n; name = name; value = value }
@@ -74,10 +71,7 @@ properties-push_other : (ls : List NumberedLine) (l : NumberedLine) → IsNoCont
 properties-push_other [] l other = refl
 properties-push_other ((m, named name text) ∷ ls) l other =
     rw (continuations-push_other ls l other) (ap (λ ps. property m name (joined (text ∷ continuations ls)) ∷ ps) (properties-push_other ls l other))
-properties-push_other ((m, continuation text) ∷ ls) l other = properties-push_other ls l other
-properties-push_other ((m, comment) ∷ ls) l other = properties-push_other ls l other
-properties-push_other ((m, blank) ∷ ls) l other = properties-push_other ls l other
-properties-push_other ((m, faulty) ∷ ls) l other = properties-push_other ls l other
+properties-push_other ((m, _) ∷ ls) l other = properties-push_other ls l other
 
 properties-push_named : (ls : List NumberedLine) (n : ℕ) (name text : List ℕ)
     → properties (ls ++ (n, named name text) ∷ []) ≡ properties ls ++ property n name (record { bytes = text; owned = false }) ∷ []
@@ -95,19 +89,14 @@ continuations-push_none : (ls : List NumberedLine) (n : ℕ) (text : List ℕ) �
 continuations-push_none [] n text opens none = refl
 continuations-push_none ((m, continuation t) ∷ ls) n text opens none = ap (λ texts. t ∷ texts) (continuations-push_none ls n text opens.1 none)
 continuations-push_none ((m, named name t) ∷ ls) n text opens none = cc
-continuations-push_none ((m, comment) ∷ ls) n text opens none = let never = opens.0 in cc
-continuations-push_none ((m, blank) ∷ ls) n text opens none = let never = opens.0 in cc
-continuations-push_none ((m, faulty) ∷ ls) n text opens none = let never = opens.0 in cc
+continuations-push_none ((m, _) ∷ ls) n text opens none = let never = opens.0 in cc
 
 -- and else it does not
 continuations-push_some : (ls : List NumberedLine) (l : NumberedLine) (p : TrackedProperty) (ps : List TrackedProperty) → properties ls ≡ p ∷ ps
     → continuations (ls ++ l ∷ []) ≡ continuations ls
 continuations-push_some [] l p ps some = cc
 continuations-push_some ((m, continuation t) ∷ ls) l p ps some = ap (λ texts. t ∷ texts) (continuations-push_some ls l p ps some)
-continuations-push_some ((m, named name t) ∷ ls) l p ps some = refl
-continuations-push_some ((m, comment) ∷ ls) l p ps some = refl
-continuations-push_some ((m, blank) ∷ ls) l p ps some = refl
-continuations-push_some ((m, faulty) ∷ ls) l p ps some = refl
+continuations-push_some ((m, _) ∷ ls) l p ps some = refl
 
 -- after a name line it is the last property's, or another's after that
 push_after_name : (m : ℕ) (name t : List ℕ) (ls : List NumberedLine) (n : ℕ) (text : List ℕ) → AllOpen ls → (ps : List TrackedProperty) → properties ls ≡ ps
@@ -124,9 +113,7 @@ properties-push_continuation [] n text opens = refl
 properties-push_continuation ((m, continuation t) ∷ ls) n text opens = properties-push_continuation ls n text opens.1
 properties-push_continuation ((m, named name t) ∷ ls) n text opens =
     push_after_name m name t ls n text opens.1 (properties ls) refl (properties-push_continuation ls n text opens.1)
-properties-push_continuation ((m, comment) ∷ ls) n text opens = let never = opens.0 in cc
-properties-push_continuation ((m, blank) ∷ ls) n text opens = let never = opens.0 in cc
-properties-push_continuation ((m, faulty) ∷ ls) n text opens = let never = opens.0 in cc
+properties-push_continuation ((m, _) ∷ ls) n text opens = let never = opens.0 in cc
 
 length-extend_last : (ps : List TrackedProperty) (text : List ℕ) → length (extend_last ps text) ≡ length ps
 length-extend_last [] text = refl
@@ -136,11 +123,8 @@ length-extend_last (p ∷ q ∷ ps) text = ap suc (length-extend_last (q ∷ ps)
 -- ---- the stanza of such lines
 
 open-not_blank : (l : NumberedLine) → is_open l.1 ≡ true → is_blank_line l ≡ false
-open-not_blank (n, comment) o = refl
 open-not_blank (n, blank) o = cc
-open-not_blank (n, continuation text) o = refl
-open-not_blank (n, named name text) o = refl
-open-not_blank (n, faulty) o = refl
+open-not_blank (n, _) o = refl
 
 slice_split-part : (part ls x : List NumberedLine) (xs : List (List NumberedLine)) → AllOpen part → slice_split is_blank_line ls ≡ x ∷ xs
     → slice_split is_blank_line (part ++ ls) ≡ (part ++ x) ∷ xs
@@ -192,23 +176,6 @@ joins stanzas part before n c ls ps runs is o sound e =
     let from_here = rw (e, last_number-push part n c, append_assoc part ((n, c) ∷ []) (read_after c (judged ls))) at more in
     rw (read_after-sound before (n, c) (judged ls) sound, fault_after-sound before (n, c) (judged ls) sound) from_here
 
-runs-nil : Runs []
-runs-nil = record {
-  closed = λ stanzas last. pair (sym (append-nil stanzas)) refl;
-  within = λ stanzas part before is o. pair (part-end stanzas part is.opens) refl;
-}
-
-runs-comment : (n : ℕ) (ls : List NumberedLine) → Runs ls → Runs ((n, comment) ∷ ls)
-runs-comment n ls runs = record { closed = runs.closed; within = runs.within }
-
-runs-blank : (n : ℕ) (ls : List NumberedLine) → Runs ls → Runs ((n, blank) ∷ ls)
-runs-blank n ls runs = record {
-  closed = λ stanzas last. runs.closed stanzas last;
-  within = λ stanzas part before is o.
-      runs.closed (with_stanza stanzas (last_number part) (properties part)) (last_number part)
-      ∙ pair (part-blank stanzas part n (read_after blank (judged ls)) is.opens) refl;
-}
-
 continued-some : (stanzas : List TrackedStanza) (ps : List TrackedProperty) (last n : ℕ) (text : List ℕ) → 0 < length ps
     → ◌≡◌ {A = State × Option Fault} (continued (state stanzas ps last) n text) (state stanzas (extend_last ps text) n, None)
 continued-some stanzas ps last n text some = rw (ne_eqb (length ps) 0 (λ e. omega arith)) refl
@@ -241,19 +208,24 @@ runs-named n name text ls runs = record {
       joins stanzas part before n (named name text) ls _ runs more refl refl ps;
 }
 
-runs-faulty : (n : ℕ) (ls : List NumberedLine) → Runs ((n, faulty) ∷ ls)
-runs-faulty n ls = record {
+runs : (ls : List NumberedLine) → Runs ls
+runs [] = record {
+  closed = λ stanzas last. pair (sym (append-nil stanzas)) refl;
+  within = λ stanzas part before is o. pair (part-end stanzas part is.opens) refl;
+}
+runs ((n, comment) ∷ ls) = record { closed = (runs ls).closed; within = (runs ls).within }
+runs ((n, blank) ∷ ls) = record {
+  closed = (runs ls).closed;
+  within = λ stanzas part before is o.
+      (runs ls).closed (with_stanza stanzas (last_number part) (properties part)) (last_number part)
+      ∙ pair (part-blank stanzas part n (read_after blank (judged ls)) is.opens) refl;
+}
+runs ((n, continuation text) ∷ ls) = runs-continuation n text ls (runs ls)
+runs ((n, named name text) ∷ ls) = runs-named n name text ls (runs ls)
+runs ((n, faulty) ∷ ls) = record {
   closed = λ stanzas last. pair (sym (append-nil stanzas)) refl;
   within = λ stanzas part before is o. pair (part-faulty stanzas part n is.opens) refl;
 }
-
-runs : (ls : List NumberedLine) → Runs ls
-runs [] = runs-nil
-runs ((n, comment) ∷ ls) = runs-comment n ls (runs ls)
-runs ((n, blank) ∷ ls) = runs-blank n ls (runs ls)
-runs ((n, continuation text) ∷ ls) = runs-continuation n text ls (runs ls)
-runs ((n, named name text) ∷ ls) = runs-named n name text ls (runs ls)
-runs ((n, faulty) ∷ ls) = runs-faulty n ls
 
 -- from a state where no stanza is open, after these stanzas
 pub closed_is : (stanzas : List TrackedStanza) (last : ℕ) (ls : List NumberedLine) → ◌≡◌ {A = List TrackedStanza × Option Fault} (outcome (state stanzas [] last) None ls)

@@ -7,7 +7,7 @@ use Rattle.cudf_text.specs.declared.cursor.Next.{Next}
 use Rattle.cudf_text.specs.declared.cursor.Next.TheVariants as next
 use Rattle.cudf_text.specs.Promises.Borrows.{is_joined, joins, joined_values}
 use Rattle.cudf_text.specs.Promises.Cursor.{Left, with_next}
-use Rattle.cudf_text.specs.Lines.{Class, blank, comment, continuation, named, faulty, NumberedLine, lines, judged_lines}
+use Rattle.cudf_text.specs.Lines.{Class, blank, continuation, named, NumberedLine, lines, judged_lines}
 use Rattle.cudf_text.specs.Stanzas.{PlainProperty, PlainStanza, PlainText, continuations, is_blank_line, last_number, plain_text}
 use Rattle.cudf_text.specs.Stanzas as plain
 use Rattle.cudf_text.specs.Promises.Views.{property_view, owned_in}
@@ -22,10 +22,7 @@ plain-properties : (ls : List NumberedLine) → map plain_property (properties l
 plain-properties [] = refl
 plain-properties ((n, named name text) ∷ ls) =
     ap (λ ps. let p : PlainProperty = record { line = n; name = name; value = plain.joined (text ∷ continuations ls) } in p ∷ ps) (plain-properties ls)
-plain-properties ((n, continuation text) ∷ ls) = plain-properties ls
-plain-properties ((n, comment) ∷ ls) = plain-properties ls
-plain-properties ((n, blank) ∷ ls) = plain-properties ls
-plain-properties ((n, faulty) ∷ ls) = plain-properties ls
+plain-properties ((n, _) ∷ ls) = plain-properties ls
 
 plain-one : (last : ℕ) (ps : List TrackedProperty) (rest : List TrackedStanza)
     → map plain_stanza (cons_option (stanza_with last ps) rest) ≡ cons_option (plain.stanza_with last (map plain_property ps)) (map plain_stanza rest)
@@ -44,10 +41,7 @@ plain-stanzas (part ∷ parts) =
 owned-properties : (ls : List NumberedLine) → owned_of (properties ls) ≡ joins ls
 owned-properties [] = refl
 owned-properties ((n, named name text) ∷ ls) = ap (λ bs. is_joined (text ∷ continuations ls) ∷ bs) (owned-properties ls)
-owned-properties ((n, continuation text) ∷ ls) = owned-properties ls
-owned-properties ((n, comment) ∷ ls) = owned-properties ls
-owned-properties ((n, blank) ∷ ls) = owned-properties ls
-owned-properties ((n, faulty) ∷ ls) = owned-properties ls
+owned-properties ((n, _) ∷ ls) = owned-properties ls
 
 owned-one : (last : ℕ) (ps : List TrackedProperty) (rest : List TrackedStanza)
     → flat_map (λ s. owned_of s.properties) (cons_option (stanza_with last ps) rest) ≡ owned_of ps ++ flat_map (λ s. owned_of s.properties) rest
@@ -73,9 +67,8 @@ joins_onto n (named name text) ls (part ∷ parts) other is =
     let e = is.1 in
     (rw e (ap (λ bs. is_joined (text ∷ continuations part) ∷ bs) is.0), refl)
 joins_onto n (continuation text) ls (part ∷ parts) other is = (is.0, ap (λ texts. text ∷ texts) is.1)
-joins_onto n comment ls (part ∷ parts) other is = (is.0, refl)
-joins_onto n faulty ls (part ∷ parts) other is = (is.0, refl)
 joins_onto n blank ls (part ∷ parts) other is = absurd cc
+joins_onto n _ ls (part ∷ parts) other is = (is.0, refl)
 
 after_blank : (n : ℕ) (ls : List NumberedLine) (parts : List (List NumberedLine)) → JoinsIn ls parts → JoinsIn ((n, blank) ∷ ls) ([] ∷ parts)
 after_blank n ls [] is = absurd is
@@ -84,10 +77,7 @@ after_blank n ls (part ∷ parts) is = (is.0, refl)
 joins_in : (ls : List NumberedLine) → JoinsIn ls (slice_split is_blank_line ls)
 joins_in [] = (refl, refl)
 joins_in ((n, blank) ∷ ls) = after_blank n ls _ (joins_in ls)
-joins_in ((n, comment) ∷ ls) = joins_onto n comment ls _ refl (joins_in ls)
-joins_in ((n, continuation text) ∷ ls) = joins_onto n (continuation text) ls _ refl (joins_in ls)
-joins_in ((n, named name text) ∷ ls) = joins_onto n (named name text) ls _ refl (joins_in ls)
-joins_in ((n, faulty) ∷ ls) = joins_onto n faulty ls _ refl (joins_in ls)
+joins_in ((n, c) ∷ ls) = joins_onto n c ls _ refl (joins_in ls)
 
 joins_all : (ls : List NumberedLine) (parts : List (List NumberedLine)) → JoinsIn ls parts → flat_map joins parts ≡ joins ls
 joins_all ls [] is = absurd is

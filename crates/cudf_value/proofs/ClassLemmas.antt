@@ -6,7 +6,7 @@ use Rattle.std.proofs.lemmas.Bool.{ltb-true}
 use Prim.Native.Nat.{zero}
 use Rattle.cudf_value.specs.Working.Classes.{is_in_class, class_bit}
 use Rattle.cudf_value.specs.declared.class.Class.{Class}
-use Rattle.cudf_value.specs.declared.class.Class.TheVariants.{Blank, Letter, Ident, Name, Operator}
+use Rattle.cudf_value.specs.declared.class.Class.TheVariants.{Blank}
 use Rattle.cudf_value.specs.declared.class.TheConstants.{CLASSES}
 
 abbrev pub same : Bool → Bool → Bool
@@ -38,10 +38,7 @@ agrees_at test bit n (x ∷ xs) h (suc k) inside =
 -- the whole table, for each class
 all_agree : (class : Class) → agrees (is_in_class class) (class_bit class) 0 CLASSES ≡ true
 all_agree Blank = refl
-all_agree Letter = refl
-all_agree Ident = refl
-all_agree Name = refl
-all_agree Operator = refl
+all_agree _ = refl
 
 pub table_is : (class : Class) (bit b : ℕ) → bit ≡ class_bit class → b < 256 → has_bit (get_or CLASSES b 0) bit ≡ is_in_class class b
 table_is class bit b is inside = ap (has_bit (get_or CLASSES b 0)) is ∙ agrees_at (is_in_class class) (class_bit class) 0 CLASSES (all_agree class) b inside ∙ (let e : 0 + b ≡ b = omega arith in ap (is_in_class class) e)
@@ -49,10 +46,7 @@ table_is class bit b is inside = ap (has_bit (get_or CLASSES b 0)) is ∙ agrees
 -- no other byte than those of ASCII is in a class
 all_ascii : (class : Class) → agrees (λ b. is_in_class class b && nat_lt b 128) (class_bit class) 0 CLASSES ≡ true
 all_ascii Blank = refl
-all_ascii Letter = refl
-all_ascii Ident = refl
-all_ascii Name = refl
-all_ascii Operator = refl
+all_ascii _ = refl
 
 pub table_ascii : (class : Class) (bit b : ℕ) → bit ≡ class_bit class → b < 256 → IsTrue (has_bit (get_or CLASSES b 0) bit) → b < 128
 table_ascii class bit b is inside has =

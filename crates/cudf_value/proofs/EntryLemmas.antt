@@ -15,13 +15,10 @@ use Rattle.cudf_value.proofs.ReadBack.{prefix_through}
 use Rattle.cudf_value.proofs.AtomLemmas.{is-inside, comma-none, comma-at}
 use Rattle.cudf_value.proofs.VpkgLemmas.{all_pass}
 
-inside_no_comma : (b : ℕ) → is_inside b ≡ true → not (b == byte ",") ≡ true
-inside_no_comma b is = ap not (is-inside b is).no_comma
-
 -- the first part ends at the first comma
 first_at : (pre : List ℕ) (rest : Option (List ℕ)) → list_all is_inside pre ≡ true → first_part (pre ++ entry_end rest) ≡ pre
 first_at pre rest all =
-    ap (λ n. take n (pre ++ entry_end rest)) (prefix_through (λ b. not (b == byte ",")) pre (entry_end rest) (all_pass is_inside (λ b. not (b == byte ",")) inside_no_comma pre all) (none rest))
+    ap (λ n. take n (pre ++ entry_end rest)) (prefix_through (λ b. not (b == byte ",")) pre (entry_end rest) (all_pass is_inside (λ b. not (b == byte ",")) (λ b is. ap not (is-inside b is).no_comma) pre all) (none rest))
     ∙ take-append_seam pre (entry_end rest)
   where
     none : (rest : Option (List ℕ)) → prefix_len (λ b. not (b == byte ",")) (entry_end rest) ≡ 0

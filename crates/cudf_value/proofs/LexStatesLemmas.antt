@@ -8,7 +8,7 @@ use Rattle.std.proofs.lemmas.List.Elements.{All-from_get_or}
 use Rattle.std.proofs.lemmas.List.Sums.{fails_before_first}
 use Rattle.std.proofs.lemmas.List.Splits.{slice_split_first, slice_split_none}
 use Rattle.cudf_value.specs.declared.lex_state.LexState.{LexState}
-use Rattle.cudf_value.specs.declared.lex_state.LexState.TheVariants.{Outside, Bracket, Quotes, Escape, BracketQuotes, BracketEscape, Broken}
+use Rattle.cudf_value.specs.declared.lex_state.LexState.TheVariants.{Outside}
 use Rattle.cudf_value.specs.LexStates.{next_state, state_after, with_states, is_outside, separates, characters, pieces, is_quotable_from}
 
 length-with_states : (state : LexState) (text : List ℕ) → length (with_states state text) ≡ length text
@@ -52,12 +52,7 @@ map_if f false value = refl
 
 outside_is : (state : LexState) → is_outside state ≡ true → state ≡ Outside
 outside_is Outside is = refl
-outside_is Bracket is = cc
-outside_is Quotes is = cc
-outside_is Escape is = cc
-outside_is BracketQuotes is = cc
-outside_is BracketEscape is = cc
-outside_is Broken is = cc
+outside_is _ is = cc
 
 -- the first part ends at the first element that passes
 split_at : {X : Type 0} (test : X → Bool) (xs : List X) (n : ℕ) (d : X) → n < length xs → n ≡ position_or_len test xs

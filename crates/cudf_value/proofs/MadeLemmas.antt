@@ -152,12 +152,7 @@ step Broken b text made = absurd made
 
 nothing : (state : LexState) → is_outside state ≡ true → Made state []
 nothing Outside outside = record { tokens = []; are = refl; whole = refl }
-nothing Bracket outside = absurd cc
-nothing Quotes outside = absurd cc
-nothing Escape outside = absurd cc
-nothing BracketQuotes outside = absurd cc
-nothing BracketEscape outside = absurd cc
-nothing Broken outside = absurd cc
+nothing _ outside = absurd cc
 
 made : (state : LexState) (text : List ℕ) → is_outside (state_after state text) ≡ true → Made state text
 made state [] ends = nothing state ends
@@ -217,11 +212,7 @@ made_inner Quotes [] quotable = record { inner = []; are = refl; whole = refl }
 made_inner Quotes (b ∷ text) quotable = inner_step b text quotable (made_inner (next_state Quotes b) text quotable)
 made_inner Escape [] quotable = absurd cc
 made_inner Escape (b ∷ text) quotable = escaped_step b text quotable (made_inner (next_state Escape b) text quotable)
-made_inner Outside text quotable = tt
-made_inner Bracket text quotable = tt
-made_inner BracketQuotes text quotable = tt
-made_inner BracketEscape text quotable = tt
-made_inner Broken text quotable = tt
+made_inner _ text quotable = tt
 
 made-quotable : (inner : List Inner) → list_all is_inner inner ≡ true → is_quotable (flat_map inner_text inner) ≡ true
 made-quotable [] all = refl

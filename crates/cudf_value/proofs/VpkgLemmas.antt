@@ -1,8 +1,8 @@
 -- A vpkg at the front of a text.
-use Rattle.std.proofs.Common.{◌≡◌, ℕ, suc, ◌+◌, ◌-◌, ◌<◌, Bool, true, false, not, ◌&&◌, ◌==◌, List, [], ◌∷◌, ◌++◌, length, take, drop, get_or, Some, None, refl, sym, ap, ◌∙◌, arith}
+use Rattle.std.proofs.Common.{◌≡◌, ℕ, suc, ◌+◌, ◌-◌, ◌<◌, Bool, true, false, not, ◌&&◌, ◌==◌, List, [], ◌∷◌, ◌++◌, length, take, drop, get_or, Some, None, inl, inr, refl, sym, ap, ◌∙◌, arith}
 use Rattle.std.specs.List.{list_all, prefix_len, suffix_len}
 use Rattle.std.proofs.Math.Seq.{take-append_seam, drop-append_seam}
-use Rattle.std.proofs.lemmas.Bool.{true≢false, and_from, and_parts, eqb-true, lt-ltb, ne_eqb, false_from_ne_true}
+use Rattle.std.proofs.lemmas.Bool.{true≢false, or_cases, and_from, and_parts, eqb-true, lt-ltb, ne_eqb, false_from_ne_true}
 use Rattle.std.proofs.lemmas.List.{append_assoc, append-nil, take-append-drop, get_or_append_left, get_or-append_right, length-append}
 use Rattle.std.proofs.lemmas.List.Folds.{list_all-append}
 use Rattle.std.proofs.lemmas.List.Sums.{suffix_len_is, AllPass-from_list_all}
@@ -20,21 +20,11 @@ use Rattle.cudf_value.proofs.ReadBack.{prefix_through, cut_at_name}
 
 -- what is so of a space and of a tab is so of each blank
 blank_is : (test : ℕ → Bool) (x : Bool) → test 32 ≡ x → test 9 ≡ x → (b : ℕ) → is_blank b ≡ true → test b ≡ x
-blank_is test x space tab b is = by (b == 32) (b == 9) refl refl
-  where
-    by : (p q : Bool) → (b == 32) ≡ p → (b == 9) ≡ q → test b ≡ x
-    by true q e f = ap test (eqb-true b 32 e) ∙ space
-    by false true e f = ap test (eqb-true b 9 f) ∙ tab
-    by false false e f = let never : false ≡ true = rw (e, f) at is in absurd cc
+blank_is test x space tab b is = elim (or_cases (b == 32) (b == 9) is) [ inl e ↦ ap test (eqb-true b 32 e) ∙ space | inr e ↦ ap test (eqb-true b 9 e) ∙ tab ]
 
 -- what is so of a comma and of a bar is so of what ends an atom
 end_is : (test : ℕ → Bool) (x : Bool) → test 44 ≡ x → test 124 ≡ x → (b : ℕ) → ends_atom b ≡ true → test b ≡ x
-end_is test x comma bar b is = by (b == 44) (b == 124) refl refl
-  where
-    by : (p q : Bool) → (b == 44) ≡ p → (b == 124) ≡ q → test b ≡ x
-    by true q e f = ap test (eqb-true b 44 e) ∙ comma
-    by false true e f = ap test (eqb-true b 124 f) ∙ bar
-    by false false e f = let never : false ≡ true = rw (e, f) at is in absurd cc
+end_is test x comma bar b is = elim (or_cases (b == 44) (b == 124) is) [ inl e ↦ ap test (eqb-true b 44 e) ∙ comma | inr e ↦ ap test (eqb-true b 124 e) ∙ bar ]
 
 -- what is so of each of the four is so of a character of an operator
 operator_is : (test : ℕ → Bool) (x : Bool) → test 33 ≡ x → test 60 ≡ x → test 61 ≡ x → test 62 ≡ x → (b : ℕ) → is_operator_char b ≡ true → test b ≡ x
@@ -51,7 +41,7 @@ operator_is test x bang below equal above b is = by (33 == b) (60 == b) (61 == b
 apart : (one other : ℕ → Bool) → ((b : ℕ) → one b ≡ true → other b ≡ false) → (b : ℕ) → other b ≡ true → one b ≡ false
 apart one other fails b is = false_from_ne_true (one b) (λ h. true≢false (sym is ∙ fails b h))
 
-blank_no_name : (b : ℕ) → is_blank b ≡ true → is_pkgname_char b ≡ false
+pub blank_no_name : (b : ℕ) → is_blank b ≡ true → is_pkgname_char b ≡ false
 blank_no_name = blank_is is_pkgname_char false refl refl
 
 blank_inside : (b : ℕ) → is_blank b ≡ true → is_inside b ≡ true
@@ -60,17 +50,8 @@ blank_inside = blank_is is_inside true refl refl
 operator_no_name : (b : ℕ) → is_operator_char b ≡ true → is_pkgname_char b ≡ false
 operator_no_name = operator_is is_pkgname_char false refl refl refl refl
 
-operator_no_blank : (b : ℕ) → is_operator_char b ≡ true → is_blank b ≡ false
-operator_no_blank = operator_is is_blank false refl refl refl refl
-
-operator_inside : (b : ℕ) → is_operator_char b ≡ true → is_inside b ≡ true
-operator_inside = operator_is is_inside true refl refl refl refl
-
 blank_no_operator : (b : ℕ) → is_blank b ≡ true → is_operator_char b ≡ false
 blank_no_operator = blank_is is_operator_char false refl refl
-
-name_no_operator : (b : ℕ) → is_pkgname_char b ≡ true → is_operator_char b ≡ false
-name_no_operator = apart is_operator_char is_pkgname_char operator_no_name
 
 name_no_blank : (b : ℕ) → is_pkgname_char b ≡ true → is_blank b ≡ false
 name_no_blank = apart is_blank is_pkgname_char blank_no_name
@@ -236,7 +217,7 @@ after_is : (name gap symbol space number : List ℕ) (r : Relop) (n : ℕ) → A
 after_is name gap symbol space number r n are =
     let some_number = some_digits number n are.value in
     let no_operator : prefix_len is_operator_char (space ++ number) ≡ 0 =
-    blanks_then is_operator_char blank_no_operator space number are.space_blank (word_fails is_operator_char name_no_operator number are.digits some_number) in
+    blanks_then is_operator_char blank_no_operator space number are.space_blank (word_fails is_operator_char (apart is_operator_char is_pkgname_char operator_no_name) number are.digits some_number) in
     let left : trim_start (space ++ number) ≡ number =
     blanks_off space number are.space_blank ∙ ap (λ k. drop k number) (word_fails is_blank name_no_blank number are.digits some_number) in
     rw (
@@ -259,7 +240,7 @@ bounded_vpkg name gap symbol space number r n are =
     (blanks_then is_pkgname_char blank_no_name gap tail are.gap_blank
     (none_passes is_pkgname_char is_operator_char operator_no_name symbol (space ++ number) some_symbol are.operators))
     ∙ ap (vpkg_after name) (blanks_off gap tail are.gap_blank
-    ∙ ap (λ k. drop k tail) (none_passes is_blank is_operator_char operator_no_blank symbol (space ++ number) some_symbol are.operators))
+    ∙ ap (λ k. drop k tail) (none_passes is_blank is_operator_char (operator_is is_blank false refl refl refl refl) symbol (space ++ number) some_symbol are.operators))
     ∙ after_is name gap symbol space number r n are
 
 bounded_part : (before name gap symbol space number behind : List ℕ) (r : Relop) (n : ℕ) → AreParts name gap symbol space number r n
@@ -294,7 +275,7 @@ bounded_begins text rest r n some bound =
           (run_cut is_operator_char operator _ _ (run_cut is_blank space _ _ (run_cut is_pkgname_char number _ _
           (run_first is_blank behind ∙ ap (λ t. run is_blank behind ++ t) (sym bound.behind)))))));
       inside = run_inside is_blank blank_inside text _ (run_inside is_pkgname_char name_inside start _ (run_inside is_blank blank_inside tail _
-          (run_inside is_operator_char operator_inside operator _ (run_inside is_blank blank_inside space _ (run_inside is_pkgname_char name_inside number _
+          (run_inside is_operator_char (operator_is is_inside true refl refl refl refl) operator _ (run_inside is_blank blank_inside space _ (run_inside is_pkgname_char name_inside number _
           (all_pass is_blank is_inside blank_inside (run is_blank behind) (run_passes is_blank behind)))))));
       value = bounded_part (run is_blank text) (name_of text) (run is_blank tail) (run is_operator_char operator) (run is_blank space) (run is_pkgname_char number) (run is_blank behind) r n
           (record {
