@@ -12,7 +12,7 @@ use Rattle.cudf_document.specs.Universe.{PlainPackage, package_id}
 use Rattle.cudf_document.proofs.FaultlessLemmas.{distinct-at}
 use Rattle.std.proofs.lemmas.Cmp.{nat_list_eq_equiv}
 use Rattle.cudf_document.specs.Documents.{is_empty}
-use Rattle.cudf_universe.proofs.SearchLemmas.{list_any-map}
+use Rattle.cudf_document.proofs.ListLemmas.{list_any-map}
 use Rattle.cudf_universe.specs.Satisfaction.{Placed}
 use Rattle.cudf_referee.specs.declared.counting.standing.Standing.{Standing}
 use Rattle.cudf_referee.specs.Criteria.{each_once, names_of, versions_of, is_among, is_same_set, greatest, at_most_max}
@@ -140,7 +140,7 @@ grown_own was is xs p f fresh =
 
 -- a name is there where a package has it, and then it has a version
 named : (f : List ℕ) (xs : List Placed) → list_any (bytes_eq f) (map (λ p. p.1.name) xs) ≡ has_package xs f
-named f xs = list_any-map (bytes_eq f) (λ p. p.1.name) xs ∙ ap (λ t. list_any t xs) (λ i p. nat_list_eq_equiv.symm f p.1.name i)
+named f xs = list_any-map (λ p. p.1.name) (bytes_eq f) xs ∙ ap (λ t. list_any t xs) (λ i p. nat_list_eq_equiv.symm f p.1.name i)
 
 empty-versions : (f : List ℕ) (xs : List Placed) → is_empty (versions_of f xs) ≡ not (has_package xs f)
 empty-versions f xs = is_empty-map (λ (p : Placed). p.1.version) (filter (is_named f) xs) ∙ is_empty-filter (is_named f) xs ∙ sym (list_any-none (is_named f) xs)
