@@ -149,17 +149,14 @@ class Types(Copy):
         self.assert_refused(1, "the headline rests on crates/cudf_value/specs/Working/Rests.antt")
 
     def test_type_of_a_field(self):
-        self.plant("cudf_document/src/package.rt", "use cudf_value::{Formula, Vpkg};",
-                   "use crate::property::seen_names::{\n    SeenNames as Seen,\n};\nuse cudf_value::{Formula, Vpkg};")
-        self.plant("cudf_document/src/package.rt", "    pub keep: Keep,",
-                   "    pub keep: Keep,\n    pub(crate) seen: Option<Box<Seen<'t>>>,")
-        self.plant("cudf_document/src/property/seen_names.rt", "    ghost Value = { List (List ℕ) };",
-                   "    ghost use Rattle.cudf_document.specs.Working.SeenNames.{seen};\n\n    ghost Value = { List (List ℕ) };")
-        self.plant("cudf_document/src/property/seen_names.rt", "    ghost view = { λ n. map", "    ghost view = { λ n. seen map")
-        self.assert_refused(1, "the headline rests on crates/cudf_document/specs/Working/SeenNames.antt")
+        # (what a cursor shows is a view over working state)
+        self.plant("cudf_text/src/fault.rt", "ghost use Rattle.cudf_text.specs.Faults.{fault_text};",
+                   "ghost use Rattle.cudf_text.specs.Faults.{fault_text};\n\nuse crate::cursor::{\n    Stanzas as Cursor,\n};")
+        self.plant("cudf_text/src/fault.rt", "    pub kind: Kind,", "    pub kind: Kind,\n    pub(crate) left: Option<Box<Cursor<'static>>>,")
+        self.assert_refused(1, "the headline rests on crates/cudf_text/specs/Working/Left.antt")
 
     def test_type_of_a_field_not_found(self):
-        self.plant("cudf_document/src/package.rt", "    pub keep: Keep,", "    pub keep: Keep,\n    pub(crate) seen: Seen<'t>,")
+        self.plant("cudf_text/src/fault.rt", "    pub kind: Kind,", "    pub kind: Kind,\n    pub(crate) seen: Seen,")
         self.assert_refused(2, "can't find the type `Seen`")
 
     def test_declared_type_without_file(self):
