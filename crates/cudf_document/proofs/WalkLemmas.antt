@@ -1,5 +1,5 @@
 -- What is known of stanzas on the walk: as of those that are gathered.
-use Rattle.std.proofs.Common.{◌≡◌, ℕ, max, map, filter_map, Bool, true, false, not, ◌||◌, List, [], ◌∷◌, ◌++◌, Option, Some, None, inl, inr, refl, sym, ap, subst, ◌∙◌, IsTrue}
+use Rattle.std.proofs.Common.{◌≡◌, ℕ, max, map, filter_map, Bool, true, false, not, ◌||◌, List, [], ◌∷◌, ◌++◌, Option, Some, None, inl, inr, refl, sym, ap, subst, ◌∙◌, IsTrue, Result, Ok, Err, OnOk}
 use Rattle.std.specs.List.{list_any, list_all, flat_map}
 use Rattle.std.specs.Option.{option_or}
 use Rattle.std.specs.Cow.{cow_str_bytes}
@@ -19,14 +19,15 @@ use Rattle.cudf_document.specs.declared.mode.Mode.{Mode}
 use Rattle.cudf_document.specs.declared.mode.Mode.TheVariants.{Lenient, Strict}
 use Rattle.cudf_document.specs.declared.problem.walk.Walk.{Walk}
 use Rattle.cudf_document.specs.declared.stanza.postmark.Postmark.{Postmark}
-use Rattle.cudf_document.specs.declared.stanza.postmark.Postmark.TheVariants.{Package}
+use Rattle.cudf_document.specs.declared.stanza.postmark.Postmark.TheVariants.{Preamble, Package}
 use Rattle.cudf_document.specs.Faults.{lesser, least, fault_if}
 use Rattle.cudf_text.specs.declared.fault.Kind.TheVariants.{E13}
 use Rattle.std.proofs.lemmas.List.{append_assoc, append-nil}
-use Rattle.cudf_document.specs.Documents.{is_empty, with_earlier, postmark, is_request, marks_request}
+use Rattle.cudf_document.specs.Documents.{is_empty, with_earlier, postmark, is_request, marks_preamble, marks_request}
 use Rattle.cudf_document.specs.Ids.{is_id, id_of}
 use Rattle.cudf_document.specs.Preamble.{declared}
-use Rattle.cudf_document.specs.ProblemFaults.{place_faults, required_names, stanza_faults}
+use Rattle.cudf_document.specs.Promises.Packages.{is_preamble}
+use Rattle.cudf_document.specs.ProblemFaults.{properties_faults, place_faults, required_names, stanza_faults}
 use Rattle.cudf_document.specs.Universe.{package_id, packages_in, request_in}
 use Rattle.cudf_document.specs.Values.{name_value}
 use Rattle.cudf_document.specs.Working.ProblemBuilders.{PlainBuilder, with_stanza, faults_inside, IsBuilt, first_ids}
@@ -100,6 +101,19 @@ pub required_none : (mode : Mode) → [] ≡ required_names mode []
 required_none Lenient = refl
 required_none Strict = refl
 
+-- a preamble that is first
+preamble_mark : (mark : Option Postmark) → marks_preamble mark ≡ true → mark ≡ Some Preamble
+preamble_mark (Some Preamble) h = refl
+preamble_mark _ h = absurd cc
+
+pub IsKnown-preamble : (mode : Mode) (old new : Walk) (s : PlainStanza) → is_preamble s ≡ true → old.declarations ≡ [] → IsKnown mode old []
+    → new.first ≡ lesser old.first (least (properties_faults [] (Some Preamble) s.properties)) → new.ids ≡ old.ids → new.requested ≡ old.requested
+    → IsKnown mode new (s ∷ [])
+IsKnown-preamble mode old new s marked ds so_far first ids requested =
+    IsKnown-next mode [] old new [] s (Some Preamble) true None (least (properties_faults [] (Some Preamble) s.properties)) refl ds (required_none mode) so_far
+    (sym (preamble_mark (postmark s) marked))
+    (ap (λ late. least (place_faults true late (Some Preamble) s.line)) (sym so_far.requested_is)) refl first ids requested
+
 pub GoesOn-next : (mode : Mode) (required : List (List ℕ)) (Old New : List PlainStanza → Type 0) (old new : Walk) (left later text : PlainText) (s : PlainStanza)
     → GoesOn mode required Old old left text
     → ◌≡◌ {A = PlainText} left (record later { stanzas = s ∷ later.stanzas })
@@ -165,6 +179,20 @@ GoesOn-first mode Kept k later text s read knows ds keeps = record { now = s ∷
 
 pub IsSoFar-none : (mode : Mode) (Kept : List PlainStanza → Type 0) (k : Walk) → k.declarations ≡ [] → IsKnown mode k [] → Kept [] → IsSoFar mode Kept k []
 IsSoFar-none mode Kept k ds knows keeps = record { declared_are = ds; known = knows; kept = keeps }
+
+pub IsSoFar-first : {A E : Type 0} (r : Result A E) (mode : Mode) (Old New : List PlainStanza → Type 0) (old new : Walk) (before : List PlainStanza) (s : PlainStanza)
+    → true ≡ is_empty before → IsSoFar mode Old old before
+    → (old.declarations ≡ [] → IsKnown mode old [] → OnOk r (IsKnown mode new (s ∷ [])))
+    → (old.declarations ≡ [] → OnOk r (new.declarations ≡ declared (s ∷ [])))
+    → (old.declarations ≡ [] → Old [] → OnOk r (New (s ∷ [])))
+    → OnOk r (IsSoFar mode New new (before ++ s ∷ []))
+IsSoFar-first (Ok v) mode Old New old new [] s first so_far knows ds keeps = record {
+  declared_are = ds so_far.declared_are;
+  known = knows so_far.declared_are so_far.known;
+  kept = keeps so_far.declared_are so_far.kept;
+}
+IsSoFar-first (Err e) mode Old New old new [] s first so_far knows ds keeps = tt
+IsSoFar-first r mode Old New old new (t ∷ before) s first so_far knows ds keeps = absurd cc
 
 pub IsSoFar-end : (mode : Mode) (Kept : List PlainStanza → Type 0) (old new : Walk) (text : PlainText) → IsSoFar mode Kept old text.stanzas
     → new.first ≡ lesser (lesser text.fault old.first) (least (fault_if (not old.requested) (max 1 text.lines) E13))

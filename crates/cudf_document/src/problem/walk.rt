@@ -20,7 +20,7 @@ use crate::mode::Mode;
 use crate::package::fields::source_name;
 use crate::package::ids::Ids;
 use crate::property::seen_names::SeenNames;
-use crate::stanza::postmark::{Postmark, postmark_of};
+use crate::stanza::postmark::{Postmark, is_preamble, postmark_of};
 use cudf_text::{Fault, Kind, Next, Property, Stanza, Stanzas};
 use cudf_value::read_posint;
 use std::alloc::{AllocError, Global};
@@ -220,11 +220,11 @@ impl<'h, 'a> Walk<'h, 'a> {
     ghost use Rattle.cudf_document.specs.Ids.{Id, id_under};
     ghost use Rattle.cudf_document.specs.Promises.Packages.{with_id};
     ghost use Rattle.cudf_document.specs.Working.ProblemBuilders.{package_faults};
-    ghost use Rattle.cudf_document.specs.ProblemFaults.{required_names};
     ghost use Rattle.cudf_document.specs.Working.Walks.{texts, IsKnown, IsSoFar, judged_faults, judged_ids};
     ghost use Rattle.cudf_document.specs.Documents.{is_empty, postmark};
-    ghost use Rattle.cudf_document.specs.Preamble.{declared};
-    ghost use Rattle.cudf_document.specs.declared.stanza.postmark.Postmark.TheVariants.{Package as PackageMark};
+    ghost use Rattle.cudf_document.specs.Preamble.{declared, declared_after};
+    ghost use Rattle.cudf_document.specs.ProblemFaults.{properties_faults, required_names};
+    ghost use Rattle.cudf_document.specs.declared.stanza.postmark.Postmark.TheVariants.{Preamble as PreambleMark, Package as PackageMark};
 
     /// No stanza.
     pub(crate) fn new(alloc: Global) -> Self
@@ -254,8 +254,12 @@ impl<'h, 'a> Walk<'h, 'a> {
             OnOk result (K.IsKept is_kept (stanza_view head.now ∷ []) kept.new) }
     {
         let mut walk: Walk<'h, 'a> = Walk::new(alloc);
+        if is_preamble(head) {
+            kept.pass(head);
+            walk.take_preamble(alloc, head)?;
+            return Ok(walk);
+        }
         walk.take(alloc, kept, true, head, &[])?;
-        declare(alloc, &mut walk.declarations, head)?;
         Ok(walk)
     }
 
@@ -279,10 +283,53 @@ impl<'h, 'a> Walk<'h, 'a> {
             IsSoFar mode (λ ss. K.IsKept is_kept ss kept.old) self.old before →
             OnOk result (IsSoFar mode (λ ss. K.IsKept is_kept ss kept.new) self.new (before ++ stanza_view held.now ∷ [])) }
     {
-        self.take(alloc, kept, is_first, lent, required)?;
         if is_first {
-            declare(alloc, &mut self.declarations, held)?;
+            return self.take_first(alloc, kept, lent, held);
         }
+        self.take(alloc, kept, false, lent, required)
+    }
+
+    /// Takes the first of some stanzas that are held: what it declares is read of the held one.
+    fn take_first<'b, K: Kept<'a>>(
+        &mut self,
+        alloc: Global,
+        kept: &mut K,
+        lent: &Stanza<'a>,
+        held: &'h Stanza<'b>,
+    ) -> Result<(), AllocError>
+        requires { stanza_view lent.now ≡ stanza_view held.now }
+        ensures known { (mode : Mode) →
+            self.old.declarations ≡ [] →
+            IsKnown mode self.old [] →
+            OnOk result (IsKnown mode self.new (stanza_view held.now ∷ [])) }
+        ensures declared { self.old.declarations ≡ [] →
+            OnOk result (self.new.declarations ≡ declared (stanza_view held.now ∷ [])) }
+        ensures kept { (is_kept : Id → Bool) →
+            K.is_lost lent.now ≡ false →
+            self.old.declarations ≡ [] →
+            K.IsKept is_kept [] kept.old →
+            OnOk result (K.IsKept is_kept (stanza_view held.now ∷ []) kept.new) }
+    {
+        if is_preamble(held) {
+            kept.pass(lent);
+            self.take_preamble(alloc, held)
+        } else {
+            self.take(alloc, kept, true, lent, &[])
+        }
+    }
+
+    /// Takes a preamble that is first, with what it declares.
+    fn take_preamble<'b>(&mut self, alloc: Global, head: &'h Stanza<'b>) -> Result<(), AllocError>
+        ensures first { OnOk result (self.new.first
+            ≡ lesser self.old.first (least (properties_faults [] (Some PreambleMark) (stanza_view head.now).properties))) }
+        ensures declarations { OnOk result (self.new.declarations
+            ≡ declared_after [] (stanza_view head.now).properties) }
+        ensures ids { OnOk result (self.new.ids ≡ self.old.ids) }
+        ensures requested { OnOk result (self.new.requested ≡ self.old.requested) }
+    {
+        let mut names = SeenNames::new(alloc);
+        let fault = read_preamble(alloc, &mut names, &mut self.declarations, head)?;
+        keep_lesser(&mut self.first, fault);
         Ok(())
     }
 
@@ -497,25 +544,6 @@ fn either(one: bool, other: bool) -> bool
     ensures { result ≡ (one || other) }
 {
     one || other
-}
-
-/// Adds what the first stanza declares.
-fn declare<'h, 'a>(
-    alloc: Global,
-    declarations: &mut Declarations<'h>,
-    head: &'h Stanza<'a>,
-) -> Result<(), AllocError>
-    ensures { declarations.old ≡ [] →
-        OnOk result (declarations.new ≡ declared (stanza_view head.now ∷ [])) }
-{
-    match postmark_of(head) {
-        Some(Postmark::Preamble) => {
-            let mut names = SeenNames::new(alloc);
-            let _fault = read_preamble(alloc, &mut names, declarations, head)?;
-            Ok(())
-        }
-        _ => Ok(()),
-    }
 }
 
 fn at_least_one(lines: u64) -> u64
