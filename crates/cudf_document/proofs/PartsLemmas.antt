@@ -109,21 +109,21 @@ faultless mode IsKept w text whole none = least-none (problem_faults text mode) 
 module _ (is_kept : Id → Bool) (p : Parts) (w : Walk) (text : PlainText) (mode : Mode) (whole : IsWhole mode (λ ss. IsParts is_kept ss p) w text) where
   requested : w.first ≡ None → is_some (gathered_of w p).request ≡ true
   requested none =
-      ap is_some whole.kept.parts_are.1 ∙ is_some-option_map request_of (find is_request text.stanzas) ∙ is_some-find is_request text.stanzas
+      ap is_some (whole.kept none).parts_are.1 ∙ is_some-option_map request_of (find is_request text.stanzas) ∙ is_some-find is_request text.stanzas
       ∙ has_request text mode (faultless mode (λ ss. IsParts is_kept ss p) w text whole none)
 
   -- the names and versions are those of the text's packages
-  same_ids : map package_id (gathered_of w p).packages ≡ map package_id (packages_in text.stanzas)
-  same_ids = ap (map package_id) whole.kept.parts_are.0 ∙ ids-thin is_kept (packages_in text.stanzas)
+  same_ids : w.first ≡ None → map package_id (gathered_of w p).packages ≡ map package_id (packages_in text.stanzas)
+  same_ids none = ap (map package_id) (whole.kept none).parts_are.0 ∙ ids-thin is_kept (packages_in text.stanzas)
 
   distinct : w.first ≡ None → are_distinct (map package_id (gathered_of w p).packages) ≡ true
-  distinct none = ap are_distinct same_ids ∙ ids_distinct text mode (faultless mode (λ ss. IsParts is_kept ss p) w text whole none)
+  distinct none = ap are_distinct (same_ids none) ∙ ids_distinct text mode (faultless mode (λ ss. IsParts is_kept ss p) w text whole none)
 
   listed : w.first ≡ None → (gathered_of w p).ids ≡ map package_id (gathered_of w p).packages
   listed none =
       all_ids (record { declared = w.declarations; ids = w.ids; packages = packages_in text.stanzas; request = request_in text.stanzas }) whole.listed_are
       (ids_distinct text mode (faultless mode (λ ss. IsParts is_kept ss p) w text whole none))
-      ∙ sym same_ids
+      ∙ sym (same_ids none)
 
   pub ready : w.first ≡ None → IsReady w p
   ready none = record {
@@ -132,11 +132,11 @@ module _ (is_kept : Id → Bool) (p : Parts) (w : Walk) (text : PlainText) (mode
     distinct = ap are_distinct (listed none) ∙ distinct none;
   }
 
-  pub thin_problem_is : problem_of (gathered_of w p) ≡ thin_problem is_kept (plain_problem text)
+  pub thin_problem_is : w.first ≡ None → problem_of (gathered_of w p) ≡ thin_problem is_kept (plain_problem text)
   unfolding plain_problem
-  thin_problem_is = λ i. problem_of (record {
+  thin_problem_is none = λ i. problem_of (record {
     declared = whole.declared_are i;
     ids = w.ids;
-    packages = whole.kept.parts_are.0 i;
-    request = whole.kept.parts_are.1 i;
+    packages = (whole.kept none).parts_are.0 i;
+    request = (whole.kept none).parts_are.1 i;
   })

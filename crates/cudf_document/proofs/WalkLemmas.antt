@@ -114,27 +114,39 @@ IsKnown-preamble mode old new s marked ds so_far first ids requested =
     (sym (preamble_mark (postmark s) marked))
     (ap (λ late. least (place_faults true late (Some Preamble) s.line)) (sym so_far.requested_is)) refl first ids requested
 
+-- where there is no fault now, there was none before
+pub none_before : (x y : Option Fault) → lesser x y ≡ None → x ≡ None
+none_before None y h = refl
+none_before (Some f) None h = absurd cc
+none_before (Some f) (Some g) h = absurd cc
+
+none_behind : (x y : Option Fault) → lesser x y ≡ None → y ≡ None
+none_behind None y h = h
+none_behind (Some f) None h = absurd cc
+none_behind (Some f) (Some g) h = absurd cc
+
 pub GoesOn-next : (mode : Mode) (required : List (List ℕ)) (Old New : List PlainStanza → Type 0) (old new : Walk) (left later text : PlainText) (s : PlainStanza)
     → GoesOn mode required Old old left text
     → ◌≡◌ {A = PlainText} left (record later { stanzas = s ∷ later.stanzas })
     → ((before : List PlainStanza) → false ≡ is_empty before → old.declarations ≡ declared before → required ≡ required_names mode (declared before)
     → IsKnown mode old before → IsKnown mode new (before ++ s ∷ []))
-    → ((before : List PlainStanza) → old.declarations ≡ declared before → Old before → New (before ++ s ∷ []))
+    → (new.first ≡ None → old.first ≡ None)
+    → ((before : List PlainStanza) → old.declarations ≡ declared before → old.first ≡ None → Old before → New (before ++ s ∷ []))
     → new.declarations ≡ old.declarations → GoesOn mode required New new later text
-GoesOn-next mode required Old New old new left later text s goes read knows keeps same = record {
+GoesOn-next mode required Old New old new left later text s goes read knows was keeps same = record {
   now = goes.now ++ s ∷ [];
   some = sym (is_empty-push goes.now s);
   declared_are = same ∙ goes.declared_are ∙ sym (declared_later goes.now s goes.some);
   required_are = goes.required_are ∙ ap (required_names mode) (sym (declared_later goes.now s goes.some));
   known = knows goes.now goes.some goes.declared_are goes.required_are goes.known;
-  kept = keeps goes.now goes.declared_are goes.kept;
+  kept = λ none. keeps goes.now goes.declared_are (was none) (goes.kept (was none));
   whole = (λ i. let t : PlainText = record later { stanzas = append_assoc goes.now (s ∷ []) later.stanzas i } in t)
       ∙ (λ i. let t : PlainText = record (sym read i) { stanzas = goes.now ++ (sym read i).stanzas } in t) ∙ goes.whole;
 }
 
 -- nothing is left behind these stanzas
 all_known : (mode : Mode) (Kept : List PlainStanza → Type 0) (old new : Walk) (now : List PlainStanza) (left text : PlainText) (fault : Option Fault) (lines : ℕ)
-    → old.declarations ≡ declared now → IsKnown mode old now → Kept now
+    → old.declarations ≡ declared now → IsKnown mode old now → (old.first ≡ None → Kept now)
     → ◌≡◌ {A = PlainText} (record left { stanzas = now ++ left.stanzas }) text → ◌≡◌ {A = PlainText} left (record { stanzas = []; fault = fault; lines = lines })
     → new.first ≡ lesser (lesser fault old.first) (least (fault_if (not old.requested) (max 1 lines) E13))
     → new.declarations ≡ old.declarations → new.ids ≡ old.ids → IsWhole mode Kept new text
@@ -152,7 +164,8 @@ all_known mode Kept old new now left text fault lines ds knows keeps whole read 
       declared_are = same_ds ∙ ds ∙ ap declared ss;
       ids_are = λ id. ap (λ l. list_any (is_id id) l) same_ids ∙ knows.ids_are id ∙ ap (λ l. list_any (is_id id) (filter_map id_of l)) ss;
       listed_are = same_ids ∙ knows.listed_are ∙ ap (λ l. first_ids [] (map package_id (packages_in l))) ss;
-      kept = subst Kept ss keeps;
+      kept = λ none.
+          subst Kept ss (keeps (none_behind fault old.first (none_before (lesser fault old.first) (least (fault_if (not old.requested) (max 1 lines) E13)) (sym first ∙ none))));
     }
 
 pub GoesOn-end : (mode : Mode) (required : List (List ℕ)) (Kept : List PlainStanza → Type 0) (old new : Walk) (left text : PlainText) (fault : Option Fault) (lines : ℕ) → GoesOn mode required Kept old left text
@@ -168,31 +181,46 @@ pub no_stanza : (mode : Mode) (Kept : List PlainStanza → Type 0) (old new : Wa
     → new.first ≡ lesser (lesser fault old.first) (least (fault_if (not old.requested) (max 1 lines) E13))
     → new.declarations ≡ old.declarations → new.ids ≡ old.ids → IsWhole mode Kept new text
 no_stanza mode Kept old new text fault lines ds knows keeps read first same_ds same_ids =
-    all_known mode Kept old new [] text text fault lines ds knows keeps refl read first same_ds same_ids
+    all_known mode Kept old new [] text text fault lines ds knows (λ none. keeps) refl read first same_ds same_ids
 
 pub GoesOn-first : (mode : Mode) (Kept : List PlainStanza → Type 0) (k : Walk) (later text : PlainText) (s : PlainStanza)
     → ◌≡◌ {A = PlainText} text (record later { stanzas = s ∷ later.stanzas })
     → IsKnown mode k (s ∷ []) → k.declarations ≡ declared (s ∷ []) → Kept (s ∷ []) → GoesOn mode (required_names mode k.declarations) Kept k later text
-GoesOn-first mode Kept k later text s read knows ds keeps = record { now = s ∷ []; some = refl; declared_are = ds; required_are = ap (required_names mode) ds; known = knows; kept = keeps; whole = sym read }
+GoesOn-first mode Kept k later text s read knows ds keeps = record { now = s ∷ []; some = refl; declared_are = ds; required_are = ap (required_names mode) ds; known = knows; kept = λ none. keeps; whole = sym read }
 
 -- ---- stanzas that are held
 
 pub IsSoFar-none : (mode : Mode) (Kept : List PlainStanza → Type 0) (k : Walk) → k.declarations ≡ [] → IsKnown mode k [] → Kept [] → IsSoFar mode Kept k []
-IsSoFar-none mode Kept k ds knows keeps = record { declared_are = ds; known = knows; kept = keeps }
+IsSoFar-none mode Kept k ds knows keeps = record { declared_are = ds; known = knows; kept = λ none. keeps }
 
 pub IsSoFar-first : {A E : Type 0} (r : Result A E) (mode : Mode) (Old New : List PlainStanza → Type 0) (old new : Walk) (before : List PlainStanza) (s : PlainStanza)
     → true ≡ is_empty before → IsSoFar mode Old old before
     → (old.declarations ≡ [] → IsKnown mode old [] → OnOk r (IsKnown mode new (s ∷ [])))
     → (old.declarations ≡ [] → OnOk r (new.declarations ≡ declared (s ∷ [])))
-    → (old.declarations ≡ [] → Old [] → OnOk r (New (s ∷ [])))
+    → OnOk r (new.first ≡ None → old.first ≡ None)
+    → (old.declarations ≡ [] → old.first ≡ None → Old [] → OnOk r (New (s ∷ [])))
     → OnOk r (IsSoFar mode New new (before ++ s ∷ []))
-IsSoFar-first (Ok v) mode Old New old new [] s first so_far knows ds keeps = record {
+IsSoFar-first (Ok v) mode Old New old new [] s first so_far knows ds was keeps = record {
   declared_are = ds so_far.declared_are;
   known = knows so_far.declared_are so_far.known;
-  kept = keeps so_far.declared_are so_far.kept;
+  kept = λ none. keeps so_far.declared_are (was none) (so_far.kept (was none));
 }
-IsSoFar-first (Err e) mode Old New old new [] s first so_far knows ds keeps = tt
-IsSoFar-first r mode Old New old new (t ∷ before) s first so_far knows ds keeps = absurd cc
+IsSoFar-first (Err e) mode Old New old new [] s first so_far knows ds was keeps = tt
+IsSoFar-first r mode Old New old new (t ∷ before) s first so_far knows ds was keeps = absurd cc
+
+pub IsSoFar-next : {A E : Type 0} (r : Result A E) (mode : Mode) (Old New : List PlainStanza → Type 0) (old new : Walk) (before : List PlainStanza) (s : PlainStanza)
+    → false ≡ is_empty before → IsSoFar mode Old old before
+    → OnOk r (IsKnown mode new (before ++ s ∷ []))
+    → OnOk r (new.declarations ≡ old.declarations)
+    → OnOk r (new.first ≡ None → old.first ≡ None)
+    → (old.first ≡ None → Old before → OnOk r (New (before ++ s ∷ [])))
+    → OnOk r (IsSoFar mode New new (before ++ s ∷ []))
+IsSoFar-next (Ok v) mode Old New old new before s later so_far knows same was keeps = record {
+  declared_are = same ∙ so_far.declared_are ∙ sym (declared_later before s later);
+  known = knows;
+  kept = λ none. keeps (was none) (so_far.kept (was none));
+}
+IsSoFar-next (Err e) mode Old New old new before s later so_far knows same was keeps = tt
 
 pub IsSoFar-end : (mode : Mode) (Kept : List PlainStanza → Type 0) (old new : Walk) (text : PlainText) → IsSoFar mode Kept old text.stanzas
     → new.first ≡ lesser (lesser text.fault old.first) (least (fault_if (not old.requested) (max 1 text.lines) E13))

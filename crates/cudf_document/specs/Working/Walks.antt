@@ -41,26 +41,27 @@ pub record IsKnown (mode : Mode) (k : Walk) (before : List PlainStanza) : Type 0
   pub listed_are : k.ids ≡ first_ids [] (map package_id (packages_in before))
   pub requested_is : k.requested ≡ list_any is_request before
 
--- and their declarations, and this was kept of them
+-- and their declarations, and this was kept of them, unless there was a fault
 pub record IsSoFar (mode : Mode) (IsKept : List PlainStanza → Type 0) (k : Walk) (before : List PlainStanza) : Type 0 where
   pub declared_are : k.declarations ≡ declared before
   pub known : IsKnown mode k before
-  pub kept : IsKept before
+  pub kept : k.first ≡ None → IsKept before
 
--- some stanzas of the text are known, which require these names, this was kept of them, and these are left
+-- some stanzas of the text are known, which require these names, this was kept of them unless there was a fault, and
+-- these are left
 pub record GoesOn (mode : Mode) (required : List (List ℕ)) (IsKept : List PlainStanza → Type 0) (k : Walk) (left text : PlainText) : Type 0 where
   pub now : List PlainStanza
   pub some : false ≡ is_empty now
   pub declared_are : k.declarations ≡ declared now
   pub required_are : required ≡ required_names mode (declared now)
   pub known : IsKnown mode k now
-  pub kept : IsKept now
+  pub kept : k.first ≡ None → IsKept now
   pub whole : ◌≡◌ {A = PlainText} (record left { stanzas = now ++ left.stanzas }) text
 
--- the whole text is known: its first fault, declarations, names and versions, and what was kept
+-- the whole text is known: its first fault, declarations, names and versions, and what was kept, unless it has a fault
 pub record IsWhole (mode : Mode) (IsKept : List PlainStanza → Type 0) (k : Walk) (text : PlainText) : Type 0 where
   pub first_is : k.first ≡ least (problem_faults text mode)
   pub declared_are : k.declarations ≡ declared text.stanzas
   pub ids_are : (id : Id) → is_among k.ids id ≡ is_among (filter_map id_of text.stanzas) id
   pub listed_are : k.ids ≡ first_ids [] (map package_id (packages_in text.stanzas))
-  pub kept : IsKept text.stanzas
+  pub kept : k.first ≡ None → IsKept text.stanzas

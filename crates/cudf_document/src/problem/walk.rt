@@ -1,14 +1,15 @@
 //! The walk over a problem's stanzas, one at a time: their first fault, and what is kept of them.
-ghost use Rattle.std.specs.Prelude.{◌≡◌, Bool, not, ◌||◌, ◌&&◌, List, [], ◌∷◌, ◌++◌, Some, max, is_none, option_map, option_copied, bytes_eq, codes, find, IfOk, OnOk, IfSome, IfNone, IsTrue};
+ghost use Rattle.std.specs.Prelude.{◌≡◌, Bool, not, ◌||◌, ◌&&◌, List, [], ◌∷◌, ◌++◌, Some, None, false, max, is_none, option_map, option_copied, bytes_eq, codes, find, IfOk, OnOk, IfSome, IfNone, IsTrue};
 ghost use Rattle.cudf_document.specs.Preamble.{declared};
 ghost use Rattle.cudf_text.specs.Stanzas.{PlainStanza, PlainText};
 ghost use Rattle.cudf_text.specs.Promises.Views.{stanza_view, property_view};
 ghost use Rattle.cudf_text.specs.declared.fault.Kind.TheVariants.{E11, E12};
 ghost use Rattle.cudf_document.specs.Faults.{least, fault_if};
-ghost use Rattle.cudf_document.specs.Documents.{value_of, has_name, line_of, marks_preamble, marks_request};
+ghost use Rattle.cudf_document.specs.Documents.{value_of, has_name, line_of, postmark, marks_preamble, marks_request};
 ghost use Rattle.cudf_document.specs.Ids.{Id, id_with, id_under};
 ghost use Rattle.cudf_document.specs.Values.{name_value, version_value};
 ghost use Rattle.cudf_document.specs.ProblemFaults.{properties_faults, place_faults, version_property, required_names};
+ghost use Rattle.cudf_document.specs.Working.SeenNames.{AreNames};
 ghost use Rattle.cudf_document.specs.Working.Walks.{texts, GoesOn, IsWhole};
 ghost use Rattle.cudf_document.specs.declared.stanza.postmark.Postmark.TheVariants.{Preamble as PreambleMark, Package as PackageMark};
 
@@ -19,6 +20,7 @@ use crate::fault::{fault_if, keep_lesser, lesser};
 use crate::mode::Mode;
 use crate::package::fields::source_name;
 use crate::package::ids::Ids;
+use crate::property::fields::judge_package;
 use crate::property::seen_names::SeenNames;
 use crate::stanza::postmark::{Postmark, is_preamble, postmark_of};
 use cudf_text::{Fault, Kind, Next, Property, Stanza, Stanzas};
@@ -212,7 +214,7 @@ pub(crate) struct Walk<'h, 'a> {
 }
 
 impl<'h, 'a> Walk<'h, 'a> {
-    ghost use Rattle.std.specs.Prelude.{◌≡◌, Bool, false, List, [], ◌∷◌, ◌++◌, not, max, IfOk, OnOk};
+    ghost use Rattle.std.specs.Prelude.{◌≡◌, Bool, false, List, [], ◌∷◌, ◌++◌, None, not, max, IfOk, OnOk};
     ghost use Rattle.cudf_text.specs.Stanzas.{PlainStanza};
     ghost use Rattle.cudf_text.specs.Promises.Views.{stanza_view};
     ghost use Rattle.cudf_text.specs.declared.fault.Kind.TheVariants.{E13};
@@ -230,6 +232,7 @@ impl<'h, 'a> Walk<'h, 'a> {
     pub(crate) fn new(alloc: Global) -> Self
         ensures known { (mode : Mode) → IsKnown mode result [] }
         ensures declared { result.declarations ≡ [] }
+        ensures first { result.first ≡ None }
     {
         Walk {
             first: None,
@@ -304,9 +307,11 @@ impl<'h, 'a> Walk<'h, 'a> {
             OnOk result (IsKnown mode self.new (stanza_view held.now ∷ [])) }
         ensures declared { self.old.declarations ≡ [] →
             OnOk result (self.new.declarations ≡ declared (stanza_view held.now ∷ [])) }
+        ensures first { OnOk result (self.new.first ≡ None → self.old.first ≡ None) }
         ensures kept { (is_kept : Id → Bool) →
             K.is_lost lent.now ≡ false →
             self.old.declarations ≡ [] →
+            self.old.first ≡ None →
             K.IsKept is_kept [] kept.old →
             OnOk result (K.IsKept is_kept (stanza_view held.now ∷ []) kept.new) }
     {
@@ -350,10 +355,12 @@ impl<'h, 'a> Walk<'h, 'a> {
             IsKnown mode self.old before →
             OnOk result (IsKnown mode self.new (before ++ stanza_view stanza.now ∷ [])) }
         ensures declarations { OnOk result (self.new.declarations ≡ self.old.declarations) }
+        ensures first { OnOk result (self.new.first ≡ None → self.old.first ≡ None) }
         ensures kept { (is_kept : Id → Bool) →
             K.is_lost stanza.now ≡ false →
             (before : List PlainStanza) →
             self.old.declarations ≡ declared before →
+            self.old.first ≡ None →
             K.IsKept is_kept before kept.old →
             OnOk result (K.IsKept is_kept (before ++ stanza_view stanza.now ∷ []) kept.new) }
     {
@@ -385,6 +392,7 @@ impl<'h, 'a> Walk<'h, 'a> {
             (before : List PlainStanza) →
             postmark (stanza_view stanza.now) ≡ mark →
             self.old.declarations ≡ declared before →
+            self.old.first ≡ None →
             K.IsKept is_kept before kept.old →
             OnOk result (K.IsKept is_kept (before ++ stanza_view stanza.now ∷ []) kept.new) }
     {
@@ -422,11 +430,20 @@ impl<'h, 'a> Walk<'h, 'a> {
             (before : List PlainStanza) →
             postmark (stanza_view stanza.now) ≡ Some PackageMark →
             self.old.declarations ≡ declared before →
+            self.old.first ≡ None →
             K.IsKept is_kept before kept.old →
             OnOk result (K.IsKept is_kept (before ++ stanza_view stanza.now ∷ []) kept.new) }
     {
         let id = package_id(stanza);
-        let fault = kept.take_package(alloc, &mut self.names, &self.declarations, id, stanza)?;
+        let fault = take_properties(
+            alloc,
+            kept,
+            self.first,
+            &mut self.names,
+            &self.declarations,
+            id,
+            stanza,
+        )?;
         let is_repeated = self.ids.insert_some(id)?;
         let missing = fault_if(lacks_one(required, &self.names), stanza.last, Kind::E14);
         Ok(lesser(missing, lesser(fault, package_fault(is_repeated, stanza))))
@@ -442,6 +459,38 @@ impl<'h, 'a> Walk<'h, 'a> {
         let requestless = fault_if(!self.requested, at_least_one(lines), Kind::E13);
         self.first = lesser(lesser(fault, self.first), requestless);
     }
+}
+
+/// The first fault of a package's properties. Behind a fault nothing is kept of them, since no problem
+/// is made.
+fn take_properties<'a, K: Kept<'a>>(
+    alloc: Global,
+    kept: &mut K,
+    first: Option<Fault>,
+    names: &mut SeenNames<'a>,
+    declarations: &Declarations<'_>,
+    id: Option<(&'a str, u64)>,
+    stanza: &Stanza<'a>,
+) -> Result<Option<Fault>, AllocError>
+    ensures fault { IfOk result (λ fault.
+        fault
+        ≡ least (properties_faults declarations.now (Some PackageMark) (stanza_view stanza.now).properties)) }
+    ensures names { OnOk result (AreNames names.new (stanza_view stanza.now).properties) }
+    ensures kept { (is_kept : Id → Bool) →
+        K.is_lost stanza.now ≡ false →
+        (before : List PlainStanza) →
+        postmark (stanza_view stanza.now) ≡ Some PackageMark →
+        option_map (λ id. (id.0.now, id.1)) id.entry
+        ≡ id_under (Some PackageMark) (stanza_view stanza.now).properties →
+        declarations.now ≡ declared before →
+        first ≡ None →
+        K.IsKept is_kept before kept.old →
+        OnOk result (K.IsKept is_kept (before ++ stanza_view stanza.now ∷ []) kept.new) }
+{
+    if first.is_some() {
+        return judge_package(alloc, names, declarations, stanza);
+    }
+    kept.take_package(alloc, names, declarations, id, stanza)
 }
 
 /// The name and the version of a package, where both are of their types.

@@ -17,5 +17,5 @@ returns-clause-sound c = faultless c.args.mode (λ ss. IsParts (λ id. true) ss 
 
 pub returns-clause-problem : goal.returns-clause-problem
 returns-clause-problem c =
-    c.in_ok-into_problem.ensures ∙ thin_problem_is (λ id. true) c.in_ok-walk.parts c.in_ok-walk.walk (text_view c.args.text.now) c.args.mode c.in_ok-walk.ensures
+    c.in_ok-into_problem.ensures ∙ thin_problem_is (λ id. true) c.in_ok-walk.parts c.in_ok-walk.walk (text_view c.args.text.now) c.args.mode c.in_ok-walk.ensures c.in_default.is
     ∙ thin_problem-all (λ id. true) (λ id. refl) (plain_problem (text_view c.args.text.now))

@@ -25,3 +25,4 @@ returns-clause-problem c =
     c.in_ok-into_problem.ensures
     ∙ thin_problem_is (kept_by c.args.chosen) c.in-Some.parts c.in-Some.walk c.args.stanzas.text c.args.mode
     (subst (λ o. IfSome o (λ w. IsWhole c.args.mode (λ ss. IsParts (kept_by c.args.chosen) ss w.1) w.0 c.args.stanzas.text)) c.in-Some.is (c.in_ok-walked.ensures.whole (kept_by c.args.chosen) c.new.ensures))
+    c.in_default-first.is

@@ -12,7 +12,7 @@ stanzas-preserved g c = λ is_kept mode text goes.
     GoesOn-next mode (texts c.args.required.now) (λ ss. g.K.Kept.IsKept is_kept ss c.stanzas.kept) (λ ss. g.K.Kept.IsKept is_kept ss c.take.new.kept) c.stanzas.walk c.take.new.self c.stanzas.stanzas.text c.next.new.self.text text s
     (c.stanzas.invariant is_kept mode text goes)
     (ap (λ (l : Left). l.text) (c.in_ok-line.ensures.read ∙ ap (λ n. with_next n c.next.new.properties.items c.next.new.self) c.in-Stanza.is))
-    (c.in_ok-take-in-Stanza.ensures.known mode) (c.in_ok-take-in-Stanza.ensures.kept is_kept (sym c.loses.ensures.lost ∙ c.if-loses.false)) c.in_ok-take-in-Stanza.ensures.declarations
+    (c.in_ok-take-in-Stanza.ensures.known mode) c.in_ok-take-in-Stanza.ensures.first (c.in_ok-take-in-Stanza.ensures.kept is_kept (sym c.loses.ensures.lost ∙ c.if-loses.false)) c.in_ok-take-in-Stanza.ensures.declarations
 
 pub returns-in-End-clause-whole : goal.returns-in-End-clause-whole
 returns-in-End-clause-whole g c = λ is_kept mode text goes.

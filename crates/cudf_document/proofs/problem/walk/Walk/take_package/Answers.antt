@@ -33,8 +33,8 @@ returns-clause-fault g c =
     c.in_ok-is_repeated.ensures.is_known
     ∙ ap (is_known ids) c.package_id-id.ensures in
     let lacks : c.lacks_one.result ≡ lacks_one required s.properties =
-    c.lacks_one.ensures ∙ sym (list_any-map (λ name. name.now) (λ name. not (list_any (bytes_eq name) c.take_package.new.names)) c.args.required.now)
-    ∙ lacks_one-seen c.take_package.new.names s.properties required c.in_ok-fault.ensures.names in
+    c.lacks_one.ensures ∙ sym (list_any-map (λ name. name.now) (λ name. not (list_any (bytes_eq name) c.take_properties.new.names)) c.args.required.now)
+    ∙ lacks_one-seen c.take_properties.new.names s.properties required c.in_ok-fault.ensures.names in
     let others : c.lesser.result ≡ least (inner ++ (again ++ unversioned)) =
     c.lesser.ensures ∙ (λ i. lesser (c.in_ok-fault.ensures.fault i) (c.package_fault.ensures i))
     ∙ ap (λ b. lesser (least inner) (least (fault_if b (line_of (version_property s)) E11 ++ unversioned))) repeated
