@@ -20,7 +20,7 @@ use Rattle.cudf_referee.specs.Promises.Walks.{Walking, left, Moves}
 use Rattle.cudf_referee.specs.Working.Judged.{instance_at, is_violated, given_at, all_given}
 use Rattle.cudf_referee.specs.Working.Places.{IsFitting, ahead}
 use Rattle.cudf_referee.specs.Working.Searches.{or_later, first_given, unless_found, sum_to_first, cost_to_first, least_to_first, Finds}
-use Rattle.cudf_referee.specs.Working.Walkers.{stops_behind}
+use Rattle.cudf_referee.specs.Working.Behind.{stops_behind}
 use Rattle.cudf_referee.proofs.AheadLemmas.{not_below, kept_above, after-ranks, after-left}
 use Rattle.cudf_referee.proofs.ListLemmas.{all_kept, none_kept, filter-both, weaker_case}
 use Rattle.cudf_referee.proofs.AscentLemmas.{Below, chained, Climbs, from_lower, climbs-filter, walk-climbs}

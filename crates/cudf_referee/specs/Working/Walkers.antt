@@ -1,13 +1,9 @@
 -- What a walk over the instances of a problem and a solution stands on.
-use Rattle.std.specs.Prelude.{◌≡◌, ℕ, Bool, List, map, Option, Some, None, IsTrue}
+use Rattle.std.specs.Prelude.{◌≡◌, ℕ, Bool, List, map, IsTrue}
 use Rattle.cudf_document.specs.Statuses.{PlainUnknown, is_initial, ascend_above}
 use Rattle.cudf_document.specs.Universe.{PlainProblem}
 use Rattle.cudf_universe.specs.Satisfaction.{Placed, members}
-use Rattle.cudf_referee.specs.Keys.{PlainKey}
-use Rattle.cudf_referee.specs.Proposals.{Proposal}
-use Rattle.cudf_referee.specs.Promises.Sites.{Stop, walk}
 use Rattle.cudf_referee.specs.Working.Named.{has_kept_name}
-use Rattle.cudf_referee.specs.Working.Searches.{stops_left}
 
 -- the statuses are those of the problem and of what is proposed, and each package's flag says whether its name is to be kept and is there
 pub record Agrees (problem : PlainProblem) (is_installed : ℕ → Bool) (before now : List Placed) (named : List Bool) (unknown : List PlainUnknown) : Type 0 where
@@ -15,8 +11,3 @@ pub record Agrees (problem : PlainProblem) (is_installed : ℕ → Bool) (before
   pub is : now ≡ members is_installed problem.packages
   pub flags : named ≡ map (has_kept_name now) problem.packages
   pub ascends : IsTrue (ascend_above 0 unknown)
-
--- the stops behind a key, or all of them
-abbrev pub stops_behind : Proposal → Option PlainKey → List Stop
-stops_behind s None = walk s
-stops_behind s (Some key) = stops_left s key

@@ -4,14 +4,14 @@ ghost use Rattle.std.specs.FinSet as set;
 ghost use Rattle.cudf_document.specs.Promises.Views.{unknown_view};
 ghost use Rattle.cudf_universe.specs.Promises.Prices.{digits};
 ghost use Rattle.cudf_referee.specs.KeyViews.{key_view};
-ghost use Rattle.cudf_referee.specs.Promises.Pages.{behind, least_search};
+ghost use Rattle.cudf_referee.specs.Promises.Pages.{least_search};
 ghost use Rattle.cudf_referee.specs.Promises.PositionViews.{position_view};
 ghost use Rattle.cudf_referee.specs.Proposals.{put_forward};
 ghost use Rattle.cudf_referee.specs.Promises.Sites.{at_start, at_key};
 ghost use Rattle.cudf_referee.specs.Promises.Views.{instance_view};
 ghost use Rattle.cudf_referee.specs.Working.Places.{BeginsAt, IsFitting, ahead};
 ghost use Rattle.cudf_referee.specs.Working.Searches.{Finds};
-ghost use Rattle.cudf_referee.specs.Working.Walkers.{Agrees, stops_behind};
+ghost use Rattle.cudf_referee.specs.Working.Walkers.{Agrees};
 
 use crate::instance::Instance;
 use crate::key::Key;
@@ -122,33 +122,6 @@ impl<'r, 'p, 't> Instances<'r, 'p, 't> {
     }
 }
 
-/// The first violated instance behind a key, or of all. The unknown stanzas behind it begin at the place `unknown`.
-fn search_behind<'p, 't>(
-    problem: &'p Problem<'t>,
-    solution: &'p Solution<'t>,
-    named: &[bool],
-    now: &mut Metered<'_, '_, '_>,
-    before: &mut MeteredNumbers<'_, '_, '_>,
-    steps: &mut Steps,
-    key: Option<Key>,
-    unknown: usize,
-) -> Option<Instance<'p, 't>>
-    requires agrees { Agrees problem.now (set.contains solution.now.status) before.old.status now.old.status named.now (map unknown_view solution.now.unknown.items) }
-    requires place { BeginsAt (behind (option_map key_view key)) (map unknown_view solution.now.unknown.items) unknown }
-    ensures found { let s = put_forward problem.now before.old.status now.old.status (map unknown_view solution.now.unknown.items) in
-        Finds s (stops_behind s (option_map key_view key)) (option_map instance_view result)
-        (now.old.steps + before.old.steps + steps.old) (now.new.steps + before.new.steps + steps.new) }
-    ensures now { now.new.status ≡ now.old.status }
-    ensures before { before.new.status ≡ before.old.status }
-{
-    let ground = Ground {
-        problem,
-        solution,
-        named,
-    };
-    walk::search(now, before, steps, ground, key, unknown)
-}
-
 /// The first violated instance ahead of a position.
 fn search<'p, 't>(
     problem: &'p Problem<'t>,
@@ -174,7 +147,12 @@ fn search<'p, 't>(
         Position::At(key) => Some(key),
         Position::End => return None,
     };
-    search_behind(problem, solution, named, now, before, steps, key, unknown)
+    let ground = Ground {
+        problem,
+        solution,
+        named,
+    };
+    walk::search(now, before, steps, ground, key, unknown)
 }
 
 impl<'r, 'p, 't> Iterator for Instances<'r, 'p, 't> {
