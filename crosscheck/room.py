@@ -8,7 +8,7 @@ asked for), the most bytes that were held at once, and the calls of read. Wanted
 
 - at most as many growths as the input has bytes, and 500 more; for twice the input, at most 2.2 times as many, and 500
   more;
-- at most 64 bytes of memory for each byte of the input, and 1 MB more;
+- at most 64 bytes of memory for each byte of the input, and 1 MB more; behind a fault, where nothing is kept, 3 bytes;
 - of a file, at most a read for each 65,536 bytes, and 8 more; of a pipe that gives a byte at a time, one for each byte;
 - for twice the input, at most 2.6 times the processor time (the least of some runs, in turns; of more runs where the
   first ones say otherwise).
@@ -39,7 +39,7 @@ SMALL_STACK = 128 << 10
 GREATEST_INPUT = 268_435_456
 CHUNK = 65_536
 MEGABYTE = 1 << 20
-BYTES_PER_BYTE, MORE_BYTES = 64, MEGABYTE
+BYTES_PER_BYTE, FAULTY_BYTES_PER_BYTE, MORE_BYTES = 64, 3, MEGABYTE
 MORE_GROWTHS, MORE_READS = 500, 8
 GROWTHS_DOUBLED, TIME_DOUBLED = 2.2, 2.6
 TURNS, ROUNDS = 3, 5
@@ -47,7 +47,7 @@ LONG = b"cudf_check: an input is longer than 268435456 bytes; give a shorter one
 OK, YES, NO = "problem ok\n", "solution yes\n", "solution no\n"
 
 Counts = collections.namedtuple("Counts", "growths blocks bytes peak reads given")
-Case = collections.namedtuple("Case", "name size make")
+Case = collections.namedtuple("Case", "name size make most", defaults=[BYTES_PER_BYTE])
 Task = collections.namedtuple("Task", "job files output status")
 
 
@@ -132,6 +132,13 @@ def distribution(count, behind=""):
     return packages(numbers, lines) + "request:\n", installed(numbers)
 
 
+def behind_a_fault(count):
+    """A distribution behind a package that has a fault."""
+    problem, solution = distribution(count)
+    fault = "problem line 2: E9 value is not of its type\n"
+    return Task("check", ["package: p0\nversion: 0\n\n" + problem, solution], fault, 2)
+
+
 def unknown(count):
     numbers = range(1, count + 1)
     lines = "".join(
@@ -178,6 +185,7 @@ CASES = (
     Case("a distribution with joined values", 20_000, lambda n: check(*distribution(n, ",\n g"))),
     Case("a distribution, linted", 20_000, lambda n: lint(distribution(n)[0])),
     Case("a distribution, one of it installed", 20_000, lambda n: check(distribution(n)[0], installed([1]))),
+    Case("a distribution behind a fault", 20_000, behind_a_fault, FAULTY_BYTES_PER_BYTE),
     Case("unknown stanzas", 50_000, unknown),
     Case("declared properties", 50_000, declared),
     Case("an enum of many idents", 50_000, enum),
@@ -294,7 +302,7 @@ class Trials:
             words = [self.path, task.job, "-"] if is_slow else self.words(task, size)
             status, output, errors, counts = self.runner.counted(words, data)
             faults += answer_faults(task, status, output, errors)
-            faults += room_faults(counts, [len(text) for text in task.files], is_slow)
+            faults += room_faults(counts, [len(text) for text in task.files], case.most, is_slow)
             runs.append((words, data, counts))
         faults += growth_faults(runs[0][2], runs[1][2])
         ratio, seconds = (0, 0) if faults else self.doubled(runs)
@@ -353,13 +361,13 @@ def answer_faults(task, status, output, errors):
     return [f"status {status}, {len(output)} bytes: {output[-100:]} {errors[-100:]}"]
 
 
-def room_faults(counts, sizes, is_slow):
-    """What is too much for files of these sizes."""
+def room_faults(counts, sizes, most, is_slow):
+    """What is too much for files of these sizes, at most so many bytes of memory for each of theirs."""
     size, faults = sum(sizes), []
     most_reads = size + MORE_READS if is_slow else sum(one // CHUNK + 1 for one in sizes) + MORE_READS
     if counts.growths > size + MORE_GROWTHS:
         faults.append(f"{counts.growths} growths for {size} bytes")
-    if counts.peak > BYTES_PER_BYTE * size + MORE_BYTES:
+    if counts.peak > most * size + MORE_BYTES:
         faults.append(f"{counts.peak} bytes of memory for {size} bytes")
     if counts.reads > most_reads:
         faults.append(f"{counts.reads} reads for {size} bytes")
