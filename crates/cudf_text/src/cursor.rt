@@ -8,11 +8,14 @@ ghost use Rattle.cudf_text.specs.Working.Tracked.{tracked_property, tracked_valu
 use crate::fault::{Fault, Kind};
 use crate::line::{Line, classify};
 use crate::lines::first_line;
-use crate::reading::read_left;
-use crate::text::{Property, Text};
+use crate::text::{Property, Stanza, Text};
 use std::alloc::{AllocError, Global};
 use std::borrow::CowStr;
 use std::marker::Model;
+use std::mem;
+
+/// The most properties that a stanza gets room for before they are read.
+const ROOM: usize = 64;
 
 /// What a cursor answers.
 #[derive(Clone, Copy, Debug, PartialEq, Eq)]
@@ -112,8 +115,45 @@ impl<'a> Stanzas<'a> {
         ensures text { IfOk result (λ t. text_view t ≡ self.entry.text) }
         ensures borrowed { IfOk result (λ t. owned_values t ≡ self.entry.joins) }
     {
-        read_left(alloc, self.source, self)
+        let source = self.source;
+        let mut cursor = self;
+        let mut stanzas = Vec::new(alloc);
+        let mut properties = Vec::new(alloc);
+        'stanzas: loop {
+            match cursor.next(alloc, &mut properties)? {
+                Next::Stanza { line, last } => {
+                    let properties = take_all(alloc, &mut properties)?;
+                    stanzas.push(Stanza {
+                        line,
+                        last,
+                        properties,
+                    })?;
+                }
+                Next::End { fault, lines } => {
+                    return Ok(Text {
+                        source,
+                        stanzas,
+                        fault,
+                        lines,
+                    });
+                }
+            }
+        }
     }
+}
+
+/// The properties, in no more room than they need. Stanzas are often alike: the next one gets
+/// room for as many at once.
+fn take_all<'a>(
+    alloc: Global,
+    properties: &mut Vec<Property<'a>>,
+) -> Result<Vec<Property<'a>>, AllocError>
+    ensures { IfOk result (λ taken. taken.items ≡ properties.old.items) }
+{
+    let room = properties.len().min(ROOM);
+    let mut taken = mem::replace(properties, Vec::with_capacity(alloc, room)?);
+    taken.shrink_to_fit();
+    Ok(taken)
 }
 
 /// How far a text was read.

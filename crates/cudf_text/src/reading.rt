@@ -2,17 +2,14 @@ ghost use Rattle.std.specs.Prelude.{◌≡◌, ◌+◌, IfErr, IfOk, IsUtf8, all
 ghost use Rattle.cudf_text.specs.Lines.{is_lf};
 ghost use Rattle.cudf_text.specs.Stanzas.{plain_text};
 ghost use Rattle.cudf_text.specs.Promises.Borrows.{joined_values};
-ghost use Rattle.cudf_text.specs.Promises.Views.{IsText, owned_values, text_view};
+ghost use Rattle.cudf_text.specs.Promises.Views.{IsText, owned_values};
 ghost use Rattle.cudf_text.specs.LineFaults.{utf8_fault};
 
-use crate::cursor::{Next, Stanzas};
+use crate::cursor::Stanzas;
 use crate::fault::{Fault, Kind};
-use crate::text::{Property, Stanza, Text, TextError};
-use std::alloc::{AllocError, Global};
-use std::{mem, str};
-
-/// The most properties that a stanza gets room for before they are read.
-const ROOM: usize = 64;
+use crate::text::{Text, TextError};
+use std::alloc::Global;
+use std::str;
 
 /// Reads the stanzas of a document (CUDF 2.0, syntax of stanzas and properties), up to its first
 /// faulty line. `TextError::Fault` is answered exactly where the bytes aren't UTF-8, without
@@ -31,7 +28,9 @@ pub fn read<'a>(alloc: Global, bytes: &'a [u8]) -> Result<Text<'a>, TextError>
     ensures not_utf8 { ¬ (IsUtf8 bytes.now) → result ≡ Err (TextError.Fault (utf8_fault bytes.now)) }
 {
     match source_of(bytes) {
-        Ok(source) => read_text(alloc, source).map_err(TextError::Memory),
+        Ok(source) => Stanzas::new(source)
+            .read_rest(alloc)
+            .map_err(TextError::Memory),
         Err(fault) => Err(TextError::Fault(fault)),
     }
 }
@@ -65,63 +64,6 @@ pub fn source_of(bytes: &[u8]) -> Result<&str, Fault>
             })
         }
     }
-}
-
-fn read_text<'a>(alloc: Global, source: &'a str) -> Result<Text<'a>, AllocError>
-    ensures source { IfOk result (λ t. t.source.now ≡ source.now) }
-    ensures text { IfOk result IsText }
-    ensures borrowed { IfOk result (λ t. owned_values t ≡ joined_values source.now) }
-{
-    read_left(alloc, source, Stanzas::new(source))
-}
-
-/// What a cursor has left, as a text of this source.
-pub(crate) fn read_left<'a>(
-    alloc: Global,
-    source: &'a str,
-    cursor: Stanzas<'a>,
-) -> Result<Text<'a>, AllocError>
-    ensures source { IfOk result (λ t. t.source.now ≡ source.now) }
-    ensures text { IfOk result (λ t. text_view t ≡ cursor.entry.text) }
-    ensures borrowed { IfOk result (λ t. owned_values t ≡ cursor.entry.joins) }
-{
-    let mut cursor = cursor;
-    let mut stanzas = Vec::new(alloc);
-    let mut properties = Vec::new(alloc);
-    'stanzas: loop {
-        match cursor.next(alloc, &mut properties)? {
-            Next::Stanza { line, last } => {
-                let properties = take_all(alloc, &mut properties)?;
-                stanzas.push(Stanza {
-                    line,
-                    last,
-                    properties,
-                })?;
-            }
-            Next::End { fault, lines } => {
-                return Ok(Text {
-                    source,
-                    stanzas,
-                    fault,
-                    lines,
-                });
-            }
-        }
-    }
-}
-
-/// The properties, in no more room than they need. Stanzas are often alike: the next one gets
-/// room for as many at once.
-fn take_all<'a>(
-    alloc: Global,
-    properties: &mut Vec<Property<'a>>,
-) -> Result<Vec<Property<'a>>, AllocError>
-    ensures { IfOk result (λ taken. taken.items ≡ properties.old.items) }
-{
-    let room = properties.len().min(ROOM);
-    let mut taken = mem::replace(properties, Vec::with_capacity(alloc, room)?);
-    taken.shrink_to_fit();
-    Ok(taken)
 }
 
 fn lf_count(bytes: &[u8]) -> u64

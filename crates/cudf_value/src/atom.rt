@@ -1,14 +1,24 @@
-//! The atoms of a formula, one after the other.
+//! Atoms, and how those of a formula are read one after the other.
 ghost use Rattle.std.specs.Prelude.{◌≡◌, true, ◌++◌, ◌<◌, length, drop, position, slice_index, option_map, IfSome, IsTrue};
 ghost use Rattle.std.specs.List.{list_all};
 ghost use Rattle.cudf_value.specs.Promises.Views.{atom_view};
 ghost use Rattle.cudf_value.specs.Formulas.{atom_part};
 ghost use Rattle.cudf_value.specs.Working.Atoms.{ends_atom, is_inside, end_text, end_rest, values, values_of};
 
-use crate::formula::Atom;
 use crate::text::{after, before};
-use crate::vpkg::{vpkg_at, vpkg_of};
+use crate::vpkg::{Vpkg, vpkg_at, vpkg_of};
 use cudf_text::trim;
+
+/// An atom of a clause.
+#[derive(Clone, Copy, Debug, PartialEq, Eq)]
+pub enum Atom<'t> {
+    /// `true!`
+    Yes,
+    /// `false!`
+    No,
+    /// A vpkg.
+    Is(Vpkg<'t>),
+}
 
 /// What ends an atom, with what stands after it.
 #[derive(Clone, Copy)]

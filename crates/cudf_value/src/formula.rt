@@ -7,22 +7,10 @@ ghost use Rattle.cudf_value.specs.Promises.Views.{formula_view};
 ghost use Rattle.cudf_value.specs.Formulas.{clause, formula};
 ghost use Rattle.cudf_value.specs.Working.Atoms.{with_clauses};
 
-use crate::atom::{AtomEnd, first_atom};
+use crate::atom::{Atom, AtomEnd, first_atom};
 use crate::text::room_for;
-use crate::vpkg::Vpkg;
 use cudf_text::trim;
 use std::alloc::{AllocError, Global};
-
-/// An atom of a clause.
-#[derive(Clone, Copy, Debug, PartialEq, Eq)]
-pub enum Atom<'t> {
-    /// `true!`
-    Yes,
-    /// `false!`
-    No,
-    /// A vpkg.
-    Is(Vpkg<'t>),
-}
 
 /// A disjunction, of one atom at least in what the readers give.
 #[derive(Debug, Drop)]

@@ -19,9 +19,10 @@ mod vpkg;
 mod vpkglist;
 mod word;
 
+pub use atom::Atom;
 pub use cudf_text::is_ident;
 pub use declaration::{Declaration, read_declarations};
-pub use formula::{Atom, Clause, Formula, is_formula, read_formula};
+pub use formula::{Clause, Formula, is_formula, read_formula};
 pub use number::{read_int, read_nat, read_posint};
 pub use relop::{Relop, meets};
 pub use value_type::{ValueType, fits, is_of_type};

@@ -3,7 +3,8 @@ ghost use Rattle.std.specs.Prelude.{Some};
 ghost use Rattle.cudf_value.specs.Promises.Views.{vpkg_view, atom_view, clause_view};
 ghost use Rattle.cudf_value.specs.Printing.{vpkg_text, atom_text, clause_text};
 
-use crate::formula::{Atom, Clause};
+use crate::atom::Atom;
+use crate::formula::Clause;
 use crate::vpkg::Vpkg;
 use itoa::Buffer;
 use std::fmt;

@@ -2,8 +2,8 @@
 use Rattle.std.specs.Prelude.{List, map}
 use Rattle.cudf_value.specs.declared.vpkg.Vpkg.{Vpkg}
 use Rattle.cudf_value.specs.Vpkgs.{PlainVpkg}
-use Rattle.cudf_value.specs.declared.formula.Atom.{Atom}
-use Rattle.cudf_value.specs.declared.formula.Atom.TheVariants.{Yes, No, Is}
+use Rattle.cudf_value.specs.declared.atom.Atom.{Atom}
+use Rattle.cudf_value.specs.declared.atom.Atom.TheVariants.{Yes, No, Is}
 use Rattle.cudf_value.specs.declared.formula.Clause.{Clause}
 use Rattle.cudf_value.specs.declared.formula.Formula.{Formula}
 use Rattle.cudf_value.specs.Formulas.{PlainAtom, truth_atom, falsehood_atom, named}

@@ -1,7 +1,7 @@
 use Rattle.std.proofs.Common.{◌≡◌, List, [], ◌∷◌, ◌++◌, map, ap, sym, ◌∙◌, codes}
 use Rattle.std.specs.List.{flat_map}
 use Rattle.std.proofs.lemmas.List.Folds.{flat_map-map}
-use Rattle.cudf_value.specs.declared.formula.Atom.{Atom}
+use Rattle.cudf_value.specs.declared.atom.Atom.{Atom}
 use Rattle.cudf_value.specs.Promises.Views.{atom_view}
 use Rattle.cudf_value.specs.Printing.{atom_text, clause_text}
 use Rattle.cudf_check.specs.Report.{line}

@@ -3,7 +3,7 @@ use Rattle.std.specs.List.{list_any, sum_by}
 use Rattle.std.proofs.lemmas.List.{take_all}
 use Rattle.std.proofs.lemmas.List.Folds.{list_any_at}
 use Rattle.std.proofs.lemmas.List.Sums.{sum_by-cons}
-use Rattle.cudf_value.specs.declared.formula.Atom.{Atom}
+use Rattle.cudf_value.specs.declared.atom.Atom.{Atom}
 use Rattle.cudf_value.specs.Promises.Views.{atom_view}
 use Rattle.cudf_document.proofs.ListLemmas.{list_any-map}
 use Rattle.cudf_universe.specs.Satisfaction.{Placed, satisfies_atom}
