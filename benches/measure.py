@@ -1,12 +1,13 @@
 #!/usr/bin/env python3
 """Measures the program beside another one with the same command line, and prints tables for docs/FIGURES.md.
 
-usage: measure.py [-k TIMES] [-s SHARE] [-b COMMAND] PROGRAM PLAIN [GROUP..]
+usage: measure.py [-k TIMES] [-s SHARE] [-b COMMAND] [-d FOLDER] PROGRAM PLAIN [GROUP..]
 
 GROUPs are reading, judging, hostile, pages; all of them if none is named. PLAIN is the command of the other program (in
 quotes where it has several words). Each job is run TIMES times (7 if not given) by each, in turns; the least processor
 time counts, and the greatest memory. Sizes are multiplied by SHARE (1 if not given). With `-b` the shapes of
-distributions are also given to this command, in the same turns; {P} and {S} in it stand for the files.
+distributions are also given to this command, in the same turns; {P} and {S} in it stand for the files. With `-d` the
+inputs are kept in FOLDER, and those that it has from an earlier sitting are used again.
 
 Columns: the ratio of the least times; `doubled`, the time by that of the same job on the half size; `by lint`, the time
 by that of `lint` of the same problem; memory in megabytes and its ratio, and memory by the input's bytes. Compare ratios
@@ -28,6 +29,8 @@ GROUPS = {
     "reading": [
         Shape("distribution", "tenth", "chosen-tenth", 156_000, CHECK),
         Shape("distribution", "tenth", "chosen-tenth", 624_000, CHECK),
+        Shape("distribution, all installed", "all", "chosen-all", 134_000, CHECK),
+        Shape("distribution, all installed", "all", "chosen-all", 536_000, CHECK),
     ],
     "judging": [
         Shape("a tenth installed", "tenth", "chosen-tenth", 50_000, CHECK),
@@ -102,8 +105,10 @@ def run_in_turns(commands, times):
 def generate(folder, kind, count):
     """The path of a generated document."""
     path = os.path.join(folder, f"{kind}-{count}")
-    with open(path, "wb") as file:
-        subprocess.run([sys.executable, GENERATE, kind, str(count)], stdout=file, check=True)
+    if not os.path.exists(path):
+        with open(path + "-begun", "wb") as file:
+            subprocess.run([sys.executable, GENERATE, kind, str(count)], stdout=file, check=True)
+        os.rename(path + "-begun", path)
     return path
 
 
@@ -162,7 +167,7 @@ def measure_shape(options, folder, shape):
             before[job] = ours.time
             name = f"{shape.name}, {count}: {job}"
             yield row(name, size, ours, series["plain"], doubled, ratio(ours.time, linted), beside)
-        for path in files.values():
+        for path in [] if options.kept else files.values():
             os.remove(path)
 
 
@@ -196,13 +201,15 @@ def main():
     read.add_argument("-k", dest="times", type=int, default=7)
     read.add_argument("-s", dest="share", type=float, default=1)
     read.add_argument("-b", dest="beside")
+    read.add_argument("-d", dest="kept")
     read.add_argument("program")
     read.add_argument("plain")
     read.add_argument("groups", nargs="*")
     options = read.parse_args()
     if not set(options.groups) <= {*GROUPS, "pages"}:
         sys.exit(__doc__)
-    with tempfile.TemporaryDirectory() as folder:
+    with tempfile.TemporaryDirectory() as scratch:
+        folder = options.kept or scratch
         for group in options.groups or [*GROUPS, "pages"]:
             if group == "pages":
                 measure_pages(options, folder)
