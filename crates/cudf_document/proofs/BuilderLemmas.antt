@@ -21,7 +21,6 @@ use Rattle.cudf_document.specs.Promises.Packages.{are_distinct, with_id}
 use Rattle.cudf_document.specs.Preamble.{declared_under, declared}
 use Rattle.cudf_document.specs.ProblemFaults.{place_faults, property_faults, version_property, required_names, lacks_one, inner_faults, stanza_faults, requestless_faults, problem_faults}
 use Rattle.cudf_document.specs.Universe.{PlainPackage, package_id, package_with, package_of, packages_in, request_of, request_in}
-use Rattle.cudf_document.specs.Working.PackageFields.{package_fields_of, package_from}
 use Rattle.cudf_document.specs.Working.ProblemBuilders.{PlainBuilder, with_stanza, faults_inside, IsBuilt, IsListed, first_ids}
 use Rattle.cudf_document.proofs.ListLemmas.{as_list, option_or-none, list_any-insert_key, is_some-find, is_some-option_map}
 use Rattle.cudf_document.proofs.NameLemmas.{same_bytes}
@@ -132,7 +131,7 @@ module _ (g : PlainBuilder) (before : List PlainStanza) (s : PlainStanza) (so_fa
         ∙ sym (list_any-append (is_id id) (filter_map id_of before) (cons_option (id_of s) []))
         ∙ ap (λ l. is_among l id) (sym (filter_map-append id_of before (s ∷ [])));
     packages_are =
-        (λ i. so_far.packages_are i ++ as_list (package_from s.line (package_fields_of g.declared s.properties)) i)
+        (λ i. so_far.packages_are i ++ as_list (option_map (package_with g.declared s.line s.properties) (id_under (Some Package) s.properties)) i)
         ∙ (λ i. packages_in before
         ++ cons_option (option_map (package_with ((so_far.declared_are ∙ sym (declared-other before s (ap marks_preamble marked))) i) s.line s.properties) (id_under (sym marked i) s.properties)) [])
         ∙ sym (packages_in-push before s);

@@ -4,6 +4,7 @@ pub mod FlagLemmas
 pub mod DeclarationLemmas
 pub mod NameLemmas
 pub mod EnumLemmas
+mod IdentityLemmas
 pub mod PropertyLemmas
 pub mod PackageLemmas
 pub mod RequestLemmas

@@ -91,13 +91,17 @@ value_of-other read name ps p other =
     ap (option_and_then (λ q. read q.value))
     (find-append (has_name name) ps (p ∷ []) ∙ ap (λ b. option_or (find (has_name name) ps) (if b then Some p else None)) other ∙ option_or-none (find (has_name name) ps))
 
+-- a property that is the first of its name so far is the first of all
+pub find-first : (before later : List PlainProperty) (p : PlainProperty) → list_any (same_name p) before ≡ false → find (has_name p.name) (before ++ p ∷ later) ≡ Some p
+find-first before later p new =
+    let none : find (has_name p.name) before ≡ None = find_none (has_name p.name) before (sym (has_same_name p.name p before (bytes_same p.name)) ∙ new) in
+    find-append (has_name p.name) before (p ∷ later) ∙ (λ i. option_or (none i) (if bytes_same p.name i then Some p else find (has_name p.name) later))
+
 -- the first of its name does
 pub value_of-new : {A : Type 0} (read : List ℕ → Option A) (name : List ℕ) (ps : List PlainProperty) (p : PlainProperty)
     → bytes_eq p.name name ≡ true → list_any (same_name p) ps ≡ false → value_of read name (ps ++ p ∷ []) ≡ read p.value
 value_of-new read name ps p same new =
-    let none : find (has_name name) ps ≡ None = find_none (has_name name) ps (sym (has_same_name name p ps same) ∙ new) in
-    ap (option_and_then (λ q. read q.value))
-    (find-append (has_name name) ps (p ∷ []) ∙ (λ i. option_or (none i) (if same i then Some p else None)))
+    ap (λ n. value_of read n (ps ++ p ∷ [])) (sym (same_bytes p.name name same)) ∙ ap (option_and_then (λ q. read q.value)) (find-first ps [] p new)
 
 -- a repeated one says nothing
 pub value_of-repeated : {A : Type 0} (read : List ℕ → Option A) (name : List ℕ) (ps : List PlainProperty) (p : PlainProperty)

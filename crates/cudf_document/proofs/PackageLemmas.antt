@@ -11,25 +11,18 @@ use Rattle.cudf_document.specs.declared.package.property.PackageProperty.{Packag
 use Rattle.cudf_document.specs.declared.package.property.PackageProperty.TheVariants.{Depends, Conflicts, Recommends}
 use Rattle.cudf_document.specs.Faults.{least}
 use Rattle.cudf_document.specs.Documents.{same_name, value_of}
-use Rattle.cudf_document.specs.Values.{name_value, version_value, formula_value, list_value, exact_list_value, truth_value, keep_value, can_be, package_tests, declared_test, test_of}
+use Rattle.cudf_document.specs.Values.{formula_value, list_value, exact_list_value, truth_value, keep_value, can_be, declared_test, test_of}
 use Rattle.cudf_document.specs.Preamble.{is_formula_type, recommends_in}
-use Rattle.cudf_document.specs.ProblemFaults.{property_faults}
-use Rattle.cudf_document.specs.Working.PackageFields.{PlainPackageFields, package_property_named, package_property_test, wrong_kind, fault_on, package_fields_of, with_package_property, no_package_fields, kind_after, without_needs, is_need}
+use Rattle.cudf_document.specs.ProblemFaults.{tests, property_faults}
+use Rattle.cudf_document.specs.Working.PackageFields.{PlainPackageFields, package_property_named, wrong_kind, fault_on, package_fields_of, with_package_property, no_package_fields, without_needs, is_need}
 use Rattle.cudf_document.proofs.NameLemmas.{by_words, value_of-repeated, value_next}
-use Rattle.cudf_document.specs.Working.SeenNames.{AreNames}
 use Rattle.cudf_document.proofs.DeclarationLemmas.{test_of-declared}
 use Rattle.cudf_document.proofs.PropertyLemmas.{package_property}
 
 abbrev words : List (List ℕ)
-words = codes "package" ∷ codes "version" ∷ codes "depends" ∷ codes "conflicts" ∷ codes "provides" ∷ codes "installed" ∷ codes "keep" ∷ codes "was-installed" ∷ codes "recommends" ∷ []
+words = codes "depends" ∷ codes "conflicts" ∷ codes "provides" ∷ codes "installed" ∷ codes "keep" ∷ codes "was-installed" ∷ codes "recommends" ∷ []
 
 -- ---- tests
-
--- what a package's property has to be, by its field
-pub test_of-field : (ds : List PlainDeclaration) (name : List ℕ) → test_of name (package_tests ++ map declared_test ds) ≡ package_property_test ds (package_property_named name) name
-test_of-field ds name =
-    by_words (λ n. test_of n (package_tests ++ map declared_test ds) ≡ package_property_test ds (package_property_named n) n) words name
-    refl refl refl refl refl refl refl refl refl (λ a b c d e f g h i. simp (a, b, c, d, e, f, g, h, i))
 
 formula_test : (d : PlainDeclaration) (kind : PlainType) → is_some (if is_formula_type kind then Some d else None) ≡ true → (λ (text : List ℕ). is_of_type kind (trim text)) ≡ can_be formula_value
 formula_test d vpkgformula_type h = refl
@@ -49,8 +42,6 @@ recommends_test ds h = test_of-declared (codes "recommends") ds ∙ by (find (λ
 -- a repeated property changes no value
 pub package_fields_of-repeated : (ds : List PlainDeclaration) (ps : List PlainProperty) (p : PlainProperty) → list_any (same_name p) ps ≡ true → package_fields_of ds (ps ++ p ∷ []) ≡ package_fields_of ds ps
 package_fields_of-repeated ds ps p again = λ i. record {
-  name = value_of-repeated name_value (codes "package") ps p again i;
-  version = value_of-repeated version_value (codes "version") ps p again i;
   depends = value_of-repeated formula_value (codes "depends") ps p again i;
   conflicts = value_of-repeated list_value (codes "conflicts") ps p again i;
   provides = value_of-repeated exact_list_value (codes "provides") ps p again i;
@@ -62,8 +53,6 @@ package_fields_of-repeated ds ps p again = λ i. record {
 -- the values, each with what a text says of it, where the name is its own
 abbrev says : List PlainDeclaration → List PlainProperty → List ℕ → List ℕ → PlainPackageFields
 says ds ps text name = record {
-  name = if bytes_eq name (codes "package") then name_value text else value_of name_value (codes "package") ps;
-  version = if bytes_eq name (codes "version") then version_value text else value_of version_value (codes "version") ps;
   depends = if bytes_eq name (codes "depends") then formula_value text else value_of formula_value (codes "depends") ps;
   conflicts = if bytes_eq name (codes "conflicts") then list_value text else value_of list_value (codes "conflicts") ps;
   provides = if bytes_eq name (codes "provides") then exact_list_value text else value_of exact_list_value (codes "provides") ps;
@@ -74,8 +63,6 @@ says ds ps text name = record {
 
 package_fields_of-says : (ds : List PlainDeclaration) (ps : List PlainProperty) (p : PlainProperty) → list_any (same_name p) ps ≡ false → package_fields_of ds (ps ++ p ∷ []) ≡ says ds ps p.value p.name
 package_fields_of-says ds ps p new = λ i. record {
-  name = value_next name_value (codes "package") ps p new i;
-  version = value_next version_value (codes "version") ps p new i;
   depends = value_next formula_value (codes "depends") ps p new i;
   conflicts = value_next list_value (codes "conflicts") ps p new i;
   provides = value_next exact_list_value (codes "provides") ps p new i;
@@ -92,57 +79,44 @@ recommends_says false new old = refl
 with_package_property-says : (ds : List PlainDeclaration) (ps : List PlainProperty) (text name : List ℕ) → with_package_property ds (package_property_named name) text (package_fields_of ds ps) ≡ says ds ps text name
 with_package_property-says ds ps text name =
     by_words (λ n. with_package_property ds (package_property_named n) text (package_fields_of ds ps) ≡ says ds ps text n) words name
-    refl refl refl refl refl refl refl refl
+    refl refl refl refl refl refl
     (ap (λ r. record (package_fields_of ds ps) { recommends = r }) (recommends_says (is_some (recommends_in ds)) (formula_value text) (value_of formula_value (codes "recommends") ps)))
-    (λ a b c d e f g h i. simp (a, b, c, d, e, f, g, h, i))
+    (λ a b c d e f g. simp (a, b, c, d, e, f, g))
 
 no_recommends : {A : Type 0} (declared : Bool) → ◌≡◌ {A = Option A} None (if declared then None else None)
 no_recommends true = refl
 no_recommends false = refl
 
-pub package_fields_of-none : (ds : List PlainDeclaration) (values : PlainPackageFields) → values ≡ no_package_fields → values ≡ package_fields_of ds []
-package_fields_of-none ds values nothing = nothing ∙ ap (λ r. record no_package_fields { recommends = r }) (no_recommends (is_some (recommends_in ds)))
+pub package_fields_of-none : (ds : List PlainDeclaration) → no_package_fields ≡ package_fields_of ds []
+package_fields_of-none ds = ap (λ r. record no_package_fields { recommends = r }) (no_recommends (is_some (recommends_in ds)))
 
-pub package_fields_of-first : (ds : List PlainDeclaration) (ps : List PlainProperty) (p : PlainProperty) (old : PlainPackageFields) → old ≡ package_fields_of ds ps → list_any (same_name p) ps ≡ false
-    → with_package_property ds (package_property_named p.name) p.value old ≡ package_fields_of ds (ps ++ p ∷ [])
-package_fields_of-first ds ps p old is new = ap (with_package_property ds (package_property_named p.name) p.value) is ∙ with_package_property-says ds ps p.value p.name ∙ sym (package_fields_of-says ds ps p new)
+pub package_fields_of-first : (ds : List PlainDeclaration) (ps : List PlainProperty) (p : PlainProperty) → list_any (same_name p) ps ≡ false
+    → with_package_property ds (package_property_named p.name) p.value (package_fields_of ds ps) ≡ package_fields_of ds (ps ++ p ∷ [])
+package_fields_of-first ds ps p new = with_package_property-says ds ps p.value p.name ∙ sym (package_fields_of-says ds ps p new)
 
 -- ---- without what the package needs
 
-need_left : (ds : List PlainDeclaration) (named : Option PackageProperty) (text : List ℕ) (v : PlainPackageFields)
-    → is_need named ≡ true → without_needs v ≡ without_needs (with_package_property ds named text v)
-need_left ds (Some Depends) text v need = refl
-need_left ds (Some Conflicts) text v need = refl
-need_left ds (Some Recommends) text v need = refl
-need_left ds _ text v need = absurd cc
-
-other_set : (ds : List PlainDeclaration) (named : Option PackageProperty) (text : List ℕ) (v : PlainPackageFields)
-    → is_need named ≡ false → with_package_property ds named text (without_needs v) ≡ without_needs (with_package_property ds named text v)
-other_set ds (Some Depends) text v other = absurd cc
-other_set ds (Some Conflicts) text v other = absurd cc
-other_set ds (Some Recommends) text v other = absurd cc
-other_set ds _ text v other = refl
-
 -- a property that says what the package needs changes nothing else
-pub bare-need : (ds : List PlainDeclaration) (ps : List PlainProperty) (p : PlainProperty) (named : Option PackageProperty) → named ≡ package_property_named p.name
-    → is_need named ≡ true → list_any (same_name p) ps ≡ false → without_needs (package_fields_of ds ps) ≡ without_needs (package_fields_of ds (ps ++ p ∷ []))
-bare-need ds ps p named is need new =
-    need_left ds named p.value (package_fields_of ds ps) need
-    ∙ ap (λ f. without_needs (with_package_property ds f p.value (package_fields_of ds ps))) is
-    ∙ ap without_needs (package_fields_of-first ds ps p (package_fields_of ds ps) refl new)
+pub bare-need : (ds : List PlainDeclaration) (named : Option PackageProperty) (text : List ℕ) (v : PlainPackageFields)
+    → is_need named ≡ true → without_needs v ≡ without_needs (with_package_property ds named text v)
+bare-need ds (Some Depends) text v need = refl
+bare-need ds (Some Conflicts) text v need = refl
+bare-need ds (Some Recommends) text v need = refl
+bare-need ds _ text v need = absurd cc
 
 -- any other says the same
-pub bare-other : (ds : List PlainDeclaration) (ps : List PlainProperty) (p : PlainProperty) (named : Option PackageProperty) → named ≡ package_property_named p.name
-    → is_need named ≡ false → list_any (same_name p) ps ≡ false
-    → with_package_property ds named p.value (without_needs (package_fields_of ds ps)) ≡ without_needs (package_fields_of ds (ps ++ p ∷ []))
-bare-other ds ps p named is other new =
-    other_set ds named p.value (package_fields_of ds ps) other
-    ∙ ap (λ f. without_needs (with_package_property ds f p.value (package_fields_of ds ps))) is
-    ∙ ap without_needs (package_fields_of-first ds ps p (package_fields_of ds ps) refl new)
+pub bare-other : (ds : List PlainDeclaration) (named : Option PackageProperty) (text : List ℕ) (v : PlainPackageFields)
+    → is_need named ≡ false → with_package_property ds named text (without_needs v) ≡ without_needs (with_package_property ds named text v)
+bare-other ds (Some Depends) text v other = absurd cc
+bare-other ds (Some Conflicts) text v other = absurd cc
+bare-other ds (Some Recommends) text v other = absurd cc
+bare-other ds _ text v other = refl
 
--- what is wrong with one more property
-pub package_fault : (ds : List PlainDeclaration) (ps : List PlainProperty) (names : List (List ℕ)) (p : PlainProperty) → AreNames names ps
-    → fault_on p.line (kind_after ds names p) ≡ least (property_faults ds (Some PackageMark) (ps, p))
-package_fault ds ps names p names_are =
-    ap (fault_on p.line) (λ i. if names_are p.name i then Some E7 else wrong_kind (sym (test_of-field ds p.name) i) p.value)
-    ∙ sym (package_property p.line (list_any (same_name p) ps) (test_of p.name (package_tests ++ map declared_test ds)) p.value)
+-- ---- faults
+
+-- what is wrong with one more property, repeated or not
+pub package_fault : (ds : List PlainDeclaration) (ps : List PlainProperty) (p : PlainProperty) (again : Bool) → list_any (same_name p) ps ≡ again
+    → fault_on p.line (if again then Some E7 else wrong_kind (test_of p.name (tests ds (Some PackageMark))) p.value) ≡ least (property_faults ds (Some PackageMark) (ps, p))
+package_fault ds ps p again is =
+    ap (λ b. fault_on p.line (if b then Some E7 else wrong_kind (test_of p.name (tests ds (Some PackageMark))) p.value)) (sym is)
+    ∙ sym (package_property p.line (list_any (same_name p) ps) (test_of p.name (tests ds (Some PackageMark))) p.value)

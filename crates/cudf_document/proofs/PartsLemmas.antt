@@ -13,14 +13,14 @@ use Rattle.cudf_document.specs.declared.stanza.postmark.Postmark.{Postmark}
 use Rattle.cudf_document.specs.declared.stanza.postmark.Postmark.TheVariants.{Preamble, Package, Request}
 use Rattle.cudf_document.specs.Documents.{is_empty, postmark, marks_preamble, marks_package, marks_request, is_request}
 use Rattle.cudf_document.specs.Promises.Packages.{is_preamble, is_package, are_distinct}
-use Rattle.cudf_document.specs.Ids.{Id, id_of}
+use Rattle.cudf_document.specs.Ids.{Id, id_of, id_under}
 use Rattle.cudf_document.specs.Preamble.{declared}
 use Rattle.cudf_document.specs.Promises.Thin.{thin_package, thin_problem}
 use Rattle.cudf_document.specs.Universe.{PlainPackage, PlainRequest, plain_problem, package_id, request_of, packages_in, request_in}
 use Rattle.cudf_document.specs.Promises.Views.{package_view, request_view}
 use Rattle.cudf_document.specs.Working.Borrows.{are_borrowed}
 use Rattle.cudf_document.specs.Working.Kept.{AreParts, IsParts, IsReady, kept_by, has_joined, gathered_of}
-use Rattle.cudf_document.specs.Working.PackageFields.{package_fields_of, package_from, fields_if}
+use Rattle.cudf_document.specs.Working.PackageFields.{package_fields_of, package_from, passes, needing_if}
 use Rattle.cudf_document.specs.Working.ProblemBuilders.{PlainBuilder, with_stanza, problem_of, IsBuilt}
 use Rattle.cudf_document.specs.Working.Walks.{IsWhole}
 use Rattle.cudf_document.proofs.BuilderLemmas.{IsBuilt-next, all_ids}
@@ -41,20 +41,21 @@ gathered ds request before s mark marked ds_are request_is =
     (record { declared_are = ds_are; ids_are = λ id. refl; packages_are = refl; request_is = request_is })
     mark (is_empty before) marked refl
 
-pub package_kept : (is_kept : Id → Bool) (ds : List PlainDeclaration) (before : List PlainStanza) (s : PlainStanza) (old new : Parts)
-    → postmark s ≡ Some Package → ds ≡ declared before → IsParts is_kept before old
+pub package_kept : (is_kept : Id → Bool) (ds : List PlainDeclaration) (before : List PlainStanza) (s : PlainStanza) (id : Option Id) (old new : Parts)
+    → postmark s ≡ Some Package → ds ≡ declared before → id ≡ id_under (Some Package) s.properties → IsParts is_kept before old
     → map package_view new.packages.items
-    ≡ map package_view old.packages.items ++ option_to_list (package_from s.line (fields_if (kept_by old.chosen) (package_fields_of ds s.properties)))
+    ≡ map package_view old.packages.items ++ option_to_list (option_map (package_from s.line (needing_if (passes (kept_by old.chosen) id) (package_fields_of ds s.properties))) id)
     → new.request ≡ old.request → new.chosen ≡ old.chosen → IsParts is_kept (before ++ s ∷ []) new
-package_kept is_kept ds before s old new marked ds_are so_far packages request chosen = record {
+package_kept is_kept ds before s id old new marked ds_are id_is so_far packages request chosen = record {
   kept_are = ap kept_by chosen ∙ so_far.kept_are;
   parts_are =
       let was = so_far.parts_are in
       let next = gathered ds (option_map request_view old.request) before s (Some Package) marked ds_are was.1 in
-      let added = package_from s.line (package_fields_of ds s.properties) in (
+      let fields = package_fields_of ds s.properties in
+      let added = option_map (package_from s.line fields) (id_under (Some Package) s.properties) in (
         packages
-            ∙ (λ i. was.0 i ++ option_to_list (package_from s.line (fields_if (so_far.kept_are i) (package_fields_of ds s.properties))))
-            ∙ ap (λ o. map (thin_package is_kept) (packages_in before) ++ option_to_list o) (package_from-thin is_kept s.line (package_fields_of ds s.properties))
+            ∙ (λ i. was.0 i ++ option_to_list (option_map (package_from s.line (needing_if (passes (so_far.kept_are i) (id_is i)) fields)) (id_is i)))
+            ∙ ap (λ o. map (thin_package is_kept) (packages_in before) ++ option_to_list o) (package_from-thin is_kept s.line fields (id_under (Some Package) s.properties))
             ∙ ap (λ l. map (thin_package is_kept) (packages_in before) ++ l) (option_to_list-map (thin_package is_kept) added)
             ∙ sym (map-append (thin_package is_kept) (packages_in before) (option_to_list added))
             ∙ ap (map (thin_package is_kept)) next.packages_are,

@@ -1,33 +1,23 @@
 -- Packages without what they need.
-use Rattle.std.proofs.Common.{◌≡◌, ℕ, Bool, true, false, List, [], ◌∷◌, map, Option, Some, None, option_map, option_to_list, if◌then◌else◌, refl, sym, ap, ◌∙◌}
-use Rattle.cudf_document.specs.Ids.{Id, id_with}
+use Rattle.std.proofs.Common.{◌≡◌, ℕ, Bool, true, false, List, [], ◌∷◌, map, Option, Some, None, option_map, option_to_list, refl, sym, ap, ◌∙◌}
+use Rattle.cudf_document.specs.Ids.{Id}
 use Rattle.cudf_document.specs.Promises.Thin.{thinned, thin_package, thin_problem, IsThinFor}
 use Rattle.cudf_document.specs.Universe.{PlainPackage, PlainProblem, package_id}
-use Rattle.cudf_document.specs.Working.PackageFields.{PlainPackageFields, package_from, passes, fields_if, without_needs}
-use Rattle.cudf_document.proofs.ListLemmas.{option_map-option_map}
+use Rattle.cudf_document.specs.Working.PackageFields.{PlainPackageFields, package_from, passes, needing_if}
 
 pub option_to_list-map : {A B : Type 0} (f : A → B) (o : Option A) → option_to_list (option_map f o) ≡ map f (option_to_list o)
 option_to_list-map f None = refl
 option_to_list-map f (Some x) = refl
 
-with_needs : (o : Option PlainPackage) → o ≡ option_map (thinned true) o
-with_needs None = refl
-with_needs (Some p) = refl
-
 -- the package of values with or without what it needs
-from_kept : (b : Bool) (line : ℕ) (v : PlainPackageFields) → package_from line (if b then v else without_needs v) ≡ option_map (thinned b) (package_from line v)
-from_kept true line v = with_needs (package_from line v)
-from_kept false line v = sym (option_map-option_map (thinned false) _ (id_with v.name v.version))
+from_kept : (b : Bool) (line : ℕ) (v : PlainPackageFields) (id : Id) → package_from line (needing_if b v) id ≡ thinned b (package_from line v id)
+from_kept true line v id = refl
+from_kept false line v id = refl
 
-thin_made : (test : Id → Bool) (make : Id → PlainPackage) → ((id : Id) → package_id (make id) ≡ id) → (o : Option Id)
-    → option_map (thinned (passes test o)) (option_map make o) ≡ option_map (thin_package test) (option_map make o)
-thin_made test make same None = refl
-thin_made test make same (Some id) = ap (λ i. Some (thinned (test i) (make id))) (sym (same id))
-
-pub package_from-thin : (test : Id → Bool) (line : ℕ) (v : PlainPackageFields)
-    → package_from line (fields_if test v) ≡ option_map (thin_package test) (package_from line v)
-package_from-thin test line v =
-    from_kept (passes test (id_with v.name v.version)) line v ∙ thin_made test _ (λ id. refl) (id_with v.name v.version)
+pub package_from-thin : (test : Id → Bool) (line : ℕ) (v : PlainPackageFields) (id : Option Id)
+    → option_map (package_from line (needing_if (passes test id) v)) id ≡ option_map (thin_package test) (option_map (package_from line v) id)
+package_from-thin test line v None = refl
+package_from-thin test line v (Some id) = ap (λ p. Some p) (from_kept (test id) line v id)
 
 pub ids-thin : (test : Id → Bool) (packages : List PlainPackage) → map package_id (map (thin_package test) packages) ≡ map package_id packages
 ids-thin test [] = refl

@@ -1,20 +1,11 @@
 -- What is known of stanzas on the walk: as of those that are gathered.
-use Rattle.std.proofs.Common.{◌≡◌, ℕ, max, map, filter_map, Bool, true, false, not, ◌||◌, List, [], ◌∷◌, ◌++◌, Option, Some, None, inl, inr, refl, sym, ap, subst, ◌∙◌, IsTrue, Result, Ok, Err, OnOk}
-use Rattle.std.specs.List.{list_any, list_all, flat_map}
+use Rattle.std.proofs.Common.{◌≡◌, ℕ, max, map, filter_map, Bool, true, false, not, ◌||◌, List, [], ◌∷◌, ◌++◌, Option, Some, None, refl, sym, ap, subst, ◌∙◌, IsTrue, Result, Ok, Err, OnOk}
+use Rattle.std.specs.List.{list_any, flat_map}
 use Rattle.std.specs.Option.{option_or}
-use Rattle.std.specs.Cow.{cow_str_bytes}
-use Rattle.std.specs.declared.alloc.Global.{Global}
-use Rattle.std.specs.declared.borrow.CowStr.{CowStr}
-use Rattle.std.proofs.Math.Bool.{and-false, or-false, or_comm}
-use Rattle.std.proofs.lemmas.Bool.{or_cases}
+use Rattle.std.proofs.Math.Bool.{or-false, or_comm}
 use Rattle.std.proofs.lemmas.List.Folds.{list_any-append}
 use Rattle.cudf_text.specs.declared.fault.Fault.{Fault}
-use Rattle.cudf_text.specs.Chars.{is_blank}
-use Rattle.cudf_text.specs.Promises.Joins.{is_owned, IsJoined}
 use Rattle.cudf_text.specs.Stanzas.{PlainStanza, PlainText}
-use Rattle.cudf_value.specs.Chars.{is_pkgname_char}
-use Rattle.cudf_value.specs.Words.{is_pkgname}
-use Rattle.cudf_value.proofs.VpkgLemmas.{blank_no_name as no_name_char}
 use Rattle.cudf_document.specs.declared.mode.Mode.{Mode}
 use Rattle.cudf_document.specs.declared.mode.Mode.TheVariants.{Lenient, Strict}
 use Rattle.cudf_document.specs.declared.problem.walk.Walk.{Walk}
@@ -29,27 +20,11 @@ use Rattle.cudf_document.specs.Preamble.{declared}
 use Rattle.cudf_document.specs.Promises.Packages.{is_preamble}
 use Rattle.cudf_document.specs.ProblemFaults.{properties_faults, place_faults, required_names, stanza_faults}
 use Rattle.cudf_document.specs.Universe.{package_id, packages_in, request_in}
-use Rattle.cudf_document.specs.Values.{name_value}
 use Rattle.cudf_document.specs.Working.ProblemBuilders.{PlainBuilder, with_stanza, faults_inside, IsBuilt, first_ids}
 use Rattle.cudf_document.specs.Working.Walks.{IsKnown, IsSoFar, GoesOn, IsWhole, judged_faults, judged_ids}
 use Rattle.cudf_document.proofs.ListLemmas.{is_empty-push}
 use Rattle.cudf_document.proofs.FaultLemmas.{faults-next}
 use Rattle.cudf_document.proofs.BuilderLemmas.{problem_least, requested_is, stanza_least, IsBuilt-next, listed_next}
-
--- ---- a joined value is no name
-
-blank_no_name : (text : List ℕ) → list_any is_blank text ≡ true → list_all is_pkgname_char text ≡ false
-blank_no_name [] h = absurd cc
-blank_no_name (b ∷ text) h = elim (or_cases (is_blank b) (list_any is_blank text) h) [
-  | inl e ↦ rw (no_name_char b e) refl
-  | inr later ↦ rw (blank_no_name text later) (and-false (is_pkgname_char b))
-]
-
-pub joined_no_name : (v : CowStr Global) → IsJoined v → is_owned v ≡ true → None ≡ name_value (cow_str_bytes v)
-unfolding is_pkgname
-joined_no_name v joined owned =
-    let blank : list_any is_blank (cow_str_bytes v) ≡ true = rw owned at joined in
-    simp (blank_no_name (cow_str_bytes v) blank, and-false)
 
 -- ---- the walk
 

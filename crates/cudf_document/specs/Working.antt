@@ -2,6 +2,7 @@ pub mod Borrows
 pub mod Chosen
 pub mod Enums
 pub mod Flags
+pub mod Identities
 pub mod Kept
 pub mod Pairs
 pub mod PackageFields

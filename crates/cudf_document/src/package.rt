@@ -1,6 +1,10 @@
 //! Packages: CUDF 2.0, package properties.
+ghost use Rattle.std.specs.Prelude.{◌≡◌};
+ghost use Rattle.cudf_document.specs.Values.{keep_value};
+
 pub(crate) mod bare;
 pub(crate) mod fields;
+pub(crate) mod identity;
 pub(crate) mod ids;
 pub(crate) mod property;
 
@@ -40,4 +44,16 @@ pub struct Package<'t> {
     pub keep: Keep,
     /// Its own `recommends`, where that is declared as `vpkgformula`.
     pub recommends: Option<Formula<'t>>,
+}
+
+pub(crate) fn read_keep(text: &str) -> Option<Keep>
+    ensures { result ≡ keep_value text.now }
+{
+    match text {
+        "version" => Some(Keep::Version),
+        "package" => Some(Keep::Package),
+        "feature" => Some(Keep::Feature),
+        "none" => Some(Keep::Nothing),
+        _ => None,
+    }
 }

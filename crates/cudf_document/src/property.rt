@@ -2,4 +2,5 @@
 
 pub(crate) mod borrowed;
 pub(crate) mod fields;
+pub(crate) mod named;
 pub(crate) mod seen_names;

@@ -1,9 +1,8 @@
--- The values of a package's properties while they are gathered.
-use Rattle.std.specs.Prelude.{ℕ, Bool, true, false, List, [], map, Option, Some, None, is_some, option_map, option_copied, bytes_eq, codes, if◌then◌else◌}
-use Rattle.std.specs.List.{list_any}
+-- The values of a package's properties, beside its name and version, while they are gathered.
+use Rattle.std.specs.Prelude.{ℕ, Bool, true, false, List, [], map, Option, Some, None, is_some, option_map, bytes_eq, codes, if◌then◌else◌}
 use Rattle.cudf_text.specs.declared.fault.Fault.{Fault}
 use Rattle.cudf_text.specs.declared.fault.Kind.{Kind}
-use Rattle.cudf_text.specs.declared.fault.Kind.TheVariants.{E7, E8, E9}
+use Rattle.cudf_text.specs.declared.fault.Kind.TheVariants.{E8, E9}
 use Rattle.cudf_text.specs.Stanzas.{PlainProperty}
 use Rattle.cudf_value.specs.Vpkgs.{PlainVpkg}
 use Rattle.cudf_value.specs.Formulas.{PlainAtom}
@@ -12,33 +11,29 @@ use Rattle.cudf_value.specs.Declarations.{PlainDeclaration}
 use Rattle.cudf_document.specs.declared.package.Keep.{Keep as PlainKeep}
 use Rattle.cudf_document.specs.declared.package.Keep.TheVariants.{Nothing}
 use Rattle.cudf_document.specs.declared.package.property.PackageProperty.{PackageProperty}
-use Rattle.cudf_document.specs.declared.package.property.PackageProperty.TheVariants.{Package, Version, Depends, Conflicts, Provides, Installed, Keep, WasInstalled, Recommends}
+use Rattle.cudf_document.specs.declared.package.property.PackageProperty.TheVariants.{Depends, Conflicts, Provides, Installed, Keep, WasInstalled, Recommends}
 use Rattle.cudf_document.specs.declared.package.fields.PackageFields.{PackageFields}
 use Rattle.cudf_document.specs.Documents.{value_of}
 use Rattle.cudf_document.specs.Preamble.{recommends_in}
 use Rattle.cudf_document.specs.Universe.{PlainPackage, or_default, own_recommends}
 use Rattle.cudf_document.specs.Promises.Views.{list_view}
-use Rattle.cudf_document.specs.Ids.{Id, id_with}
-use Rattle.cudf_document.specs.Values.{Test, name_value, version_value, formula_value, list_value, exact_list_value, truth_value, keep_value, can_be, is_anything, declared_test, test_of}
+use Rattle.cudf_document.specs.Ids.{Id}
+use Rattle.cudf_document.specs.Values.{Test, formula_value, list_value, exact_list_value, truth_value, keep_value, can_be, is_anything, declared_test, test_of}
 
 -- ---- fields
 
 abbrev pub package_property_named : List ℕ → Option PackageProperty
-package_property_named name = if bytes_eq name (codes "package") then Some Package
-    else (if bytes_eq name (codes "version") then Some Version
-    else (if bytes_eq name (codes "depends") then Some Depends
+package_property_named name = if bytes_eq name (codes "depends") then Some Depends
     else (if bytes_eq name (codes "conflicts") then Some Conflicts
     else (if bytes_eq name (codes "provides") then Some Provides
     else (if bytes_eq name (codes "installed") then Some Installed
     else (if bytes_eq name (codes "keep") then Some Keep
     else (if bytes_eq name (codes "was-installed") then Some WasInstalled
     else (if bytes_eq name (codes "recommends") then Some Recommends
-    else None))))))))
+    else None))))))
 
--- what a property of the field, or else of the name, has to be
+-- what a property of the field, or else of the name, has to be, but the name and the version
 abbrev pub package_property_test : List PlainDeclaration → Option PackageProperty → List ℕ → Option Test
-package_property_test ds (Some Package) name = Some (can_be name_value)
-package_property_test ds (Some Version) name = Some (can_be version_value)
 package_property_test ds (Some Depends) name = Some (can_be formula_value)
 package_property_test ds (Some Conflicts) name = Some (can_be list_value)
 package_property_test ds (Some Provides) name = Some (can_be exact_list_value)
@@ -60,8 +55,6 @@ fault_on n kind = option_map (λ k. record { line = n; kind = k }) kind
 -- ---- values
 
 pub record PlainPackageFields : Type 0 where
-  pub name : Option (List ℕ)
-  pub version : Option ℕ
   pub depends : Option (List (List PlainAtom))
   pub conflicts : Option (List PlainVpkg)
   pub provides : Option (List PlainVpkg)
@@ -71,8 +64,6 @@ pub record PlainPackageFields : Type 0 where
 
 abbrev pub package_fields_view : PackageFields → PlainPackageFields
 package_fields_view v = record {
-  name = option_copied v.name;
-  version = v.version;
   depends = option_map formula_view v.depends;
   conflicts = option_map list_view v.conflicts;
   provides = option_map list_view v.provides;
@@ -82,13 +73,11 @@ package_fields_view v = record {
 }
 
 abbrev pub no_package_fields : PlainPackageFields
-no_package_fields = record { name = None; version = None; depends = None; conflicts = None; provides = None; installed = None; keep = None; recommends = None }
+no_package_fields = record { depends = None; conflicts = None; provides = None; installed = None; keep = None; recommends = None }
 
 -- what the first property of each name says
 abbrev pub package_fields_of : List PlainDeclaration → List PlainProperty → PlainPackageFields
 package_fields_of ds ps = record {
-  name = value_of name_value (codes "package") ps;
-  version = value_of version_value (codes "version") ps;
   depends = value_of formula_value (codes "depends") ps;
   conflicts = value_of list_value (codes "conflicts") ps;
   provides = value_of exact_list_value (codes "provides") ps;
@@ -99,8 +88,6 @@ package_fields_of ds ps = record {
 
 -- the values, with what this text says of the field
 abbrev pub with_package_property : List PlainDeclaration → Option PackageProperty → List ℕ → PlainPackageFields → PlainPackageFields
-with_package_property ds (Some Package) text v = record v { name = name_value text }
-with_package_property ds (Some Version) text v = record v { version = version_value text }
 with_package_property ds (Some Depends) text v = record v { depends = formula_value text }
 with_package_property ds (Some Conflicts) text v = record v { conflicts = list_value text }
 with_package_property ds (Some Provides) text v = record v { provides = exact_list_value text }
@@ -110,19 +97,9 @@ with_package_property ds (Some WasInstalled) text v = v
 with_package_property ds (Some Recommends) text v = record v { recommends = if is_some (recommends_in ds) then formula_value text else v.recommends }
 with_package_property ds None text v = v
 
--- ---- one property after others, by their names
-
--- what is wrong with a package's property: it is repeated, isn't declared, or its value isn't of its type
-abbrev pub kind_after : List PlainDeclaration → List (List ℕ) → PlainProperty → Option Kind
-kind_after ds names p = if list_any (bytes_eq p.name) names then Some E7 else wrong_kind (package_property_test ds (package_property_named p.name) p.name) p.value
-
--- the values with what a property says that isn't repeated
-abbrev pub package_fields_after : List PlainDeclaration → List (List ℕ) → PlainProperty → PlainPackageFields → PlainPackageFields
-package_fields_after ds names p v = if list_any (bytes_eq p.name) names then v else with_package_property ds (package_property_named p.name) p.value v
-
--- the package of these values, if they have a name and a version
-abbrev pub package_from : ℕ → PlainPackageFields → Option PlainPackage
-package_from line v = option_map (λ id. record {
+-- the package of these values, with this name and version
+abbrev pub package_from : ℕ → PlainPackageFields → Id → PlainPackage
+package_from line v id = record {
   line = line;
   name = id.0;
   version = id.1;
@@ -132,7 +109,7 @@ package_from line v = option_map (λ id. record {
   installed = or_default false v.installed;
   keep = or_default Nothing v.keep;
   recommends = v.recommends;
-}) (id_with v.name v.version)
+}
 
 -- the values without what the package needs
 abbrev pub without_needs : PlainPackageFields → PlainPackageFields
@@ -153,7 +130,3 @@ needing_if needing v = if needing then v else without_needs v
 abbrev pub passes : (Id → Bool) → Option Id → Bool
 passes test None = true
 passes test (Some id) = test id
-
--- the values, with what the package needs if its name and version pass the test
-abbrev pub fields_if : (Id → Bool) → PlainPackageFields → PlainPackageFields
-fields_if test v = needing_if (passes test (id_with v.name v.version)) v

@@ -1,5 +1,5 @@
 -- What the stanzas of a problem say, while they are read.
-use Rattle.std.specs.Prelude.{◌≡◌, ℕ, Bool, List, [], ◌∷◌, ◌++◌, map, filter_map, Option, Some, None, option_to_list, is_some, is_none, bytes_eq, codes, if◌then◌else◌}
+use Rattle.std.specs.Prelude.{◌≡◌, ℕ, Bool, List, [], ◌∷◌, ◌++◌, map, filter_map, Option, Some, None, option_map, option_to_list, is_some, is_none, bytes_eq, codes, if◌then◌else◌}
 use Rattle.std.specs.List.{list_any}
 use Rattle.indexmap.specs.IndexSet.{insert_key}
 use Rattle.cudf_text.specs.declared.fault.Fault.{Fault}
@@ -15,8 +15,7 @@ use Rattle.cudf_document.specs.Ids.{Id, is_id, is_among, is_known, id_under, id_
 use Rattle.cudf_document.specs.Promises.Packages.{with_id}
 use Rattle.cudf_document.specs.Preamble.{declared_after, is_bad_declaration, declared, recommends_default}
 use Rattle.cudf_document.specs.ProblemFaults.{properties_faults, version_property, lacks_one}
-use Rattle.cudf_document.specs.Universe.{PlainPackage, package_id, PlainRequest, PlainProblem, or_default, no_request, request_of, packages_in, request_in}
-use Rattle.cudf_document.specs.Working.PackageFields.{package_fields_of, package_from}
+use Rattle.cudf_document.specs.Universe.{PlainPackage, package_id, package_with, PlainRequest, PlainProblem, or_default, no_request, request_of, packages_in, request_in}
 
 -- what is wrong with a preamble's property: it is a bad declaration, or else it is repeated
 abbrev pub preamble_kind_after : List PlainDeclaration → List (List ℕ) → PlainProperty → Option Kind
@@ -37,7 +36,7 @@ with_preamble is_first s g = record g { declared = if is_first then declared_aft
 abbrev pub with_package : PlainStanza → PlainBuilder → PlainBuilder
 with_package s g = record g {
   ids = with_id g.ids (id_under (Some Package) s.properties);
-  packages = g.packages ++ option_to_list (package_from s.line (package_fields_of g.declared s.properties));
+  packages = g.packages ++ option_to_list (option_map (package_with g.declared s.line s.properties) (id_under (Some Package) s.properties));
 }
 
 -- what a request adds, where it is the first

@@ -4,13 +4,15 @@ ghost use Rattle.cudf_text.specs.Promises.Views.{stanza_view};
 ghost use Rattle.cudf_document.specs.Faults.{least};
 ghost use Rattle.cudf_document.specs.ProblemFaults.{properties_faults};
 ghost use Rattle.cudf_document.specs.Working.Borrows.{are_borrowed};
+ghost use Rattle.cudf_document.specs.Working.Identities.{IsIdentity};
 ghost use Rattle.cudf_document.specs.Working.PackageFields.{package_fields_view, package_fields_of, without_needs, is_need};
 ghost use Rattle.cudf_document.specs.Working.SeenNames.{AreNames};
 ghost use Rattle.cudf_document.specs.declared.stanza.postmark.Postmark.TheVariants.{Package as PackageMark};
 
 use crate::declaration::declarations::Declarations;
 use crate::package::fields::PackageFields;
-use crate::package::property::{PackageProperty, package_property_named};
+use crate::package::identity::Identity;
+use crate::package::property::PackageProperty;
 use crate::property::fields::{Fields, judge_property, read_properties};
 use crate::property::seen_names::SeenNames;
 use cudf_text::{Fault, Kind, Property, Stanza};
@@ -24,9 +26,9 @@ struct BarePackage<'t> {
 
 impl<'t> Fields<'t> for BarePackage<'t> {
     ghost use Rattle.std.specs.Prelude.{◌≡◌};
-    ghost use Rattle.cudf_document.specs.Working.PackageFields.{package_fields_view, package_fields_of, without_needs};
+    ghost use Rattle.cudf_document.specs.Working.PackageFields.{package_fields_view, without_needs};
 
-    ghost IsRead = { λ ds ps s. package_fields_view s.fields ≡ without_needs (package_fields_of ds ps) };
+    ghost IsRead = { λ values bare. package_fields_view bare.fields ≡ without_needs values };
 
     fn start() -> Self {
         BarePackage {
@@ -34,20 +36,19 @@ impl<'t> Fields<'t> for BarePackage<'t> {
         }
     }
 
+    #[inline(always)]
     fn set(
         &mut self,
         alloc: Global,
         declarations: &Declarations<'_>,
+        named: Option<PackageProperty>,
         property: &Property<'t>,
     ) -> Result<Option<Kind>, AllocError> {
-        let named = package_property_named(property.name);
         if is_need(named) {
             return Ok(judge_property(declarations, named, property));
         }
-        self.fields.read(alloc, declarations, named, property)
+        self.fields.set(alloc, declarations, named, property)
     }
-
-    fn skip(&self, declarations: &Declarations<'_>, property: &Property<'t>) {}
 }
 
 /// Whether the property says what a package needs: other packages, or that they are absent.
@@ -67,8 +68,10 @@ pub(crate) fn read_bare_package<'a>(
     alloc: Global,
     names: &mut SeenNames<'a>,
     declarations: &Declarations<'_>,
+    identity: Identity<'a>,
     stanza: &Stanza<'a>,
 ) -> Result<(Option<Fault>, PackageFields<'a>), AllocError>
+    requires { IsIdentity identity (stanza_view stanza.now).properties }
     ensures fault { IfOk result (λ r.
         r.0
         ≡ least (properties_faults declarations.now (Some PackageMark) (stanza_view stanza.now).properties)) }
@@ -82,7 +85,8 @@ pub(crate) fn read_bare_package<'a>(
         alloc,
         names,
         declarations,
-        &stanza.properties,
+        identity,
+        stanza,
     )?;
     Ok((fault, bare.fields))
 }

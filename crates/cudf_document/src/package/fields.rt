@@ -2,31 +2,28 @@
 ghost use Rattle.std.specs.Prelude.{◌≡◌, Some, [], true, option_copied, IfOk, OnOk};
 ghost use Rattle.cudf_text.specs.Promises.Views.{stanza_view, property_view};
 ghost use Rattle.cudf_document.specs.Faults.{least};
-ghost use Rattle.cudf_document.specs.Values.{name_value, keep_value};
 ghost use Rattle.cudf_document.specs.ProblemFaults.{properties_faults};
 ghost use Rattle.cudf_document.specs.Working.Borrows.{are_borrowed};
+ghost use Rattle.cudf_document.specs.Working.Identities.{IsIdentity};
 ghost use Rattle.cudf_document.specs.Working.PackageFields.{package_fields_view, package_fields_of};
 ghost use Rattle.cudf_document.specs.Working.SeenNames.{AreNames};
 ghost use Rattle.cudf_document.specs.declared.stanza.postmark.Postmark.TheVariants.{Package as PackageMark};
 
 use crate::declaration::declarations::{Declarations, mistyped_unless};
-use crate::package::property::{PackageProperty, package_property_named};
-use crate::package::{Keep, Package};
+use crate::package::identity::Identity;
+use crate::package::property::PackageProperty;
+use crate::package::{Keep, Package, read_keep};
 use crate::property::borrowed::source_value;
 use crate::property::fields::{Fields, judge_property, read_properties};
 use crate::property::seen_names::SeenNames;
 use cudf_text::{Fault, Kind, Property, Stanza};
-use cudf_value::{
-    Formula, Vpkg, is_pkgname, read_bool, read_formula, read_posint, read_veqpkglist, read_vpkglist,
-};
+use cudf_value::{Formula, Vpkg, read_bool, read_formula, read_veqpkglist, read_vpkglist};
 use std::alloc::{AllocError, Global};
-use std::borrow::CowStr;
 
-/// What the properties of a package stanza say, each value where it is there and of its type.
+/// What the properties of a package stanza say beside its name and version, each value where it is
+/// there and of its type.
 #[derive(Drop)]
 pub(crate) struct PackageFields<'t> {
-    pub(crate) name: Option<&'t str>,
-    pub(crate) version: Option<u64>,
     pub(crate) depends: Option<Formula<'t>>,
     pub(crate) conflicts: Option<Vec<Vpkg<'t>>>,
     pub(crate) provides: Option<Vec<Vpkg<'t>>>,
@@ -41,46 +38,21 @@ impl<'t> PackageFields<'t> {
     ghost use Rattle.cudf_document.specs.Values.{declared_test, test_of};
     ghost use Rattle.indexmap.specs.IndexSet.{insert_key};
     ghost use Rattle.cudf_document.specs.Working.Borrows.{is_borrowed};
-    ghost use Rattle.cudf_document.specs.Working.PackageFields.{package_property_named, package_property_test, wrong_kind, fault_on, package_fields_view, no_package_fields, with_package_property, kind_after, package_fields_after, package_from};
+    ghost use Rattle.cudf_document.specs.Working.PackageFields.{package_property_test, wrong_kind, package_fields_view, no_package_fields, with_package_property, package_from};
     ghost use Rattle.cudf_document.specs.Promises.Views.{package_view};
-    ghost use Rattle.cudf_document.specs.Ids.{id_with};
+    ghost use Rattle.cudf_document.specs.Working.Identities.{known_id};
     ghost use Rattle.cudf_document.specs.declared.package.property.PackageProperty.TheVariants.{Recommends};
 
     pub(crate) fn new() -> Self
         ensures { package_fields_view result ≡ no_package_fields }
     {
         PackageFields {
-            name: None,
-            version: None,
             depends: None,
             conflicts: None,
             provides: None,
             installed: None,
             keep: None,
             recommends: None,
-        }
-    }
-
-    /// Says what is wrong with a property, and keeps what it says, if it has a place here and its value
-    /// is a part of the source.
-    #[inline(always)]
-    pub(crate) fn read(
-        &mut self,
-        alloc: Global,
-        declarations: &Declarations<'_>,
-        named: Option<PackageProperty>,
-        property: &Property<'t>,
-    ) -> Result<Option<Kind>, AllocError>
-        ensures kind { IfOk result (λ kind.
-            kind
-            ≡ wrong_kind (package_property_test declarations.now named property.now.name.now) (property_view property.now).value) }
-        ensures values { is_borrowed property.now ≡ true →
-            OnOk result (package_fields_view self.new
-            ≡ with_package_property declarations.now named (property_view property.now).value (package_fields_view self.old)) }
-    {
-        match source_value(property) {
-            Some(text) => self.keep(alloc, declarations, named, property.name, text),
-            None => Ok(judge_property(declarations, named, property)),
         }
     }
 
@@ -100,14 +72,6 @@ impl<'t> PackageFields<'t> {
             ≡ with_package_property declarations.now named text.now (package_fields_view self.old)) }
     {
         match named {
-            Some(PackageProperty::Package) => {
-                self.name = read_name(text);
-                Ok(mistyped_unless(self.name.is_some()))
-            }
-            Some(PackageProperty::Version) => {
-                self.version = read_posint(text);
-                Ok(mistyped_unless(self.version.is_some()))
-            }
             Some(PackageProperty::Depends) => {
                 self.depends = read_formula(alloc, text)?;
                 Ok(mistyped_unless(self.depends.is_some()))
@@ -153,20 +117,18 @@ impl<'t> PackageFields<'t> {
         Ok(mistyped_unless(self.recommends.is_some()))
     }
 
-    /// The name and the version, if there are both.
-    pub(crate) fn id(&self) -> Option<(&'t str, u64)>
-        ensures { option_map (λ id. (id.0.now, id.1)) result
-            ≡ id_with (package_fields_view self.now).name (package_fields_view self.now).version }
-    {
-        Some((self.name?, self.version?))
-    }
-
-    /// The package of these values, if there are a name and a version.
+    /// The package of these values, if it has a name and a version.
     #[inline(always)]
-    pub(crate) fn into_package(self, alloc: Global, line: u64) -> Option<Package<'t>>
-        ensures { option_map package_view result ≡ package_from line (package_fields_view self.entry) }
+    pub(crate) fn into_package(
+        self,
+        alloc: Global,
+        line: u64,
+        identity: Identity<'t>,
+    ) -> Option<Package<'t>>
+        ensures { option_map package_view result
+            ≡ option_map (package_from line (package_fields_view self.entry)) (known_id identity.entry) }
     {
-        let (name, version) = self.id()?;
+        let (name, version) = identity.id()?;
         Some(Package {
             line,
             name,
@@ -183,43 +145,16 @@ impl<'t> PackageFields<'t> {
     }
 }
 
-/// The text, where it is a package's name.
-pub(crate) fn read_name(text: &str) -> Option<&str>
-    ensures { option_copied result ≡ name_value text.now }
-{
-    if is_pkgname(text) { Some(text) } else { None }
-}
-
-/// The value, where it is a package's name: a part of the source, since a joined one has a blank.
-pub(crate) fn source_name<'a>(property: &Property<'a>) -> Option<&'a str>
-    ensures { option_copied result ≡ name_value (property_view property.now).value }
-{
-    match property.value {
-        CowStr::Borrowed(text) => read_name(text),
-        CowStr::Owned(_) => None,
-    }
-}
-
-pub(crate) fn read_keep(text: &str) -> Option<Keep>
-    ensures { result ≡ keep_value text.now }
-{
-    match text {
-        "version" => Some(Keep::Version),
-        "package" => Some(Keep::Package),
-        "feature" => Some(Keep::Feature),
-        "none" => Some(Keep::Nothing),
-        _ => None,
-    }
-}
-
 /// The first fault of a package's properties, and what they say, where each value is a part of the
 /// source.
 pub(crate) fn read_package<'a>(
     alloc: Global,
     names: &mut SeenNames<'a>,
     declarations: &Declarations<'_>,
+    identity: Identity<'a>,
     stanza: &Stanza<'a>,
 ) -> Result<(Option<Fault>, PackageFields<'a>), AllocError>
+    requires { IsIdentity identity (stanza_view stanza.now).properties }
     ensures fault { IfOk result (λ r.
         r.0
         ≡ least (properties_faults declarations.now (Some PackageMark) (stanza_view stanza.now).properties)) }
@@ -228,28 +163,30 @@ pub(crate) fn read_package<'a>(
         IfOk result (λ r.
         package_fields_view r.1 ≡ package_fields_of declarations.now (stanza_view stanza.now).properties) }
 {
-    read_properties(alloc, names, declarations, &stanza.properties)
+    read_properties(alloc, names, declarations, identity, stanza)
 }
 
 impl<'t> Fields<'t> for PackageFields<'t> {
     ghost use Rattle.std.specs.Prelude.{◌≡◌};
-    ghost use Rattle.cudf_document.specs.Working.PackageFields.{package_fields_view, package_fields_of};
+    ghost use Rattle.cudf_document.specs.Working.PackageFields.{package_fields_view};
 
-    ghost IsRead = { λ ds ps s. package_fields_view s ≡ package_fields_of ds ps };
+    ghost IsRead = { λ values fields. package_fields_view fields ≡ values };
 
     fn start() -> Self {
         PackageFields::new()
     }
 
+    #[inline(always)]
     fn set(
         &mut self,
         alloc: Global,
         declarations: &Declarations<'_>,
+        named: Option<PackageProperty>,
         property: &Property<'t>,
     ) -> Result<Option<Kind>, AllocError> {
-        let named = package_property_named(property.name);
-        self.read(alloc, declarations, named, property)
+        match source_value(property) {
+            Some(text) => self.keep(alloc, declarations, named, property.name, text),
+            None => Ok(judge_property(declarations, named, property)),
+        }
     }
-
-    fn skip(&self, declarations: &Declarations<'_>, property: &Property<'t>) {}
 }

@@ -1,12 +1,10 @@
-//! The properties of a package that have a place in it.
+//! The properties of a package that have a place in it, beside name and version.
 ghost use Rattle.std.specs.Prelude.{◌≡◌};
 ghost use Rattle.cudf_document.specs.Working.PackageFields.{package_property_named};
 
-/// A property that CUDF defines for packages, or `recommends`.
+/// A property that CUDF defines for packages, but name and version, or `recommends`.
 #[derive(Clone, Copy, Debug, PartialEq, Eq)]
 pub(crate) enum PackageProperty {
-    Package,
-    Version,
     Depends,
     Conflicts,
     Provides,
@@ -22,8 +20,6 @@ pub(crate) fn package_property_named(name: &str) -> Option<PackageProperty>
     ensures { result ≡ package_property_named name.now }
 {
     match name {
-        "package" => Some(PackageProperty::Package),
-        "version" => Some(PackageProperty::Version),
         "depends" => Some(PackageProperty::Depends),
         "conflicts" => Some(PackageProperty::Conflicts),
         "provides" => Some(PackageProperty::Provides),

@@ -5,6 +5,7 @@ ghost use Rattle.cudf_document.specs.ProblemFaults.{problem_faults};
 
 use crate::declaration::declarations::Declarations;
 use crate::mode::Mode;
+use crate::package::identity::Identity;
 use crate::problem::walk::{Kept, Walk, walk_all};
 use crate::property::fields::judge_package;
 use crate::property::seen_names::SeenNames;
@@ -56,10 +57,10 @@ impl<'a> Kept<'a> for Nothing {
         alloc: Global,
         names: &mut SeenNames<'a>,
         declarations: &Declarations<'_>,
-        id: Option<(&'a str, u64)>,
+        identity: Identity<'a>,
         stanza: &Stanza<'a>,
     ) -> Result<Option<Fault>, AllocError> {
-        judge_package(alloc, names, declarations, stanza)
+        judge_package(alloc, names, declarations, identity, stanza)
     }
 
     fn take_request(

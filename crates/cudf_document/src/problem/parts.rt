@@ -8,6 +8,7 @@ use crate::declaration::declarations::Declarations;
 use crate::package::Package;
 use crate::package::bare::read_bare_package;
 use crate::package::fields::{PackageFields, read_package};
+use crate::package::identity::Identity;
 use crate::problem::Problem;
 use crate::problem::chosen::Chosen;
 use crate::problem::walk::{Kept, Walk};
@@ -37,6 +38,7 @@ impl<'a, 'c, 's> Parts<'a, 'c, 's> {
     ghost use Rattle.cudf_document.specs.declared.stanza.postmark.Postmark.TheVariants.{Package as PackageMark};
     ghost use Rattle.cudf_document.specs.Working.Borrows.{are_borrowed};
     ghost use Rattle.cudf_document.specs.Working.Kept.{IsParts, IsReady, kept_by, gathered_of};
+    ghost use Rattle.cudf_document.specs.Working.Identities.{IsIdentity, known_id};
     ghost use Rattle.cudf_document.specs.Working.PackageFields.{package_fields_view, package_fields_of, passes, needing_if};
     ghost use Rattle.cudf_document.specs.Working.ProblemBuilders.{problem_of};
     ghost use Rattle.cudf_document.specs.Working.SeenNames.{AreNames};
@@ -60,9 +62,10 @@ impl<'a, 'c, 's> Parts<'a, 'c, 's> {
         alloc: Global,
         names: &mut SeenNames<'a>,
         declarations: &Declarations<'_>,
-        id: Option<(&'a str, u64)>,
+        identity: Identity<'a>,
         stanza: &Stanza<'a>,
     ) -> Result<(Option<Fault>, PackageFields<'a>), AllocError>
+        requires { IsIdentity identity (stanza_view stanza.now).properties }
         ensures fault { IfOk result (λ r.
             r.0
             ≡ least (properties_faults declarations.now (Some PackageMark) (stanza_view stanza.now).properties)) }
@@ -70,12 +73,12 @@ impl<'a, 'c, 's> Parts<'a, 'c, 's> {
         ensures values { are_borrowed stanza.now.properties.items ≡ true →
             IfOk result (λ r.
             package_fields_view r.1
-            ≡ needing_if (passes (kept_by self.now.chosen) (option_map (λ id. (id.0.now, id.1)) id.entry)) (package_fields_of declarations.now (stanza_view stanza.now).properties)) }
+            ≡ needing_if (passes (kept_by self.now.chosen) (known_id identity.entry)) (package_fields_of declarations.now (stanza_view stanza.now).properties)) }
     {
-        if self.keeps(id) {
-            read_package(alloc, names, declarations, stanza)
+        if self.keeps(identity.id()) {
+            read_package(alloc, names, declarations, identity, stanza)
         } else {
-            read_bare_package(alloc, names, declarations, stanza)
+            read_bare_package(alloc, names, declarations, identity, stanza)
         }
     }
 
@@ -166,11 +169,14 @@ impl<'a, 'c, 's> Kept<'a> for Parts<'a, 'c, 's> {
         alloc: Global,
         names: &mut SeenNames<'a>,
         declarations: &Declarations<'_>,
-        id: Option<(&'a str, u64)>,
+        identity: Identity<'a>,
         stanza: &Stanza<'a>,
     ) -> Result<Option<Fault>, AllocError> {
-        let (fault, fields) = self.read_kept(alloc, names, declarations, id, stanza)?;
-        push_some(&mut self.packages, fields.into_package(alloc, stanza.line))?;
+        let (fault, fields) = self.read_kept(alloc, names, declarations, identity, stanza)?;
+        push_some(
+            &mut self.packages,
+            fields.into_package(alloc, stanza.line, identity),
+        )?;
         Ok(fault)
     }
 

@@ -1,14 +1,14 @@
 //! The walk over a problem's stanzas, one at a time: their first fault, and what is kept of them.
-ghost use Rattle.std.specs.Prelude.{◌≡◌, Bool, not, ◌||◌, ◌&&◌, List, [], ◌∷◌, ◌++◌, Some, None, false, max, is_none, option_map, option_copied, bytes_eq, codes, find, IfOk, OnOk, IfSome, IfNone, IsTrue};
+ghost use Rattle.std.specs.Prelude.{◌≡◌, Bool, not, ◌||◌, ◌&&◌, List, [], ◌∷◌, ◌++◌, Some, None, false, max, is_none, unwrap_or, IfOk, OnOk, IfSome, IfNone, IsTrue};
 ghost use Rattle.cudf_document.specs.Preamble.{declared};
 ghost use Rattle.cudf_text.specs.Stanzas.{PlainStanza, PlainText};
-ghost use Rattle.cudf_text.specs.Promises.Views.{stanza_view, property_view};
+ghost use Rattle.cudf_text.specs.Promises.Views.{stanza_view};
 ghost use Rattle.cudf_text.specs.declared.fault.Kind.TheVariants.{E11, E12};
 ghost use Rattle.cudf_document.specs.Faults.{least, fault_if};
-ghost use Rattle.cudf_document.specs.Documents.{value_of, has_name, line_of, postmark, marks_preamble, marks_request};
-ghost use Rattle.cudf_document.specs.Ids.{Id, id_with, id_under};
-ghost use Rattle.cudf_document.specs.Values.{name_value, version_value};
-ghost use Rattle.cudf_document.specs.ProblemFaults.{properties_faults, place_faults, version_property, required_names};
+ghost use Rattle.cudf_document.specs.Documents.{postmark, marks_preamble, marks_request};
+ghost use Rattle.cudf_document.specs.Ids.{Id};
+ghost use Rattle.cudf_document.specs.ProblemFaults.{properties_faults, place_faults, required_names};
+ghost use Rattle.cudf_document.specs.Working.Identities.{IsIdentity};
 ghost use Rattle.cudf_document.specs.Working.SeenNames.{AreNames};
 ghost use Rattle.cudf_document.specs.Working.Walks.{texts, GoesOn, IsWhole};
 ghost use Rattle.cudf_document.specs.declared.stanza.postmark.Postmark.TheVariants.{Preamble as PreambleMark, Package as PackageMark};
@@ -18,27 +18,27 @@ use crate::declaration::preamble::read_preamble;
 use crate::declaration::required::lacks_one;
 use crate::fault::{fault_if, keep_lesser, lesser};
 use crate::mode::Mode;
-use crate::package::fields::source_name;
+use crate::package::identity::Identity;
 use crate::package::ids::Ids;
 use crate::property::fields::judge_package;
 use crate::property::seen_names::SeenNames;
 use crate::stanza::postmark::{Postmark, is_preamble, postmark_of};
-use cudf_text::{Fault, Kind, Next, Property, Stanza, Stanzas};
-use cudf_value::read_posint;
+use cudf_text::{Fault, Kind, Next, Stanza, Stanzas};
 use std::alloc::{AllocError, Global};
 
 /// What is kept of a problem's stanzas on the walk.
 pub(crate) trait Kept<'a>: Sized + Drop {
-    ghost use Rattle.std.specs.Prelude.{◌≡◌, Bool, ◌++◌, ◌∷◌, [], List, Some, false, option_map, IfOk, OnOk, IsTrue};
+    ghost use Rattle.std.specs.Prelude.{◌≡◌, Bool, ◌++◌, ◌∷◌, [], List, Some, false, IfOk, OnOk, IsTrue};
     ghost use Rattle.cudf_text.specs.declared.text.Stanza.{Stanza};
     ghost use Rattle.cudf_text.specs.Stanzas.{PlainStanza};
     ghost use Rattle.cudf_text.specs.Promises.Views.{stanza_view};
     ghost use Rattle.cudf_document.specs.Faults.{least};
     ghost use Rattle.cudf_document.specs.Documents.{postmark, is_request};
     ghost use Rattle.cudf_document.specs.Promises.Packages.{is_package};
-    ghost use Rattle.cudf_document.specs.Ids.{Id, id_under};
+    ghost use Rattle.cudf_document.specs.Ids.{Id};
     ghost use Rattle.cudf_document.specs.Preamble.{declared};
     ghost use Rattle.cudf_document.specs.ProblemFaults.{properties_faults};
+    ghost use Rattle.cudf_document.specs.Working.Identities.{IsIdentity};
     ghost use Rattle.cudf_document.specs.Working.SeenNames.{AreNames};
     ghost use Rattle.cudf_document.specs.declared.stanza.postmark.Postmark.TheVariants.{Package as PackageMark, Request as RequestMark};
 
@@ -56,15 +56,16 @@ pub(crate) trait Kept<'a>: Sized + Drop {
         ensures lost { result ≡ is_lost stanza.now }
         ensures stops { IsTrue result → IsTrue may_stop };
 
-    /// Keeps a package of this name and version, and answers the first fault of its properties.
+    /// Keeps a package with this identity, and answers the first fault of its properties.
     fn take_package(
         &mut self,
         alloc: Global,
         names: &mut SeenNames<'a>,
         declarations: &Declarations<'_>,
-        id: Option<(&'a str, u64)>,
+        identity: Identity<'a>,
         stanza: &Stanza<'a>,
     ) -> Result<Option<Fault>, AllocError>
+        requires { IsIdentity identity (stanza_view stanza.now).properties }
         ensures fault { IfOk result (λ fault.
             fault
             ≡ least (properties_faults declarations.now (Some PackageMark) (stanza_view stanza.now).properties)) }
@@ -74,8 +75,6 @@ pub(crate) trait Kept<'a>: Sized + Drop {
             is_lost stanza.now ≡ false →
             (before : List PlainStanza) →
             postmark (stanza_view stanza.now) ≡ Some PackageMark →
-            option_map (λ id. (id.0.now, id.1)) id.entry
-            ≡ id_under (Some PackageMark) (stanza_view stanza.now).properties →
             declarations.now ≡ declared before →
             IsKept is_kept before self.old →
             OnOk result (IsKept is_kept (before ++ stanza_view stanza.now ∷ []) self.new) };
@@ -434,19 +433,23 @@ impl<'h, 'a> Walk<'h, 'a> {
             K.IsKept is_kept before kept.old →
             OnOk result (K.IsKept is_kept (before ++ stanza_view stanza.now ∷ []) kept.new) }
     {
-        let id = package_id(stanza);
+        let identity = Identity::of(stanza);
         let fault = take_properties(
             alloc,
             kept,
             self.first,
             &mut self.names,
             &self.declarations,
-            id,
+            identity,
             stanza,
         )?;
-        let is_repeated = self.ids.insert_some(id)?;
+        let is_repeated = self.ids.insert_some(identity.id())?;
         let missing = fault_if(lacks_one(required, &self.names), stanza.last, Kind::E14);
-        Ok(lesser(missing, lesser(fault, package_fault(is_repeated, stanza))))
+        let fault = lesser(
+            fault,
+            package_fault(is_repeated, identity.version_line, stanza.last),
+        );
+        Ok(lesser(missing, fault))
     }
 
     /// Takes the end of the text, with its first faulty line and the number of its lines.
@@ -469,9 +472,10 @@ fn take_properties<'a, K: Kept<'a>>(
     first: Option<Fault>,
     names: &mut SeenNames<'a>,
     declarations: &Declarations<'_>,
-    id: Option<(&'a str, u64)>,
+    identity: Identity<'a>,
     stanza: &Stanza<'a>,
 ) -> Result<Option<Fault>, AllocError>
+    requires { IsIdentity identity (stanza_view stanza.now).properties }
     ensures fault { IfOk result (λ fault.
         fault
         ≡ least (properties_faults declarations.now (Some PackageMark) (stanza_view stanza.now).properties)) }
@@ -480,81 +484,24 @@ fn take_properties<'a, K: Kept<'a>>(
         K.is_lost stanza.now ≡ false →
         (before : List PlainStanza) →
         postmark (stanza_view stanza.now) ≡ Some PackageMark →
-        option_map (λ id. (id.0.now, id.1)) id.entry
-        ≡ id_under (Some PackageMark) (stanza_view stanza.now).properties →
         declarations.now ≡ declared before →
         first ≡ None →
         K.IsKept is_kept before kept.old →
         OnOk result (K.IsKept is_kept (before ++ stanza_view stanza.now ∷ []) kept.new) }
 {
     if first.is_some() {
-        return judge_package(alloc, names, declarations, stanza);
+        return judge_package(alloc, names, declarations, identity, stanza);
     }
-    kept.take_package(alloc, names, declarations, id, stanza)
-}
-
-/// The name and the version of a package, where both are of their types.
-fn package_id<'a>(stanza: &Stanza<'a>) -> Option<(&'a str, u64)>
-    ensures { option_map (λ id. (id.0.now, id.1)) result
-        ≡ id_under (Some PackageMark) (stanza_view stanza.now).properties }
-{
-    both(package_name(stanza), package_version(stanza))
-}
-
-fn both<'a>(name: Option<&'a str>, version: Option<u64>) -> Option<(&'a str, u64)>
-    ensures { option_map (λ id. (id.0.now, id.1)) result ≡ id_with (option_copied name.entry) version }
-{
-    Some((name?, version?))
-}
-
-/// The name of a package, where its first `package` is one.
-fn package_name<'a>(stanza: &Stanza<'a>) -> Option<&'a str>
-    ensures { option_copied result ≡ value_of name_value (codes "package") (stanza_view stanza.now).properties }
-{
-    match first_named(stanza, "package") {
-        Some(property) => source_name(property),
-        None => None,
-    }
-}
-
-/// The version of a package, where its first `version` is one.
-fn package_version(stanza: &Stanza<'_>) -> Option<u64>
-    ensures { result ≡ value_of version_value (codes "version") (stanza_view stanza.now).properties }
-{
-    match first_named(stanza, "version") {
-        Some(property) => read_posint(property.value.as_str()),
-        None => None,
-    }
+    kept.take_package(alloc, names, declarations, identity, stanza)
 }
 
 /// The first fault of a package's name and version: it is repeated, or has no version.
-fn package_fault(is_repeated: bool, stanza: &Stanza<'_>) -> Option<Fault>
+fn package_fault(is_repeated: bool, version_line: Option<u64>, last: u64) -> Option<Fault>
     ensures { result
-        ≡ least (fault_if is_repeated (line_of (version_property (stanza_view stanza.now))) E11
-        ++ fault_if (is_none (version_property (stanza_view stanza.now))) stanza.now.last E12) }
+        ≡ least (fault_if is_repeated (unwrap_or version_line 0) E11 ++ fault_if (is_none version_line) last E12) }
 {
-    match first_named(stanza, "version") {
-        Some(version) => fault_if(is_repeated, version.line, Kind::E11),
-        None => lesser(
-            fault_if(is_repeated, 0, Kind::E11),
-            fault_if(true, stanza.last, Kind::E12),
-        ),
-    }
-}
-
-/// The first property of this name.
-pub(crate) fn first_named<'s, 'a>(stanza: &'s Stanza<'a>, name: &str) -> Option<&'s Property<'a>>
-    ensures { option_map (λ p. property_view p.now) result
-        ≡ find (has_name name.now) (stanza_view stanza.now).properties }
-{
-    find_property(&stanza.properties, name)
-}
-
-fn find_property<'s, 'a>(properties: &'s [Property<'a>], name: &str) -> Option<&'s Property<'a>>
-    ensures { option_map (λ p. p.now) result
-        ≡ find (λ p. bytes_eq p.name.now name.now) properties.now }
-{
-    properties.iter().find(|p| p.name == name)
+    let repeated = fault_if(is_repeated, version_line.unwrap_or(0), Kind::E11);
+    lesser(repeated, fault_if(version_line.is_none(), last, Kind::E12))
 }
 
 /// The first fault of where a stanza stands.

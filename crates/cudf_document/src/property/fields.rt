@@ -1,64 +1,57 @@
 //! What a package's properties are read into.
-ghost use Rattle.std.specs.Prelude.{◌≡◌, ◌++◌, ◌∷◌, [], List, Some, true, bytes_eq, map, IfOk, OnOk};
+ghost use Rattle.std.specs.Prelude.{◌≡◌, ◌++◌, ◌∷◌, [], List, Some, find, true, bytes_eq, IfOk, OnOk};
 ghost use Rattle.indexmap.specs.IndexSet.{insert_key};
 ghost use Rattle.cudf_text.specs.Stanzas.{PlainProperty};
 ghost use Rattle.cudf_text.specs.Promises.Views.{property_view, stanza_view};
 ghost use Rattle.cudf_document.specs.Faults.{least};
+ghost use Rattle.cudf_document.specs.Documents.{has_name};
+ghost use Rattle.cudf_document.specs.Values.{test_of};
+ghost use Rattle.cudf_document.specs.ProblemFaults.{tests, property_faults, properties_faults};
 ghost use Rattle.cudf_document.specs.Working.Borrows.{is_borrowed, are_borrowed};
+ghost use Rattle.cudf_document.specs.Working.Identities.{IsIdentity};
+ghost use Rattle.cudf_document.specs.Working.PackageFields.{PlainPackageFields, fault_on, package_fields_of, package_property_named, package_property_test, with_package_property, wrong_kind};
 ghost use Rattle.cudf_document.specs.Working.SeenNames.{AreNames};
-ghost use Rattle.cudf_document.specs.ProblemFaults.{properties_faults};
-ghost use Rattle.cudf_document.specs.Working.PackageFields.{fault_on, kind_after, package_property_test, wrong_kind};
 ghost use Rattle.cudf_document.specs.declared.stanza.postmark.Postmark.TheVariants.{Package as PackageMark};
 
 use crate::declaration::declarations::{Declarations, mistyped_unless};
 use crate::fault::{fault_on, keep_lesser};
-use crate::package::fields::read_keep;
+use crate::package::identity::Identity;
 use crate::package::property::{PackageProperty, package_property_named};
+use crate::package::read_keep;
 use crate::property::seen_names::SeenNames;
 use cudf_text::{Fault, Kind, Property, Stanza};
-use cudf_value::{is_formula, is_pkgname, is_veqpkglist, is_vpkglist, read_bool, read_posint};
+use cudf_value::{is_formula, is_veqpkglist, is_vpkglist, read_bool};
 use std::alloc::{AllocError, Global};
 
 /// What a package's properties are read into.
 pub(crate) trait Fields<'s>: Sized + Drop {
-    ghost use Rattle.std.specs.Prelude.{◌≡◌, ◌++◌, ◌∷◌, [], List, ℕ, false, true, IfOk, OnOk};
-    ghost use Rattle.std.specs.List.{list_any};
-    ghost use Rattle.cudf_text.specs.Stanzas.{PlainProperty};
+    ghost use Rattle.std.specs.Prelude.{◌≡◌, true, IfOk, OnOk};
     ghost use Rattle.cudf_text.specs.Promises.Views.{property_view};
-    ghost use Rattle.cudf_value.specs.Declarations.{PlainDeclaration};
-    ghost use Rattle.cudf_document.specs.Documents.{same_name};
     ghost use Rattle.cudf_document.specs.Working.Borrows.{is_borrowed};
-    ghost use Rattle.cudf_document.specs.Working.PackageFields.{package_property_named, package_property_test, wrong_kind};
+    ghost use Rattle.cudf_document.specs.Working.PackageFields.{PlainPackageFields, no_package_fields, with_package_property, package_property_test, wrong_kind};
 
-    // This was read of the properties, whose values are parts of the source.
-    ghost IsRead: { List PlainDeclaration → List PlainProperty → Self → Type 0 };
+    // These values were read, each of a part of the source.
+    ghost IsRead: { PlainPackageFields → Self → Type 0 };
 
     fn start() -> Self
-        ensures { (ds : List PlainDeclaration) → IsRead ds [] result };
+        ensures { IsRead no_package_fields result };
 
     /// Says what is wrong with a property that is the first of its name, and keeps what it says,
-    /// where its value is a part of the source.
+    /// if it has a place here and its value is a part of the source.
     fn set(
         &mut self,
         alloc: Global,
         declarations: &Declarations<'_>,
+        named: Option<PackageProperty>,
         property: &Property<'s>,
     ) -> Result<Option<Kind>, AllocError>
         ensures kind { IfOk result (λ kind.
             kind
-            ≡ wrong_kind (package_property_test declarations.now (package_property_named property.now.name.now) property.now.name.now) (property_view property.now).value) }
-        ensures read { (ps : List PlainProperty) →
-            list_any (same_name (property_view property.now)) ps ≡ false →
+            ≡ wrong_kind (package_property_test declarations.now named property.now.name.now) (property_view property.now).value) }
+        ensures read { (values : PlainPackageFields) →
             is_borrowed property.now ≡ true →
-            IsRead declarations.now ps self.old →
-            OnOk result (IsRead declarations.now (ps ++ property_view property.now ∷ []) self.new) };
-
-    /// A repeated property says nothing. (Does nothing: its contract is a law.)
-    fn skip(&self, declarations: &Declarations<'_>, property: &Property<'s>)
-        ensures { (ps : List PlainProperty) →
-            list_any (same_name (property_view property.now)) ps ≡ true →
-            IsRead declarations.now ps self.now →
-            IsRead declarations.now (ps ++ property_view property.now ∷ []) self.now };
+            IsRead values self.old →
+            OnOk result (IsRead (with_package_property declarations.now named (property_view property.now).value values) self.new) };
 }
 
 /// The first fault of a package's properties, and what was read of them, where each value is a part
@@ -67,20 +60,23 @@ pub(crate) fn read_properties<'a, S: Fields<'a>>(
     alloc: Global,
     names: &mut SeenNames<'a>,
     declarations: &Declarations<'_>,
-    properties: &[Property<'a>],
+    identity: Identity<'a>,
+    stanza: &Stanza<'a>,
 ) -> Result<(Option<Fault>, S), AllocError>
+    requires { IsIdentity identity (stanza_view stanza.now).properties }
     ensures fault { IfOk result (λ r.
         r.0
-        ≡ least (properties_faults declarations.now (Some PackageMark) (map property_view properties.now))) }
-    ensures names { OnOk result (AreNames names.new (map property_view properties.now)) }
-    ensures read { are_borrowed properties.now ≡ true →
-        IfOk result (λ r. S.IsRead declarations.now (map property_view properties.now) r.1) }
+        ≡ least (properties_faults declarations.now (Some PackageMark) (stanza_view stanza.now).properties)) }
+    ensures names { OnOk result (AreNames names.new (stanza_view stanza.now).properties) }
+    ensures read { are_borrowed stanza.now.properties.items ≡ true →
+        IfOk result (λ r.
+        S.IsRead (package_fields_of declarations.now (stanza_view stanza.now).properties) r.1) }
 {
     names.clear(alloc);
     let mut first = None;
     let mut sink = S::start();
-    for property in properties {
-        let fault = read_property(alloc, names, declarations, &mut sink, property)?;
+    for property in &stanza.properties {
+        let fault = read_property(alloc, names, declarations, identity, &mut sink, property)?;
         keep_lesser(&mut first, fault);
     }
     Ok((first, sink))
@@ -92,25 +88,56 @@ fn read_property<'a, S: Fields<'a>>(
     alloc: Global,
     names: &mut SeenNames<'a>,
     declarations: &Declarations<'_>,
+    identity: Identity<'a>,
     sink: &mut S,
     property: &Property<'a>,
 ) -> Result<Option<Fault>, AllocError>
-    ensures fault { IfOk result (λ fault.
+    ensures fault { (before later : List PlainProperty) →
+        AreNames names.old before →
+        IsIdentity identity.entry (before ++ property_view property.now ∷ later) →
+        IfOk result (λ fault.
         fault
-        ≡ fault_on property.now.line (kind_after declarations.now names.old (property_view property.now))) }
+        ≡ least (property_faults declarations.now (Some PackageMark) (before, property_view property.now))) }
     ensures names { OnOk result (names.new ≡ insert_key bytes_eq names.old property.now.name.now) }
-    ensures read { (ps : List PlainProperty) →
-        AreNames names.old ps →
+    ensures read { (before : List PlainProperty) →
+        AreNames names.old before →
         is_borrowed property.now ≡ true →
-        S.IsRead declarations.now ps sink.old →
-        OnOk result (S.IsRead declarations.now (ps ++ property_view property.now ∷ []) sink.new) }
+        S.IsRead (package_fields_of declarations.now before) sink.old →
+        OnOk result (S.IsRead (package_fields_of declarations.now (before ++ property_view property.now ∷ [])) sink.new) }
 {
     if !names.insert(property.name)? {
-        sink.skip(declarations, property);
         return Ok(fault_on(property.line, Some(Kind::E7)));
     }
-    let kind = sink.set(alloc, declarations, property)?;
+    let kind = read_first(alloc, declarations, identity, sink, property)?;
     Ok(fault_on(property.line, kind))
+}
+
+/// Says what is wrong with a property that is the first of its name, and reads it into the sink, but
+/// for the name and the version, which are known.
+#[inline(always)]
+fn read_first<'a, S: Fields<'a>>(
+    alloc: Global,
+    declarations: &Declarations<'_>,
+    identity: Identity<'a>,
+    sink: &mut S,
+    property: &Property<'a>,
+) -> Result<Option<Kind>, AllocError>
+    ensures kind { (all : List PlainProperty) →
+        IsIdentity identity.entry all →
+        find (has_name property.now.name.now) all ≡ Some (property_view property.now) →
+        IfOk result (λ kind.
+        kind
+        ≡ wrong_kind (test_of property.now.name.now (tests declarations.now (Some PackageMark))) (property_view property.now).value) }
+    ensures read { (values : PlainPackageFields) →
+        is_borrowed property.now ≡ true →
+        S.IsRead values sink.old →
+        OnOk result (S.IsRead (with_package_property declarations.now (package_property_named property.now.name.now) (property_view property.now).value values) sink.new) }
+{
+    match property.name {
+        "package" => Ok(mistyped_unless(identity.name.is_some())),
+        "version" => Ok(mistyped_unless(identity.version.is_some())),
+        name => sink.set(alloc, declarations, package_property_named(name), property),
+    }
 }
 
 /// Where a package is only judged: nothing is read of it.
@@ -120,23 +147,22 @@ struct Judged;
 impl<'s> Fields<'s> for Judged {
     ghost use Rattle.std.specs.Prelude.{⊤};
 
-    ghost IsRead = { λ ds ps s. ⊤ };
+    ghost IsRead = { λ values judged. ⊤ };
 
     fn start() -> Self {
         Judged
     }
 
+    #[inline(always)]
     fn set(
         &mut self,
         alloc: Global,
         declarations: &Declarations<'_>,
+        named: Option<PackageProperty>,
         property: &Property<'s>,
     ) -> Result<Option<Kind>, AllocError> {
-        let named = package_property_named(property.name);
         Ok(judge_property(declarations, named, property))
     }
-
-    fn skip(&self, declarations: &Declarations<'_>, property: &Property<'s>) {}
 }
 
 /// The first fault of a package's properties.
@@ -144,8 +170,10 @@ pub(crate) fn judge_package<'a>(
     alloc: Global,
     names: &mut SeenNames<'a>,
     declarations: &Declarations<'_>,
+    identity: Identity<'a>,
     stanza: &Stanza<'a>,
 ) -> Result<Option<Fault>, AllocError>
+    requires { IsIdentity identity (stanza_view stanza.now).properties }
     ensures fault { IfOk result (λ fault.
         fault
         ≡ least (properties_faults declarations.now (Some PackageMark) (stanza_view stanza.now).properties)) }
@@ -155,7 +183,8 @@ pub(crate) fn judge_package<'a>(
         alloc,
         names,
         declarations,
-        &stanza.properties,
+        identity,
+        stanza,
     )?;
     Ok(fault)
 }
@@ -185,8 +214,6 @@ fn judge(
     ensures { result ≡ wrong_kind (package_property_test declarations.now named name.now) text.now }
 {
     match named {
-        Some(PackageProperty::Package) => mistyped_unless(is_pkgname(text)),
-        Some(PackageProperty::Version) => mistyped_unless(read_posint(text).is_some()),
         Some(PackageProperty::Depends) => mistyped_unless(is_formula(text)),
         Some(PackageProperty::Conflicts) => mistyped_unless(is_vpkglist(text)),
         Some(PackageProperty::Provides) => mistyped_unless(is_veqpkglist(text)),

@@ -9,7 +9,7 @@ ghost use Rattle.cudf_document.specs.Working.SolutionPackages.{solution_property
 
 use crate::declaration::declarations::mistyped_unless;
 use crate::fault::{fault_on, keep_lesser};
-use crate::package::fields::source_name;
+use crate::package::identity::source_name;
 use cudf_text::{Fault, Kind, Property, Stanza};
 use cudf_value::{read_bool, read_posint};
 

@@ -9,7 +9,7 @@ ghost use Rattle.cudf_document.specs.ProblemFaults.{version_property};
 use crate::fault::{fault_if, keep_lesser};
 use crate::mode::Mode;
 use crate::package::ids::Ids;
-use crate::problem::walk::first_named;
+use crate::property::named::first_named;
 use cudf_text::{Fault, Kind, Stanza};
 use std::alloc::{AllocError, Global};
 

@@ -11,6 +11,7 @@ use Rattle.cudf_document.specs.Promises.Packages.{with_id}
 use Rattle.cudf_document.specs.ProblemFaults.{property_faults, version_property, lacks_one}
 use Rattle.cudf_document.specs.Working.Walks.{texts}
 use Rattle.cudf_document.proofs.FaultLemmas.{least-append}
+use Rattle.cudf_document.proofs.IdentityLemmas.{known_id-is, version_faults}
 use Rattle.cudf_document.proofs.ListLemmas.{list_any-map}
 use Rattle.cudf_document.proofs.NameLemmas.{lacks_one-seen}
 use Rattle.cudf_document.proofs.problem.walk.Walk.take_package.Goals as goal
@@ -18,7 +19,7 @@ use Rattle.cudf_document.proofs.problem.walk.Walk.take_package.Goals as goal
 pub returns-clause-ids : goal.returns-clause-ids
 returns-clause-ids g c =
     c.in_ok-is_repeated.ensures.ids
-    ∙ ap (with_id c.args.self.now.ids) c.package_id-id.ensures
+    ∙ ap (with_id c.args.self.now.ids) (c.id.ensures ∙ known_id-is c.of-identity.result (stanza_view c.args.stanza.now).properties c.of-identity.ensures)
 
 pub returns-clause-fault : goal.returns-clause-fault
 returns-clause-fault g c =
@@ -31,15 +32,17 @@ returns-clause-fault g c =
     let missing = fault_if (lacks_one required s.properties) s.last E14 in
     let repeated : c.in_ok-is_repeated.is_repeated ≡ is_known ids (id_under (Some Package) s.properties) =
     c.in_ok-is_repeated.ensures.is_known
-    ∙ ap (is_known ids) c.package_id-id.ensures in
+    ∙ ap (is_known ids) (c.id.ensures ∙ known_id-is c.of-identity.result s.properties c.of-identity.ensures) in
     let lacks : c.lacks_one.result ≡ lacks_one required s.properties =
     c.lacks_one.ensures ∙ sym (list_any-map (λ name. name.now) (λ name. not (list_any (bytes_eq name) c.take_properties.new.names)) c.args.required.now)
     ∙ lacks_one-seen c.take_properties.new.names s.properties required c.in_ok-fault.ensures.names in
-    let others : c.lesser.result ≡ least (inner ++ (again ++ unversioned)) =
-    c.lesser.ensures ∙ (λ i. lesser (c.in_ok-fault.ensures.fault i) (c.package_fault.ensures i))
-    ∙ ap (λ b. lesser (least inner) (least (fault_if b (line_of (version_property s)) E11 ++ unversioned))) repeated
+    let others : c.lesser-fault.result ≡ least (inner ++ (again ++ unversioned)) =
+    c.lesser-fault.ensures ∙ (λ i. lesser (c.in_ok-fault.ensures.fault i) (c.package_fault.ensures i))
+    ∙ ap (λ faults. lesser (least inner) (least faults))
+    (version_faults c.in_ok-is_repeated.is_repeated c.of-identity.result s c.of-identity.ensures
+    ∙ ap (λ b. fault_if b (line_of (version_property s)) E11 ++ unversioned) repeated)
     ∙ sym (least-append inner (again ++ unversioned)) in
-    c.lesser-2.ensures
+    c.lesser.ensures
     ∙ (λ i. lesser ((c.fault_if-missing.ensures ∙ ap (λ b. least (fault_if b s.last E14)) lacks) i) (others i))
     ∙ sym (least-append missing (inner ++ (again ++ unversioned)))
     ∙ ap least (sym (append_assoc (missing ++ inner) again unversioned ∙ append_assoc missing inner (again ++ unversioned)))

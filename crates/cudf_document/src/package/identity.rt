@@ -1,0 +1,76 @@
+//! The name and the version of a package.
+ghost use Rattle.std.specs.Prelude.{◌≡◌, option_map, option_copied, codes};
+ghost use Rattle.cudf_text.specs.Promises.Views.{stanza_view, property_view};
+ghost use Rattle.cudf_document.specs.Documents.{value_of};
+ghost use Rattle.cudf_document.specs.Values.{name_value};
+ghost use Rattle.cudf_document.specs.Working.Identities.{IsIdentity, known_id};
+
+use crate::property::named::first_named;
+use cudf_text::{Property, Stanza};
+use cudf_value::{is_pkgname, read_posint};
+use std::borrow::CowStr;
+
+/// What a package stanza says of its name and version, read once.
+#[derive(Clone, Copy)]
+pub(crate) struct Identity<'a> {
+    /// What the first `package` says, where that is a name.
+    pub(crate) name: Option<&'a str>,
+    /// What the first `version` says, where that is a version.
+    pub(crate) version: Option<u64>,
+    /// The line of the first `version`, whatever it says.
+    pub(crate) version_line: Option<u64>,
+}
+
+impl<'a> Identity<'a> {
+    pub(crate) fn of(stanza: &Stanza<'a>) -> Self
+        ensures { IsIdentity result (stanza_view stanza.now).properties }
+    {
+        let name = package_name(stanza);
+        match first_named(stanza, "version") {
+            Some(version) => Identity {
+                name,
+                version: read_posint(version.value.as_str()),
+                version_line: Some(version.line),
+            },
+            None => Identity {
+                name,
+                version: None,
+                version_line: None,
+            },
+        }
+    }
+
+    /// The name and the version, if there are both.
+    pub(crate) fn id(self) -> Option<(&'a str, u64)>
+        ensures { option_map (λ id. (id.0.now, id.1)) result ≡ known_id self.entry }
+    {
+        Some((self.name?, self.version?))
+    }
+}
+
+/// The name of a package, where its first `package` is one.
+fn package_name<'a>(stanza: &Stanza<'a>) -> Option<&'a str>
+    ensures { option_copied result ≡ value_of name_value (codes "package") (stanza_view stanza.now).properties }
+{
+    match first_named(stanza, "package") {
+        Some(property) => source_name(property),
+        None => None,
+    }
+}
+
+/// The value, where it is a package's name: a part of the source, since a joined one has a blank.
+pub(crate) fn source_name<'a>(property: &Property<'a>) -> Option<&'a str>
+    ensures { option_copied result ≡ name_value (property_view property.now).value }
+{
+    match property.value {
+        CowStr::Borrowed(text) => read_name(text),
+        CowStr::Owned(_) => None,
+    }
+}
+
+/// The text, where it is a package's name.
+fn read_name(text: &str) -> Option<&str>
+    ensures { option_copied result ≡ name_value text.now }
+{
+    if is_pkgname(text) { Some(text) } else { None }
+}
