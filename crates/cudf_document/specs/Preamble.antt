@@ -31,13 +31,9 @@ is_declarable (before, d) = not (is_reserved d.name || is_declared before d.name
 abbrev pub all_declarable : List PlainDeclaration → List PlainDeclaration → Bool
 all_declarable before ds = list_all is_declarable (with_earlier before ds)
 
--- the declarations, where all of them may stand after those before
-abbrev pub if_declarable : List PlainDeclaration → List PlainDeclaration → Option (List PlainDeclaration)
-if_declarable before ds = if all_declarable before ds then Some ds else None
-
 -- what a `property` value declares after those before, None where it is a bad declaration
 abbrev pub declared_by : List PlainDeclaration → List ℕ → Option (List PlainDeclaration)
-declared_by before text = option_and_then (if_declarable before) (declarations (trim text))
+declared_by before text = option_and_then (λ ds. if all_declarable before ds then Some ds else None) (declarations (trim text))
 
 -- a `property` with a bad declaration
 abbrev pub is_bad_declaration : List PlainDeclaration → PlainProperty → Bool
@@ -71,9 +67,6 @@ is_formula_type _ = false
 abbrev pub recommends_in : List PlainDeclaration → Option PlainDeclaration
 recommends_in ds = option_and_then (λ d. if is_formula_type d.kind then Some d else None) (find (λ d. bytes_eq (codes "recommends") d.name) ds)
 
-abbrev pub formula_default : PlainDeclaration → Option (List (List PlainAtom))
-formula_default d = if is_formula_type d.kind then option_and_then formula_value d.default else None
-
 -- the declared default of `recommends`, where it is one of formulas
 abbrev pub recommends_default : List PlainDeclaration → Option (List (List PlainAtom))
-recommends_default ds = option_and_then formula_default (find (λ d. bytes_eq (codes "recommends") d.name) ds)
+recommends_default ds = option_and_then (λ d. option_and_then formula_value d.default) (recommends_in ds)
