@@ -6,9 +6,7 @@ use Rattle.cudf_text.specs.Chars.{trim}
 use Rattle.cudf_value.specs.Formulas.{PlainAtom}
 use Rattle.cudf_value.specs.Types.{PlainType, vpkgformula_type}
 use Rattle.cudf_value.specs.Declarations.{PlainDeclaration, declarations}
-use Rattle.cudf_document.specs.declared.stanza.postmark.Postmark.{Postmark}
-use Rattle.cudf_document.specs.declared.stanza.postmark.Postmark.TheVariants.{Preamble}
-use Rattle.cudf_document.specs.Documents.{with_earlier, has_name, postmark}
+use Rattle.cudf_document.specs.Documents.{with_earlier, has_name, postmark, marks_preamble}
 use Rattle.cudf_document.specs.Values.{formula_value}
 
 -- the names that can't be declared (own)
@@ -48,14 +46,10 @@ abbrev pub declared_after : List PlainDeclaration → List PlainProperty → Lis
 declared_after before [] = before
 declared_after before (p ∷ ps) = declared_after (before ++ added_by before p) ps
 
-abbrev pub declared_under : Option Postmark → PlainStanza → List PlainDeclaration
-declared_under (Some Preamble) s = declared_after [] s.properties
-declared_under _ s = []
-
 -- what a document declares: what its first stanza does, where that is a preamble
 abbrev pub declared : List PlainStanza → List PlainDeclaration
 declared [] = []
-declared (s ∷ ss) = declared_under (postmark s) s
+declared (s ∷ ss) = if marks_preamble (postmark s) then declared_after [] s.properties else []
 
 -- ---- recommends
 
