@@ -18,7 +18,7 @@ use Rattle.cudf_document.specs.Faults.{lesser, least, fault_if}
 use Rattle.cudf_document.specs.Documents.{is_empty, with_earlier, postmark, marks_preamble, marks_package, marks_request, is_request, line_of}
 use Rattle.cudf_document.specs.Ids.{Id, is_id, is_among, is_known, id_under, id_of}
 use Rattle.cudf_document.specs.Promises.Packages.{are_distinct, with_id}
-use Rattle.cudf_document.specs.Preamble.{declared_under, declared}
+use Rattle.cudf_document.specs.Preamble.{declared_after, declared}
 use Rattle.cudf_document.specs.ProblemFaults.{place_faults, property_faults, version_property, required_names, lacks_one, inner_faults, stanza_faults, requestless_faults, problem_faults}
 use Rattle.cudf_document.specs.Universe.{PlainPackage, package_id, package_with, package_of, packages_in, request_of, request_in}
 use Rattle.cudf_document.specs.Working.ProblemBuilders.{PlainBuilder, with_stanza, faults_inside, IsBuilt, IsListed, first_ids}
@@ -28,17 +28,13 @@ use Rattle.cudf_document.proofs.FaultLemmas.{least-faults_or, least-append}
 
 -- ---- what is declared
 
-declared-push : (before : List PlainStanza) (s : PlainStanza) → declared (before ++ s ∷ []) ≡ (if is_empty before then declared_under (postmark s) s else declared before)
+declared-push : (before : List PlainStanza) (s : PlainStanza) → declared (before ++ s ∷ []) ≡ (if is_empty before then (if marks_preamble (postmark s) then declared_after [] s.properties else []) else declared before)
 declared-push [] s = refl
 declared-push (t ∷ before) s = refl
 
-pub declared_under_no_preamble : (mark : Option Postmark) (s : PlainStanza) → marks_preamble mark ≡ false → declared_under mark s ≡ []
-declared_under_no_preamble (Some Preamble) s h = absurd cc
-declared_under_no_preamble _ s h = refl
-
 -- a stanza that is no preamble declares nothing
 declared-other : (before : List PlainStanza) (s : PlainStanza) → marks_preamble (postmark s) ≡ false → declared (before ++ s ∷ []) ≡ declared before
-declared-other [] s h = declared_under_no_preamble (postmark s) s h
+declared-other [] s h = ap (λ b. if b then declared_after [] s.properties else []) h
 declared-other (t ∷ before) s h = refl
 
 -- ---- names and versions
@@ -117,7 +113,7 @@ module _ (g : PlainBuilder) (before : List PlainStanza) (s : PlainStanza) (so_fa
     request_is = no_more_requests (ap marks_request marked);
   }
   IsBuilt-next (Some Preamble) is_first marked first = record {
-    declared_are = (λ i. if first i then declared_under (sym marked i) s else so_far.declared_are i) ∙ sym (declared-push before s);
+    declared_are = (λ i. if first i then (if marks_preamble (sym marked i) then declared_after [] s.properties else []) else so_far.declared_are i) ∙ sym (declared-push before s);
     ids_are = no_more_ids (ap (λ m. id_under m s.properties) marked);
     packages_are = no_more_packages (ap (λ m. id_under m s.properties) marked);
     request_is = no_more_requests (ap marks_request marked);

@@ -21,7 +21,7 @@ use Rattle.cudf_document.specs.Promises.Packages.{is_package, are_distinct}
 use Rattle.cudf_document.specs.Ids.{Id, is_id, is_among, is_known, id_with, id_under, id_of}
 use Rattle.cudf_document.specs.Values.{Test, name_value, version_value, can_be, test_of, fails}
 use Rattle.cudf_document.specs.Preamble.{declared}
-use Rattle.cudf_document.specs.ProblemFaults.{tests, place_faults, property_faults, repeated_faults, undeclared_faults, mistyped_faults, misdeclared_faults, version_property, repeated_package_faults, unversioned_faults, required_names, missing_faults, inner_faults, faults_or, stanza_faults, requestless_faults, problem_faults}
+use Rattle.cudf_document.specs.ProblemFaults.{tests, is_repeatable, place_faults, property_faults, repeated_faults, undeclared_faults, mistyped_faults, misdeclared_faults, version_property, repeated_package_faults, unversioned_faults, required_names, missing_faults, inner_faults, faults_or, stanza_faults, requestless_faults, problem_faults}
 use Rattle.cudf_document.specs.Universe.{PlainPackage, package_id, package_with, package_of, packages_in}
 use Rattle.cudf_document.specs.Promises.Laws.{IsSound}
 use Rattle.cudf_document.proofs.ListLemmas.{is_some-find, is_some-option_map}
@@ -64,8 +64,9 @@ record IsClean (before : List PlainStanza) (s : PlainStanza) : Type 0 where
 typed_property : (ds : List PlainDeclaration) (mark : Option Postmark) (x : List PlainProperty × PlainProperty) → property_faults ds mark x ≡ []
     → not (fails (test_of x.1.name (tests ds mark)) x.1.value) ≡ true
 typed_property ds mark (before, p) none =
-    let front = nil_parts (repeated_faults mark (before, p) ++ undeclared_faults ds mark p ++ mistyped_faults ds mark p) (misdeclared_faults mark (before, p)) none in
-    let typed = nil_parts (repeated_faults mark (before, p) ++ undeclared_faults ds mark p) (mistyped_faults ds mark p) front.0 in
+    let repeated = repeated_faults (not (is_repeatable mark p)) before p in
+    let front = nil_parts (repeated ++ undeclared_faults ds mark p ++ mistyped_faults (tests ds mark) p) (misdeclared_faults mark before p) none in
+    let typed = nil_parts (repeated ++ undeclared_faults ds mark p) (mistyped_faults (tests ds mark) p) front.0 in
     ap not (none_of (fails (test_of p.name (tests ds mark)) p.value) p.line E9 typed.1)
 
 clean : (mode : Mode) (before : List PlainStanza) (s : PlainStanza) → stanza_faults mode (before, s) ≡ [] → IsClean before s

@@ -6,9 +6,7 @@ use Rattle.cudf_text.specs.Chars.{trim}
 use Rattle.cudf_value.specs.Formulas.{PlainAtom}
 use Rattle.cudf_value.specs.Types.{PlainType, vpkgformula_type}
 use Rattle.cudf_value.specs.Declarations.{PlainDeclaration, declarations}
-use Rattle.cudf_document.specs.declared.stanza.postmark.Postmark.{Postmark}
-use Rattle.cudf_document.specs.declared.stanza.postmark.Postmark.TheVariants.{Preamble}
-use Rattle.cudf_document.specs.Documents.{with_earlier, has_name, postmark}
+use Rattle.cudf_document.specs.Documents.{with_earlier, has_name, postmark, marks_preamble}
 use Rattle.cudf_document.specs.Values.{formula_value}
 
 -- the names that can't be declared (own)
@@ -31,13 +29,9 @@ is_declarable (before, d) = not (is_reserved d.name || is_declared before d.name
 abbrev pub all_declarable : List PlainDeclaration → List PlainDeclaration → Bool
 all_declarable before ds = list_all is_declarable (with_earlier before ds)
 
--- the declarations, where all of them may stand after those before
-abbrev pub if_declarable : List PlainDeclaration → List PlainDeclaration → Option (List PlainDeclaration)
-if_declarable before ds = if all_declarable before ds then Some ds else None
-
 -- what a `property` value declares after those before, None where it is a bad declaration
 abbrev pub declared_by : List PlainDeclaration → List ℕ → Option (List PlainDeclaration)
-declared_by before text = option_and_then (if_declarable before) (declarations (trim text))
+declared_by before text = option_and_then (λ ds. if all_declarable before ds then Some ds else None) (declarations (trim text))
 
 -- a `property` with a bad declaration
 abbrev pub is_bad_declaration : List PlainDeclaration → PlainProperty → Bool
@@ -52,14 +46,10 @@ abbrev pub declared_after : List PlainDeclaration → List PlainProperty → Lis
 declared_after before [] = before
 declared_after before (p ∷ ps) = declared_after (before ++ added_by before p) ps
 
-abbrev pub declared_under : Option Postmark → PlainStanza → List PlainDeclaration
-declared_under (Some Preamble) s = declared_after [] s.properties
-declared_under _ s = []
-
 -- what a document declares: what its first stanza does, where that is a preamble
 abbrev pub declared : List PlainStanza → List PlainDeclaration
 declared [] = []
-declared (s ∷ ss) = declared_under (postmark s) s
+declared (s ∷ ss) = if marks_preamble (postmark s) then declared_after [] s.properties else []
 
 -- ---- recommends
 
@@ -71,9 +61,6 @@ is_formula_type _ = false
 abbrev pub recommends_in : List PlainDeclaration → Option PlainDeclaration
 recommends_in ds = option_and_then (λ d. if is_formula_type d.kind then Some d else None) (find (λ d. bytes_eq (codes "recommends") d.name) ds)
 
-abbrev pub formula_default : PlainDeclaration → Option (List (List PlainAtom))
-formula_default d = if is_formula_type d.kind then option_and_then formula_value d.default else None
-
 -- the declared default of `recommends`, where it is one of formulas
 abbrev pub recommends_default : List PlainDeclaration → Option (List (List PlainAtom))
-recommends_default ds = option_and_then formula_default (find (λ d. bytes_eq (codes "recommends") d.name) ds)
+recommends_default ds = option_and_then (λ d. option_and_then formula_value d.default) (recommends_in ds)

@@ -46,25 +46,26 @@ tests ds (Some Package) = package_tests ++ map declared_test ds
 tests ds (Some Request) = request_tests
 tests ds _ = []
 
--- E7, property repeated
-abbrev pub repeated_faults : Option Postmark → List PlainProperty × PlainProperty → List Fault
-repeated_faults mark (before, p) = fault_if (list_any (same_name p) before && not (is_repeatable mark p)) p.line E7
+-- E7, property repeated, where that counts
+abbrev pub repeated_faults : Bool → List PlainProperty → PlainProperty → List Fault
+repeated_faults counts before p = fault_if (list_any (same_name p) before && counts) p.line E7
 
 -- E8, property not declared
 abbrev pub undeclared_faults : List PlainDeclaration → Option Postmark → PlainProperty → List Fault
 undeclared_faults ds mark p = fault_if (marks_package mark && is_none (test_of p.name (tests ds mark))) p.line E8
 
 -- E9, value is not of its type
-abbrev pub mistyped_faults : List PlainDeclaration → Option Postmark → PlainProperty → List Fault
-mistyped_faults ds mark p = fault_if (fails (test_of p.name (tests ds mark)) p.value) p.line E9
+abbrev pub mistyped_faults : List (List ℕ × Test) → PlainProperty → List Fault
+mistyped_faults known p = fault_if (fails (test_of p.name known) p.value) p.line E9
 
 -- E10, bad declaration
-abbrev pub misdeclared_faults : Option Postmark → List PlainProperty × PlainProperty → List Fault
-misdeclared_faults mark (before, p) = fault_if (marks_preamble mark && is_bad_declaration (declared_after [] before) p) p.line E10
+abbrev pub misdeclared_faults : Option Postmark → List PlainProperty → PlainProperty → List Fault
+misdeclared_faults mark before p = fault_if (marks_preamble mark && is_bad_declaration (declared_after [] before) p) p.line E10
 
 abbrev pub property_faults : List PlainDeclaration → Option Postmark → List PlainProperty × PlainProperty → List Fault
 property_faults ds mark (before, p) =
-    repeated_faults mark (before, p) ++ undeclared_faults ds mark p ++ mistyped_faults ds mark p ++ misdeclared_faults mark (before, p)
+    repeated_faults (not (is_repeatable mark p)) before p ++ undeclared_faults ds mark p ++ mistyped_faults (tests ds mark) p
+    ++ misdeclared_faults mark before p
 
 -- the faults of a stanza's properties
 abbrev pub properties_faults : List PlainDeclaration → Option Postmark → List PlainProperty → List Fault

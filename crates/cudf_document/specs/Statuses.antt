@@ -1,19 +1,19 @@
 -- The initial and the proposed status, and what is proposed but isn't in the universe: CUDF 2.0, installations.
-use Rattle.std.specs.Prelude.{ℕ, Bool, false, List, map, Option, Some, None, filter_map, option_and_then, codes, if◌then◌else◌, nat_lt, true, ◌&&◌, [], ◌∷◌}
+use Rattle.std.specs.Prelude.{ℕ, Bool, false, List, map, Option, Some, None, filter_map, option_and_then, unwrap_or, codes, if◌then◌else◌, nat_lt, true, ◌&&◌, [], ◌∷◌}
 use Rattle.std.specs.List.{enumerate_from}
 use Rattle.std.specs.Option.{option_map_or}
 use Rattle.cudf_text.specs.Stanzas.{PlainProperty, PlainStanza}
 use Rattle.cudf_document.specs.Documents.{value_of}
 use Rattle.cudf_document.specs.Ids.{Id, is_among, id_of}
 use Rattle.cudf_document.specs.Values.{truth_value}
-use Rattle.cudf_document.specs.Universe.{PlainProblem, package_id, package_at, or_default}
+use Rattle.cudf_document.specs.Universe.{PlainProblem, package_id, package_at}
 
 -- the package at the place is installed in the problem
 abbrev pub is_initial : PlainProblem → ℕ → Bool
 is_initial problem place = option_map_or (λ p. p.installed) (package_at problem place) false
 
 abbrev pub is_installed : List PlainProperty → Bool
-is_installed ps = or_default false (value_of truth_value (codes "installed") ps)
+is_installed ps = unwrap_or (value_of truth_value (codes "installed") ps) false
 
 -- the pair that a stanza of a solution installs, if it installs one: none takes back what another installs (own)
 abbrev pub installed_id : PlainStanza → Option Id

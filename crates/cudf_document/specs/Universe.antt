@@ -29,10 +29,6 @@ pub record PlainPackage : Type 0 where
 abbrev pub package_id : PlainPackage → Id
 package_id p = (p.name, p.version)
 
--- the value, or the default
-abbrev pub or_default : {A : Type 0} → A → Option A → A
-or_default default value = unwrap_or value default
-
 -- a package's own `recommends`, where that is declared to be a formula
 abbrev pub own_recommends : List PlainDeclaration → List PlainProperty → Option (List (List PlainAtom))
 own_recommends ds ps = if is_some (recommends_in ds) then value_of formula_value (codes "recommends") ps else None
@@ -43,11 +39,11 @@ package_with ds line ps (name, version) = record {
   line = line;
   name = name;
   version = version;
-  depends = or_default [] (value_of formula_value (codes "depends") ps);
-  conflicts = or_default [] (value_of list_value (codes "conflicts") ps);
-  provides = or_default [] (value_of exact_list_value (codes "provides") ps);
-  installed = or_default false (value_of truth_value (codes "installed") ps);
-  keep = or_default Nothing (value_of keep_value (codes "keep") ps);
+  depends = unwrap_or (value_of formula_value (codes "depends") ps) [];
+  conflicts = unwrap_or (value_of list_value (codes "conflicts") ps) [];
+  provides = unwrap_or (value_of exact_list_value (codes "provides") ps) [];
+  installed = unwrap_or (value_of truth_value (codes "installed") ps) false;
+  keep = unwrap_or (value_of keep_value (codes "keep") ps) Nothing;
   recommends = own_recommends ds ps;
 }
 
@@ -66,9 +62,9 @@ pub record PlainRequest : Type 0 where
 abbrev pub request_of : PlainStanza → PlainRequest
 request_of s = record {
   line = s.line;
-  install = or_default [] (value_of list_value (codes "install") s.properties);
-  remove = or_default [] (value_of list_value (codes "remove") s.properties);
-  upgrade = or_default [] (value_of list_value (codes "upgrade") s.properties);
+  install = unwrap_or (value_of list_value (codes "install") s.properties) [];
+  remove = unwrap_or (value_of list_value (codes "remove") s.properties) [];
+  upgrade = unwrap_or (value_of list_value (codes "upgrade") s.properties) [];
 }
 
 -- what the first request stanza asks for
@@ -93,7 +89,7 @@ packages_in stanzas = filter_map (package_of (declared stanzas)) stanzas
 unfoldable pub plain_problem : PlainText → PlainProblem
 plain_problem text = record {
   packages = packages_in text.stanzas;
-  request = or_default no_request (request_in text.stanzas);
+  request = unwrap_or (request_in text.stanzas) no_request;
   recommends = recommends_default (declared text.stanzas);
 }
 

@@ -23,5 +23,6 @@ pub use problem::lint::first_fault;
 pub use problem::reader::read_problem;
 pub use problem::source::{Room, problem_for, problem_of};
 pub use request::Request;
+pub use solution::reader::{read_solution, solution_of};
 pub use solution::status::{Status, initial};
-pub use solution::{Solution, Unknown, read_solution, solution_of};
+pub use solution::{Solution, Unknown};

@@ -1,6 +1,6 @@
 -- What packages give, gathered by name.
 use Rattle.std.proofs.Common.{◌≡◌, ℕ, ◌+◌, ◌<◌, zero, suc, Bool, true, false, cond, ◌||◌, List, [], ◌∷◌, ◌++◌, length, get_or, take, map, Option, Some, None, refl, sym, ap, ◌∙◌, arith, bytes_eq, subst, Bor}
-use Rattle.std.specs.Prelude.{filter, filter_map, option_map, slice_get, option_to_list, option_and_then, position}
+use Rattle.std.specs.Prelude.{filter, filter_map, option_map, slice_get, option_to_list, option_and_then, position, if◌then◌else◌}
 use Rattle.std.specs.Option.{is_none, IfSome}
 use Rattle.std.specs.List.{count_by, cons_option, list_any}
 use Rattle.std.specs.Global.{Vec}
@@ -12,7 +12,7 @@ use Rattle.cudf_universe.specs.declared.index.gathered_names.Provision.{Provisio
 use Rattle.std.proofs.lemmas.List.Folds.{list_any-append}
 use Rattle.cudf_value.specs.declared.relop.Relop.{Relop}
 use Rattle.cudf_document.specs.Universe.{PlainPackage}
-use Rattle.cudf_universe.specs.Satisfaction.{Placed, members, entry_pair, unversioned_name, name_unless, package_pairs, gives, gives_all_versions, numbers_of}
+use Rattle.cudf_universe.specs.Satisfaction.{Placed, members, entry_pair, unversioned_name, package_pairs, gives, gives_all_versions, numbers_of}
 use Rattle.cudf_document.specs.Ids.{Id}
 use Rattle.cudf_universe.specs.Working.Kept.{Keeps, IsSole, found, names_given, places_of}
 use Rattle.cudf_universe.specs.Working.Gathering.{row_items, provisions_of, own_entry, given_by, given_of, sole_place, Completes, CompletesAt}
@@ -141,7 +141,7 @@ module _ (f : List ℕ) where
       number false n = refl
 
       by : (o : Option (Relop × ℕ)) → count_by (λ given. bytes_eq given f) (filter_map unversioned_name es) ≡ count_by (λ g. is_none g.number) (provisions_of v f place es)
-          → count_by (λ given. bytes_eq given f) (cons_option (name_unless e.name o) (filter_map unversioned_name es)) ≡ count_by (λ g. is_none g.number) (one_given v (bytes_eq e.name f) (option_map (λ b. b.1) o) place) + count_by (λ g. is_none g.number) (provisions_of v f place es)
+          → count_by (λ given. bytes_eq given f) (cons_option (if is_none o then Some e.name else None) (filter_map unversioned_name es)) ≡ count_by (λ g. is_none g.number) (one_given v (bytes_eq e.name f) (option_map (λ b. b.1) o) place) + count_by (λ g. is_none g.number) (provisions_of v f place es)
       by None rest = omega (arith, count-cons (λ given. bytes_eq given f) e.name (filter_map unversioned_name es), rest, all_versions (bytes_eq e.name f))
       by (Some bound) rest = omega (arith, rest, number (bytes_eq e.name f) bound.1)
 

@@ -1,13 +1,13 @@
 -- A status satisfies what one of its packages satisfies, and a package what its name and version or one of its entries meets.
 use Rattle.std.proofs.Common.{◌≡◌, ℕ, Bool, true, false, not, ◌&&◌, ◌||◌, List, [], ◌∷◌, ◌++◌, Option, Some, None, refl, ap, ◌∙◌, bytes_eq}
-use Rattle.std.specs.Prelude.{filter_map, option_map}
+use Rattle.std.specs.Prelude.{filter_map, option_map, is_none, if◌then◌else◌}
 use Rattle.std.specs.List.{list_any, cons_option}
 use Rattle.std.proofs.lemmas.List.Folds.{list_any-append}
 use Rattle.std.proofs.lemmas.List.Concat.{flat_map-append}
 use Rattle.std.proofs.lemmas.List.{append-nil}
 use Rattle.cudf_value.specs.declared.relop.Relop.{Relop}
 use Rattle.cudf_value.specs.Vpkgs.{PlainVpkg, meets}
-use Rattle.cudf_universe.specs.Satisfaction.{Placed, entry_pair, name_unless, unversioned_name, package_pairs, gives, gives_all_versions, is_met_by, is_below_one, satisfies, meets_alone}
+use Rattle.cudf_universe.specs.Satisfaction.{Placed, entry_pair, unversioned_name, package_pairs, gives, gives_all_versions, is_met_by, is_below_one, satisfies, meets_alone}
 use Rattle.cudf_document.specs.Ids.{Id}
 use Rattle.std.proofs.Math.Bool.{or_assoc}
 use Rattle.cudf_universe.specs.Promises.Members.{MemberAlone}
@@ -45,7 +45,7 @@ member_alone (p ∷ ps) v = satisfies-append (p ∷ []) ps v ∙ ap (λ b. satis
 -- ---- a package
 
 entry_first : (v : PlainVpkg) (name : List ℕ) (bound : Option (Relop × ℕ)) (pairs : List Id) (names : List (List ℕ))
-    → (list_any (is_met_by v) (cons_option (option_map (λ given. (name, given.1)) bound) pairs) || (list_any (is_named v) (cons_option (name_unless name bound) names) && not (is_below_one v.bound)))
+    → (list_any (is_met_by v) (cons_option (option_map (λ given. (name, given.1)) bound) pairs) || (list_any (is_named v) (cons_option (if is_none bound then Some name else None) names) && not (is_below_one v.bound)))
     ≡ ((bytes_eq name v.name && provision_meets v.bound bound) || (list_any (is_met_by v) pairs || (list_any (is_named v) names && not (is_below_one v.bound))))
 entry_first v name None pairs names =
     or_split false (list_any (is_met_by v) pairs) (bytes_eq name v.name) (list_any (is_named v) names) (not (is_below_one v.bound))

@@ -1,6 +1,6 @@
 -- What a status gives, and when it satisfies a vpkg or a clause: CUDF 2.0, installations and features.
 -- Own: an unversioned provision gives all positive integers, without an upper end.
-use Rattle.std.specs.Prelude.{ℕ, Bool, true, false, not, ◌&&◌, ◌||◌, ◌==◌, List, [], ◌∷◌, bytes_eq, map, filter, find, Option, Some, None, option_map, filter_map}
+use Rattle.std.specs.Prelude.{ℕ, Bool, true, false, not, ◌&&◌, ◌||◌, ◌==◌, List, [], ◌∷◌, bytes_eq, map, filter, find, Option, Some, None, is_none, option_map, filter_map, if◌then◌else◌}
 use Rattle.std.specs.List.{list_any, flat_map, enumerate_from}
 use Rattle.cudf_value.specs.declared.relop.Relop.{Relop}
 use Rattle.cudf_value.specs.declared.relop.Relop.TheVariants.{Lt}
@@ -29,13 +29,9 @@ without place status = filter (λ p. not (p.0 == place)) status
 abbrev pub entry_pair : PlainVpkg → Option Id
 entry_pair entry = option_map (λ bound. (entry.name, bound.1)) entry.bound
 
-abbrev pub name_unless : List ℕ → Option (Relop × ℕ) → Option (List ℕ)
-name_unless name None = Some name
-name_unless name (Some bound) = None
-
 -- the name of an entry `f` without a number
 abbrev pub unversioned_name : PlainVpkg → Option (List ℕ)
-unversioned_name entry = name_unless entry.name entry.bound
+unversioned_name entry = if is_none entry.bound then Some entry.name else None
 
 -- the pairs that a package gives: its own, and those of its versioned features
 abbrev pub package_pairs : PlainPackage → List Id

@@ -1,5 +1,5 @@
 -- The values of a package's properties, beside its name and version, while they are gathered.
-use Rattle.std.specs.Prelude.{ℕ, Bool, true, false, List, [], map, Option, Some, None, is_some, option_map, bytes_eq, codes, if◌then◌else◌}
+use Rattle.std.specs.Prelude.{ℕ, Bool, true, false, List, [], map, Option, Some, None, is_some, option_map, unwrap_or, bytes_eq, codes, if◌then◌else◌}
 use Rattle.cudf_text.specs.declared.fault.Fault.{Fault}
 use Rattle.cudf_text.specs.declared.fault.Kind.{Kind}
 use Rattle.cudf_text.specs.declared.fault.Kind.TheVariants.{E8, E9}
@@ -15,7 +15,7 @@ use Rattle.cudf_document.specs.declared.package.property.PackageProperty.TheVari
 use Rattle.cudf_document.specs.declared.package.fields.PackageFields.{PackageFields}
 use Rattle.cudf_document.specs.Documents.{value_of}
 use Rattle.cudf_document.specs.Preamble.{recommends_in}
-use Rattle.cudf_document.specs.Universe.{PlainPackage, or_default, own_recommends}
+use Rattle.cudf_document.specs.Universe.{PlainPackage, own_recommends}
 use Rattle.cudf_document.specs.Promises.Views.{list_view}
 use Rattle.cudf_document.specs.Ids.{Id}
 use Rattle.cudf_document.specs.Values.{Test, formula_value, list_value, exact_list_value, truth_value, keep_value, can_be, is_anything, declared_test, test_of}
@@ -103,11 +103,11 @@ package_from line v id = record {
   line = line;
   name = id.0;
   version = id.1;
-  depends = or_default [] v.depends;
-  conflicts = or_default [] v.conflicts;
-  provides = or_default [] v.provides;
-  installed = or_default false v.installed;
-  keep = or_default Nothing v.keep;
+  depends = unwrap_or v.depends [];
+  conflicts = unwrap_or v.conflicts [];
+  provides = unwrap_or v.provides [];
+  installed = unwrap_or v.installed false;
+  keep = unwrap_or v.keep Nothing;
   recommends = v.recommends;
 }
 

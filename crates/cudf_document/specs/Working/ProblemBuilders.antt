@@ -1,5 +1,5 @@
 -- What the stanzas of a problem say, while they are read.
-use Rattle.std.specs.Prelude.{◌≡◌, ℕ, Bool, List, [], ◌∷◌, ◌++◌, map, filter_map, Option, Some, None, option_map, option_to_list, is_some, is_none, bytes_eq, codes, if◌then◌else◌}
+use Rattle.std.specs.Prelude.{◌≡◌, ℕ, Bool, List, [], ◌∷◌, ◌++◌, map, filter_map, Option, Some, None, option_map, option_to_list, unwrap_or, is_some, is_none, bytes_eq, codes, if◌then◌else◌}
 use Rattle.std.specs.List.{list_any}
 use Rattle.indexmap.specs.IndexSet.{insert_key}
 use Rattle.cudf_text.specs.declared.fault.Fault.{Fault}
@@ -15,7 +15,7 @@ use Rattle.cudf_document.specs.Ids.{Id, is_id, is_among, is_known, id_under, id_
 use Rattle.cudf_document.specs.Promises.Packages.{with_id}
 use Rattle.cudf_document.specs.Preamble.{declared_after, is_bad_declaration, declared, recommends_default}
 use Rattle.cudf_document.specs.ProblemFaults.{properties_faults, version_property, lacks_one}
-use Rattle.cudf_document.specs.Universe.{PlainPackage, package_id, package_with, PlainRequest, PlainProblem, or_default, no_request, request_of, packages_in, request_in}
+use Rattle.cudf_document.specs.Universe.{PlainPackage, package_id, package_with, PlainRequest, PlainProblem, no_request, request_of, packages_in, request_in}
 
 -- what is wrong with a preamble's property: it is a bad declaration, or else it is repeated
 abbrev pub preamble_kind_after : List PlainDeclaration → List (List ℕ) → PlainProperty → Option Kind
@@ -84,4 +84,4 @@ IsListed g = g.ids ≡ first_ids [] (map package_id g.packages)
 
 -- the problem of what was gathered
 abbrev pub problem_of : PlainBuilder → PlainProblem
-problem_of g = record { packages = g.packages; request = or_default no_request g.request; recommends = recommends_default g.declared }
+problem_of g = record { packages = g.packages; request = unwrap_or g.request no_request; recommends = recommends_default g.declared }

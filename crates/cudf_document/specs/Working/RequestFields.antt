@@ -1,5 +1,5 @@
 -- The lists of a request while they are gathered.
-use Rattle.std.specs.Prelude.{ℕ, List, [], Option, Some, None, option_map, bytes_eq, codes, if◌then◌else◌}
+use Rattle.std.specs.Prelude.{ℕ, List, [], Option, Some, None, option_map, unwrap_or, bytes_eq, codes, if◌then◌else◌}
 use Rattle.std.specs.List.{list_any}
 use Rattle.cudf_text.specs.declared.fault.Kind.{Kind}
 use Rattle.cudf_text.specs.declared.fault.Kind.TheVariants.{E7, E9}
@@ -10,7 +10,7 @@ use Rattle.cudf_document.specs.declared.request.fields.RequestProperty.TheVarian
 use Rattle.cudf_document.specs.declared.request.fields.RequestFields.{RequestFields}
 use Rattle.cudf_document.specs.Documents.{value_of}
 use Rattle.cudf_document.specs.Values.{Test, list_value, can_be, fails}
-use Rattle.cudf_document.specs.Universe.{PlainRequest, or_default}
+use Rattle.cudf_document.specs.Universe.{PlainRequest}
 use Rattle.cudf_document.specs.Promises.Views.{list_view}
 
 abbrev pub request_property_named : List ℕ → Option RequestProperty
@@ -60,4 +60,4 @@ abbrev pub request_fields_after : List (List ℕ) → PlainProperty → PlainReq
 request_fields_after names p w = if list_any (bytes_eq p.name) names then w else with_request_property (request_property_named p.name) p.value w
 
 abbrev pub request_with : ℕ → PlainRequestFields → PlainRequest
-request_with line w = record { line = line; install = or_default [] w.install; remove = or_default [] w.remove; upgrade = or_default [] w.upgrade }
+request_with line w = record { line = line; install = unwrap_or w.install []; remove = unwrap_or w.remove []; upgrade = unwrap_or w.upgrade [] }

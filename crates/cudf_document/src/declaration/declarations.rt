@@ -4,7 +4,7 @@ ghost use Rattle.cudf_value.specs.Promises.Views.{formula_view};
 ghost use Rattle.cudf_value.specs.Promises.Types.{declaration_view};
 ghost use Rattle.cudf_document.specs.Values.{declared_test, test_of};
 ghost use Rattle.cudf_document.specs.ProblemFaults.{name_without_default, required_names};
-ghost use Rattle.cudf_document.specs.Preamble.{is_reserved, is_declared, is_declarable, all_declarable, if_declarable, declared_by, recommends_in, recommends_default};
+ghost use Rattle.cudf_document.specs.Preamble.{is_reserved, is_declared, is_declarable, all_declarable, declared_by, recommends_in, recommends_default};
 ghost use Rattle.cudf_document.specs.Working.PackageFields.{wrong_kind};
 
 use crate::declaration::declared::Declared;
@@ -74,14 +74,21 @@ impl<'t> Declarations<'t> {
         }
     }
 
+    /// The declaration of `recommends`, where that is declared as `vpkgformula`.
+    fn recommends(&self) -> Option<&Declared<'t>>
+        ensures { option_map (λ d. d.now) result ≡ recommends_in self.now }
+    {
+        match self.find("recommends") {
+            Some(declared) if declared.is_formula() => Some(declared),
+            _ => None,
+        }
+    }
+
     /// Whether `recommends` is declared as `vpkgformula`.
     pub(crate) fn has_recommends(&self) -> bool
         ensures { result ≡ is_some (recommends_in self.now) }
     {
-        match self.find("recommends") {
-            Some(declared) => declared.is_formula(),
-            None => false,
-        }
+        self.recommends().is_some()
     }
 
     /// The declared default of `recommends`, where that is declared as `vpkgformula`.
@@ -91,7 +98,7 @@ impl<'t> Declarations<'t> {
     ) -> Result<Option<Formula<'t>>, AllocError>
         ensures { IfOk result (λ f. option_map formula_view f ≡ recommends_default self.now) }
     {
-        match self.find("recommends") {
+        match self.recommends() {
             Some(declared) => declared.default_formula(alloc),
             None => Ok(None),
         }
@@ -142,8 +149,8 @@ impl<'t> Declarations<'t> {
         ensures is_good { IfOk result (λ is_good.
             is_good ≡ all_declarable self.old (map declaration_view declarations.entry.items)) }
         ensures added { OnOk result (self.new
-            ≡ self.old
-            ++ unwrap_or (if_declarable self.old (map declaration_view declarations.entry.items)) []) }
+            ≡ (if all_declarable self.old (map declaration_view declarations.entry.items) then self.old
+            ++ map declaration_view declarations.entry.items else self.old)) }
     {
         let before = self.len();
         let is_good = self.insert_all(alloc, declarations)?;

@@ -31,12 +31,13 @@ impl<'t> Model for Declared<'t> {
 }
 
 impl<'t> Declared<'t> {
-    ghost use Rattle.std.specs.Prelude.{◌≡◌, is_some, option_map, IfOk};
+    ghost use Rattle.std.specs.Prelude.{◌≡◌, is_some, option_and_then, option_map, IfOk};
     ghost use Rattle.cudf_text.specs.Chars.{trim};
     ghost use Rattle.cudf_value.specs.Types.{is_of_type};
     ghost use Rattle.cudf_value.specs.Promises.Views.{formula_view};
     ghost use Rattle.cudf_value.specs.Promises.Types.{declaration_view};
-    ghost use Rattle.cudf_document.specs.Preamble.{is_formula_type, formula_default};
+    ghost use Rattle.cudf_document.specs.Preamble.{is_formula_type};
+    ghost use Rattle.cudf_document.specs.Values.{formula_value};
 
     pub(crate) fn new(alloc: Global, declaration: Declaration<'t>) -> Result<Self, AllocError>
         ensures { IfOk result (λ d. d ≡ declaration_view declaration.entry) }
@@ -77,13 +78,10 @@ impl<'t> Declared<'t> {
         matches!(&self.declaration.kind, ValueType::Formula)
     }
 
-    /// The default, where it is a formula's.
+    /// The default, where it is of type `vpkgformula`, whatever the declared type.
     pub(crate) fn default_formula(&self, alloc: Global) -> Result<Option<Formula<'t>>, AllocError>
-        ensures { IfOk result (λ f. option_map formula_view f ≡ formula_default self.now) }
+        ensures { IfOk result (λ f. option_map formula_view f ≡ option_and_then formula_value self.now.default) }
     {
-        if !self.is_formula() {
-            return Ok(None);
-        }
         match self.declaration.default {
             Some(text) => read_formula(alloc, text),
             None => Ok(None),

@@ -4,7 +4,7 @@ use Rattle.cudf_text.specs.Promises.Cursor.{Left, with_next}
 use Rattle.cudf_text.specs.Stanzas.{PlainStanza}
 use Rattle.cudf_text.specs.Promises.Views.{property_view}
 use Rattle.cudf_document.proofs.SolutionReaderLemmas.{IsSolutionWhole, SolutionGoesOn-next, SolutionGoesOn-end}
-use Rattle.cudf_document.proofs.solution.solution_of.Goals as goal
+use Rattle.cudf_document.proofs.solution.reader.solution_of.Goals as goal
 
 pub stanzas-preserved : goal.stanzas-preserved
 stanzas-preserved c =

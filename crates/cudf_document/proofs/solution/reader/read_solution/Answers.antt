@@ -4,7 +4,7 @@ use Rattle.std.proofs.lemmas.Result.{IfOk-weaker}
 use Rattle.cudf_text.specs.Promises.Views.{stanza_view, text_view}
 use Rattle.cudf_document.specs.Working.SolutionReaders.{IsSolutionRead}
 use Rattle.cudf_document.proofs.ListLemmas.{map_next}
-use Rattle.cudf_document.proofs.solution.read_solution.Goals as goal
+use Rattle.cudf_document.proofs.solution.reader.read_solution.Goals as goal
 
 pub loop-stanza-preserved : goal.loop-stanza-preserved
 loop-stanza-preserved c =
