@@ -1,22 +1,12 @@
 //! The values of a package's properties.
-ghost use Rattle.std.specs.Prelude.{◌≡◌, Some, [], true, option_copied, IfOk, OnOk};
-ghost use Rattle.cudf_text.specs.Promises.Views.{stanza_view, property_view};
-ghost use Rattle.cudf_document.specs.Faults.{least};
-ghost use Rattle.cudf_document.specs.ProblemFaults.{properties_faults};
-ghost use Rattle.cudf_document.specs.Working.Borrows.{are_borrowed};
-ghost use Rattle.cudf_document.specs.Working.Identities.{IsIdentity};
-ghost use Rattle.cudf_document.specs.Working.PackageFields.{package_fields_view, package_fields_of};
-ghost use Rattle.cudf_document.specs.Working.SeenNames.{AreNames};
-ghost use Rattle.cudf_document.specs.declared.stanza.postmark.Postmark.TheVariants.{Package as PackageMark};
 
 use crate::declaration::declarations::{Declarations, mistyped_unless};
 use crate::package::identity::Identity;
 use crate::package::property::PackageProperty;
 use crate::package::{Keep, Package, read_keep};
 use crate::property::borrowed::source_value;
-use crate::property::fields::{Fields, judge_property, read_properties};
-use crate::property::seen_names::SeenNames;
-use cudf_text::{Fault, Kind, Property, Stanza};
+use crate::property::fields::{Fields, judge_property};
+use cudf_text::{Kind, Property};
 use cudf_value::{Formula, Vpkg, read_bool, read_formula, read_veqpkglist, read_vpkglist};
 use std::alloc::{AllocError, Global};
 
@@ -33,11 +23,7 @@ pub(crate) struct PackageFields<'t> {
 }
 
 impl<'t> PackageFields<'t> {
-    ghost use Rattle.std.specs.Prelude.{◌≡◌, [], true, option_map, option_copied, bytes_eq, IfOk, OnOk};
-    ghost use Rattle.cudf_text.specs.Promises.Views.{property_view};
-    ghost use Rattle.cudf_document.specs.Values.{declared_test, test_of};
-    ghost use Rattle.indexmap.specs.IndexSet.{insert_key};
-    ghost use Rattle.cudf_document.specs.Working.Borrows.{is_borrowed};
+    ghost use Rattle.std.specs.Prelude.{◌≡◌, [], option_map, IfOk, OnOk};
     ghost use Rattle.cudf_document.specs.Working.PackageFields.{package_property_test, wrong_kind, package_fields_view, no_package_fields, with_package_property, package_from};
     ghost use Rattle.cudf_document.specs.Promises.Views.{package_view};
     ghost use Rattle.cudf_document.specs.Working.Identities.{known_id};
@@ -143,27 +129,6 @@ impl<'t> PackageFields<'t> {
             recommends: self.recommends,
         })
     }
-}
-
-/// The first fault of a package's properties, and what they say, where each value is a part of the
-/// source.
-pub(crate) fn read_package<'a>(
-    alloc: Global,
-    names: &mut SeenNames<'a>,
-    declarations: &Declarations<'_>,
-    identity: Identity<'a>,
-    stanza: &Stanza<'a>,
-) -> Result<(Option<Fault>, PackageFields<'a>), AllocError>
-    requires { IsIdentity identity (stanza_view stanza.now).properties }
-    ensures fault { IfOk result (λ r.
-        r.0
-        ≡ least (properties_faults declarations.now (Some PackageMark) (stanza_view stanza.now).properties)) }
-    ensures names { OnOk result (AreNames names.new (stanza_view stanza.now).properties) }
-    ensures values { are_borrowed stanza.now.properties.items ≡ true →
-        IfOk result (λ r.
-        package_fields_view r.1 ≡ package_fields_of declarations.now (stanza_view stanza.now).properties) }
-{
-    read_properties(alloc, names, declarations, identity, stanza)
 }
 
 impl<'t> Fields<'t> for PackageFields<'t> {

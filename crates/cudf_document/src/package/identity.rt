@@ -1,9 +1,8 @@
 //! The name and the version of a package.
-ghost use Rattle.std.specs.Prelude.{◌≡◌, option_map, option_copied, codes};
+ghost use Rattle.std.specs.Prelude.{◌≡◌, option_copied, codes};
 ghost use Rattle.cudf_text.specs.Promises.Views.{stanza_view, property_view};
 ghost use Rattle.cudf_document.specs.Documents.{value_of};
 ghost use Rattle.cudf_document.specs.Values.{name_value};
-ghost use Rattle.cudf_document.specs.Working.Identities.{IsIdentity, known_id};
 
 use crate::property::named::first_named;
 use cudf_text::{Property, Stanza};
@@ -22,6 +21,10 @@ pub(crate) struct Identity<'a> {
 }
 
 impl<'a> Identity<'a> {
+    ghost use Rattle.std.specs.Prelude.{◌≡◌, option_map};
+    ghost use Rattle.cudf_text.specs.Promises.Views.{stanza_view};
+    ghost use Rattle.cudf_document.specs.Working.Identities.{IsIdentity, known_id};
+
     pub(crate) fn of(stanza: &Stanza<'a>) -> Self
         ensures { IsIdentity result (stanza_view stanza.now).properties }
     {

@@ -7,12 +7,13 @@ ghost use Rattle.cudf_document.specs.Working.PackageFields.{passes};
 use crate::declaration::declarations::Declarations;
 use crate::package::Package;
 use crate::package::bare::read_bare_package;
-use crate::package::fields::{PackageFields, read_package};
+use crate::package::fields::PackageFields;
 use crate::package::identity::Identity;
 use crate::problem::Problem;
 use crate::problem::chosen::Chosen;
 use crate::problem::walk::{Kept, Walk};
 use crate::property::borrowed::are_borrowed;
+use crate::property::fields::read_properties;
 use crate::property::seen_names::SeenNames;
 use crate::request::Request;
 use crate::request::fields::read_request;
@@ -76,7 +77,7 @@ impl<'a, 'c, 's> Parts<'a, 'c, 's> {
             ≡ needing_if (passes (kept_by self.now.chosen) (known_id identity.entry)) (package_fields_of declarations.now (stanza_view stanza.now).properties)) }
     {
         if self.keeps(identity.id()) {
-            read_package(alloc, names, declarations, identity, stanza)
+            read_properties(alloc, names, declarations, identity, stanza)
         } else {
             read_bare_package(alloc, names, declarations, identity, stanza)
         }

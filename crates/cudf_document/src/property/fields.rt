@@ -189,8 +189,8 @@ pub(crate) fn judge_package<'a>(
     Ok(fault)
 }
 
-/// What is wrong with a property that stands once, if it has this place in a package, or else by its
-/// name.
+/// What is wrong with a property that is the first of its name, if it has this place in a package, or
+/// else by its name.
 #[inline(always)]
 pub(crate) fn judge_property(
     declarations: &Declarations<'_>,
@@ -200,19 +200,7 @@ pub(crate) fn judge_property(
     ensures { result
         ≡ wrong_kind (package_property_test declarations.now named property.now.name.now) (property_view property.now).value }
 {
-    judge(declarations, named, property.name, property.value.as_str())
-}
-
-/// What is wrong with a property that stands once, if it has this place in a package, or else this name.
-#[inline(always)]
-fn judge(
-    declarations: &Declarations<'_>,
-    named: Option<PackageProperty>,
-    name: &str,
-    text: &str,
-) -> Option<Kind>
-    ensures { result ≡ wrong_kind (package_property_test declarations.now named name.now) text.now }
-{
+    let text = property.value.as_str();
     match named {
         Some(PackageProperty::Depends) => mistyped_unless(is_formula(text)),
         Some(PackageProperty::Conflicts) => mistyped_unless(is_vpkglist(text)),
@@ -221,6 +209,6 @@ fn judge(
         Some(PackageProperty::Keep) => mistyped_unless(read_keep(text).is_some()),
         Some(PackageProperty::WasInstalled) => None,
         Some(PackageProperty::Recommends) => declarations.wrong_kind("recommends", text),
-        None => declarations.wrong_kind(name, text),
+        None => declarations.wrong_kind(property.name, text),
     }
 }
