@@ -1,5 +1,6 @@
 -- What follows where a problem has no fault.
 use Rattle.std.proofs.Common.{◌≡◌, ◌≢◌, ℕ, zero, suc, ◌<◌, nat_eq, Bool, true, false, not, ◌||◌, ◌&&◌, List, [], ◌∷◌, ◌++◌, map, take, length, get_or, max, Option, None, Some, is_some, is_none, find, filter, filter_map, count_by, AllPairs, refl, sym, ap, ◌∙◌, arith, if◌then◌else◌, option_map, option_and_then, option_to_list, bytes_eq, codes}
+use Rattle.std.specs.Prelude.{slice_get}
 use Rattle.std.proofs.Math.Bool.{not-not, or-false}
 use Rattle.std.proofs.lemmas.Bool.{true≢false, and_parts, and_from, not-true, not-false, not_from_false, false_from_ne_true, eq-eqb}
 use Rattle.std.proofs.lemmas.List.{append-nil, append_assoc, get_or-take, length-take-le, get_or-map, length-map}
@@ -16,7 +17,7 @@ use Rattle.cudf_document.specs.declared.mode.Mode.{Mode}
 use Rattle.cudf_document.specs.declared.stanza.postmark.Postmark.{Postmark}
 use Rattle.cudf_document.specs.declared.stanza.postmark.Postmark.TheVariants.{Preamble, Package, Request}
 use Rattle.cudf_document.specs.Faults.{fault_if}
-use Rattle.cudf_document.specs.Documents.{is_empty, with_earlier, first_mark, postmark, marks_preamble, marks_package, is_request, has_name, value_of, line_of}
+use Rattle.cudf_document.specs.Documents.{is_empty, with_earlier, postmark_named, postmark, marks_preamble, marks_package, is_request, has_name, value_of, line_of}
 use Rattle.cudf_document.specs.Promises.Packages.{is_package, are_distinct}
 use Rattle.cudf_document.specs.Ids.{Id, is_id, is_among, is_known, id_with, id_under, id_of}
 use Rattle.cudf_document.specs.Values.{Test, name_value, version_value, can_be, test_of, fails}
@@ -235,7 +236,7 @@ value_there {A} read name known (p ∷ ps) test typed there =
         ∙ parts.0
     by false is there rest = rest there
 
-named_package : (ps : List PlainProperty) → first_mark ps ≡ Some Package → list_any (has_name (codes "package")) ps ≡ true
+named_package : (ps : List PlainProperty) → option_and_then (λ p. postmark_named p.name) (slice_get ps 0) ≡ Some Package → list_any (has_name (codes "package")) ps ≡ true
 named_package [] marked = absurd cc
 named_package (p ∷ ps) marked =
     ap (λ b. b || list_any (has_name (codes "package")) ps) (by (bytes_eq p.name (codes "preamble")) (bytes_eq p.name (codes "package")) (bytes_eq p.name (codes "request")) marked)

@@ -1,5 +1,5 @@
 -- Stanzas, by their first property, and the properties in them: CUDF 2.0, syntax of stanzas and properties.
-use Rattle.std.specs.Prelude.{ℕ, Bool, true, false, List, [], ◌∷◌, ◌++◌, Option, Some, None, find, option_and_then, bytes_eq, codes, if◌then◌else◌}
+use Rattle.std.specs.Prelude.{ℕ, Bool, true, false, List, [], ◌∷◌, ◌++◌, Option, Some, None, find, slice_get, option_and_then, bytes_eq, codes, if◌then◌else◌}
 use Rattle.cudf_text.specs.Stanzas.{PlainProperty, PlainStanza}
 use Rattle.cudf_document.specs.declared.stanza.postmark.Postmark.{Postmark}
 use Rattle.cudf_document.specs.declared.stanza.postmark.Postmark.TheVariants.{Preamble, Package, Request}
@@ -23,13 +23,9 @@ postmark_named name = if bytes_eq name (codes "preamble") then Some Preamble
     else (if bytes_eq name (codes "request") then Some Request
     else None))
 
-abbrev pub first_mark : List PlainProperty → Option Postmark
-first_mark [] = None
-first_mark (p ∷ ps) = postmark_named p.name
-
 -- the first property's name says what a stanza is
 abbrev pub postmark : PlainStanza → Option Postmark
-postmark s = first_mark s.properties
+postmark s = option_and_then (λ p. postmark_named p.name) (slice_get s.properties 0)
 
 abbrev pub marks_preamble : Option Postmark → Bool
 marks_preamble (Some Preamble) = true

@@ -62,6 +62,7 @@ mistyped_faults known p = fault_if (fails (test_of p.name known) p.value) p.line
 abbrev pub misdeclared_faults : Option Postmark → List PlainProperty → PlainProperty → List Fault
 misdeclared_faults mark before p = fault_if (marks_preamble mark && is_bad_declaration (declared_after [] before) p) p.line E10
 
+-- the faults of a property after those before it
 abbrev pub property_faults : List PlainDeclaration → Option Postmark → List PlainProperty × PlainProperty → List Fault
 property_faults ds mark (before, p) =
     repeated_faults (not (is_repeatable mark p)) before p ++ undeclared_faults ds mark p ++ mistyped_faults (tests ds mark) p

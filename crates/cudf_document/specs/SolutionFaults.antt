@@ -13,7 +13,7 @@ use Rattle.cudf_document.specs.Ids.{id_of, is_known}
 use Rattle.cudf_document.specs.Values.{solution_tests, test_of}
 use Rattle.cudf_document.specs.ProblemFaults.{unmarked_faults, repeated_faults, mistyped_faults, unversioned_faults, version_property}
 
--- of a property after those before it: E7, where its name counts, and E9
+-- the faults of a property after those before it: E7, where its name counts, and E9
 abbrev pub value_faults : List PlainProperty × PlainProperty → List Fault
 value_faults (before, p) = repeated_faults (is_some (test_of p.name solution_tests)) before p ++ mistyped_faults solution_tests p
 
