@@ -16,7 +16,7 @@ use Rattle.cudf_value.specs.Declarations.{declarations}
 use Rattle.cudf_document.specs.ProblemFaults.{problem_faults}
 use Rattle.cudf_document.specs.SolutionFaults.{solution_faults}
 use Rattle.cudf_document.specs.Universe.{plain_problem}
-use Rattle.cudf_referee.specs.declared.aims.Count.TheVariants as count
+use Rattle.cudf_referee.specs.declared.criteria.Count.TheVariants as count
 use Rattle.cudf_referee.specs.declared.aims.Sign.TheVariants.{Least, Most}
 use Rattle.cudf_referee.specs.declared.key.Key.{Key}
 use Rattle.cudf_referee.specs.declared.key.Part.TheVariants.{Package, Request}

@@ -20,7 +20,7 @@ use Rattle.cudf_referee.specs.Criteria.{criteria}
 use Rattle.cudf_referee.specs.Violations.{listing}
 use Rattle.cudf_referee.specs.Solutions.{is_solution}
 use Rattle.cudf_referee.specs.declared.aims.Aim.{Aim}
-use Rattle.cudf_referee.specs.declared.aims.Count.TheVariants as count
+use Rattle.cudf_referee.specs.declared.criteria.Count.TheVariants as count
 use Rattle.cudf_referee.specs.declared.aims.Sign.TheVariants.{Least, Most}
 use Rattle.cudf_check.specs.declared.outcome.Outcome.{Outcome}
 use Rattle.cudf_check.specs.declared.outcome.Outcome.TheVariants.{Yes, No, Faulty, Fail}

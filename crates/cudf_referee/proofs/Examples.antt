@@ -7,8 +7,8 @@ use Rattle.cudf_document.specs.declared.package.Keep.TheVariants.{Nothing}
 use Rattle.cudf_document.specs.Universe.{PlainPackage, PlainRequest, PlainProblem}
 use Rattle.cudf_document.specs.Statuses.{PlainUnknown}
 use Rattle.cudf_referee.specs.declared.aims.Aim.{Aim}
-use Rattle.cudf_referee.specs.declared.aims.Count.{Count}
-use Rattle.cudf_referee.specs.declared.aims.Count.TheVariants.{Removed, New, Changed, NotUpToDate, UnsatRecommends, Touched}
+use Rattle.cudf_referee.specs.declared.criteria.Count.{Count}
+use Rattle.cudf_referee.specs.declared.criteria.Count.TheVariants.{Removed, New, Changed, NotUpToDate, UnsatRecommends, Touched}
 use Rattle.cudf_referee.specs.declared.aims.Sign.TheVariants.{Least, Most}
 use Rattle.cudf_referee.specs.declared.criteria.Criteria.{Criteria}
 use Rattle.cudf_referee.specs.declared.key.Part.TheVariants.{Package, Request}

@@ -1,8 +1,8 @@
 -- Lists of aims, by which a competition compares proposed statuses: own.
 use Rattle.std.specs.Prelude.{ℕ, List, ◌++◌, codes}
 use Rattle.cudf_referee.specs.declared.aims.Aim.{Aim}
-use Rattle.cudf_referee.specs.declared.aims.Count.{Count}
-use Rattle.cudf_referee.specs.declared.aims.Count.TheVariants.{Removed, New, Changed, NotUpToDate, UnsatRecommends, Touched}
+use Rattle.cudf_referee.specs.declared.criteria.Count.{Count}
+use Rattle.cudf_referee.specs.declared.criteria.Count.TheVariants.{Removed, New, Changed, NotUpToDate, UnsatRecommends, Touched}
 use Rattle.cudf_referee.specs.declared.aims.Sign.{Sign}
 use Rattle.cudf_referee.specs.declared.aims.Sign.TheVariants.{Least, Most}
 use Rattle.cudf_referee.specs.declared.criteria.Criteria.{Criteria}

@@ -1,24 +1,13 @@
 //! Aims: which counts are to be small or great, the weightiest first. Proposed statuses are compared by them.
 ghost use Rattle.std.specs.Prelude.{◌≡◌};
-ghost use Rattle.cudf_referee.specs.Aims.{count_text, sign_text};
+ghost use Rattle.cudf_referee.specs.Aims.{sign_text};
 ghost use Rattle.cudf_referee.specs.Comparing.{sign_cmp, aim_cmp, differ_in, compare};
 
 mod reading;
 
-use crate::criteria::Criteria;
+use crate::criteria::{Count, Criteria};
 pub use reading::read_criterion;
 use std::cmp::Ordering;
-
-/// A count of `Criteria`, named as its field.
-#[derive(Clone, Copy, Debug, PartialEq, Eq)]
-pub enum Count {
-    Removed,
-    New,
-    Changed,
-    NotUpToDate,
-    UnsatRecommends,
-    Touched,
-}
 
 /// Whether a count is to be small or great. Own.
 #[derive(Clone, Copy, Debug, PartialEq, Eq)]
@@ -37,22 +26,6 @@ pub enum Sign {
 pub struct Aim {
     pub sign: Sign,
     pub count: Count,
-}
-
-impl Count {
-    /// The name of the count in a list of aims, as `notuptodate`.
-    pub fn text(self) -> &'static str
-        ensures { result.now ≡ count_text self }
-    {
-        match self {
-            Count::Removed => "removed",
-            Count::New => "new",
-            Count::Changed => "changed",
-            Count::NotUpToDate => "notuptodate",
-            Count::UnsatRecommends => "unsat_recommends",
-            Count::Touched => "touched",
-        }
-    }
 }
 
 impl Sign {

@@ -1,6 +1,7 @@
 //! What a proposed status changes and lacks, in numbers.
-
-use crate::aims::Count;
+ghost use Rattle.std.specs.Prelude.{◌≡◌};
+ghost use Rattle.cudf_referee.specs.Aims.{count_of, count_text};
+ghost use Rattle.cudf_referee.specs.Criteria.{paranoid, trendy};
 
 /// The counts of the MISC competition's criteria. They are counted whether or not the proposed status is a solution;
 /// unknown stanzas don't count.
@@ -22,11 +23,18 @@ pub struct Criteria {
     pub touched: u64,
 }
 
-impl Criteria {
-    ghost use Rattle.std.specs.Prelude.{◌≡◌};
-    ghost use Rattle.cudf_referee.specs.Aims.{count_of};
-    ghost use Rattle.cudf_referee.specs.Criteria.{paranoid, trendy};
+/// A count of `Criteria`, named as its field.
+#[derive(Clone, Copy, Debug, PartialEq, Eq)]
+pub enum Count {
+    Removed,
+    New,
+    Changed,
+    NotUpToDate,
+    UnsatRecommends,
+    Touched,
+}
 
+impl Criteria {
     /// The count of this name. Own.
     pub fn count(&self, count: Count) -> u64
         ensures { result ≡ count_of self.now count }
@@ -59,5 +67,21 @@ impl Criteria {
             self.unsat_recommends,
             self.new,
         ]
+    }
+}
+
+impl Count {
+    /// The name of the count in a list of aims, as `notuptodate`.
+    pub fn text(self) -> &'static str
+        ensures { result.now ≡ count_text self }
+    {
+        match self {
+            Count::Removed => "removed",
+            Count::New => "new",
+            Count::Changed => "changed",
+            Count::NotUpToDate => "notuptodate",
+            Count::UnsatRecommends => "unsat_recommends",
+            Count::Touched => "touched",
+        }
     }
 }

@@ -12,8 +12,8 @@ mod position;
 mod referee;
 mod walk;
 
-pub use aims::{Aim, Count, Sign, compare, read_criterion};
-pub use criteria::Criteria;
+pub use aims::{Aim, Sign, compare, read_criterion};
+pub use criteria::{Count, Criteria};
 pub use instance::{Instance, What};
 pub use key::{Aspect, Key, Part, Rule};
 pub use referee::{Instances, Referee};

@@ -3,8 +3,8 @@ use Rattle.std.specs.Prelude.{ℕ, List, [], ◌∷◌, ◌++◌, map, find, Opt
 use Rattle.std.specs.Str.{byte}
 use Rattle.cudf_value.specs.Parts.{read_parts}
 use Rattle.cudf_referee.specs.declared.aims.Aim.{Aim}
-use Rattle.cudf_referee.specs.declared.aims.Count.{Count}
-use Rattle.cudf_referee.specs.declared.aims.Count.TheVariants.{Removed, New, Changed, NotUpToDate, UnsatRecommends, Touched}
+use Rattle.cudf_referee.specs.declared.criteria.Count.{Count}
+use Rattle.cudf_referee.specs.declared.criteria.Count.TheVariants.{Removed, New, Changed, NotUpToDate, UnsatRecommends, Touched}
 use Rattle.cudf_referee.specs.declared.aims.Sign.{Sign}
 use Rattle.cudf_referee.specs.declared.aims.Sign.TheVariants.{Least, Most}
 use Rattle.cudf_referee.specs.Aims.{aim_text}

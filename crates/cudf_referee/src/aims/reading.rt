@@ -3,7 +3,8 @@ ghost use Rattle.std.specs.Prelude.{◌≡◌, ◌++◌, ℕ, List, IfSome, IfNo
 ghost use Rattle.cudf_referee.specs.Aims.{count_text, sign_text};
 ghost use Rattle.cudf_referee.specs.Promises.Aims.{all_counts, aim_of, criterion};
 
-use crate::aims::{Aim, Count, Sign};
+use crate::aims::{Aim, Sign};
+use crate::criteria::Count;
 use std::alloc::{AllocError, Global};
 
 /// The aims of a list, in its order, as of `-removed,+new`. Own.
