@@ -7,9 +7,9 @@ ghost use Rattle.cudf_check.specs.Report.{proposal_of};
 ghost use Rattle.cudf_check.specs.Working.Judged.{IsJudged, IsFaultOf, AreJudged, IsFirstRefused};
 
 use crate::ranking::{Judgement, Standing};
+use cudf_document::{Mode, Problem, ReadError, solution_of};
 use cudf_referee::Referee;
 use cudf_text::{Stanzas, is_fail, source_of};
-use cudf_universe::{Mode, Problem, ReadError, solution_of};
 use std::alloc::{AllocError, Global};
 
 /// Why the solutions aren't ranked.

@@ -21,8 +21,8 @@ mod rank_report;
 mod ranking;
 mod report;
 
+pub use cudf_document::Mode;
 pub use cudf_referee::{Aim, Count, Key, Sign};
-pub use cudf_universe::Mode;
 pub use device::{Device, Sink, Source, Trouble};
 use input::read_all;
 use inputs::read_each;

@@ -11,9 +11,9 @@ use crate::lines::{answer_fault, answer_faulty_solution, answer_ranked};
 use crate::outcome::{Outcome, RunError};
 use crate::ranking::{Standing, best_outcome, ranked};
 use crate::report::answer_refusal;
+use cudf_document::{Mode, Problem, ReadError, Room, problem_of};
 use cudf_referee::Aim;
 use cudf_text::{Stanzas, stanzas};
-use cudf_universe::{Mode, Problem, ReadError, Room, problem_of};
 use std::alloc::Global;
 
 /// By what solutions are ranked, and the mode in which the documents are read.

@@ -15,13 +15,13 @@ use crate::device::Sink;
 use crate::job::Job;
 use crate::lines::{Found, answer, answer_fault, answer_judged};
 use crate::outcome::{Outcome, RunError};
-use cudf_referee::laws::{ascending, thin};
-use cudf_referee::{Aim, Referee};
-use cudf_text::{Fault, Stanzas, cut_joined, is_fail, source_of, stanzas};
-use cudf_universe::{
+use cudf_document::{
     Chosen, Mode, Problem, ReadError, Room, Solution, first_fault, problem_for, problem_of,
     solution_of,
 };
+use cudf_referee::laws::{ascending, thin};
+use cudf_referee::{Aim, Referee};
+use cudf_text::{Fault, Stanzas, cut_joined, is_fail, source_of, stanzas};
 use std::alloc::{AllocError, Global};
 
 /// What a run is asked for, and where its memory comes from.

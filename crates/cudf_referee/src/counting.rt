@@ -11,7 +11,8 @@ mod standings;
 mod touched;
 
 use crate::criteria::Criteria;
-use cudf_universe::{Index, Problem, Status};
+use cudf_document::{Problem, Status};
+use cudf_universe::Index;
 use recommends::count_unsatisfied;
 use standing::{count_changed, count_new, count_not_up_to_date, count_removed};
 use standings::standings_of;

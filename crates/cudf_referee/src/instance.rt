@@ -1,6 +1,6 @@
 //! Violated instances of rules.
 use crate::key::{Aspect, Key, Part, Rule};
-use cudf_universe::{Package, Request, Unknown};
+use cudf_document::{Package, Request, Unknown};
 use cudf_value::{Clause, Vpkg};
 
 /// One violated instance of a rule. Own.

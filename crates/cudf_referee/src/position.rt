@@ -14,7 +14,8 @@ ghost use Rattle.cudf_referee.specs.Working.Searches.{unknown_left};
 
 use crate::instance::Instance;
 use crate::key::{Key, Part};
-use cudf_universe::{Steps, Unknown};
+use cudf_document::Unknown;
+use cudf_universe::Steps;
 
 /// A position in the walk. (own)
 #[derive(Clone, Copy, Debug)]

@@ -14,8 +14,8 @@ use crate::buffer::ReportBuffer;
 use crate::device::Sink;
 use crate::lines::print;
 use crate::outcome::RunError;
+use cudf_document::Package;
 use cudf_referee::{Aspect, Instance, Key, Part, What};
-use cudf_universe::Package;
 use cudf_value::{Atom, Clause, Vpkg};
 use itoa::Buffer;
 

@@ -18,8 +18,8 @@ use crate::device::Sink;
 use crate::lines::instance::{print_instance, print_key};
 use crate::lines::print;
 use crate::outcome::RunError;
+use cudf_document::Package;
 use cudf_referee::{Instance, Instances, Key, Referee};
-use cudf_universe::Package;
 
 /// The package that meets an instance's entry.
 fn meeting<'x, 't>(packages: &'x [Package<'t>], place: Option<u64>) -> Option<&'x Package<'t>>

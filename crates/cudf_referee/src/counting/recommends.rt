@@ -7,7 +7,8 @@ ghost use Rattle.cudf_universe.specs.Satisfaction.{members, satisfies_clause};
 ghost use Rattle.cudf_referee.specs.Criteria.{at_most_max, unsatisfied_recommends};
 ghost use Rattle.cudf_referee.specs.Proposals.{proposal};
 
-use cudf_universe::{Index, Problem, Status};
+use cudf_document::{Problem, Status};
+use cudf_universe::Index;
 use cudf_value::Formula;
 
 /// How many conjuncts of what the packages of the status recommend aren't satisfied.

@@ -9,7 +9,7 @@ ghost use Rattle.cudf_referee.specs.Criteria.{is_among, versions_of};
 ghost use Rattle.cudf_referee.specs.Working.Standings.{names_held, StandsFor, standings_of};
 
 use crate::counting::standing::{Standing, Standings};
-use cudf_universe::{Package, Problem, Status};
+use cudf_document::{Package, Problem, Status};
 use indexmap::IndexMap;
 use std::alloc::{AllocError, Global};
 

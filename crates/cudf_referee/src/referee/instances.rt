@@ -17,7 +17,8 @@ use crate::instance::Instance;
 use crate::key::Key;
 use crate::position::{Position, first_unknown_behind, next_place, position_behind};
 use crate::walk::{self, Ground};
-use cudf_universe::{GreatestNumbers, Index, Metered, MeteredNumbers, Problem, Solution, Steps};
+use cudf_document::{Problem, Solution};
+use cudf_universe::{GreatestNumbers, Index, Metered, MeteredNumbers, Steps};
 use std::marker::Model;
 
 /// The walk over the violated instances, in key order. It holds none of them: each call of `next`

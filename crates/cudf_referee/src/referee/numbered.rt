@@ -7,7 +7,8 @@ ghost use Rattle.cudf_referee.specs.Proposals.{put_forward};
 ghost use Rattle.cudf_referee.specs.Working.Numbered.{IsNumbered};
 
 use crate::position::number_at;
-use cudf_universe::{Problem, Solution, Steps, Unknown};
+use cudf_document::{Problem, Solution, Unknown};
+use cudf_universe::Steps;
 
 /// The numbers of stanzas that ascend are those of a `u64`, since the last one is.
 fn number_stanzas(unknown: &[Unknown<'_>])

@@ -3,7 +3,7 @@ ghost use Rattle.std.specs.Prelude.{◌<◌};
 
 use crate::instance::{Instance, What};
 use crate::key::Rule;
-use cudf_universe::Package;
+use cudf_document::Package;
 
 /// A package of the universe, and what is known of it before it is judged.
 #[derive(Clone, Copy)]

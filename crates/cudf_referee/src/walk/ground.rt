@@ -6,7 +6,7 @@ ghost use Rattle.cudf_document.specs.Statuses.{ascend_above};
 ghost use Rattle.cudf_referee.specs.Working.Named.{names_held};
 
 use crate::walk::candidate::Candidate;
-use cudf_universe::{Package, Problem, Solution};
+use cudf_document::{Package, Problem, Solution};
 
 /// A problem, a solution of it, and of which packages the name is to be kept and proposed.
 #[derive(Clone, Copy)]

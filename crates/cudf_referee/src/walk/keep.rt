@@ -17,7 +17,8 @@ use crate::walk::candidate::Candidate;
 use crate::walk::entries::search_entries;
 use crate::walk::features::Features;
 use crate::walk::left::{count_passed, passed};
-use cudf_universe::{Keep, Metered, Steps};
+use cudf_document::Keep;
+use cudf_universe::{Metered, Steps};
 
 /// The instance of a `keep` that has one place alone, if that is left, and violated.
 fn judge<'p, 't>(

@@ -7,7 +7,8 @@ ghost use Rattle.cudf_referee.specs.Promises.Sites.{remove_entry};
 use crate::instance::{Instance, What};
 use crate::key::Rule;
 use crate::walk::entries::EntryRule;
-use cudf_universe::{Metered, Request, Steps};
+use cudf_document::Request;
+use cudf_universe::{Metered, Steps};
 use cudf_value::Vpkg;
 
 /// The rule, for a request.

@@ -14,7 +14,8 @@ use crate::walk::install::Install;
 use crate::walk::left::passed;
 use crate::walk::remove::Remove;
 use crate::walk::upgrade::search_upgrade;
-use cudf_universe::{Metered, MeteredNumbers, Request, Steps};
+use cudf_document::Request;
+use cudf_universe::{Metered, MeteredNumbers, Steps};
 
 /// The first instance of the request behind a key of it, or behind none.
 pub(super) fn search_request<'p, 't>(

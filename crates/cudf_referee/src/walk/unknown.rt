@@ -7,7 +7,8 @@ ghost use Rattle.cudf_referee.specs.Working.Behind.{unknown_stops};
 ghost use Rattle.cudf_referee.specs.Working.Searches.{Finds};
 
 use crate::instance::Instance;
-use cudf_universe::{Steps, Unknown};
+use cudf_document::Unknown;
+use cudf_universe::Steps;
 
 /// The instance of the unknown stanza behind this many others, if there is one.
 pub(super) fn search_unknown<'p, 't>(

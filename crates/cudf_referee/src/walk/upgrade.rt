@@ -16,7 +16,8 @@ ghost use Rattle.cudf_referee.specs.Working.Searches.{Finds, aspects_left};
 use crate::instance::{Instance, What};
 use crate::key::{Aspect, Key, Rule};
 use crate::walk::left::comes_before;
-use cudf_universe::{Metered, MeteredNumbers, Request, Steps};
+use cudf_document::Request;
+use cudf_universe::{Metered, MeteredNumbers, Steps};
 use cudf_value::Vpkg;
 
 /// Whether the status gives two different numbers of the name.
