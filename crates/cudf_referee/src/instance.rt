@@ -52,17 +52,17 @@ impl<'p, 't> Instance<'p, 't> {
         place: u64,
         package: &Package<'t>,
         rule: Rule,
-        entry: u64,
+        number: u64,
         what: What<'p, 't>,
     ) -> Self
         requires placed { 0 < place }
-        requires counted { 0 < entry }
+        requires counted { 0 < number }
         requires fits { IsTrue (is_package_rule rule) }
 
-        ensures { instance_view result ≡ at_package (place, package_view «package».now) rule entry (what_view what.entry) }
+        ensures { instance_view result ≡ at_package (place, package_view «package».now) rule number (what_view what.entry) }
     {
         Instance {
-            key: Key::new(Part::Package(place), rule, entry, None),
+            key: Key::new(Part::Package(place), rule, number, None),
             line: package.line,
             subject: Some((package.name, package.version)),
             what,
@@ -73,17 +73,17 @@ impl<'p, 't> Instance<'p, 't> {
     pub(crate) fn of_request(
         request: &Request<'t>,
         rule: Rule,
-        entry: u64,
+        number: u64,
         aspect: Option<Aspect>,
         what: What<'p, 't>,
     ) -> Self
-        requires counted { 0 < entry }
+        requires counted { 0 < number }
         requires fits { IsTrue (fits_request rule aspect) }
 
-        ensures { instance_view result ≡ at_request (request_view request.now) rule entry aspect (what_view what.entry) }
+        ensures { instance_view result ≡ at_request (request_view request.now) rule number aspect (what_view what.entry) }
     {
         Instance {
-            key: Key::new(Part::Request, rule, entry, aspect),
+            key: Key::new(Part::Request, rule, number, aspect),
             line: request.line,
             subject: None,
             what,

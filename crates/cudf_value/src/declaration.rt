@@ -6,7 +6,7 @@ ghost use Rattle.cudf_value.specs.Declarations.{with_kind, declaration_piece, re
 
 use crate::class::Class;
 use crate::default::{is_default, without_brackets};
-use crate::kind::type_of;
+use crate::type_reading::type_of;
 use crate::piece::cut_piece;
 use crate::text::{after, first_byte, split_run, trim_start};
 use crate::value_type::ValueType;

@@ -74,22 +74,22 @@ pub(crate) fn read_properties<'a, S: Fields<'a>>(
 {
     names.clear(alloc);
     let mut first = None;
-    let mut sink = S::start();
+    let mut fields = S::start();
     for property in &stanza.properties {
-        let fault = read_property(alloc, names, declarations, identity, &mut sink, property)?;
+        let fault = read_property(alloc, names, declarations, identity, &mut fields, property)?;
         keep_lesser(&mut first, fault);
     }
-    Ok((first, sink))
+    Ok((first, fields))
 }
 
-/// Reads a property into the sink, if it is the first of its name, and answers its fault.
+/// Reads a property into the fields, if it is the first of its name, and answers its fault.
 #[inline(always)]
 fn read_property<'a, S: Fields<'a>>(
     alloc: Global,
     names: &mut SeenNames<'a>,
     declarations: &Declarations<'_>,
     identity: Identity<'a>,
-    sink: &mut S,
+    fields: &mut S,
     property: &Property<'a>,
 ) -> Result<Option<Fault>, AllocError>
     ensures fault { (before later : List PlainProperty) →
@@ -102,24 +102,24 @@ fn read_property<'a, S: Fields<'a>>(
     ensures read { (before : List PlainProperty) →
         AreNames names.old before →
         is_borrowed property.now ≡ true →
-        S.IsRead (package_fields_of declarations.now before) sink.old →
-        OnOk result (S.IsRead (package_fields_of declarations.now (before ++ property_view property.now ∷ [])) sink.new) }
+        S.IsRead (package_fields_of declarations.now before) fields.old →
+        OnOk result (S.IsRead (package_fields_of declarations.now (before ++ property_view property.now ∷ [])) fields.new) }
 {
     if !names.insert(property.name)? {
         return Ok(fault_on(property.line, Some(Kind::E7)));
     }
-    let kind = read_first(alloc, declarations, identity, sink, property)?;
+    let kind = read_first(alloc, declarations, identity, fields, property)?;
     Ok(fault_on(property.line, kind))
 }
 
-/// Says what is wrong with a property that is the first of its name, and reads it into the sink, but
+/// Says what is wrong with a property that is the first of its name, and reads it into the fields, but
 /// for the name and the version, which are known.
 #[inline(always)]
 fn read_first<'a, S: Fields<'a>>(
     alloc: Global,
     declarations: &Declarations<'_>,
     identity: Identity<'a>,
-    sink: &mut S,
+    fields: &mut S,
     property: &Property<'a>,
 ) -> Result<Option<Kind>, AllocError>
     ensures kind { (all : List PlainProperty) →
@@ -130,13 +130,13 @@ fn read_first<'a, S: Fields<'a>>(
         ≡ wrong_kind (test_of property.now.name.now (tests declarations.now (Some PackageMark))) (property_view property.now).value) }
     ensures read { (values : PlainPackageFields) →
         is_borrowed property.now ≡ true →
-        S.IsRead values sink.old →
-        OnOk result (S.IsRead (with_package_property declarations.now (package_property_named property.now.name.now) (property_view property.now).value values) sink.new) }
+        S.IsRead values fields.old →
+        OnOk result (S.IsRead (with_package_property declarations.now (package_property_named property.now.name.now) (property_view property.now).value values) fields.new) }
 {
     match property.name {
         "package" => Ok(mistyped_unless(identity.name.is_some())),
         "version" => Ok(mistyped_unless(identity.version.is_some())),
-        name => sink.set(alloc, declarations, package_property_named(name), property),
+        name => fields.set(alloc, declarations, package_property_named(name), property),
     }
 }
 

@@ -78,13 +78,13 @@ fn judge<'p, 't>(
     before: &mut MeteredNumbers<'_, '_, '_>,
     steps: &mut Steps,
     request: &'p Request<'t>,
-    entry: u64,
+    number: u64,
     vpkg: &'p Vpkg<'t>,
     aspect: Aspect,
 ) -> Option<Instance<'p, 't>>
-    requires { 0 < entry }
+    requires { 0 < number }
     ensures found { (s : Proposal) → s.proposed ≡ now.old.status → s.initial ≡ before.old.status → s.request ≡ request_view request.now
-        → Finds s (at_site (upgrade_entry entry (vpkg_view vpkg.now) aspect) ∷ [])
+        → Finds s (at_site (upgrade_entry number (vpkg_view vpkg.now) aspect) ∷ [])
         (option_map instance_view result) (now.old.steps + before.old.steps + steps.old) (now.new.steps + before.new.steps + steps.new) }
     ensures now { now.new.status ≡ now.old.status }
     ensures before { before.new.status ≡ before.old.status }
@@ -94,7 +94,7 @@ fn judge<'p, 't>(
         return None;
     }
     let what = What::Upgrade(vpkg);
-    Some(Instance::of_request(request, Rule::Upgrade, entry, Some(aspect), what))
+    Some(Instance::of_request(request, Rule::Upgrade, number, Some(aspect), what))
 }
 
 /// The aspects that come after one of them, or all three.
@@ -115,19 +115,19 @@ fn search_aspects<'p, 't>(
     before: &mut MeteredNumbers<'_, '_, '_>,
     steps: &mut Steps,
     request: &'p Request<'t>,
-    entry: u64,
+    number: u64,
     vpkg: &'p Vpkg<'t>,
     aspects: &[Aspect],
 ) -> Option<Instance<'p, 't>>
-    requires { 0 < entry }
+    requires { 0 < number }
     ensures found { (s : Proposal) → s.proposed ≡ now.old.status → s.initial ≡ before.old.status → s.request ≡ request_view request.now
-        → Finds s (aspect_stops entry (vpkg_view vpkg.now) aspects.now)
+        → Finds s (aspect_stops number (vpkg_view vpkg.now) aspects.now)
         (option_map instance_view result) (now.old.steps + before.old.steps + steps.old) (now.new.steps + before.new.steps + steps.new) }
     ensures now { now.new.status ≡ now.old.status }
     ensures before { before.new.status ≡ before.old.status }
 {
     for aspect in aspects {
-        if let Some(instance) = judge(now, before, steps, request, entry, vpkg, *aspect) {
+        if let Some(instance) = judge(now, before, steps, request, number, vpkg, *aspect) {
             return Some(instance);
         }
     }
@@ -151,9 +151,9 @@ fn search_entries<'p, 't>(
 {
     let entries = request.upgrade.as_slice();
     for (index, vpkg) in entries[first..].iter().enumerate() {
-        let entry = (first + index) as u64 + 1;
+        let number = (first + index) as u64 + 1;
         let aspects = later_aspects(None);
-        if let Some(instance) = search_aspects(now, before, steps, request, entry, vpkg, aspects) {
+        if let Some(instance) = search_aspects(now, before, steps, request, number, vpkg, aspects) {
             return Some(instance);
         }
     }
@@ -177,9 +177,9 @@ fn search_entry<'p, 't>(
 {
     match request.upgrade.as_slice().get(index) {
         Some(vpkg) => {
-            let entry = index as u64 + 1;
+            let number = index as u64 + 1;
             let aspects = later_aspects(after);
-            search_aspects(now, before, steps, request, entry, vpkg, aspects)
+            search_aspects(now, before, steps, request, number, vpkg, aspects)
         }
         None => None,
     }

@@ -12,7 +12,7 @@ use Rattle.cudf_document.proofs.property.fields.read_properties.Goals as goal
 pub loop-property-init : goal.loop-property-init
 loop-property-init g c = (
   IsJudgedTo-none _ _ c.clear.new.self c.clear.ensures,
-  λ borrowed. subst (λ values. g.S.Fields.IsRead values c.start-sink.result) (package_fields_of-none c.args.declarations.now) c.start-sink.ensures,
+  λ borrowed. subst (λ values. g.S.Fields.IsRead values c.start-fields.result) (package_fields_of-none c.args.declarations.now) c.start-fields.ensures,
 )
 
 pub loop-property-preserved : goal.loop-property-preserved
@@ -31,7 +31,7 @@ loop-property-preserved g c =
           (c.in_ok-fault.ensures.fault ps later c.loop-property.invariant.0.names_are (subst (IsIdentity c.args.identity) all c.requires))
           c.keep_lesser.ensures,
       λ borrowed.
-          subst (λ qs. g.S.Fields.IsRead (package_fields_of ds qs) c.read_property.new.sink) (sym more)
+          subst (λ qs. g.S.Fields.IsRead (package_fields_of ds qs) c.read_property.new.fields) (sym more)
           (c.in_ok-fault.ensures.read ps c.loop-property.invariant.0.names_are
           (all_here is_borrowed c.deref-property-items.result.now i c.property-item.result (omega arith) c.property-item.is (ap are_borrowed c.deref-property-items.ensures.value ∙ borrowed))
           (c.loop-property.invariant.1 borrowed)),

@@ -9,4 +9,4 @@ use Rattle.cudf_document.proofs.property.fields.read_properties.Given as goal
 abbrev pub invariant-loop-property : goal.invariant-loop-property
 invariant-loop-property g l =
     IsJudgedTo l.declarations (Some Package) (map property_view (take l.property-index l.stanza.properties.items)) l.names l.first
-    × (are_borrowed l.stanza.properties.items ≡ true → g.S.Fields.IsRead (package_fields_of l.declarations (map property_view (take l.property-index l.stanza.properties.items))) l.sink)
+    × (are_borrowed l.stanza.properties.items ≡ true → g.S.Fields.IsRead (package_fields_of l.declarations (map property_view (take l.property-index l.stanza.properties.items))) l.fields)

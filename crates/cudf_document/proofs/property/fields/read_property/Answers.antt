@@ -18,7 +18,7 @@ pub returns-then-not-branch-clause-read : goal.returns-then-not-branch-clause-re
 returns-then-not-branch-clause-read g c = λ before are borrowed read.
     let p = property_view c.args.property.now in
     let again : list_any (same_name p) before ≡ true = sym (are p.name) ∙ not_swap _ _ c.in_ok-insert.ensures.is_new ∙ ap not c.if-not-branch.true in
-    subst (λ values. g.S.Fields.IsRead values c.args.sink.now) (sym (package_fields_of-repeated c.args.declarations.now before p again)) read
+    subst (λ values. g.S.Fields.IsRead values c.args.fields.now) (sym (package_fields_of-repeated c.args.declarations.now before p again)) read
 
 pub returns-clause-fault : goal.returns-clause-fault
 returns-clause-fault g c = λ before later are identity.
@@ -32,5 +32,5 @@ pub returns-clause-read : goal.returns-clause-read
 returns-clause-read g c = λ before are borrowed read.
     let p = property_view c.args.property.now in
     let new : list_any (same_name p) before ≡ false = sym (are p.name) ∙ not_swap _ _ c.in_ok-insert.ensures.is_new ∙ ap not c.if-not-branch.false in
-    subst (λ values. g.S.Fields.IsRead values c.read_first.new.sink) (package_fields_of-first c.args.declarations.now before p new)
+    subst (λ values. g.S.Fields.IsRead values c.read_first.new.fields) (package_fields_of-first c.args.declarations.now before p new)
     (c.in_ok-kind.ensures.read (package_fields_of c.args.declarations.now before) borrowed read)

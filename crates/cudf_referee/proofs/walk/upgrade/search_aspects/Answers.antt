@@ -8,7 +8,7 @@ use Rattle.cudf_referee.proofs.walk.upgrade.search_aspects.Goals as goal
 
 pub loop-aspect-preserved : goal.loop-aspect-preserved
 loop-aspect-preserved c =
-    let make = λ (aspect : Aspect). at_site (upgrade_entry c.args.entry (vpkg_view c.args.vpkg.now) aspect) in
+    let make = λ (aspect : Aspect). at_site (upgrade_entry c.args.number (vpkg_view c.args.vpkg.now) aspect) in
     let known = c.loop-aspect.invariant in
     record {
       now = c.judge.ensures.now ∙ known.now;
@@ -19,12 +19,12 @@ loop-aspect-preserved c =
 
 pub returns-in-Some-clause-found : goal.returns-in-Some-clause-found
 returns-in-Some-clause-found c =
-    let make = λ (aspect : Aspect). at_site (upgrade_entry c.args.entry (vpkg_view c.args.vpkg.now) aspect) in
+    let make = λ (aspect : Aspect). at_site (upgrade_entry c.args.number (vpkg_view c.args.vpkg.now) aspect) in
     let known = c.loop-aspect.invariant in
     λ s same initial request. stops-found s make _ c.args.aspects.now c.loop-aspect.aspect-index _ _ _ _ _ c.loop-aspect-test.true
     (at_some s _ instance_view c.judge.result _ _ _ c.in-Some.is (c.judge.ensures.found s (same ∙ sym known.now) (initial ∙ sym known.before) request)) (known.passes s same initial request)
 
 pub returns-clause-found : goal.returns-clause-found
 returns-clause-found c =
-    let make = λ (aspect : Aspect). at_site (upgrade_entry c.args.entry (vpkg_view c.args.vpkg.now) aspect) in
+    let make = λ (aspect : Aspect). at_site (upgrade_entry c.args.number (vpkg_view c.args.vpkg.now) aspect) in
     λ s same initial request. stops-end s make _ c.args.aspects.now c.loop-aspect.aspect-index _ _ c.loop-aspect-test.false (c.loop-aspect.invariant.passes s same initial request)
