@@ -1,5 +1,6 @@
 -- What of the listing lies behind the last key of a page.
 use Rattle.std.proofs.Common.{◌≡◌, inl, inr, ℕ, zero, suc, ◌+◌, Bool, true, false, ◌&&◌, cond, List, [], ◌∷◌, ◌++◌, map, filter, length, get_or, take, drop, ◌-◌, ◌<◌, ◌≤◌, arith, drop-cons, Option, Some, None, option_map, refl, sym, ap, ◌∙◌, append_assoc, append-nil, add-one, take-append-drop, codes, if◌then◌else◌}
+use Rattle.std.specs.List.{flat_map}
 use Rattle.std.specs.Ordering.{is_lt, ordering_reverse}
 use Rattle.std.specs.declared.cmp.Ordering.{Ordering}
 use Rattle.std.specs.declared.cmp.Ordering.TheVariants.{Less, Equal, Greater}
@@ -13,7 +14,7 @@ use Rattle.cudf_document.specs.Documents.{is_empty}
 use Rattle.cudf_referee.specs.KeyViews.{key_view}
 use Rattle.cudf_referee.specs.Proposals.{Proposal}
 use Rattle.cudf_referee.specs.Violations.{listing, rest}
-use Rattle.cudf_check.specs.Report.{line, listed, limited, last_key, more_text, page_text, check_text}
+use Rattle.cudf_check.specs.Report.{line, instance_line, listed, limited, last_key, more_text, check_text}
 use Rattle.cudf_referee.specs.Promises.Pages as pages
 use Rattle.cudf_referee.specs.Promises.Walks.{Walking, left}
 use Rattle.cudf_check.specs.Working.Pages.{Ascends, IsPageEnd, more_behind}
@@ -272,4 +273,4 @@ nothing_limited (Some limit) is none = take-nothing limit is none
 
 -- no page of it has a text, after any key and up to any limit
 pub no-page : (s : Proposal) (after : Option PlainKey) (limit : Option ℕ) → is_empty (listing s) ≡ true → check_text after limit s ≡ []
-no-page s after limit h = ap (page_text s) (nothing_limited limit (listed after s) (nothing_listed s after (nothing_in (listing s) h)))
+no-page s after limit h = ap (λ page. flat_map (instance_line s) page ++ more_text s (last_key page)) (nothing_limited limit (listed after s) (nothing_listed s after (nothing_in (listing s) h)))

@@ -25,7 +25,7 @@ use Rattle.cudf_referee.specs.Violations.{listing, met_by}
 use Rattle.cudf_referee.specs.declared.key.Aspect.{Aspect}
 use Rattle.cudf_check.specs.Report as report
 use Rattle.cudf_check.specs.declared.outcome.Outcome.TheVariants.{Yes, No, Fail}
-use Rattle.cudf_check.specs.Report.{Report, line, what_text, place_text, met_line, instance_line, listed, limited, last_key, more_text, page_text, check_text, criteria_text, aims_text, verdict_text, judged_report, proposal_of, solution_report, faulty_or, alone, faulty}
+use Rattle.cudf_check.specs.Report.{Report, line, what_text, place_text, met_line, instance_line, listed, limited, last_key, more_text, check_text, criteria_text, aims_text, verdict_text, judged_report, proposal_of, solution_report, faulty_or, alone, faulty}
 use Rattle.cudf_check.specs.Working.Chosen.{AreChosen}
 use Rattle.cudf_check.specs.Working.Found.{found_text}
 use Rattle.cudf_check.specs.declared.lines.judged.Found.{Found}
@@ -71,12 +71,9 @@ listed-same s t same (Some key) = ap (filter (λ i. is_lt (key_cmp key i.key))) 
 found-same : (k : Id → Bool) (s t : Proposal) → s.packages ≡ map (thin_package k) t.packages → AreJudgedAlike s t → (found : Found) → found_text found s ≡ found_text found t
 found-same k s t thin alike Score = ap criteria_text alike.criteria_are
 found-same k s t thin alike (Aims aims) = ap (aims_text aims.now) alike.criteria_are
-found-same k s t thin alike (Page after limit) =
-    ap (λ is. page_text s (limited limit is)) (listed-same s t alike.listing_is (option_map key_view after))
-    ∙ page (limited limit (listed (option_map key_view after) t))
-  where
-    page : (is : List PlainInstance) → page_text s is ≡ page_text t is
-    page is = λ j. flat_map (λ i. line-same k s t thin alike.proposed_are i j) is ++ more-same s t alike.listing_is (last_key is) j
+found-same k s t thin alike (Page after limit) = λ j.
+    let page = limited limit (listed-same s t alike.listing_is (option_map key_view after) j) in
+    flat_map (λ i. line-same k s t thin alike.proposed_are i j) page ++ more-same s t alike.listing_is (last_key page) j
 
 judged-same : (k : Id → Bool) (s t : Proposal) → s.packages ≡ map (thin_package k) t.packages → AreJudgedAlike s t → (found : Found)
     → judged_report (found_text found) s ≡ judged_report (found_text found) t
@@ -141,7 +138,7 @@ judged-thin law is_chosen thin whole fits text same found =
 -- a problem that is thinned for what the bytes install has the report of the whole one
 pub report-thin : (mode : Mode) → ThinIsEnough → (chosen : List Id) (thin whole : PlainProblem) → IsThinFor (is_among chosen) thin whole
     → (bytes : List ℕ) → AreChosen chosen bytes
-    → (found : Found) → solution_report mode (found_text found) thin bytes ≡ solution_report mode (found_text found) whole bytes
+    → (found : Found) → solution_report mode (found_text found) bytes thin ≡ solution_report mode (found_text found) bytes whole
 report-thin mode law chosen thin whole fits bytes same found = by (is_utf8 bytes) refl
   where
     judged : PlainProblem → Report

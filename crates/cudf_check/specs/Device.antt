@@ -1,9 +1,5 @@
 -- What contracts see of readers and writers, and how one answer changes it.
 use Rattle.std.specs.Prelude.{ℕ, zero, suc, List, Option, Result, Ok, Err}
-use Rattle.std.specs.declared.io.Error.{Error}
-use Rattle.std.specs.declared.io.ErrorKind.{ErrorKind}
-use Rattle.std.specs.declared.io.ErrorKind.TheVariants as error_kinds
-use Rattle.std.specs.IoError.{error_kind}
 use Rattle.cudf_check.specs.declared.device.Trouble.{Trouble}
 use Rattle.cudf_check.specs.declared.device.Trouble.TheVariants.{Interrupted, Failed}
 
@@ -43,13 +39,3 @@ abbrev pub failed_writes : Result ℕ Trouble → ℕ
 failed_writes (Ok zero) = 1
 failed_writes (Ok (suc n)) = 0
 failed_writes (Err trouble) = 1
-
--- an error of a std reader or writer, by its kind
-abbrev pub trouble_of : ErrorKind → Trouble
-trouble_of error_kinds.Interrupted = Interrupted
-trouble_of kind = Failed
-
--- what a std reader or writer answered, as a source or sink answers it
-abbrev pub device_answer : Result ℕ Error → Result ℕ Trouble
-device_answer (Ok n) = Ok n
-device_answer (Err error) = Err (trouble_of (error_kind error))

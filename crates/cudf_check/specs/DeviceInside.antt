@@ -1,9 +1,13 @@
 -- What a device is made of, and what it tells of the reader under it.
-use Rattle.std.specs.Prelude.{◌≡◌, ℕ, List, Option, Result}
+use Rattle.std.specs.Prelude.{◌≡◌, ℕ, List, Option, Result, Ok, Err}
 use Rattle.std.specs.declared.io.Error.{Error}
-use Rattle.cudf_check.specs.Device.{SourceState, device_answer}
+use Rattle.std.specs.declared.io.ErrorKind.{ErrorKind}
+use Rattle.std.specs.declared.io.ErrorKind.TheVariants as error_kinds
+use Rattle.std.specs.IoError.{error_kind}
+use Rattle.cudf_check.specs.Device.{SourceState}
 use Rattle.cudf_check.specs.declared.device.Device.{Device}
 use Rattle.cudf_check.specs.declared.device.Trouble.{Trouble}
+use Rattle.cudf_check.specs.declared.device.Trouble.TheVariants.{Interrupted, Failed}
 
 -- the reader or writer under a device
 abbrev pub device_inner : {T : Type 0} → Device T → T
@@ -25,6 +29,16 @@ source_state remaining d = record {
   ends = d.ends;
   given = d.given;
 }
+
+-- an error of a std reader or writer, by its kind
+abbrev pub trouble_of : ErrorKind → Trouble
+trouble_of error_kinds.Interrupted = Interrupted
+trouble_of kind = Failed
+
+-- what a std reader or writer answered, as a source or sink answers it
+abbrev pub device_answer : Result ℕ Error → Result ℕ Trouble
+device_answer (Ok n) = Ok n
+device_answer (Err error) = Err (trouble_of (error_kind error))
 
 -- a call of the reader gave an answer, and it is told as a source answers it
 abbrev pub IsTold : {T : Type 0} → (T → Result ℕ Error → List ℕ → T → Type 0) → T → Result ℕ Trouble → List ℕ → T → Type 0

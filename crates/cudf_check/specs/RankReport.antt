@@ -5,12 +5,11 @@ use Rattle.std.specs.Str.{is_utf8}
 use Rattle.cudf_document.specs.declared.mode.Mode.{Mode}
 use Rattle.cudf_text.specs.declared.fault.Fault.{Fault}
 use Rattle.cudf_text.specs.Joined.{is_fail}
-use Rattle.cudf_text.specs.Stanzas.{PlainText, plain_text}
+use Rattle.cudf_text.specs.Stanzas.{plain_text}
 use Rattle.cudf_text.specs.LineFaults.{utf8_fault}
 use Rattle.cudf_document.specs.Faults.{least}
-use Rattle.cudf_document.specs.ProblemFaults.{problem_faults}
 use Rattle.cudf_document.specs.SolutionFaults.{solution_faults}
-use Rattle.cudf_document.specs.Universe.{PlainProblem, plain_problem}
+use Rattle.cudf_document.specs.Universe.{PlainProblem}
 use Rattle.cudf_referee.specs.Aims.{aim_text, count_of}
 use Rattle.cudf_referee.specs.Criteria.{criteria}
 use Rattle.cudf_referee.specs.Proposals.{Proposal}
@@ -18,7 +17,7 @@ use Rattle.cudf_referee.specs.Solutions.{is_solution}
 use Rattle.cudf_referee.specs.declared.aims.Aim.{Aim}
 use Rattle.cudf_referee.specs.declared.criteria.Criteria.{Criteria}
 use Rattle.cudf_check.specs.Ranking.{ranking}
-use Rattle.cudf_check.specs.Report.{Report, line, faulty, faulty_or, of_bytes, proposal_of}
+use Rattle.cudf_check.specs.Report.{Report, line, faulty, of_problem, proposal_of}
 use Rattle.cudf_check.specs.declared.outcome.Outcome.{Outcome}
 use Rattle.cudf_check.specs.declared.outcome.Outcome.TheVariants.{Yes, No, Fail}
 use Rattle.cudf_check.specs.declared.ranking.Judgement.{Judgement}
@@ -116,10 +115,6 @@ first_faulty_or (first ∷ others) report = faulty (codes "solution " ++ decimal
 abbrev pub solutions_report : List Aim → Mode → List (List ℕ) → PlainProblem → Report
 solutions_report aims mode solutions problem = first_faulty_or (placed_faults mode solutions) (ranked_report aims (standings problem solutions))
 
--- a problem's text, and solutions
-abbrev pub problem_rank_report : List Aim → Mode → List (List ℕ) → PlainText → Report
-problem_rank_report aims mode solutions text = faulty_or (codes "problem") (least (problem_faults text mode)) (solutions_report aims mode solutions (plain_problem text))
-
 -- a problem and solutions
 unfoldable pub rank_report : List Aim → Mode → List ℕ → List (List ℕ) → Report
-rank_report aims mode problem solutions = of_bytes (codes "problem") problem (problem_rank_report aims mode solutions)
+rank_report aims mode problem solutions = of_problem mode problem (solutions_report aims mode solutions)

@@ -134,12 +134,9 @@ abbrev pub more_text : Proposal → Option PlainKey → List ℕ
 more_text s None = []
 more_text s (Some key) = if is_empty (rest key s) then [] else line (codes "more after " ++ key_text key)
 
-abbrev pub page_text : Proposal → List PlainInstance → List ℕ
-page_text s page = flat_map (instance_line s) page ++ more_text s (last_key page)
-
 -- a line for each violated instance of the page, and where the next page begins
 abbrev pub check_text : Option PlainKey → Option ℕ → Proposal → List ℕ
-check_text after limit s = page_text s (limited limit (listed after s))
+check_text after limit s = let page = limited limit (listed after s) in flat_map (instance_line s) page ++ more_text s (last_key page)
 
 -- ---- scores
 
@@ -168,9 +165,6 @@ criteria_text c =
     ++ vector_line (codes "paranoid") (paranoid c)
     ++ vector_line (codes "trendy") (trendy c)
 
-abbrev pub score_text : Proposal → List ℕ
-score_text s = criteria_text (criteria s)
-
 -- `-removed 2`
 abbrev pub aim_line : Criteria → Aim → List ℕ
 aim_line c aim = count_line (aim_text aim) (count_of c aim.count)
@@ -181,7 +175,7 @@ aims_text aims c = flat_map (aim_line c) aims
 
 -- the counts that the aims name, where there are aims; and else the counts and vectors of the competition
 abbrev pub scored_text : Option (List Aim) → Proposal → List ℕ
-scored_text None s = score_text s
+scored_text None s = criteria_text (criteria s)
 scored_text (Some aims) s = aims_text aims (criteria s)
 
 -- ---- judging
@@ -207,24 +201,21 @@ abbrev pub solution_text_report : Mode → (Proposal → List ℕ) → PlainProb
 solution_text_report mode found problem text = faulty_or (codes "solution") (least (solution_faults text mode)) (judged_report found (proposal_of problem text))
 
 -- a solution, beside a problem without fault
-abbrev pub solution_report : Mode → (Proposal → List ℕ) → PlainProblem → List ℕ → Report
-solution_report mode found problem bytes = of_bytes (codes "solution") bytes
+abbrev pub solution_report : Mode → (Proposal → List ℕ) → List ℕ → PlainProblem → Report
+solution_report mode found bytes problem = of_bytes (codes "solution") bytes
     (λ text. if is_fail bytes then alone (codes "solution FAIL") Fail else solution_text_report mode found problem text)
 
--- a problem's text, and a solution
-abbrev pub problem_text_report : Mode → (Proposal → List ℕ) → List ℕ → PlainText → Report
-problem_text_report mode found solution text = faulty_or (codes "problem") (least (problem_faults text mode)) (solution_report mode found (plain_problem text) solution)
+-- the report of what the problem is, or of its first fault
+abbrev pub of_problem : Mode → List ℕ → (PlainProblem → Report) → Report
+of_problem mode bytes report = of_bytes (codes "problem") bytes (λ text. faulty_or (codes "problem") (least (problem_faults text mode)) (report (plain_problem text)))
 
 -- a problem and a solution
 abbrev pub pair_report : Mode → (Proposal → List ℕ) → List ℕ → List ℕ → Report
-pair_report mode found problem solution = of_bytes (codes "problem") problem (problem_text_report mode found solution)
+pair_report mode found problem solution = of_problem mode problem (solution_report mode found solution)
 
--- a problem's text alone
-abbrev pub lint_text_report : Mode → PlainText → Report
-lint_text_report mode text = faulty_or (codes "problem") (least (problem_faults text mode)) (alone (codes "problem ok") Yes)
-
+-- a problem alone
 abbrev pub lint_report : Mode → List ℕ → Report
-lint_report mode problem = of_bytes (codes "problem") problem (lint_text_report mode)
+lint_report mode problem = of_problem mode problem (λ p. alone (codes "problem ok") Yes)
 
 -- ---- the report
 

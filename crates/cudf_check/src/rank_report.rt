@@ -1,9 +1,10 @@
 //! Decides which report a problem and its solutions have.
 ghost use Rattle.std.specs.Prelude.{map};
-ghost use Rattle.cudf_check.specs.RankReport.{ranked_report, solutions_report, problem_rank_report, rank_report, placed_faults, first_faulty_or};
+ghost use Rattle.cudf_check.specs.RankReport.{ranked_report, solutions_report, rank_report, placed_faults, first_faulty_or};
 ghost use Rattle.cudf_check.specs.Report.{Report};
 ghost use Rattle.cudf_check.specs.Working.Answering.{Answers};
 ghost use Rattle.cudf_check.specs.Working.Judged.{IsFirstRefused};
+ghost use Rattle.cudf_check.specs.Working.Refusals.{of_problem_text};
 
 use crate::device::Sink;
 use crate::judging::{Refused, judge_each};
@@ -77,7 +78,7 @@ fn answer_problem<W: Sink>(
     stanzas: Stanzas<'_>,
     solutions: &[Vec<u8>],
 ) -> Result<Outcome, RunError>
-    ensures { Answers (W.state out.old) (W.state out.new) (problem_rank_report contest.entry.aims.now contest.entry.mode (map (λ b. b.items) solutions.now) stanzas.entry.text) result }
+    ensures { Answers (W.state out.old) (W.state out.new) (of_problem_text contest.entry.mode (solutions_report contest.entry.aims.now contest.entry.mode (map (λ b. b.items) solutions.now)) stanzas.entry.text) result }
 {
     let mut room = Room::new(contest.alloc);
     match problem_of(contest.alloc, stanzas, &mut room, contest.mode) {

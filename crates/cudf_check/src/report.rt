@@ -5,11 +5,11 @@ ghost use Rattle.cudf_document.specs.Statuses.{is_initial, ascend_above};
 ghost use Rattle.cudf_document.specs.Promises.Views.{unknown_view};
 ghost use Rattle.cudf_referee.specs.Proposals.{proposal};
 ghost use Rattle.cudf_check.specs.declared.outcome.Outcome.TheVariants.{Yes};
-ghost use Rattle.cudf_check.specs.Report.{Report, alone, faulty, faulty_or, judged_report, solution_text_report, solution_report, problem_text_report, pair_report, lint_text_report, lint_report, inputs_report, scored_text, report};
+ghost use Rattle.cudf_check.specs.Report.{Report, alone, faulty, faulty_or, judged_report, solution_text_report, solution_report, pair_report, lint_report, inputs_report, scored_text, report};
 ghost use Rattle.cudf_check.specs.Working.Answering.{Answers};
 ghost use Rattle.cudf_check.specs.Working.Chosen.{AreChosen};
 ghost use Rattle.cudf_check.specs.Working.Found.{found_text};
-ghost use Rattle.cudf_check.specs.Working.Refusals.{IsReportOf};
+ghost use Rattle.cudf_check.specs.Working.Refusals.{IsReportOf, of_problem_text};
 
 use crate::device::Sink;
 use crate::job::Job;
@@ -97,7 +97,7 @@ fn answer_solution<W: Sink>(
     problem: &Problem<'_>,
     bytes: &[u8],
 ) -> Result<Outcome, RunError>
-    ensures { Answers (W.state out.old) (W.state out.new) (solution_report question.entry.mode (found_text question.entry.found) problem.now bytes.now) result }
+    ensures { Answers (W.state out.old) (W.state out.new) (solution_report question.entry.mode (found_text question.entry.found) bytes.now problem.now) result }
 {
     match source_of(bytes) {
         Ok(source) => {
@@ -129,7 +129,7 @@ fn answer_chosen<W: Sink>(
     chosen: &Chosen<'_>,
 ) -> Result<Outcome, RunError>
     requires { AreChosen chosen.now solution.now }
-    ensures { Answers (W.state out.old) (W.state out.new) (problem_text_report question.entry.mode (found_text question.entry.found) solution.now stanzas.entry.text) result }
+    ensures { Answers (W.state out.old) (W.state out.new) (of_problem_text question.entry.mode (solution_report question.entry.mode (found_text question.entry.found) solution.now) stanzas.entry.text) result }
 {
     let mut room = Room::new(question.alloc);
     match problem_for(question.alloc, stanzas, &mut room, chosen, question.mode) {
@@ -149,7 +149,7 @@ fn answer_thin<W: Sink>(
     stanzas: Stanzas<'_>,
     solution: &[u8],
 ) -> Result<Outcome, RunError>
-    ensures { Answers (W.state out.old) (W.state out.new) (problem_text_report question.entry.mode (found_text question.entry.found) solution.now stanzas.entry.text) result }
+    ensures { Answers (W.state out.old) (W.state out.new) (of_problem_text question.entry.mode (solution_report question.entry.mode (found_text question.entry.found) solution.now) stanzas.entry.text) result }
 {
     match chosen_by(question.alloc, solution) {
         Ok(chosen) => answer_chosen(question, out, stanzas, solution, &chosen),
@@ -164,7 +164,7 @@ fn answer_whole<W: Sink>(
     stanzas: Stanzas<'_>,
     solution: &[u8],
 ) -> Result<Outcome, RunError>
-    ensures { Answers (W.state out.old) (W.state out.new) (problem_text_report question.entry.mode (found_text question.entry.found) solution.now stanzas.entry.text) result }
+    ensures { Answers (W.state out.old) (W.state out.new) (of_problem_text question.entry.mode (solution_report question.entry.mode (found_text question.entry.found) solution.now) stanzas.entry.text) result }
 {
     let mut room = Room::new(question.alloc);
     match problem_of(question.alloc, stanzas, &mut room, question.mode) {
@@ -187,7 +187,7 @@ fn answer_problem_stanzas<W: Sink>(
     solution: &[u8],
     is_short: bool,
 ) -> Result<Outcome, RunError>
-    ensures { Answers (W.state out.old) (W.state out.new) (problem_text_report question.entry.mode (found_text question.entry.found) solution.now stanzas.entry.text) result }
+    ensures { Answers (W.state out.old) (W.state out.new) (of_problem_text question.entry.mode (solution_report question.entry.mode (found_text question.entry.found) solution.now) stanzas.entry.text) result }
 {
     if is_short {
         answer_thin(question, out, stanzas, solution)
@@ -235,7 +235,7 @@ fn lint_stanzas<W: Sink>(
     mode: Mode,
     stanzas: Stanzas<'_>,
 ) -> Result<Outcome, RunError>
-    ensures { Answers (W.state out.old) (W.state out.new) (lint_text_report mode stanzas.entry.text) result }
+    ensures { Answers (W.state out.old) (W.state out.new) (of_problem_text mode (λ p. alone (codes "problem ok") Yes) stanzas.entry.text) result }
 {
     match first_fault(alloc, stanzas, mode) {
         Ok(first) => answer_lint(alloc, out, first),

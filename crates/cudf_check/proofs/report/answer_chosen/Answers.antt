@@ -14,12 +14,12 @@ returns-in-Ok g c =
     let solution = c.args.solution.now in
     answers_as _ _ _ _ _
     (report-thin c.args.question.mode c.thin.ensures c.args.chosen.now c.in-Ok.problem (plain_problem text) c.in-Ok.ensures.problem solution c.requires c.args.question.found
-    ∙ ap (λ faults. faulty_or (codes "problem") (least faults) (solution_report c.args.question.mode (found_text c.args.question.found) (plain_problem text) solution)) (sym c.in-Ok.ensures.sound))
+    ∙ ap (λ faults. faulty_or (codes "problem") (least faults) (solution_report c.args.question.mode (found_text c.args.question.found) solution (plain_problem text))) (sym c.in-Ok.ensures.sound))
     c.answer_solution.ensures
 
 pub returns : goal.returns
 returns g c =
     let text = c.args.stanzas.text in
-    let report = solution_report c.args.question.mode (found_text c.args.question.found) (plain_problem text) c.args.solution.now in
+    let report = solution_report c.args.question.mode (found_text c.args.question.found) c.args.solution.now (plain_problem text) in
     c.answer_refusal.ensures (faulty_or (codes "problem") (least (problem_faults text c.args.question.mode)) report)
     (document_refused (codes "problem") (problem_faults text c.args.question.mode) report c.in-Err.error c.in-Err.ensures.fault)
