@@ -27,9 +27,9 @@ use Rattle.cudf_check.specs.Report as report
 use Rattle.cudf_check.specs.declared.outcome.Outcome.TheVariants.{Yes, No, Fail}
 use Rattle.cudf_check.specs.Report.{Report, line, what_text, place_text, met_line, instance_line, listed, limited, last_key, more_text, check_text, criteria_text, aims_text, verdict_text, judged_report, proposal_of, solution_report, faulty_or, alone, faulty}
 use Rattle.cudf_check.specs.Working.Chosen.{AreChosen}
-use Rattle.cudf_check.specs.Working.Found.{found_text}
-use Rattle.cudf_check.specs.declared.lines.judged.Found.{Found}
-use Rattle.cudf_check.specs.declared.lines.judged.Found.TheVariants.{Page, Score, Aims}
+use Rattle.cudf_check.specs.Working.Findings.{found_text}
+use Rattle.cudf_check.specs.declared.lines.judged.Findings.{Findings}
+use Rattle.cudf_check.specs.declared.lines.judged.Findings.TheVariants.{Page, Score, Aims}
 
 -- ---- what is found of proposals that are judged alike
 
@@ -68,14 +68,14 @@ listed-same : (s t : Proposal) → listing s ≡ listing t → (after : Option P
 listed-same s t same None = same
 listed-same s t same (Some key) = ap (filter (λ i. is_lt (key_cmp key i.key))) same
 
-found-same : (k : Id → Bool) (s t : Proposal) → s.packages ≡ map (thin_package k) t.packages → AreJudgedAlike s t → (found : Found) → found_text found s ≡ found_text found t
+found-same : (k : Id → Bool) (s t : Proposal) → s.packages ≡ map (thin_package k) t.packages → AreJudgedAlike s t → (found : Findings) → found_text found s ≡ found_text found t
 found-same k s t thin alike Score = ap criteria_text alike.criteria_are
 found-same k s t thin alike (Aims aims) = ap (aims_text aims.now) alike.criteria_are
 found-same k s t thin alike (Page after limit) = λ j.
     let page = limited limit (listed-same s t alike.listing_is (option_map key_view after) j) in
     flat_map (λ i. line-same k s t thin alike.proposed_are i j) page ++ more-same s t alike.listing_is (last_key page) j
 
-judged-same : (k : Id → Bool) (s t : Proposal) → s.packages ≡ map (thin_package k) t.packages → AreJudgedAlike s t → (found : Found)
+judged-same : (k : Id → Bool) (s t : Proposal) → s.packages ≡ map (thin_package k) t.packages → AreJudgedAlike s t → (found : Findings)
     → judged_report (found_text found) s ≡ judged_report (found_text found) t
 judged-same k s t thin alike found = λ j. record {
   text = found-same k s t thin alike found j ++ line (verdict_text (alike.verdict_is j));
@@ -122,7 +122,7 @@ proposal-same k problem text = λ i. proposal (thin_problem k problem)
 
 judged-thin : ThinIsEnough → (is_chosen : Id → Bool) (thin whole : PlainProblem) → IsThinFor is_chosen thin whole
     → (text : PlainText) → ((id : Id) → is_chosen id ≡ is_among (installed_ids text.stanzas) id)
-    → (found : Found) → judged_report (found_text found) (proposal_of thin text) ≡ judged_report (found_text found) (proposal_of whole text)
+    → (found : Findings) → judged_report (found_text found) (proposal_of thin text) ≡ judged_report (found_text found) (proposal_of whole text)
 judged-thin law is_chosen thin whole fits text same found =
     ap (λ problem. judged_report (found_text found) (proposal_of problem text)) fits.is
     ∙ ap (judged_report (found_text found)) (proposal-same fits.is_kept whole text)
@@ -138,7 +138,7 @@ judged-thin law is_chosen thin whole fits text same found =
 -- a problem that is thinned for what the bytes install has the report of the whole one
 pub report-thin : (mode : Mode) → ThinIsEnough → (chosen : List Id) (thin whole : PlainProblem) → IsThinFor (is_among chosen) thin whole
     → (bytes : List ℕ) → AreChosen chosen bytes
-    → (found : Found) → solution_report mode (found_text found) bytes thin ≡ solution_report mode (found_text found) bytes whole
+    → (found : Findings) → solution_report mode (found_text found) bytes thin ≡ solution_report mode (found_text found) bytes whole
 report-thin mode law chosen thin whole fits bytes same found = by (is_utf8 bytes) refl
   where
     judged : PlainProblem → Report

@@ -13,7 +13,7 @@ use crate::buffer::ReportBuffer;
 use crate::device::Sink;
 use crate::outcome::RunError;
 pub(crate) use alone::{answer, answer_fault};
-pub(crate) use judged::{Found, answer_judged};
+pub(crate) use judged::{Findings, answer_judged};
 pub(crate) use ranks::{answer_faulty_solution, answer_ranked};
 
 /// Prints the pieces in turn.

@@ -8,12 +8,12 @@ ghost use Rattle.cudf_check.specs.declared.outcome.Outcome.TheVariants.{Yes};
 ghost use Rattle.cudf_check.specs.Report.{Report, alone, faulty, faulty_or, judged_report, solution_text_report, solution_report, pair_report, lint_report, inputs_report, scored_text, report};
 ghost use Rattle.cudf_check.specs.Working.Answering.{Answers};
 ghost use Rattle.cudf_check.specs.Working.Chosen.{AreChosen};
-ghost use Rattle.cudf_check.specs.Working.Found.{found_text};
+ghost use Rattle.cudf_check.specs.Working.Findings.{found_text};
 ghost use Rattle.cudf_check.specs.Working.Refusals.{IsReportOf, of_problem_text};
 
 use crate::device::Sink;
 use crate::job::Job;
-use crate::lines::{Found, answer, answer_fault, answer_judged};
+use crate::lines::{Findings, answer, answer_fault, answer_judged};
 use crate::outcome::{Outcome, RunError};
 use cudf_document::{
     Chosen, Mode, Problem, ReadError, Room, Solution, first_fault, problem_for, problem_of,
@@ -37,7 +37,7 @@ pub(crate) struct Task<'j> {
 struct Question<'x> {
     alloc: Global,
     mode: Mode,
-    found: Found<'x>,
+    found: Findings<'x>,
 }
 
 /// Answers a document that isn't judged.
@@ -278,12 +278,12 @@ fn check_inputs<W: Sink>(
 }
 
 /// What is counted: the counts that the aims name, or else those of the competition.
-fn found_by(aims: &Option<Vec<Aim>>) -> Found<'_>
+fn found_by(aims: &Option<Vec<Aim>>) -> Findings<'_>
     ensures { found_text result ≡ scored_text (option_map (λ aims. aims.items) aims.now) }
 {
     match aims {
-        Some(aims) => Found::Aims(aims),
-        None => Found::Score,
+        Some(aims) => Findings::Aims(aims),
+        None => Findings::Score,
     }
 }
 
@@ -301,7 +301,7 @@ pub(crate) fn answer_job<W: Sink>(
     match job {
         Job::Lint => lint(alloc, out, mode, input),
         Job::Check { after, limit } => {
-            let found = Found::Page {
+            let found = Findings::Page {
                 after: *after,
                 limit: *limit,
             };

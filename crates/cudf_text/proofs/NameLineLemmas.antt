@@ -6,8 +6,8 @@ use Rattle.std.specs.Char.{is_ascii_alphabetic}
 use Rattle.std.proofs.Math.Bool.{and-false}
 use Rattle.std.proofs.lemmas.Bool.{true≢false, and_parts, eqb-true, false_from_ne_true, lt-ltb, ltb-true}
 use Rattle.cudf_text.specs.Chars.{is_ident_char, is_ident, trim}
-use Rattle.cudf_text.specs.Lines.{named, faulty, is_colon, class_by_colon}
-use Rattle.cudf_text.specs.Working.LineView.{ends_name}
+use Rattle.cudf_text.specs.Lines.{named, faulty, class_by_colon}
+use Rattle.cudf_text.specs.Working.LineView.{is_colon, ends_name}
 
 abbrev first_colon : List ℕ → ℕ
 first_colon line = position_or_len is_colon line

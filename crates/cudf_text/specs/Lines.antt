@@ -34,9 +34,6 @@ pub data Class : Type 0 where
   named : List ℕ → List ℕ → Class
   faulty : Class
 
-abbrev pub is_colon : ℕ → Bool
-is_colon b = b == byte ":"
-
 -- the first byte is `#`
 abbrev pub is_comment_text : List ℕ → Bool
 is_comment_text text = slice_index text 0 == byte "#"
@@ -52,7 +49,7 @@ class line =
     if is_comment_text line then comment
     else (if is_blank_text line then blank
     else (if is_blank (slice_index line 0) then continuation (trim line)
-    else class_by_colon line (position is_colon line)))
+    else class_by_colon line (position (λ b. b == byte ":") line)))
 
 -- a line's number and its class
 abbrev pub NumberedLine : Type 0

@@ -1,8 +1,8 @@
 ghost use Rattle.std.specs.Prelude.{◌≡◌, ◌≤◌, length, position};
 ghost use Rattle.std.specs.List.{prefix_len};
 ghost use Rattle.cudf_text.specs.Chars.{is_ident_char};
-ghost use Rattle.cudf_text.specs.Lines.{class, class_by_colon, is_colon};
-ghost use Rattle.cudf_text.specs.Working.LineView.{line_view, ends_name};
+ghost use Rattle.cudf_text.specs.Lines.{class, class_by_colon};
+ghost use Rattle.cudf_text.specs.Working.LineView.{is_colon, line_view, ends_name};
 
 use crate::blanks::{is_blank, is_blank_text, trim};
 use crate::cut::{after, before};

@@ -3,7 +3,7 @@ ghost use Rattle.std.specs.Prelude.{◌≡◌, if◌then◌else◌};
 ghost use Rattle.cudf_referee.specs.Solutions.{is_solution};
 ghost use Rattle.cudf_check.specs.Report.{verdict_text, judged_report};
 ghost use Rattle.cudf_check.specs.Working.Answering.{Answers};
-ghost use Rattle.cudf_check.specs.Working.Found.{found_text};
+ghost use Rattle.cudf_check.specs.Working.Findings.{found_text};
 ghost use Rattle.cudf_check.specs.Working.Pages.{Ascends};
 ghost use Rattle.cudf_check.specs.Working.Printing.{Prints};
 
@@ -19,7 +19,7 @@ use std::alloc::Global;
 
 /// What stands before the verdict.
 #[derive(Clone, Copy, Debug)]
-pub(crate) enum Found<'x> {
+pub(crate) enum Findings<'x> {
     /// A page of the listing: the instances behind the key `after`, at most `limit` of them.
     Page {
         after: Option<Key>,
@@ -48,17 +48,17 @@ fn print_found<W: Sink>(
     buffer: &mut ReportBuffer,
     out: &mut W,
     referee: &Referee<'_, '_>,
-    found: Found<'_>,
+    found: Findings<'_>,
 ) -> Result<(), RunError>
     requires ascending { Ascends referee.now }
     ensures { Prints (W.state out.old) (W.state out.new) buffer.old buffer.new result (found_text found.entry referee.entry.now) }
 {
     match found {
         // A solution's listing is empty, so no place is judged again for a page of it.
-        Found::Page { .. } if referee.is_solution() => Ok(()),
-        Found::Page { after, limit } => print_page(buffer, out, referee, after, limit).1,
-        Found::Score => print_score(buffer, out, referee.criteria()),
-        Found::Aims(aims) => print_aim_lines(buffer, out, &referee.criteria(), aims),
+        Findings::Page { .. } if referee.is_solution() => Ok(()),
+        Findings::Page { after, limit } => print_page(buffer, out, referee, after, limit).1,
+        Findings::Score => print_score(buffer, out, referee.criteria()),
+        Findings::Aims(aims) => print_aim_lines(buffer, out, &referee.criteria(), aims),
     }
 }
 
@@ -67,7 +67,7 @@ fn print_judged<W: Sink>(
     buffer: &mut ReportBuffer,
     out: &mut W,
     referee: &Referee<'_, '_>,
-    found: Found<'_>,
+    found: Findings<'_>,
     verdict: &str,
 ) -> Result<(), RunError>
     requires ascending { Ascends referee.now }
@@ -85,7 +85,7 @@ pub(crate) fn answer_judged<W: Sink>(
     alloc: Global,
     out: &mut W,
     referee: &Referee<'_, '_>,
-    found: Found<'_>,
+    found: Findings<'_>,
 ) -> Result<Outcome, RunError>
     requires ascending { Ascends referee.now }
     ensures { Answers (W.state out.old) (W.state out.new) (judged_report (found_text found.entry) referee.entry.now) result }

@@ -3,7 +3,7 @@ use Rattle.cudf_document.specs.Faults.{least}
 use Rattle.cudf_document.specs.ProblemFaults.{problem_faults}
 use Rattle.cudf_document.specs.Universe.{plain_problem}
 use Rattle.cudf_check.specs.Report.{faulty_or, solution_report}
-use Rattle.cudf_check.specs.Working.Found.{found_text}
+use Rattle.cudf_check.specs.Working.Findings.{found_text}
 use Rattle.cudf_check.proofs.AnswerLemmas.{answers_as, document_refused}
 use Rattle.cudf_check.proofs.ThinLemmas.{report-thin}
 use Rattle.cudf_check.proofs.report.answer_chosen.Goals as goal

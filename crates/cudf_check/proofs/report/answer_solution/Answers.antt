@@ -3,7 +3,7 @@ use Rattle.cudf_text.specs.Joined.{is_fail}
 use Rattle.cudf_text.specs.Stanzas.{PlainText, plain_text}
 use Rattle.cudf_check.specs.declared.outcome.Outcome.TheVariants.{Fail}
 use Rattle.cudf_check.specs.Report.{alone, solution_text_report}
-use Rattle.cudf_check.specs.Working.Found.{found_text}
+use Rattle.cudf_check.specs.Working.Findings.{found_text}
 use Rattle.cudf_check.proofs.AnswerLemmas.{bytes_read, bytes_not_utf8, answers_as}
 use Rattle.cudf_check.proofs.report.answer_solution.Goals as goal
 

@@ -4,7 +4,7 @@ use Rattle.cudf_document.specs.SolutionFaults.{solution_faults}
 use Rattle.cudf_document.specs.Statuses.{is_initial}
 use Rattle.cudf_referee.specs.Proposals.{proposal}
 use Rattle.cudf_check.specs.Report.{faulty_or, judged_report, proposal_of}
-use Rattle.cudf_check.specs.Working.Found.{found_text}
+use Rattle.cudf_check.specs.Working.Findings.{found_text}
 use Rattle.cudf_check.proofs.AnswerLemmas.{answers_as, document_refused}
 use Rattle.cudf_check.proofs.report.answer_solution_stanzas.Goals as goal
 

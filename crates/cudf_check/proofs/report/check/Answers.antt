@@ -1,6 +1,6 @@
 use Rattle.std.proofs.Common.{codes}
 use Rattle.cudf_check.specs.Report.{solution_report}
-use Rattle.cudf_check.specs.Working.Found.{found_text}
+use Rattle.cudf_check.specs.Working.Findings.{found_text}
 use Rattle.cudf_check.specs.Working.Refusals.{of_problem_text}
 use Rattle.cudf_check.proofs.AnswerLemmas.{bytes_read, bytes_not_utf8, answers_as}
 use Rattle.cudf_check.proofs.report.check.Goals as goal

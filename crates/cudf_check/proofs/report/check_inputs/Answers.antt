@@ -1,6 +1,6 @@
 use Rattle.std.proofs.Common.{ap, sym, ◌∙◌, option_copied}
 use Rattle.cudf_check.specs.Report.{pair_report, inputs_report}
-use Rattle.cudf_check.specs.Working.Found.{found_text}
+use Rattle.cudf_check.specs.Working.Findings.{found_text}
 use Rattle.cudf_check.proofs.AnswerLemmas.{answers_as}
 use Rattle.cudf_check.proofs.report.check_inputs.Goals as goal
 

@@ -1,6 +1,6 @@
 use Rattle.std.proofs.Common.{subst}
 use Rattle.cudf_check.specs.Report.{Report, judged_report}
-use Rattle.cudf_check.specs.Working.Found.{found_text}
+use Rattle.cudf_check.specs.Working.Findings.{found_text}
 use Rattle.cudf_check.specs.Working.Printing.{Prints}
 use Rattle.cudf_check.proofs.PrintLemmas.{done}
 use Rattle.cudf_check.proofs.AnswerLemmas.{handed_on, flush_failed}

@@ -1,6 +1,6 @@
 use Rattle.std.proofs.Common.{◌++◌, ap}
 use Rattle.cudf_check.specs.Report.{line}
-use Rattle.cudf_check.specs.Working.Found.{found_text}
+use Rattle.cudf_check.specs.Working.Findings.{found_text}
 use Rattle.cudf_check.proofs.PrintLemmas.{Prints-as, Prints-then}
 use Rattle.cudf_check.proofs.lines.judged.print_judged.Goals as goal
 
