@@ -23,7 +23,6 @@ use Rattle.cudf_referee.specs.Promises.Laws.{AreJudgedAlike, ThinIsEnough}
 use Rattle.cudf_referee.specs.Proposals.{Proposal, proposal}
 use Rattle.cudf_referee.specs.Violations.{listing, met_by}
 use Rattle.cudf_referee.specs.declared.key.Aspect.{Aspect}
-use Rattle.cudf_check.specs.Report as report
 use Rattle.cudf_check.specs.declared.outcome.Outcome.TheVariants.{Yes, No, Fail}
 use Rattle.cudf_check.specs.Report.{Report, line, what_text, place_text, met_line, instance_line, listed, limited, last_key, more_text, check_text, criteria_text, aims_text, verdict_text, judged_report, proposal_of, solution_report, faulty_or, alone, faulty}
 use Rattle.cudf_check.specs.Working.Chosen.{AreChosen}
@@ -48,17 +47,26 @@ what-same k (remove v) aspect (Some p) = refl
 what-same k (upgrade v) aspect met = refl
 what-same k unknown aspect met = refl
 
-met-same : (k : Id → Bool) (packages : List PlainPackage) (place : Option ℕ)
-    → report.package_at (map (thin_package k) packages) place ≡ option_map (thin_package k) (report.package_at packages place)
-met-same k packages None = refl
-met-same k packages (Some place) = slice_get-map (thin_package k) packages (place - 1)
+-- the same package is at each place
+at-thin : (k : Id → Bool) (problem : PlainProblem) (place : ℕ) → package_at (thin_problem k problem) place ≡ option_map (thin_package k) (package_at problem place)
+at-thin k problem place = by (place == 0)
+  where
+    by : (b : Bool) → (if b then None else slice_get (map (thin_package k) problem.packages) (place - 1))
+        ≡ option_map (thin_package k) (if b then None else slice_get problem.packages (place - 1))
+    by true = refl
+    by false = slice_get-map (thin_package k) problem.packages (place - 1)
 
-line-same : (k : Id → Bool) (s t : Proposal) → s.packages ≡ map (thin_package k) t.packages → s.proposed ≡ t.proposed
+met-same : (k : Id → Bool) (problem : PlainProblem) (place : Option ℕ)
+    → option_and_then (package_at (thin_problem k problem)) place ≡ option_map (thin_package k) (option_and_then (package_at problem) place)
+met-same k problem None = refl
+met-same k problem (Some place) = at-thin k problem place
+
+line-same : (k : Id → Bool) (s t : Proposal) → s.problem ≡ thin_problem k t.problem → s.proposed ≡ t.proposed
     → (i : PlainInstance) → instance_line s i ≡ instance_line t i
 line-same k s t thin proposed i =
-    (λ j. met_line i (report.package_at (thin j) (met_by (proposed j) i)))
-    ∙ ap (met_line i) (met-same k t.packages (met_by t.proposed i))
-    ∙ ap (λ text. line (key_text i.key ++ place_text i.subject i.line ++ text)) (what-same k i.what i.key.aspect (report.package_at t.packages (met_by t.proposed i)))
+    (λ j. met_line i (option_and_then (package_at (thin j)) (met_by (proposed j) i)))
+    ∙ ap (met_line i) (met-same k t.problem (met_by t.proposed i))
+    ∙ ap (λ text. line (key_text i.key ++ place_text i.subject i.line ++ text)) (what-same k i.what i.key.aspect (option_and_then (package_at t.problem) (met_by t.proposed i)))
 
 more-same : (s t : Proposal) → listing s ≡ listing t → (last : Option PlainKey) → more_text s last ≡ more_text t last
 more-same s t same None = refl
@@ -68,14 +76,14 @@ listed-same : (s t : Proposal) → listing s ≡ listing t → (after : Option P
 listed-same s t same None = same
 listed-same s t same (Some key) = ap (filter (λ i. is_lt (key_cmp key i.key))) same
 
-found-same : (k : Id → Bool) (s t : Proposal) → s.packages ≡ map (thin_package k) t.packages → AreJudgedAlike s t → (found : Findings) → found_text found s ≡ found_text found t
+found-same : (k : Id → Bool) (s t : Proposal) → s.problem ≡ thin_problem k t.problem → AreJudgedAlike s t → (found : Findings) → found_text found s ≡ found_text found t
 found-same k s t thin alike Score = ap criteria_text alike.criteria_are
 found-same k s t thin alike (Aims aims) = ap (aims_text aims.now) alike.criteria_are
 found-same k s t thin alike (Page after limit) = λ j.
     let page = limited limit (listed-same s t alike.listing_is (option_map key_view after) j) in
     flat_map (λ i. line-same k s t thin alike.proposed_are i j) page ++ more-same s t alike.listing_is (last_key page) j
 
-judged-same : (k : Id → Bool) (s t : Proposal) → s.packages ≡ map (thin_package k) t.packages → AreJudgedAlike s t → (found : Findings)
+judged-same : (k : Id → Bool) (s t : Proposal) → s.problem ≡ thin_problem k t.problem → AreJudgedAlike s t → (found : Findings)
     → judged_report (found_text found) s ≡ judged_report (found_text found) t
 judged-same k s t thin alike found = λ j. record {
   text = found-same k s t thin alike found j ++ line (verdict_text (alike.verdict_is j));
@@ -87,16 +95,11 @@ judged-same k s t thin alike found = λ j. record {
 -- a test that no need counts for answers the same of the package at a place
 at-same : (k : Id → Bool) (problem : PlainProblem) (test : PlainPackage → Bool) → ((p : PlainPackage) → test (thin_package k p) ≡ test p)
     → (place : ℕ) → option_map_or test (package_at (thin_problem k problem) place) false ≡ option_map_or test (package_at problem place) false
-at-same k problem test same place = by (place == 0)
+at-same k problem test same place = ap (λ o. option_map_or test o false) (at-thin k problem place) ∙ there (package_at problem place)
   where
     there : (o : Option PlainPackage) → option_map_or test (option_map (thin_package k) o) false ≡ option_map_or test o false
     there None = refl
     there (Some p) = same p
-
-    by : (b : Bool) → option_map_or test (if b then None else slice_get (map (thin_package k) problem.packages) (place - 1)) false
-        ≡ option_map_or test (if b then None else slice_get problem.packages (place - 1)) false
-    by true = refl
-    by false = ap (λ o. option_map_or test o false) (slice_get-map (thin_package k) problem.packages (place - 1)) ∙ there (slice_get problem.packages (place - 1))
 
 ids-same : (k : Id → Bool) (packages : List PlainPackage) → map package_id (map (thin_package k) packages) ≡ map package_id packages
 ids-same k [] = refl

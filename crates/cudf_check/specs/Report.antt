@@ -1,5 +1,5 @@
 -- The report of a run: a function of the job and the inputs to a text and an outcome. Own.
-use Rattle.std.specs.Prelude.{ℕ, ◌-◌, Bool, List, [], ◌∷◌, ◌++◌, take, codes, decimal, slice_get, Option, Some, None, option_map, if◌then◌else◌}
+use Rattle.std.specs.Prelude.{ℕ, Bool, List, [], ◌∷◌, ◌++◌, take, codes, decimal, Option, Some, None, option_map, option_and_then, if◌then◌else◌}
 use Rattle.std.specs.List.{flat_map}
 use Rattle.std.specs.Str.{is_utf8}
 use Rattle.cudf_text.specs.declared.fault.Fault.{Fault}
@@ -13,7 +13,7 @@ use Rattle.cudf_document.specs.declared.mode.Mode.{Mode}
 use Rattle.cudf_document.specs.Faults.{least}
 use Rattle.cudf_document.specs.ProblemFaults.{problem_faults}
 use Rattle.cudf_document.specs.SolutionFaults.{solution_faults}
-use Rattle.cudf_document.specs.Universe.{PlainPackage, PlainProblem, plain_problem}
+use Rattle.cudf_document.specs.Universe.{PlainPackage, PlainProblem, plain_problem, package_at}
 use Rattle.cudf_document.specs.Statuses.{is_initial, is_proposed, unknown_stanzas}
 use Rattle.cudf_document.specs.Ids.{Id}
 use Rattle.cudf_referee.specs.Aims.{aim_text, count_of}
@@ -74,10 +74,6 @@ abbrev pub meeting_text : Option PlainPackage → List ℕ
 meeting_text None = []
 meeting_text (Some p) = codes ", met by " ++ p.name ++ codes " " ++ decimal p.version
 
-abbrev pub package_at : List PlainPackage → Option ℕ → Option PlainPackage
-package_at packages None = None
-package_at packages (Some place) = slice_get packages (place - 1)
-
 abbrev pub aspect_line : PlainVpkg → Aspect → List ℕ
 aspect_line v Unsatisfied = codes "upgrade needs " ++ vpkg_text v
 aspect_line v Many = codes "upgrade " ++ v.name ++ codes " has several versions"
@@ -109,7 +105,7 @@ met_line i met = line (key_text i.key ++ place_text i.subject i.line ++ what_tex
 
 -- `p1.depends.1 car 1 line 1: needs wheel > 2`
 abbrev pub instance_line : Proposal → PlainInstance → List ℕ
-instance_line s i = met_line i (package_at s.packages (met_by s.proposed i))
+instance_line s i = met_line i (option_and_then (package_at s.problem) (met_by s.proposed i))
 
 -- ---- pages of the listing
 

@@ -213,11 +213,11 @@ module _ (r : Rule) (place : ℕ) (aspect : Option Aspect) (s : Proposal) where
       ∙ (λ j. earlier_package n (m, x) (omega arith) j ++ packages_after n (m + 1) i packages (omega arith) j)
 
 -- a key of another part comes after all packages
-packages_before : (s : Proposal) (key : PlainKey) → Below (2 ∷ []) (key_ranks key) → filter (is_after key) (flat_map (package_stops s) (enumerate_from 1 s.packages)) ≡ []
+packages_before : (s : Proposal) (key : PlainKey) → Below (2 ∷ []) (key_ranks key) → filter (is_after key) (flat_map (package_stops s) (enumerate_from 1 s.problem.packages)) ≡ []
 packages_before s key h =
-    let stops = flat_map (package_stops s) (enumerate_from 1 s.packages) in
+    let stops = flat_map (package_stops s) (enumerate_from 1 s.problem.packages) in
     after-ranks key stops ∙ dropped_below stop_ranks (1 ∷ 1 ∷ []) stops (key_ranks key)
-    (to_higher stop_ranks (1 ∷ 1 ∷ []) (2 ∷ []) (key_ranks key) stops (packages_climb s 1 s.packages) h)
+    (to_higher stop_ranks (1 ∷ 1 ∷ []) (2 ∷ []) (key_ranks key) stops (packages_climb s 1 s.problem.packages) h)
 
 -- ---- the request
 
@@ -350,22 +350,22 @@ by_part s (part.Package n) r place aspect h =
     let key = key_of (part.Package n) r place aspect in
     let positive = package_counted n r place aspect h in
     let next : suc (n - 1) ≡ n = omega arith in
-    let request = kept_above site_ranks (key_ranks key) (request_sites s.request) (3 ∷ []) (from_lower site_ranks (key_ranks key) (2 ∷ []) (3 ∷ []) (request_sites s.request) refl (request_climbs s.request)) in
-    filter-append (is_after key) (flat_map (package_stops s) (enumerate_from 1 s.packages)) (map at_site (request_sites s.request ++ map unknown_stanza s.unknown))
-    ∙ (λ i. packages_after r place aspect s n 1 (n - 1) s.packages (omega arith) i
-    ++ others_after key (request_sites s.request) (request_sites s.request) (map unknown_stanza s.unknown) (map unknown_stanza s.unknown) request (all_unknown_after key (λ u. refl) s.unknown) i)
-    ∙ ap (λ m. package_left s key (slice_get (enumerate_from 1 s.packages) (n - 1)) ++ packages_left s m ++ map at_site (request_sites s.request ++ map unknown_stanza s.unknown)) next
+    let request = kept_above site_ranks (key_ranks key) (request_sites s.problem.request) (3 ∷ []) (from_lower site_ranks (key_ranks key) (2 ∷ []) (3 ∷ []) (request_sites s.problem.request) refl (request_climbs s.problem.request)) in
+    filter-append (is_after key) (flat_map (package_stops s) (enumerate_from 1 s.problem.packages)) (map at_site (request_sites s.problem.request ++ map unknown_stanza s.unknown))
+    ∙ (λ i. packages_after r place aspect s n 1 (n - 1) s.problem.packages (omega arith) i
+    ++ others_after key (request_sites s.problem.request) (request_sites s.problem.request) (map unknown_stanza s.unknown) (map unknown_stanza s.unknown) request (all_unknown_after key (λ u. refl) s.unknown) i)
+    ∙ ap (λ m. package_left s key (slice_get (enumerate_from 1 s.problem.packages) (n - 1)) ++ packages_left s m ++ map at_site (request_sites s.problem.request ++ map unknown_stanza s.unknown)) next
 by_part s part.Request r place aspect h =
     let key = key_of part.Request r place aspect in
-    filter-append (is_after key) (flat_map (package_stops s) (enumerate_from 1 s.packages)) (map at_site (request_sites s.request ++ map unknown_stanza s.unknown))
+    filter-append (is_after key) (flat_map (package_stops s) (enumerate_from 1 s.problem.packages)) (map at_site (request_sites s.problem.request ++ map unknown_stanza s.unknown))
     ∙ (λ i. packages_before s key refl i
-    ++ others_after key (request_sites s.request) (request_left key s.request) (map unknown_stanza s.unknown) (map unknown_stanza s.unknown) (request_after r place aspect s.request h) (all_unknown_after key (λ u. refl) s.unknown) i)
+    ++ others_after key (request_sites s.problem.request) (request_left key s.problem.request) (map unknown_stanza s.unknown) (map unknown_stanza s.unknown) (request_after r place aspect s.problem.request h) (all_unknown_after key (λ u. refl) s.unknown) i)
 by_part s part.Solution rule.Unknown place aspect h =
     let key = key_of part.Solution rule.Unknown place aspect in
-    let request = dropped_below site_ranks (2 ∷ []) (request_sites s.request) (key_ranks key) (to_higher site_ranks (2 ∷ []) (3 ∷ []) (key_ranks key) (request_sites s.request) (request_climbs s.request) refl) in
-    filter-append (is_after key) (flat_map (package_stops s) (enumerate_from 1 s.packages)) (map at_site (request_sites s.request ++ map unknown_stanza s.unknown))
+    let request = dropped_below site_ranks (2 ∷ []) (request_sites s.problem.request) (key_ranks key) (to_higher site_ranks (2 ∷ []) (3 ∷ []) (key_ranks key) (request_sites s.problem.request) (request_climbs s.problem.request) refl) in
+    filter-append (is_after key) (flat_map (package_stops s) (enumerate_from 1 s.problem.packages)) (map at_site (request_sites s.problem.request ++ map unknown_stanza s.unknown))
     ∙ (λ i. packages_before s key refl i
-    ++ others_after key (request_sites s.request) [] (map unknown_stanza s.unknown) (map unknown_stanza (unknown_left place s.unknown)) request (unknown_after place aspect s.unknown) i)
+    ++ others_after key (request_sites s.problem.request) [] (map unknown_stanza s.unknown) (map unknown_stanza (unknown_left place s.unknown)) request (unknown_after place aspect s.unknown) i)
 by_part s part.Solution rule.Depends place aspect h = absurd (cc h)
 by_part s part.Solution rule.Conflicts place aspect h = absurd (cc h)
 by_part s part.Solution rule.Keep place aspect h = absurd (cc h)

@@ -203,16 +203,16 @@ unfolding walk
 walk-climbs s h =
     from_lower stop_ranks [] (1 ∷ 1 ∷ []) (4 ∷ []) (flat_map (package_stops s) packages ++ map at_site others) refl
     (climbs-append stop_ranks (1 ∷ 1 ∷ []) (2 ∷ []) (4 ∷ []) (flat_map (package_stops s) packages) (map at_site others)
-    (packages_climb s 1 s.packages)
+    (packages_climb s 1 s.problem.packages)
     (climbs-map stop_ranks at_site (2 ∷ []) others (4 ∷ [])
-    (climbs-append site_ranks (2 ∷ []) (3 ∷ []) (4 ∷ []) (request_sites s.request) (map unknown_stanza s.unknown) (request_climbs s.request)
+    (climbs-append site_ranks (2 ∷ []) (3 ∷ []) (4 ∷ []) (request_sites s.problem.request) (map unknown_stanza s.unknown) (request_climbs s.problem.request)
     (from_lower site_ranks (3 ∷ []) (3 ∷ 0 ∷ 7 ∷ 0 ∷ 0 ∷ []) (4 ∷ []) (map unknown_stanza s.unknown) refl (unknown_climbs 0 s.unknown h)))))
   where
     packages : List Placed
-    packages = enumerate_from 1 s.packages
+    packages = enumerate_from 1 s.problem.packages
 
     others : List Site
-    others = request_sites s.request ++ map unknown_stanza s.unknown
+    others = request_sites s.problem.request ++ map unknown_stanza s.unknown
 
 -- ---- the listing
 

@@ -74,18 +74,18 @@ request-left key r =
 -- ---- the walk
 
 -- the request and the unknown stanzas, all of them
-pub last-whole : (s : Proposal) (n : ℕ) → s.unknown ≡ drop n s.unknown → last_stops s None n ≡ map at_site (request_sites s.request ++ map unknown_stanza s.unknown)
-last-whole s n same = (λ i. request-whole s.request i ++ map at_site (map unknown_stanza (sym same i))) ∙ sym (map-append at_site (request_sites s.request) (map unknown_stanza s.unknown))
+pub last-whole : (s : Proposal) (n : ℕ) → s.unknown ≡ drop n s.unknown → last_stops s None n ≡ map at_site (request_sites s.problem.request ++ map unknown_stanza s.unknown)
+last-whole s n same = (λ i. request-whole s.problem.request i ++ map at_site (map unknown_stanza (sym same i))) ∙ sym (map-append at_site (request_sites s.problem.request) (map unknown_stanza s.unknown))
 
 -- behind a key of the request
-pub last-left : (s : Proposal) (key : PlainKey) (n : ℕ) → s.unknown ≡ drop n s.unknown → last_stops s (Some key) n ≡ map at_site (request_left key s.request ++ map unknown_stanza s.unknown)
-last-left s key n same = (λ i. request-left key s.request i ++ map at_site (map unknown_stanza (sym same i))) ∙ sym (map-append at_site (request_left key s.request) (map unknown_stanza s.unknown))
+pub last-left : (s : Proposal) (key : PlainKey) (n : ℕ) → s.unknown ≡ drop n s.unknown → last_stops s (Some key) n ≡ map at_site (request_left key s.problem.request ++ map unknown_stanza s.unknown)
+last-left s key n same = (λ i. request-left key s.problem.request i ++ map at_site (map unknown_stanza (sym same i))) ∙ sym (map-append at_site (request_left key s.problem.request) (map unknown_stanza s.unknown))
 
 -- the whole walk, where there is no key
 pub start-stops : (s : Proposal) (key : Option PlainKey) (n : ℕ) → key ≡ None → unknown_behind key s.unknown ≡ drop n s.unknown
     → packages_left s 0 ++ last_stops s None n ≡ stops_behind s key
 unfolding walk
-start-stops s None n is same = ap (λ xs. flat_map (package_stops s) (enumerate_from 1 s.packages) ++ xs) (last-whole s n same)
+start-stops s None n is same = ap (λ xs. flat_map (package_stops s) (enumerate_from 1 s.problem.packages) ++ xs) (last-whole s n same)
 start-stops s (Some key) n is same = absurd (cc is)
 
 -- what is left of the unknown stanzas behind a key of a part
@@ -97,10 +97,10 @@ stops-of : (s : Proposal) (key : Option PlainKey) (k : PlainKey) (p : Part) → 
 stops-of s key k p is of = ap (part_left s k) (sym of) ∙ ap (stops_behind s) (sym is)
 
 pub package-key-stops : (s : Proposal) (key : Option PlainKey) (k : PlainKey) (m n : ℕ) → key ≡ Some k → k.part ≡ part.Package m → unknown_behind key s.unknown ≡ drop n s.unknown
-    → package_left s k (slice_get (enumerate_from 1 s.packages) (m - 1)) ++ (packages_left s m ++ last_stops s None n) ≡ stops_behind s key
+    → package_left s k (slice_get (enumerate_from 1 s.problem.packages) (m - 1)) ++ (packages_left s m ++ last_stops s None n) ≡ stops_behind s key
 package-key-stops s key k m n is of same =
-    sym (append_assoc (package_left s k (slice_get (enumerate_from 1 s.packages) (m - 1))) (packages_left s m) (last_stops s None n))
-    ∙ ap (λ xs. package_left s k (slice_get (enumerate_from 1 s.packages) (m - 1)) ++ packages_left s m ++ xs) (last-whole s n (unknown-of s key k (part.Package m) n is of same))
+    sym (append_assoc (package_left s k (slice_get (enumerate_from 1 s.problem.packages) (m - 1))) (packages_left s m) (last_stops s None n))
+    ∙ ap (λ xs. package_left s k (slice_get (enumerate_from 1 s.problem.packages) (m - 1)) ++ packages_left s m ++ xs) (last-whole s n (unknown-of s key k (part.Package m) n is of same))
     ∙ stops-of s key k (part.Package m) is of
 
 pub request-key-stops : (s : Proposal) (key : Option PlainKey) (k : PlainKey) (n : ℕ) → key ≡ Some k → k.part ≡ part.Request → unknown_behind key s.unknown ≡ drop n s.unknown

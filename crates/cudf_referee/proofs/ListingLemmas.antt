@@ -8,7 +8,8 @@ use Rattle.cudf_document.specs.Statuses.{PlainUnknown, ascend_above}
 use Rattle.cudf_universe.specs.Satisfaction.{Placed, members}
 use Rattle.cudf_referee.specs.Criteria.{criteria}
 use Rattle.cudf_referee.specs.Instances.{PlainInstance}
-use Rattle.cudf_referee.specs.Proposals.{holds_place, put_forward}
+use Rattle.cudf_referee.specs.Proposals.{holds_place}
+use Rattle.cudf_referee.specs.Working.Walkers.{put_forward}
 use Rattle.cudf_referee.specs.Violations.{package_rules, violated_install, violated_remove, violated_upgrade, unknown_instance, listing}
 use Rattle.cudf_referee.proofs.ListLemmas.{and_left, and_right}
 use Rattle.cudf_referee.proofs.StatusLemmas.{holds-filter, holds-own, flat_map-held}

@@ -69,7 +69,7 @@ left_behind m (suc n) (x ∷ us) u more ascends h =
 -- ---- the stops before the unknown stanzas
 
 abbrev known_stops : Proposal → List Stop
-known_stops s = flat_map (package_stops s) (enumerate_from 1 s.packages) ++ map at_site (request_sites s.request)
+known_stops s = flat_map (package_stops s) (enumerate_from 1 s.problem.packages) ++ map at_site (request_sites s.problem.request)
 
 abbrev unknown_stops : List PlainUnknown → List Stop
 unknown_stops unknown = map at_site (map unknown_stanza unknown)
@@ -77,14 +77,14 @@ unknown_stops unknown = map at_site (map unknown_stanza unknown)
 walk-split : (s : Proposal) → walk s ≡ known_stops s ++ unknown_stops s.unknown
 unfolding walk
 walk-split s =
-    ap (λ xs. flat_map (package_stops s) (enumerate_from 1 s.packages) ++ xs) (map-append at_site (request_sites s.request) (map unknown_stanza s.unknown))
-    ∙ sym (append_assoc (flat_map (package_stops s) (enumerate_from 1 s.packages)) (map at_site (request_sites s.request)) (unknown_stops s.unknown))
+    ap (λ xs. flat_map (package_stops s) (enumerate_from 1 s.problem.packages) ++ xs) (map-append at_site (request_sites s.problem.request) (map unknown_stanza s.unknown))
+    ∙ sym (append_assoc (flat_map (package_stops s) (enumerate_from 1 s.problem.packages)) (map at_site (request_sites s.problem.request)) (unknown_stops s.unknown))
 
 known_climbs : (s : Proposal) → Climbs stop_ranks [] (known_stops s) (3 ∷ [])
 known_climbs s =
     from_lower stop_ranks [] (1 ∷ 1 ∷ []) (3 ∷ []) (known_stops s) refl
-    (climbs-append stop_ranks (1 ∷ 1 ∷ []) (2 ∷ []) (3 ∷ []) (flat_map (package_stops s) (enumerate_from 1 s.packages)) (map at_site (request_sites s.request))
-    (packages_climb s 1 s.packages) (climbs-map stop_ranks at_site (2 ∷ []) (request_sites s.request) (3 ∷ []) (request_climbs s.request)))
+    (climbs-append stop_ranks (1 ∷ 1 ∷ []) (2 ∷ []) (3 ∷ []) (flat_map (package_stops s) (enumerate_from 1 s.problem.packages)) (map at_site (request_sites s.problem.request))
+    (packages_climb s 1 s.problem.packages) (climbs-map stop_ranks at_site (2 ∷ []) (request_sites s.problem.request) (3 ∷ []) (request_climbs s.problem.request)))
 
 first_below : (s : Proposal) (low : List ℕ) (xs : List Stop) (high : List ℕ) (i : PlainInstance) → Climbs stop_ranks low xs high → first_given s xs ≡ Some i → Below (key_ranks i.key) high
 first_below s low [] high i h k = absurd (cc k)

@@ -53,9 +53,7 @@ asked install remove upgrade = record { line = 1; install = install; remove = re
 -- these packages and this request, with the places that were installed and those that are to be
 abbrev proposed : List PlainPackage → PlainRequest → (ℕ → Bool) → (ℕ → Bool) → List PlainUnknown → Proposal
 proposed packages request was is unknown = record {
-  packages = packages;
-  request = request;
-  recommends = None;
+  problem = record { packages = packages; request = request; recommends = None };
   initial = members was packages;
   proposed = members is packages;
   unknown = unknown;

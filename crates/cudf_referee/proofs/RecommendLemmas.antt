@@ -65,7 +65,7 @@ module _ (s : Proposal) (is : ℕ → Bool) (packages : List PlainPackage) (i : 
   counted_left_out before e so_far = let all = counted_more false e in omega (arith, all, so_far)
 
 -- what is recommended at a place
-pub recommended_at : (problem : PlainProblem) (s : Proposal) (i : ℕ) (d : PlainPackage) → s.recommends ≡ problem.recommends → i < length problem.packages
+pub recommended_at : (problem : PlainProblem) (s : Proposal) (i : ℕ) (d : PlainPackage) → s.problem.recommends ≡ problem.recommends → i < length problem.packages
     → unwrap_or (recommends_at problem (i + 1)) [] ≡ recommended s (i + 1, get_or problem.packages i d)
 recommended_at problem s i d same inside =
     let place : package_at problem (i + 1) ≡ Some (get_or problem.packages i d) =

@@ -62,17 +62,17 @@ package_given s p =
     ∙ (λ i. given_if (judged s) (holds_place s.proposed p.0) (needed_sites p) i ++ given_if (judged s) (holds_place s.initial p.0) (kept_sites p.1.keep p) i)
     ∙ (λ i. cond (holds_place s.proposed p.0) (needed_given s p i) [] ++ cond (holds_place s.initial p.0) (kept_given s p.1.keep p i) [])
 
-upgrade_given : (s : Proposal) (v : ℕ × PlainVpkg) → filter_map (judged s) (upgrade_sites v) ≡ violated_entry s.initial s.proposed s.request v
+upgrade_given : (s : Proposal) (v : ℕ × PlainVpkg) → filter_map (judged s) (upgrade_sites v) ≡ violated_entry s.initial s.proposed s.problem.request v
 upgrade_given s v = three _ _ _ _ _ _
 
-request_given : (s : Proposal) → filter_map (judged s) (request_sites s.request) ≡ request_instances s
+request_given : (s : Proposal) → filter_map (judged s) (request_sites s.problem.request) ≡ request_instances s
 request_given s =
-    let install_sites = map (λ v. install_entry v.0 v.1) (enumerate_from 1 s.request.install) in
-    let remove_sites = map (λ v. remove_entry v.0 v.1) (enumerate_from 1 s.request.remove) in
-    let entries = enumerate_from 1 s.request.upgrade in
+    let install_sites = map (λ v. install_entry v.0 v.1) (enumerate_from 1 s.problem.request.install) in
+    let remove_sites = map (λ v. remove_entry v.0 v.1) (enumerate_from 1 s.problem.request.remove) in
+    let entries = enumerate_from 1 s.problem.request.upgrade in
     filter_map-append (judged s) (install_sites ++ remove_sites) (flat_map upgrade_sites entries)
     ∙ (λ i. filter_map-append (judged s) install_sites remove_sites i ++ (given_flat_map (judged s) upgrade_sites entries ∙ ap (λ (f : ℕ × PlainVpkg → List PlainInstance). flat_map f entries) (λ j v. upgrade_given s v j)) i)
-    ∙ (λ i. (of_entries s (λ v. install_entry v.0 v.1) (enumerate_from 1 s.request.install) i ++ of_entries s (λ v. remove_entry v.0 v.1) (enumerate_from 1 s.request.remove) i) ++ violated_upgrade s.initial s.proposed s.request)
+    ∙ (λ i. (of_entries s (λ v. install_entry v.0 v.1) (enumerate_from 1 s.problem.request.install) i ++ of_entries s (λ v. remove_entry v.0 v.1) (enumerate_from 1 s.problem.request.remove) i) ++ violated_upgrade s.initial s.proposed s.problem.request)
 
 unknown_given : (s : Proposal) (unknown : List PlainUnknown) → filter_map (judged s) (map unknown_stanza unknown) ≡ map unknown_instance unknown
 unknown_given s [] = refl
@@ -82,9 +82,9 @@ unknown_given s (u ∷ unknown) = ap (λ is. unknown_instance u ∷ is) (unknown
 pub listing-sites : (s : Proposal) → listing s ≡ filter_map (judged s) (sites s)
 unfolding listing sites
 listing-sites s =
-    let packages = enumerate_from 1 s.packages in
-    sym (filter_map-append (judged s) (flat_map (package_sites s) packages ++ request_sites s.request) (map unknown_stanza s.unknown)
-    ∙ (λ i. filter_map-append (judged s) (flat_map (package_sites s) packages) (request_sites s.request) i ++ unknown_given s s.unknown i)
+    let packages = enumerate_from 1 s.problem.packages in
+    sym (filter_map-append (judged s) (flat_map (package_sites s) packages ++ request_sites s.problem.request) (map unknown_stanza s.unknown)
+    ∙ (λ i. filter_map-append (judged s) (flat_map (package_sites s) packages) (request_sites s.problem.request) i ++ unknown_given s s.unknown i)
     ∙ (λ i. ((given_flat_map (judged s) (package_sites s) packages ∙ ap (λ (f : Placed → List PlainInstance). flat_map f packages) (λ j p. package_given s p j)) i ++ request_given s i) ++ map unknown_instance s.unknown))
 
 -- ---- the walk gives no more
@@ -100,12 +100,12 @@ stops_given s p = filter_map-append (given_at s) (map at_site (package_sites s p
 pub walk-sites : (s : Proposal) → all_given s (walk s) ≡ filter_map (judged s) (sites s)
 unfolding walk sites
 walk-sites s =
-    let packages = enumerate_from 1 s.packages in
-    let others = request_sites s.request ++ map unknown_stanza s.unknown in
+    let packages = enumerate_from 1 s.problem.packages in
+    let others = request_sites s.problem.request ++ map unknown_stanza s.unknown in
     filter_map-append (given_at s) (flat_map (package_stops s) packages) (map at_site others)
     ∙ (λ i. (given_flat_map (given_at s) (package_stops s) packages ∙ ap (λ (f : Placed → List PlainInstance). flat_map f packages) (λ j p. stops_given s p j) ∙ sym (given_flat_map (judged s) (package_sites s) packages)) i ++ sites_given s others i)
     ∙ sym (filter_map-append (judged s) (flat_map (package_sites s) packages) others)
-    ∙ ap (filter_map (judged s)) (sym (append_assoc (flat_map (package_sites s) packages) (request_sites s.request) (map unknown_stanza s.unknown)))
+    ∙ ap (filter_map (judged s)) (sym (append_assoc (flat_map (package_sites s) packages) (request_sites s.problem.request) (map unknown_stanza s.unknown)))
 
 -- ---- what is left after a position
 

@@ -67,12 +67,12 @@ of_members t q packages = let all = enumerate_from 1 packages in
     ∙ list_all-held t q all all (holds-own all)
     ∙ list_all-filter (λ p. t p.0) q all
 
-packages_empty : (s : Proposal) (was_installed is_installed : ℕ → Bool) → s.initial ≡ members was_installed s.packages → s.proposed ≡ members is_installed s.packages
-    → is_empty (flat_map (package_instances s) (enumerate_from 1 s.packages))
+packages_empty : (s : Proposal) (was_installed is_installed : ℕ → Bool) → s.initial ≡ members was_installed s.problem.packages → s.proposed ≡ members is_installed s.problem.packages
+    → is_empty (flat_map (package_instances s) (enumerate_from 1 s.problem.packages))
     ≡ ((list_all (has_its_depends s.proposed) s.proposed && list_all (has_no_conflict s.proposed) s.proposed)
     && list_all (λ p. is_kept (holds_place s.proposed p.0) s.proposed p.1.keep p) s.initial)
 packages_empty s was_installed is_installed initial_is proposed_is =
-    let all = enumerate_from 1 s.packages in
+    let all = enumerate_from 1 s.problem.packages in
     let needs = λ (p : Placed). has_its_depends s.proposed p && has_no_conflict s.proposed p in
     let kept = λ (p : Placed). is_kept (holds_place s.proposed p.0) s.proposed p.1.keep p in
     is_empty-flat_map (package_instances s) all
@@ -80,7 +80,7 @@ packages_empty s was_installed is_installed initial_is proposed_is =
     (λ p. package_rules_empty (holds_place s.initial p.0) (holds_place s.proposed p.0) s.proposed p) all
     ∙ list_all-and (λ p. cond (holds_place s.proposed p.0) (needs p) true) (λ p. cond (holds_place s.initial p.0) (kept p) true) all
     ∙ (λ i. list_all (λ p. cond (holds_place (proposed_is i) p.0) (needs p) true) all && list_all (λ p. cond (holds_place (initial_is i) p.0) (kept p) true) all)
-    ∙ (λ i. of_members is_installed needs s.packages i && of_members was_installed kept s.packages i)
+    ∙ (λ i. of_members is_installed needs s.problem.packages i && of_members was_installed kept s.problem.packages i)
     ∙ (λ i. list_all needs (sym proposed_is i) && list_all kept (sym initial_is i))
     ∙ ap (λ b. b && list_all kept s.initial) (list_all-and (has_its_depends s.proposed) (has_no_conflict s.proposed) s.proposed)
 
@@ -127,10 +127,10 @@ remove_empty : (status : List Placed) (r : PlainRequest) → is_empty (violated_
 remove_empty status r = none_of _ (satisfies status) r.remove
 
 request_empty : (s : Proposal) → is_empty (request_instances s)
-    ≡ ((list_all (satisfies s.proposed) s.request.install && list_all (λ v. not (satisfies s.proposed v)) s.request.remove) && list_all (is_upgraded s.initial s.proposed) s.request.upgrade)
-request_empty s = let inst = violated_install s.proposed s.request in let rem = violated_remove s.proposed s.request in let up = violated_upgrade s.initial s.proposed s.request in
+    ≡ ((list_all (satisfies s.proposed) s.problem.request.install && list_all (λ v. not (satisfies s.proposed v)) s.problem.request.remove) && list_all (is_upgraded s.initial s.proposed) s.problem.request.upgrade)
+request_empty s = let inst = violated_install s.proposed s.problem.request in let rem = violated_remove s.proposed s.problem.request in let up = violated_upgrade s.initial s.proposed s.problem.request in
     is_empty-append (inst ++ rem) up ∙ ap (λ b. b && is_empty up) (is_empty-append inst rem)
-    ∙ (λ i. (install_empty s.proposed s.request i && remove_empty s.proposed s.request i) && upgrade_empty s.initial s.proposed s.request i)
+    ∙ (λ i. (install_empty s.proposed s.problem.request i && remove_empty s.proposed s.problem.request i) && upgrade_empty s.initial s.proposed s.problem.request i)
 
 -- ---- all
 
@@ -147,10 +147,10 @@ pub solution_is_empty : (problem : PlainProblem) (was_installed is_installed : �
 unfolding listing is_solution
 solution_is_empty problem was_installed is_installed unknown =
     let s = proposal problem was_installed is_installed unknown in
-    let ps = flat_map (package_instances s) (enumerate_from 1 s.packages) in
+    let ps = flat_map (package_instances s) (enumerate_from 1 s.problem.packages) in
     shuffle (is_empty s.unknown) (list_all (has_its_depends s.proposed) s.proposed) (list_all (has_no_conflict s.proposed) s.proposed)
     (list_all (λ p. is_kept (holds_place s.proposed p.0) s.proposed p.1.keep p) s.initial)
-    (list_all (satisfies s.proposed) s.request.install) (list_all (λ v. not (satisfies s.proposed v)) s.request.remove) (list_all (is_upgraded s.initial s.proposed) s.request.upgrade)
+    (list_all (satisfies s.proposed) s.problem.request.install) (list_all (λ v. not (satisfies s.proposed v)) s.problem.request.remove) (list_all (is_upgraded s.initial s.proposed) s.problem.request.upgrade)
     ∙ sym (is_empty-append (ps ++ request_instances s) (map unknown_instance s.unknown)
     ∙ ap (λ b. b && is_empty (map unknown_instance s.unknown)) (is_empty-append ps (request_instances s))
     ∙ (λ i. (packages_empty s was_installed is_installed refl refl i && request_empty s i) && is_empty-map unknown_instance s.unknown i))

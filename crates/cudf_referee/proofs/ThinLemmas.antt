@@ -130,9 +130,9 @@ upgrade_same old before status r same =
     ++ upgrade_if (are_lower (same v.1.name i) (numbers_of v.1.name status)) r v Lower) (enumerate_from 1 r.upgrade)
 
 -- proposals of the same proposed status for the same request are listed alike, where their packages are and where the upgrades are
-listing_same : (s t : Proposal) → s.request ≡ t.request → s.proposed ≡ t.proposed → s.unknown ≡ t.unknown
-    → flat_map (package_instances s) (enumerate_from 1 s.packages) ≡ flat_map (package_instances t) (enumerate_from 1 t.packages)
-    → violated_upgrade s.initial s.proposed s.request ≡ violated_upgrade t.initial t.proposed t.request → listing s ≡ listing t
+listing_same : (s t : Proposal) → s.problem.request ≡ t.problem.request → s.proposed ≡ t.proposed → s.unknown ≡ t.unknown
+    → flat_map (package_instances s) (enumerate_from 1 s.problem.packages) ≡ flat_map (package_instances t) (enumerate_from 1 t.problem.packages)
+    → violated_upgrade s.initial s.proposed s.problem.request ≡ violated_upgrade t.initial t.proposed t.problem.request → listing s ≡ listing t
 unfolding listing
 listing_same s t request proposed unknown packages upgrade =
     λ i. packages i
@@ -152,7 +152,7 @@ touched_same k s t initial proposed placed =
     held place = ap (λ qs. holds_place qs place) initial ∙ held_same k t.initial place
 
 -- proposals of the same proposed status are counted alike, where the names and versions of before and of the universe are the same
-criteria_same : (s t : Proposal) → s.proposed ≡ t.proposed → s.recommends ≡ t.recommends
+criteria_same : (s t : Proposal) → s.proposed ≡ t.proposed → s.problem.recommends ≡ t.problem.recommends
     → ((name : List ℕ) → has_package s.initial name ≡ has_package t.initial name) → ((name : List ℕ) → versions_of name s.initial ≡ versions_of name t.initial)
     → ((name : List ℕ) → versions_of name (universe s) ≡ versions_of name (universe t)) → names_of (universe s) ≡ names_of (universe t)
     → count_by (is_touched s) (universe s) ≡ count_by (is_touched t) (universe t)
@@ -190,12 +190,12 @@ thin_is_enough problem k was is unknown covers =
     let initial = members_thin k was ps in
     let proposed : thin.proposed ≡ whole.proposed = proposed_same k is 1 ps covered in
     let placed : universe thin ≡ map (second (thin_package k)) (universe whole) = enumerate-map (thin_package k) 1 ps in
-    let packages : flat_map (package_instances thin) (enumerate_from 1 thin.packages) ≡ flat_map (package_instances whole) (enumerate_from 1 ps)
-    = rules_of_members was is thin.packages thin.proposed
-    ∙ ap (λ status. flat_map (λ p. package_rules (was p.0) (is p.0) status p) (enumerate_from 1 thin.packages)) proposed
+    let packages : flat_map (package_instances thin) (enumerate_from 1 thin.problem.packages) ≡ flat_map (package_instances whole) (enumerate_from 1 ps)
+    = rules_of_members was is thin.problem.packages thin.proposed
+    ∙ ap (λ status. flat_map (λ p. package_rules (was p.0) (is p.0) status p) (enumerate_from 1 thin.problem.packages)) proposed
     ∙ all_rules_same k was is whole.proposed 1 ps covered
     ∙ sym (rules_of_members was is ps whole.proposed) in
-    let upgrade : violated_upgrade thin.initial thin.proposed thin.request ≡ violated_upgrade whole.initial whole.proposed whole.request
+    let upgrade : violated_upgrade thin.initial thin.proposed thin.problem.request ≡ violated_upgrade whole.initial whole.proposed whole.problem.request
     = (λ i. violated_upgrade thin.initial (proposed i) problem.request)
     ∙ upgrade_same thin.initial whole.initial whole.proposed problem.request (λ name. ap (numbers_of name) initial ∙ numbers_same k name whole.initial) in
     let listing_is = listing_same thin whole refl proposed refl packages upgrade in

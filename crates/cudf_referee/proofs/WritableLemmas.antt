@@ -109,19 +109,19 @@ entry_written v counted small any =
     aspect : (a : Aspect) → IsWritable (request_key rule.Upgrade v.0 (Some a))
     aspect a = request_written v.0 rule.Upgrade (Some a) counted small refl refl
 
-request_sites_written : (s : Proposal) → IsNumbered s → All Written (request_sites s.request)
+request_sites_written : (s : Proposal) → IsNumbered s → All Written (request_sites s.problem.request)
 request_sites_written s n =
-    All-append Written (wanted ++ unwanted) (flat_map upgrade_sites (enumerate_from 1 s.request.upgrade))
+    All-append Written (wanted ++ unwanted) (flat_map upgrade_sites (enumerate_from 1 s.problem.request.upgrade))
     (All-append Written wanted unwanted
-    (made_written (λ v. install_entry v.0 v.1) (λ x counted small. request_written x.0 rule.Install None counted small refl refl) 1 s.request.install (omega arith) (omega (arith, n.install)))
-    (made_written (λ v. remove_entry v.0 v.1) (λ x counted small. request_written x.0 rule.Remove None counted small refl refl) 1 s.request.remove (omega arith) (omega (arith, n.remove))))
-    (flat_written Any upgrade_sites entry_written 1 s.request.upgrade (omega arith) (omega (arith, n.upgrade)) (λ k d inside. tt))
+    (made_written (λ v. install_entry v.0 v.1) (λ x counted small. request_written x.0 rule.Install None counted small refl refl) 1 s.problem.request.install (omega arith) (omega (arith, n.install)))
+    (made_written (λ v. remove_entry v.0 v.1) (λ x counted small. request_written x.0 rule.Remove None counted small refl refl) 1 s.problem.request.remove (omega arith) (omega (arith, n.remove))))
+    (flat_written Any upgrade_sites entry_written 1 s.problem.request.upgrade (omega arith) (omega (arith, n.upgrade)) (λ k d inside. tt))
   where
     wanted : List Site
-    wanted = map (λ v. install_entry v.0 v.1) (enumerate_from 1 s.request.install)
+    wanted = map (λ v. install_entry v.0 v.1) (enumerate_from 1 s.problem.request.install)
 
     unwanted : List Site
-    unwanted = map (λ v. remove_entry v.0 v.1) (enumerate_from 1 s.request.remove)
+    unwanted = map (λ v. remove_entry v.0 v.1) (enumerate_from 1 s.problem.request.remove)
 
 -- ---- the solution
 
@@ -174,14 +174,14 @@ given_written s (x ∷ xs) all = one_written (is_violated s x) (instance_at s x)
 sites_written : (s : Proposal) → ascend_above 0 s.unknown ≡ true → IsNumbered s → All Written (sites s)
 unfolding sites
 sites_written s ascends n =
-    All-append Written (packages ++ request_sites s.request) (map unknown_stanza s.unknown)
-    (All-append Written packages (request_sites s.request)
-    (flat_written IsListed (package_sites s) (package_sites_written s) 1 s.packages (omega arith) (omega (arith, n.packages)) n.each)
+    All-append Written (packages ++ request_sites s.problem.request) (map unknown_stanza s.unknown)
+    (All-append Written packages (request_sites s.problem.request)
+    (flat_written IsListed (package_sites s) (package_sites_written s) 1 s.problem.packages (omega arith) (omega (arith, n.packages)) n.each)
     (request_sites_written s n))
     (unknown_written 0 s.unknown ascends n.stanzas)
   where
     packages : List Site
-    packages = flat_map (package_sites s) (enumerate_from 1 s.packages)
+    packages = flat_map (package_sites s) (enumerate_from 1 s.problem.packages)
 
 pub listing_written : (s : Proposal) → ascend_above 0 s.unknown ≡ true → IsNumbered s → All CanBeWritten (listing s)
 listing_written s ascends n = subst (λ (is : List PlainInstance). All CanBeWritten is) (sym (listing-sites s)) (given_written s (sites s) (sites_written s ascends n))

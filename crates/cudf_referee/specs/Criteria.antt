@@ -12,7 +12,7 @@ use Rattle.cudf_referee.specs.Violations.{has_package}
 
 -- the packages of the universe, each with its place
 abbrev pub universe : Proposal → List Placed
-universe s = enumerate_from 1 s.packages
+universe s = enumerate_from 1 s.problem.packages
 
 -- the names, each once
 abbrev pub each_once : List (List ℕ) → List (List ℕ)

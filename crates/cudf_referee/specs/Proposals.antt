@@ -1,18 +1,14 @@
--- What is judged: a universe and a request, the initial and the proposed status, and what is proposed beyond the universe.
-use Rattle.std.specs.Prelude.{ℕ, Bool, ◌==◌, List, [], Option, unwrap_or}
+-- What is judged: a problem, the initial and the proposed status, and what is proposed beyond the universe.
+use Rattle.std.specs.Prelude.{ℕ, Bool, ◌==◌, List, [], unwrap_or}
 use Rattle.std.specs.List.{list_any}
 use Rattle.std.specs.Option.{option_or}
 use Rattle.cudf_value.specs.Formulas.{PlainAtom}
-use Rattle.cudf_document.specs.Universe.{PlainPackage, PlainRequest, PlainProblem}
+use Rattle.cudf_document.specs.Universe.{PlainProblem}
 use Rattle.cudf_document.specs.Statuses.{PlainUnknown}
 use Rattle.cudf_universe.specs.Satisfaction.{Placed, members}
 
 pub record Proposal : Type 0 where
-  -- the universe, in document order
-  pub packages : List PlainPackage
-  pub request : PlainRequest
-  -- the declared default of `recommends`
-  pub recommends : Option (List (List PlainAtom))
+  pub problem : PlainProblem
   -- the packages that were installed, and those that are to be, each with its place
   pub initial : List Placed
   pub proposed : List Placed
@@ -23,22 +19,15 @@ pub record Proposal : Type 0 where
 abbrev pub holds_place : List Placed → ℕ → Bool
 holds_place status place = list_any (λ p. p.0 == place) status
 
--- what is put forward for a problem: its statuses, and the unknown stanzas
-abbrev pub put_forward : PlainProblem → List Placed → List Placed → List PlainUnknown → Proposal
-put_forward problem initial proposed unknown = record {
-  packages = problem.packages;
-  request = problem.request;
-  recommends = problem.recommends;
-  initial = initial;
-  proposed = proposed;
+-- the statuses are those of a problem's packages that these tests of places pick
+abbrev pub proposal : PlainProblem → (ℕ → Bool) → (ℕ → Bool) → List PlainUnknown → Proposal
+proposal problem was_installed is_installed unknown = record {
+  problem = problem;
+  initial = members was_installed problem.packages;
+  proposed = members is_installed problem.packages;
   unknown = unknown;
 }
 
--- the statuses are those of a problem's packages that these tests of places pick
-abbrev pub proposal : PlainProblem → (ℕ → Bool) → (ℕ → Bool) → List PlainUnknown → Proposal
-proposal problem was_installed is_installed unknown =
-    put_forward problem (members was_installed problem.packages) (members is_installed problem.packages) unknown
-
 -- what a package recommends: its own conjuncts, else those of the declared default, else none
 abbrev pub recommended : Proposal → Placed → List (List PlainAtom)
-recommended s p = unwrap_or (option_or p.1.recommends s.recommends) []
+recommended s p = unwrap_or (option_or p.1.recommends s.problem.recommends) []

@@ -48,6 +48,6 @@ is_solution s =
     && list_all (has_its_depends s.proposed) s.proposed
     && list_all (has_no_conflict s.proposed) s.proposed
     && list_all (λ p. is_kept (holds_place s.proposed p.0) s.proposed p.1.keep p) s.initial
-    && list_all (satisfies s.proposed) s.request.install
-    && list_all (λ v. not (satisfies s.proposed v)) s.request.remove
-    && list_all (is_upgraded s.initial s.proposed) s.request.upgrade
+    && list_all (satisfies s.proposed) s.problem.request.install
+    && list_all (λ v. not (satisfies s.proposed v)) s.problem.request.remove
+    && list_all (is_upgraded s.initial s.proposed) s.problem.request.upgrade

@@ -111,9 +111,9 @@ violated_upgrade before status r = flat_map (violated_entry before status r) (en
 
 abbrev pub request_instances : Proposal → List PlainInstance
 request_instances s =
-    violated_install s.proposed s.request
-    ++ violated_remove s.proposed s.request
-    ++ violated_upgrade s.initial s.proposed s.request
+    violated_install s.proposed s.problem.request
+    ++ violated_remove s.proposed s.problem.request
+    ++ violated_upgrade s.initial s.proposed s.problem.request
 
 -- ---- the solution
 
@@ -131,7 +131,7 @@ unknown_instance u = record {
 -- the violated instances, in key order
 unfoldable pub listing : Proposal → List PlainInstance
 listing s =
-    flat_map (package_instances s) (enumerate_from 1 s.packages)
+    flat_map (package_instances s) (enumerate_from 1 s.problem.packages)
     ++ request_instances s
     ++ map unknown_instance s.unknown
 

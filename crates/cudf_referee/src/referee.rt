@@ -38,10 +38,10 @@ impl<'p, 't> Model for Referee<'p, 't> {
     ghost use Rattle.std.specs.FinSet as set;
     ghost use Rattle.cudf_document.specs.Promises.Views.{unknown_view};
     ghost use Rattle.cudf_referee.specs.Criteria.{criteria as counts};
-    ghost use Rattle.cudf_referee.specs.Proposals.{Proposal, put_forward};
+    ghost use Rattle.cudf_referee.specs.Proposals.{Proposal};
     ghost use Rattle.cudf_referee.specs.Solutions.{is_solution};
     ghost use Rattle.cudf_referee.specs.Working.Numbered.{IsNumbered};
-    ghost use Rattle.cudf_referee.specs.Working.Walkers.{Agrees};
+    ghost use Rattle.cudf_referee.specs.Working.Walkers.{put_forward, Agrees};
 
     ghost Value = { Proposal };
 
@@ -149,7 +149,7 @@ impl<'p, 't> Referee<'p, 't> {
 
     /// The universe: the problem's packages, in document order.
     pub fn packages(&self) -> &'p [Package<'t>]
-        ensures { map package_view result.now ≡ self.entry.now.packages }
+        ensures { map package_view result.now ≡ self.entry.now.problem.packages }
     {
         self.problem.packages()
     }

@@ -1,7 +1,8 @@
 //! Prints a page of the listing.
-ghost use Rattle.std.specs.Prelude.{◌≡◌, ◌≤◌, ◌+◌, ◌++◌, codes, take, map, length, slice_get, Option, Some, None, option_map, IfOk, if◌then◌else◌};
+ghost use Rattle.std.specs.Prelude.{◌≡◌, ◌≤◌, ◌+◌, ◌++◌, codes, take, map, length, Option, Some, None, option_map, option_and_then, IfOk, if◌then◌else◌};
 ghost use Rattle.std.specs.List.{flat_map};
 ghost use Rattle.cudf_document.specs.Promises.Views.{package_view};
+ghost use Rattle.cudf_document.specs.Universe.{PlainProblem, package_at};
 ghost use Rattle.cudf_universe.specs.Promises.Prices.{digits};
 ghost use Rattle.cudf_referee.specs.Keys.{PlainKey, key_text};
 ghost use Rattle.cudf_referee.specs.KeyViews.{key_view};
@@ -9,7 +10,7 @@ ghost use Rattle.cudf_referee.specs.Promises.Pages.{behind, at_instance, calls, 
 ghost use Rattle.cudf_referee.specs.Promises.Sites.{cost_between};
 ghost use Rattle.cudf_referee.specs.Promises.Views.{instance_view};
 ghost use Rattle.cudf_referee.specs.Promises.Walks.{left};
-ghost use Rattle.cudf_check.specs.Report.{line, instance_line, package_at, listed, check_text};
+ghost use Rattle.cudf_check.specs.Report.{line, instance_line, listed, check_text};
 ghost use Rattle.cudf_check.specs.Working.Pages.{Ascends, IsPageEnd, IsSpent, more_behind, page_size};
 ghost use Rattle.cudf_check.specs.Working.Printing.{Prints};
 
@@ -23,9 +24,10 @@ use cudf_referee::{Instance, Instances, Key, Referee};
 
 /// The package that meets an instance's entry.
 fn meeting<'x, 't>(packages: &'x [Package<'t>], place: Option<u64>) -> Option<&'x Package<'t>>
-    ensures { option_map (λ p. package_view p.now) result ≡ package_at (map package_view packages.now) place }
+    ensures { (problem : PlainProblem) → map package_view packages.now ≡ problem.packages
+        → option_map (λ p. package_view p.now) result ≡ option_and_then (package_at problem) place }
 {
-    packages.get((place? as usize).saturating_sub(1))
+    packages.get((place? as usize).checked_sub(1)?)
 }
 
 /// The walk over the violated instances with greater keys than `after`, over all of them where it isn't given.

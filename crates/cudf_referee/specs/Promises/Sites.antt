@@ -119,7 +119,7 @@ request_sites r = map (λ v. install_entry v.0 v.1) (enumerate_from 1 r.install)
     ++ flat_map upgrade_sites (enumerate_from 1 r.upgrade)
 
 unfoldable pub sites : Proposal → List Site
-sites s = flat_map (package_sites s) (enumerate_from 1 s.packages) ++ request_sites s.request ++ map unknown_stanza s.unknown
+sites s = flat_map (package_sites s) (enumerate_from 1 s.problem.packages) ++ request_sites s.problem.request ++ map unknown_stanza s.unknown
 
 -- ---- the walk over them
 
@@ -133,7 +133,7 @@ abbrev pub package_stops : Proposal → Placed → List Stop
 package_stops s p = map at_site (package_sites s p) ++ package_end p.0 ∷ []
 
 unfoldable pub walk : Proposal → List Stop
-walk s = flat_map (package_stops s) (enumerate_from 1 s.packages) ++ map at_site (request_sites s.request ++ map unknown_stanza s.unknown)
+walk s = flat_map (package_stops s) (enumerate_from 1 s.problem.packages) ++ map at_site (request_sites s.problem.request ++ map unknown_stanza s.unknown)
 
 -- going by a stop is one step, beside those of judging a site: so many at most
 abbrev pub stop_cost : List Placed → Stop → ℕ

@@ -75,7 +75,7 @@ unknown_stops n unknown = map at_site (map unknown_stanza (drop n unknown))
 
 -- the rest of the request, and the unknown stanzas behind the first n
 abbrev pub last_stops : Proposal → Option PlainKey → ℕ → List Stop
-last_stops s key n = request_behind key s.request ++ unknown_stops n s.unknown
+last_stops s key n = request_behind key s.problem.request ++ unknown_stops n s.unknown
 
 abbrev pub unknown_behind_part : Part → PlainKey → List PlainUnknown → List PlainUnknown
 unknown_behind_part (part.Package n) key unknown = unknown

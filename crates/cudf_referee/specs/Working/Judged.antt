@@ -17,9 +17,9 @@ instance_at s (conflicts_entry p place v) = at_package p rule.Conflicts place (c
 instance_at s (kept_version p) = at_package p rule.Keep 1 keep_version
 instance_at s (kept_package p) = at_package p rule.Keep 1 keep_package
 instance_at s (kept_feature p place v) = at_package p rule.Keep place (keep_feature v)
-instance_at s (install_entry place v) = at_request s.request rule.Install place None (install v)
-instance_at s (remove_entry place v) = at_request s.request rule.Remove place None (remove v)
-instance_at s (upgrade_entry place v aspect) = at_request s.request rule.Upgrade place (Some aspect) (upgrade v)
+instance_at s (install_entry place v) = at_request s.problem.request rule.Install place None (install v)
+instance_at s (remove_entry place v) = at_request s.problem.request rule.Remove place None (remove v)
+instance_at s (upgrade_entry place v aspect) = at_request s.problem.request rule.Upgrade place (Some aspect) (upgrade v)
 instance_at s (unknown_stanza u) = unknown_instance u
 
 -- an aspect of an entry of `upgrade` is violated

@@ -11,9 +11,9 @@ pub record IsListed (p : PlainPackage) : Type 0 where
 
 -- all of them are those of a `u64`
 pub record IsNumbered (s : Proposal) : Type 0 where
-  pub packages : length s.packages < 2 ^ 64
-  pub each : All IsListed s.packages
-  pub install : length s.request.install < 2 ^ 64
-  pub remove : length s.request.remove < 2 ^ 64
-  pub upgrade : length s.request.upgrade < 2 ^ 64
+  pub packages : length s.problem.packages < 2 ^ 64
+  pub each : All IsListed s.problem.packages
+  pub install : length s.problem.request.install < 2 ^ 64
+  pub remove : length s.problem.request.remove < 2 ^ 64
+  pub upgrade : length s.problem.request.upgrade < 2 ^ 64
   pub stanzas : All (λ u. u.stanza < 2 ^ 64) s.unknown

@@ -113,13 +113,13 @@ unknown_left n unknown = filter (λ u. nat_lt n u.stanza) unknown
 
 -- the stops of the packages after a place
 abbrev pub packages_left : Proposal → ℕ → List Stop
-packages_left s n = flat_map (package_stops s) (drop n (enumerate_from 1 s.packages))
+packages_left s n = flat_map (package_stops s) (drop n (enumerate_from 1 s.problem.packages))
 
 -- those that come after a key of this part
 abbrev pub part_left : Proposal → PlainKey → Part → List Stop
 part_left s key (part.Package n) =
-    package_left s key (slice_get (enumerate_from 1 s.packages) (n - 1)) ++ packages_left s n ++ map at_site (request_sites s.request ++ map unknown_stanza s.unknown)
-part_left s key part.Request = map at_site (request_left key s.request ++ map unknown_stanza s.unknown)
+    package_left s key (slice_get (enumerate_from 1 s.problem.packages) (n - 1)) ++ packages_left s n ++ map at_site (request_sites s.problem.request ++ map unknown_stanza s.unknown)
+part_left s key part.Request = map at_site (request_left key s.problem.request ++ map unknown_stanza s.unknown)
 part_left s key part.Solution = map at_site (map unknown_stanza (unknown_left key.place s.unknown))
 
 -- those that come after a key

@@ -6,12 +6,11 @@ ghost use Rattle.cudf_universe.specs.Promises.Prices.{digits};
 ghost use Rattle.cudf_referee.specs.KeyViews.{key_view};
 ghost use Rattle.cudf_referee.specs.Promises.Pages.{least_search};
 ghost use Rattle.cudf_referee.specs.Promises.PositionViews.{position_view};
-ghost use Rattle.cudf_referee.specs.Proposals.{put_forward};
 ghost use Rattle.cudf_referee.specs.Promises.Sites.{at_start, at_key};
 ghost use Rattle.cudf_referee.specs.Promises.Views.{instance_view};
 ghost use Rattle.cudf_referee.specs.Working.Places.{BeginsAt, IsFitting, ahead};
 ghost use Rattle.cudf_referee.specs.Working.Searches.{Finds};
-ghost use Rattle.cudf_referee.specs.Working.Walkers.{Agrees};
+ghost use Rattle.cudf_referee.specs.Working.Walkers.{put_forward, Agrees};
 
 use crate::instance::Instance;
 use crate::key::Key;
@@ -44,10 +43,9 @@ impl<'r, 'p, 't> Model for Instances<'r, 'p, 't> {
     ghost use Rattle.std.specs.FinSet as set;
     ghost use Rattle.cudf_document.specs.Promises.Views.{unknown_view};
     ghost use Rattle.cudf_referee.specs.Promises.PositionViews.{position_view};
-    ghost use Rattle.cudf_referee.specs.Proposals.{put_forward};
     ghost use Rattle.cudf_referee.specs.Promises.Walks.{Walking};
     ghost use Rattle.cudf_referee.specs.Working.Places.{BeginsAt, IsFitting};
-    ghost use Rattle.cudf_referee.specs.Working.Walkers.{Agrees};
+    ghost use Rattle.cudf_referee.specs.Working.Walkers.{put_forward, Agrees};
 
     ghost Value = { Walking };
 

@@ -3,7 +3,7 @@ ghost use Rattle.std.specs.Prelude.{ℕ, ◌<◌, ◌^◌, All, List, IsTrue, le
 ghost use Rattle.cudf_document.specs.Promises.Views.{unknown_view};
 ghost use Rattle.cudf_document.specs.Statuses.{ascend_above};
 ghost use Rattle.cudf_universe.specs.Satisfaction.{Placed};
-ghost use Rattle.cudf_referee.specs.Proposals.{put_forward};
+ghost use Rattle.cudf_referee.specs.Working.Walkers.{put_forward};
 ghost use Rattle.cudf_referee.specs.Working.Numbered.{IsNumbered};
 
 use crate::position::number_at;

@@ -26,7 +26,12 @@ impl<'c, 't> Candidate<'c, 't> {
     ghost use Rattle.cudf_referee.specs.Working.Candidates.{placed_view};
 
     /// The instance of a rule at an entry's place.
-    pub(super) fn instance<'p>(self, rule: Rule, number: u64, what: What<'p, 't>) -> Instance<'p, 't>
+    pub(super) fn instance<'p>(
+        self,
+        rule: Rule,
+        number: u64,
+        what: What<'p, 't>,
+    ) -> Instance<'p, 't>
         requires counted { 0 < number }
         requires fits { IsTrue (is_package_rule rule) }
         ensures { instance_view result ≡ at_package (placed_view self.entry) rule number (what_view what.entry) }

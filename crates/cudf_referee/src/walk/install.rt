@@ -22,7 +22,7 @@ impl<'r, 't> EntryRule<'t> for Install<'r, 't> {
 
     ghost site = { λ rule place v. install_entry place (vpkg_view v) };
 
-    ghost fits = { λ rule s. s.request ≡ request_view rule.request.now };
+    ghost fits = { λ rule s. s.problem.request ≡ request_view rule.request.now };
 
     fn judge<'p>(
         self,

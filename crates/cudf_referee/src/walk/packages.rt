@@ -45,7 +45,7 @@ pub(super) fn search_keyed<'p, 't>(
 ) -> Option<Instance<'p, 't>>
     requires { (proposal_of ground).proposed ≡ now.old.status }
     ensures found { Finds (proposal_of ground.entry)
-        (package_left (proposal_of ground.entry) (key_view key) (slice_get (enumerate_from 1 (proposal_of ground.entry).packages) (place - 1)))
+        (package_left (proposal_of ground.entry) (key_view key) (slice_get (enumerate_from 1 (proposal_of ground.entry).problem.packages) (place - 1)))
         (option_map instance_view result) (now.old.steps + steps.old) (now.new.steps + steps.new) }
     ensures status { now.new.status ≡ now.old.status }
 {

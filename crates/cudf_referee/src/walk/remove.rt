@@ -22,7 +22,7 @@ impl<'r, 't> EntryRule<'t> for Remove<'r, 't> {
 
     ghost site = { λ rule place v. remove_entry place (vpkg_view v) };
 
-    ghost fits = { λ rule s. s.request ≡ request_view rule.request.now };
+    ghost fits = { λ rule s. s.problem.request ≡ request_view rule.request.now };
 
     fn judge<'p>(
         self,

@@ -25,7 +25,7 @@ pub(super) fn search_request<'p, 't>(
     request: &'p Request<'t>,
     key: Option<Key>,
 ) -> Option<Instance<'p, 't>>
-    ensures found { (s : Proposal) → s.proposed ≡ now.old.status → s.initial ≡ before.old.status → s.request ≡ request_view request.now
+    ensures found { (s : Proposal) → s.proposed ≡ now.old.status → s.initial ≡ before.old.status → s.problem.request ≡ request_view request.now
         → Finds s (request_behind (option_map key_view key) (request_view request.now))
         (option_map instance_view result) (now.old.steps + before.old.steps + steps.old) (now.new.steps + before.new.steps + steps.new) }
     ensures now { now.new.status ≡ now.old.status }

@@ -83,7 +83,7 @@ fn judge<'p, 't>(
     aspect: Aspect,
 ) -> Option<Instance<'p, 't>>
     requires { 0 < number }
-    ensures found { (s : Proposal) → s.proposed ≡ now.old.status → s.initial ≡ before.old.status → s.request ≡ request_view request.now
+    ensures found { (s : Proposal) → s.proposed ≡ now.old.status → s.initial ≡ before.old.status → s.problem.request ≡ request_view request.now
         → Finds s (at_site (upgrade_entry number (vpkg_view vpkg.now) aspect) ∷ [])
         (option_map instance_view result) (now.old.steps + before.old.steps + steps.old) (now.new.steps + before.new.steps + steps.new) }
     ensures now { now.new.status ≡ now.old.status }
@@ -120,7 +120,7 @@ fn search_aspects<'p, 't>(
     aspects: &[Aspect],
 ) -> Option<Instance<'p, 't>>
     requires { 0 < number }
-    ensures found { (s : Proposal) → s.proposed ≡ now.old.status → s.initial ≡ before.old.status → s.request ≡ request_view request.now
+    ensures found { (s : Proposal) → s.proposed ≡ now.old.status → s.initial ≡ before.old.status → s.problem.request ≡ request_view request.now
         → Finds s (aspect_stops number (vpkg_view vpkg.now) aspects.now)
         (option_map instance_view result) (now.old.steps + before.old.steps + steps.old) (now.new.steps + before.new.steps + steps.new) }
     ensures now { now.new.status ≡ now.old.status }
@@ -143,7 +143,7 @@ fn search_entries<'p, 't>(
     first: usize,
 ) -> Option<Instance<'p, 't>>
     requires { first ≤ length request.now.upgrade.items }
-    ensures found { (s : Proposal) → s.proposed ≡ now.old.status → s.initial ≡ before.old.status → s.request ≡ request_view request.now
+    ensures found { (s : Proposal) → s.proposed ≡ now.old.status → s.initial ≡ before.old.status → s.problem.request ≡ request_view request.now
         → Finds s (upgrade_stops (drop first (enumerate_from 1 (list_view request.now.upgrade))))
         (option_map instance_view result) (now.old.steps + before.old.steps + steps.old) (now.new.steps + before.new.steps + steps.new) }
     ensures now { now.new.status ≡ now.old.status }
@@ -169,7 +169,7 @@ fn search_entry<'p, 't>(
     index: usize,
     after: Option<Aspect>,
 ) -> Option<Instance<'p, 't>>
-    ensures found { (s : Proposal) → s.proposed ≡ now.old.status → s.initial ≡ before.old.status → s.request ≡ request_view request.now
+    ensures found { (s : Proposal) → s.proposed ≡ now.old.status → s.initial ≡ before.old.status → s.problem.request ≡ request_view request.now
         → Finds s (map at_site (aspects_left after (slice_get (enumerate_from 1 (list_view request.now.upgrade)) index)))
         (option_map instance_view result) (now.old.steps + before.old.steps + steps.old) (now.new.steps + before.new.steps + steps.new) }
     ensures now { now.new.status ≡ now.old.status }
@@ -193,7 +193,7 @@ fn search_behind<'p, 't>(
     request: &'p Request<'t>,
     key: Key,
 ) -> Option<Instance<'p, 't>>
-    ensures found { (s : Proposal) → s.proposed ≡ now.old.status → s.initial ≡ before.old.status → s.request ≡ request_view request.now
+    ensures found { (s : Proposal) → s.proposed ≡ now.old.status → s.initial ≡ before.old.status → s.problem.request ≡ request_view request.now
         → Finds s (map at_site (upgrade_after (key_view key) (list_view request.now.upgrade)))
         (option_map instance_view result) (now.old.steps + before.old.steps + steps.old) (now.new.steps + before.new.steps + steps.new) }
     ensures now { now.new.status ≡ now.old.status }
@@ -216,7 +216,7 @@ pub(super) fn search_upgrade<'p, 't>(
     request: &'p Request<'t>,
     key: Option<Key>,
 ) -> Option<Instance<'p, 't>>
-    ensures found { (s : Proposal) → s.proposed ≡ now.old.status → s.initial ≡ before.old.status → s.request ≡ request_view request.now
+    ensures found { (s : Proposal) → s.proposed ≡ now.old.status → s.initial ≡ before.old.status → s.problem.request ≡ request_view request.now
         → Finds s (map at_site (upgrade_behind (option_map key_view key) (list_view request.now.upgrade)))
         (option_map instance_view result) (now.old.steps + before.old.steps + steps.old) (now.new.steps + before.new.steps + steps.new) }
     ensures now { now.new.status ≡ now.old.status }

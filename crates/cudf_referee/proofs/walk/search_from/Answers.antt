@@ -14,8 +14,8 @@ pub returns-in-Some-clause-found : goal.returns-in-Some-clause-found
 returns-in-Some-clause-found c =
     let s = proposal_of c.args.ground in
     let ys = c.packages.result.now in
-    let all = enumerate_from 1 s.packages in
-    let len : length ys ≡ length all = omega (arith, length-map ys package_view, ap length c.packages.ensures.packages, length-enumerate_from 1 s.packages) in
+    let all = enumerate_from 1 s.problem.packages in
+    let len : length ys ≡ length all = omega (arith, length-map ys package_view, ap length c.packages.ensures.packages, length-enumerate_from 1 s.problem.packages) in
     let stops = ap (packages_left s) c.min-first.ensures ∙ ap (flat_map (package_stops s)) (drop-least c.args.place (length ys) all len) in
     Finds-first s _ _ _ _ _ (Finds-between s _ _ c.args.before.now.steps _ _ _ _
     (at_some s _ instance_view c.search_packages.result _ _ _ c.in-Some.is (Finds-at s _ _ _ _ _ stops c.search_packages.ensures.found)))
@@ -24,8 +24,8 @@ pub returns-clause-found : goal.returns-clause-found
 returns-clause-found c =
     let s = proposal_of c.args.ground in
     let ys = c.packages.result.now in
-    let all = enumerate_from 1 s.packages in
-    let len : length ys ≡ length all = omega (arith, length-map ys package_view, ap length c.packages.ensures.packages, length-enumerate_from 1 s.packages) in
+    let all = enumerate_from 1 s.problem.packages in
+    let len : length ys ≡ length all = omega (arith, length-map ys package_view, ap length c.packages.ensures.packages, length-enumerate_from 1 s.problem.packages) in
     let stops = ap (packages_left s) c.min-first.ensures ∙ ap (flat_map (package_stops s)) (drop-least c.args.place (length ys) all len) in
     Finds-then s _ _ _ _ _ _ (Finds-between s _ _ c.args.before.now.steps _ _ _ _
     (at_none s _ instance_view c.search_packages.result _ _ c.in_default.is (Finds-at s _ _ _ _ _ stops c.search_packages.ensures.found)))

@@ -6,7 +6,8 @@ use Rattle.cudf_document.specs.Promises.Views.{unknown_view}
 use Rattle.cudf_universe.specs.Satisfaction.{members}
 use Rattle.cudf_referee.specs.Criteria.{criteria}
 use Rattle.cudf_document.specs.Documents.{is_empty}
-use Rattle.cudf_referee.specs.Proposals.{put_forward, proposal}
+use Rattle.cudf_referee.specs.Proposals.{proposal}
+use Rattle.cudf_referee.specs.Working.Walkers.{put_forward}
 use Rattle.cudf_referee.specs.Solutions.{is_solution}
 use Rattle.cudf_referee.specs.Violations.{listing}
 use Rattle.cudf_referee.specs.Promises.Walks.{Walking, left}

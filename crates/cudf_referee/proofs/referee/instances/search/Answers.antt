@@ -7,7 +7,7 @@ use Rattle.cudf_referee.specs.Working.Behind.{stops_behind}
 use Rattle.cudf_referee.specs.Working.Searches.{Finds}
 use Rattle.cudf_referee.specs.Promises.Pages.{behind}
 use Rattle.cudf_referee.specs.Promises.PositionViews.{position_view}
-use Rattle.cudf_referee.specs.Proposals.{put_forward}
+use Rattle.cudf_referee.specs.Working.Walkers.{put_forward}
 use Rattle.cudf_referee.specs.Promises.Views.{instance_view}
 use Rattle.cudf_referee.proofs.MoveLemmas.{finds-end, finds-ahead}
 use Rattle.cudf_referee.proofs.referee.instances.search.Goals as goal

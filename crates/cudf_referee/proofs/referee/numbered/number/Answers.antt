@@ -10,7 +10,7 @@ use Rattle.cudf_document.specs.Promises.Views.{unknown_view, package_view, reque
 use Rattle.cudf_document.specs.Universe.{PlainPackage, PlainRequest, PlainProblem}
 use Rattle.cudf_value.specs.Promises.Views.{clause_view, vpkg_view}
 use Rattle.cudf_universe.specs.Satisfaction.{Placed}
-use Rattle.cudf_referee.specs.Proposals.{put_forward}
+use Rattle.cudf_referee.specs.Working.Walkers.{put_forward}
 use Rattle.cudf_referee.specs.Working.Numbered.{IsListed, IsNumbered}
 use Rattle.cudf_referee.proofs.referee.numbered.number.Goals as goal
 

@@ -17,13 +17,13 @@ returns-in-Some-clause-found c =
     let key = key_view c.args.key in
     let ys = c.packages.result.now in
     let index = c.saturating_sub-index.result in
-    let there : Some (index + 1, package_view c.in-Some.package.now) ≡ slice_get (enumerate_from 1 s.packages) index =
+    let there : Some (index + 1, package_view c.in-Some.package.now) ≡ slice_get (enumerate_from 1 s.problem.packages) index =
     sym (numbered-some package_view ys index c.in-Some.package.now (item-some ys index c.in-Some.package c.in-Some.ensures.lookup))
     ∙ ap (λ (ps : List PlainPackage). slice_get (enumerate_from 1 ps) index) c.packages.ensures.packages in
     let stops = package-left s key (placed_view c.candidate-candidate.result)
     ∙ ap (λ p. package_left s key (Some p)) c.candidate-candidate.ensures.placed
     ∙ ap (package_left s key) there
-    ∙ ap (λ n. package_left s key (slice_get (enumerate_from 1 s.packages) n)) c.saturating_sub-index.ensures in
+    ∙ ap (λ n. package_left s key (slice_get (enumerate_from 1 s.problem.packages) n)) c.saturating_sub-index.ensures in
     Finds-at s _ _ _ _ _ stops (c.search_package.ensures.found s c.requires c.candidate-candidate.ensures.fits)
 
 pub returns-in-None-clause-found : goal.returns-in-None-clause-found
@@ -32,8 +32,8 @@ returns-in-None-clause-found c =
     let key = key_view c.args.key in
     let ys = c.packages.result.now in
     let index = c.saturating_sub-index.result in
-    let there : None ≡ slice_get (enumerate_from 1 s.packages) index =
+    let there : None ≡ slice_get (enumerate_from 1 s.problem.packages) index =
     sym (numbered-none package_view ys index (item-none ys index c.in-None.ensures.lookup))
     ∙ ap (λ (ps : List PlainPackage). slice_get (enumerate_from 1 ps) index) c.packages.ensures.packages in
-    let stops = ap (package_left s key) there ∙ ap (λ n. package_left s key (slice_get (enumerate_from 1 s.packages) n)) c.saturating_sub-index.ensures in
+    let stops = ap (package_left s key) there ∙ ap (λ n. package_left s key (slice_get (enumerate_from 1 s.problem.packages) n)) c.saturating_sub-index.ensures in
     Finds-at s _ _ _ _ _ stops (Finds-nothing s _)

@@ -10,7 +10,7 @@ abbrev pub invariant-loop-aspect : goal.invariant-loop-aspect
 invariant-loop-aspect l = record {
   now : l.now.status ≡ l.fn.now.status;
   before : l.before.status ≡ l.fn.before.status;
-  passes : (s : Proposal) → s.proposed ≡ l.fn.now.status → s.initial ≡ l.fn.before.status → s.request ≡ request_view l.fn.request
+  passes : (s : Proposal) → s.proposed ≡ l.fn.now.status → s.initial ≡ l.fn.before.status → s.problem.request ≡ request_view l.fn.request
       → Passes s (aspect_stops l.fn.number (vpkg_view l.fn.vpkg) l.fn.aspects) (aspect_stops l.fn.number (vpkg_view l.fn.vpkg) (drop l.aspect-index l.fn.aspects))
       (l.fn.now.steps + l.fn.before.steps + l.fn.steps) (l.now.steps + l.before.steps + l.steps);
 }

@@ -10,7 +10,7 @@ abbrev pub invariant-loop-index : goal.invariant-loop-index
 invariant-loop-index l = record {
   now : l.now.status ≡ l.fn.now.status;
   before : l.before.status ≡ l.fn.before.status;
-  passes : (s : Proposal) → s.proposed ≡ l.fn.now.status → s.initial ≡ l.fn.before.status → s.request ≡ request_view l.fn.request
+  passes : (s : Proposal) → s.proposed ≡ l.fn.now.status → s.initial ≡ l.fn.before.status → s.problem.request ≡ request_view l.fn.request
       → Passes s (upgrade_stops (drop l.fn.first (enumerate_from 1 (list_view l.fn.request.upgrade)))) (upgrade_stops (drop (l.fn.first + l.index) (enumerate_from 1 (list_view l.fn.request.upgrade))))
       (l.fn.now.steps + l.fn.before.steps + l.fn.steps) (l.now.steps + l.before.steps + l.steps);
 }

@@ -2,7 +2,7 @@ use Rattle.std.proofs.Common.{◌≡◌, ◌+◌, ℕ, map, option_map, ap, sym,
 use Rattle.cudf_document.specs.Promises.Views.{unknown_view}
 use Rattle.cudf_referee.specs.Promises.Pages.{at_instance}
 use Rattle.cudf_referee.specs.Promises.PositionViews.{position_view}
-use Rattle.cudf_referee.specs.Proposals.{put_forward}
+use Rattle.cudf_referee.specs.Working.Walkers.{put_forward}
 use Rattle.cudf_referee.specs.Promises.Sites.{PlainPosition}
 use Rattle.cudf_referee.specs.Promises.Views.{instance_view}
 use Rattle.cudf_referee.specs.Working.Named.{has_kept_name}
