@@ -9,6 +9,7 @@ asked for), the most bytes that were held at once, and the calls of read. Wanted
 - at most as many growths as the input has bytes, and 500 more; for twice the input, at most 2.2 times as many, and 500
   more;
 - at most 64 bytes of memory for each byte of the input, and 1 MB more; behind a fault, where nothing is kept, 3 bytes;
+- no block that is held at the end;
 - of a file, at most a read for each 65,536 bytes, and 8 more; of a pipe that gives a byte at a time, one for each byte;
 - for twice the input, at most 2.6 times the processor time (the least of some runs, in turns; of more runs where the
   first ones say otherwise).
@@ -369,6 +370,8 @@ def room_faults(counts, sizes, most, is_slow):
         faults.append(f"{counts.growths} growths for {size} bytes")
     if counts.peak > most * size + MORE_BYTES:
         faults.append(f"{counts.peak} bytes of memory for {size} bytes")
+    if counts.blocks:
+        faults.append(f"{counts.blocks} blocks aren't given back, {counts.bytes} bytes are held")
     if counts.reads > most_reads:
         faults.append(f"{counts.reads} reads for {size} bytes")
     if counts.given < size:
