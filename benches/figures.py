@@ -73,13 +73,24 @@ def sitting(text):
 
 
 def times(sittings):
+    """A row for each input, with both jobs: of a distribution each size, of any other shape the whole one."""
+    inputs = {}
+    for name in sittings[0]:
+        shape, _, job = name.rpartition(": ")
+        if name.startswith("distribution") or sittings[0][name]["doubled"] != "-":
+            inputs.setdefault(shape, []).append(job)
     rows = []
-    for name, first in sittings[0].items():
-        told = [it[name] for it in sittings if name in it]
-        each = lambda column: ", ".join(it[column] for it in told)
-        memory = f"{float(first['MB']) / float(first['plain MB']):.1f}"
-        rows.append([name, first["size MB"], first["ms"], each("ratio"), each("doubled"), memory])
-    return table(["Input", "MB", "Milliseconds", "By plain", "Doubled", "Memory by plain"], rows)
+    for shape, jobs in inputs.items():
+        last = f"{shape}: {jobs[-1]}"
+        told = lambda name, column: ", ".join(it[name][column] for it in sittings if it.get(name, {}).get(column, "-") != "-")
+        cells = []
+        for job in ("lint", "check"):
+            name = f"{shape}: {job}"
+            cells += [sittings[0][name]["ms"], told(name, "ratio")] if job in jobs else ["", ""]
+        whole = sittings[0][last]
+        memory = f"{float(whole['MB']) / float(whole['plain MB']):.1f}"
+        rows.append([shape, whole["size MB"], *cells, told(last, "doubled"), memory])
+    return table(["Input", "MB", "`lint`, ms", "By plain", "`check`, ms", "By plain", "Doubled", "Memory by plain"], rows)
 
 
 def trials(text):
