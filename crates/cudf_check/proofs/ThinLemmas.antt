@@ -24,7 +24,7 @@ use Rattle.cudf_referee.specs.Proposals.{Proposal, proposal}
 use Rattle.cudf_referee.specs.Violations.{listing, met_by}
 use Rattle.cudf_referee.specs.declared.key.Aspect.{Aspect}
 use Rattle.cudf_check.specs.declared.outcome.Outcome.TheVariants.{Yes, No, Fail}
-use Rattle.cudf_check.specs.Report.{Report, line, what_text, place_text, met_line, instance_line, listed, limited, last_key, more_text, check_text, criteria_text, aims_text, verdict_text, judged_report, proposal_of, solution_report, faulty_or, alone, faulty}
+use Rattle.cudf_check.specs.Report.{Report, line, what_text, place_text, met_line, instance_line, listed, limited, last_key, more_text, criteria_text, aims_text, verdict_text, judged_report, proposal_of, solution_report, faulty_or, alone, faulty}
 use Rattle.cudf_check.specs.Working.Chosen.{AreChosen}
 use Rattle.cudf_check.specs.Working.Findings.{found_text}
 use Rattle.cudf_check.specs.declared.lines.judged.Findings.{Findings}

@@ -1,5 +1,5 @@
 //! The buffer through which a report is written.
-ghost use Rattle.std.specs.Prelude.{◌≡◌, [], ◌++◌, OnOk, IfOk, IsOkUnless};
+ghost use Rattle.std.specs.Prelude.{◌≡◌, [], OnOk, IfOk, IsOkUnless};
 ghost use Rattle.cudf_check.specs.Working.Printing.{Writes, Prints, joined};
 
 use crate::device::Sink;

@@ -5,7 +5,7 @@ ghost use Rattle.cudf_document.specs.Statuses.{is_initial, ascend_above};
 ghost use Rattle.cudf_document.specs.Promises.Views.{unknown_view};
 ghost use Rattle.cudf_referee.specs.Proposals.{proposal};
 ghost use Rattle.cudf_check.specs.declared.outcome.Outcome.TheVariants.{Yes};
-ghost use Rattle.cudf_check.specs.Report.{Report, alone, faulty, faulty_or, judged_report, solution_text_report, solution_report, pair_report, lint_report, inputs_report, scored_text, report};
+ghost use Rattle.cudf_check.specs.Report.{Report, alone, faulty_or, judged_report, solution_text_report, solution_report, pair_report, lint_report, inputs_report, scored_text, report};
 ghost use Rattle.cudf_check.specs.Working.Answering.{Answers};
 ghost use Rattle.cudf_check.specs.Working.Chosen.{AreChosen};
 ghost use Rattle.cudf_check.specs.Working.Findings.{found_text};

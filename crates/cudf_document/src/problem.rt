@@ -40,7 +40,7 @@ impl<'t> Model for Problem<'t> {
 }
 
 impl<'t> Problem<'t> {
-    ghost use Rattle.std.specs.Prelude.{◌≡◌, ◌<◌, ◌≤◌, true, map, length, option_map, position, IfOk};
+    ghost use Rattle.std.specs.Prelude.{◌≡◌, ◌<◌, ◌≤◌, true, map, length, option_map, position};
     ghost use Rattle.cudf_value.specs.Promises.Views.{formula_view};
     ghost use Rattle.cudf_document.specs.Ids.{is_id};
     ghost use Rattle.cudf_document.specs.Promises.Packages.{are_distinct, recommends_at};

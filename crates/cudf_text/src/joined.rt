@@ -1,6 +1,6 @@
-ghost use Rattle.std.specs.Prelude.{◌≡◌, ◌++◌, ◌-◌, ◌≤◌, length, drop, codes, nat_eq};
+ghost use Rattle.std.specs.Prelude.{◌≡◌, ◌++◌, ◌-◌, ◌≤◌, length, drop};
 ghost use Rattle.std.specs.List.{starts_with};
-ghost use Rattle.cudf_text.specs.Joined.{begins_request, len_through, problem_part, solution_part};
+ghost use Rattle.cudf_text.specs.Joined.{len_through, problem_part, solution_part};
 ghost use Rattle.cudf_text.specs.Lines.{lines, raw_lines};
 ghost use Rattle.cudf_text.specs.Working.Marks.{marks};
 

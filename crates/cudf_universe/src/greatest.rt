@@ -1,9 +1,9 @@
 //! The greatest number that a status gives of each name.
-ghost use Rattle.std.specs.Prelude.{◌≡◌, ◌≤◌, ◌+◌, ℕ, List, None, map, bytes_eq, IfOk, OnOk, if◌then◌else◌};
+ghost use Rattle.std.specs.Prelude.{◌≡◌, ◌+◌, ℕ, List, None, map, bytes_eq, IfOk, OnOk, if◌then◌else◌};
 ghost use Rattle.std.specs.FinSet as set;
 ghost use Rattle.cudf_value.specs.Promises.Views.{vpkg_view};
 ghost use Rattle.cudf_document.specs.Promises.Views.{package_view};
-ghost use Rattle.cudf_universe.specs.Satisfaction.{members, numbers_of, package_pairs, entry_pair};
+ghost use Rattle.cudf_universe.specs.Satisfaction.{members, numbers_of, package_pairs};
 ghost use Rattle.cudf_universe.specs.Promises.Members.{IsGreatest};
 ghost use Rattle.cudf_universe.specs.Working.Greatest.{kept_greatest, with_number, with_pairs, with_entries};
 

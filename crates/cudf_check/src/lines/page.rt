@@ -1,5 +1,5 @@
 //! Prints a page of the listing.
-ghost use Rattle.std.specs.Prelude.{◌≡◌, ◌≤◌, ◌+◌, ◌++◌, codes, take, map, length, slice_get, Option, Some, None, option_map, option_and_then, IfOk, if◌then◌else◌};
+ghost use Rattle.std.specs.Prelude.{◌≡◌, ◌≤◌, ◌+◌, ◌++◌, codes, take, map, length, slice_get, Option, Some, None, option_map, option_and_then, IfOk};
 ghost use Rattle.std.specs.List.{flat_map};
 ghost use Rattle.cudf_document.specs.Promises.Views.{package_view};
 ghost use Rattle.cudf_document.specs.Universe.{PlainProblem, package_at};

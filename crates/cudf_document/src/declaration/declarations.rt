@@ -1,5 +1,5 @@
 //! The extra package properties that a document declares.
-ghost use Rattle.std.specs.Prelude.{◌≡◌, Bool, false, not, ◌&&◌, ◌||◌, [], ◌∷◌, ◌++◌, map, take, length, filter_map, find, is_some, Some, None, option_map, option_to_list, unwrap_or, bytes_eq, IfOk, OnOk, IsTrue, if◌then◌else◌};
+ghost use Rattle.std.specs.Prelude.{◌≡◌, false, not, ◌&&◌, ◌||◌, [], ◌∷◌, ◌++◌, map, take, length, filter_map, find, is_some, Some, None, option_map, option_to_list, unwrap_or, bytes_eq, IfOk, OnOk, IsTrue, if◌then◌else◌};
 ghost use Rattle.cudf_value.specs.Promises.Views.{formula_view};
 ghost use Rattle.cudf_value.specs.Promises.Types.{declaration_view};
 ghost use Rattle.cudf_document.specs.Values.{declared_test, test_of};

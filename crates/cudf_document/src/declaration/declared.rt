@@ -1,6 +1,5 @@
 //! A declaration, and the look-up of an enum's idents.
-ghost use Rattle.std.specs.Prelude.{◌≡◌, List, ℕ, IfOk, bytes_eq};
-ghost use Rattle.std.specs.List.{list_any};
+ghost use Rattle.std.specs.Prelude.{◌≡◌, IfOk};
 ghost use Rattle.cudf_value.specs.Promises.Types.{type_view};
 ghost use Rattle.cudf_document.specs.Working.Enums.{AreIdents, AreWords};
 

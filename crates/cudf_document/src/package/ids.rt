@@ -1,5 +1,5 @@
 //! Names and versions of packages.
-ghost use Rattle.std.specs.Prelude.{◌≡◌, ◌+◌, [], not, position, option_map, IfOk, OnOk};
+ghost use Rattle.std.specs.Prelude.{◌≡◌, [], not, position, option_map, IfOk, OnOk};
 ghost use Rattle.indexmap.specs.IndexSet.{insert_key};
 ghost use Rattle.cudf_document.specs.Ids.{is_id, is_among, is_known};
 ghost use Rattle.cudf_document.specs.Promises.Packages.{with_id};

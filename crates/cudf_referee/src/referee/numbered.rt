@@ -1,5 +1,5 @@
 //! That the numbers of all keys are those of a `u64`, which contracts alone see.
-ghost use Rattle.std.specs.Prelude.{ℕ, ◌<◌, ◌^◌, All, List, IsTrue, length, map};
+ghost use Rattle.std.specs.Prelude.{◌<◌, ◌^◌, All, List, IsTrue, length, map};
 ghost use Rattle.cudf_document.specs.Promises.Views.{unknown_view};
 ghost use Rattle.cudf_document.specs.Statuses.{ascend_above};
 ghost use Rattle.cudf_universe.specs.Satisfaction.{Placed};

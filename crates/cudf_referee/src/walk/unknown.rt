@@ -1,5 +1,5 @@
 //! Unknown: an installed stanza of the solution whose pair isn't in the universe.
-ghost use Rattle.std.specs.Prelude.{◌≡◌, ◌<◌, All, map, option_map};
+ghost use Rattle.std.specs.Prelude.{◌<◌, All, map, option_map};
 ghost use Rattle.cudf_document.specs.Promises.Views.{unknown_view};
 ghost use Rattle.cudf_referee.specs.Proposals.{Proposal};
 ghost use Rattle.cudf_referee.specs.Promises.Views.{instance_view};

@@ -1,8 +1,8 @@
 //! What the packages of a status give, gathered by name.
-ghost use Rattle.std.specs.Prelude.{◌≡◌, ◌<◌, ℕ, List, [], ◌∷◌, ◌++◌, map, length, false, bytes_eq, cond, OnOk, IfOk, slice_get, option_map, option_to_list};
+ghost use Rattle.std.specs.Prelude.{◌≡◌, ◌<◌, ℕ, List, [], ◌∷◌, ◌++◌, map, length, false, bytes_eq, cond, OnOk, IfOk, slice_get, option_to_list};
 ghost use Rattle.std.specs.List.{position_or_len, list_any};
 ghost use Rattle.cudf_value.specs.Promises.Views.{vpkg_view};
-ghost use Rattle.cudf_universe.specs.Working.Gathering.{row_of, given_by, given_of, provisions_of, sole_place, Completes, CompletesAt};
+ghost use Rattle.cudf_universe.specs.Working.Gathering.{row_of, given_by, provisions_of, sole_place, Completes, CompletesAt};
 ghost use Rattle.cudf_universe.specs.Working.Members.{member_view};
 
 use crate::index::entries::Entries;

@@ -1,5 +1,5 @@
 //! A package of a status.
-ghost use Rattle.std.specs.Prelude.{◌≡◌, ◌<◌, ◌^◌, bytes_eq, filter_map, map};
+ghost use Rattle.std.specs.Prelude.{◌≡◌, ◌<◌, ◌^◌, bytes_eq, filter_map};
 ghost use Rattle.std.specs.List.{count_by};
 ghost use Rattle.cudf_value.specs.Promises.Views.{vpkg_view};
 ghost use Rattle.cudf_universe.specs.Satisfaction.{package_pairs, unversioned_name, is_met_by};
