@@ -9,10 +9,10 @@ time counts, and the greatest memory. Sizes are multiplied by SHARE (1 if not gi
 distributions are also given to this command, in the same turns; {P} and {S} in it stand for the files. With `-d` the
 inputs are kept in FOLDER, and those that it has from an earlier sitting are used again.
 
-Columns: the ratio of the least times; `doubled`, the time by that of the same job on the half size; `by lint`, the time
-by that of `lint` of the same problem; memory in megabytes and its ratio, and memory by the input's bytes. Compare ratios
-of one run, never times of two. Reports are thrown away. A small run's memory is at least that of this script. For Linux;
-Python's standard library alone.
+Columns: the ratio of the least times; `doubled`, the time by that of the same job on the half size, which runs in the
+same turns; `by lint`, the time by that of `lint` of the same problem; memory in megabytes and its ratio, and memory by
+the input's bytes. Compare ratios of one run, never times of two. Reports are thrown away. A small run's memory is at
+least that of this script. For Linux; Python's standard library alone.
 """
 import argparse
 import collections
@@ -154,20 +154,21 @@ def commands_of(options, shape, job, files):
 
 
 def measure_shape(options, folder, shape):
-    """The rows of a shape: its jobs on the half and the whole size."""
-    before, linted = {}, 0
-    for count in (max(1, int(shape.count * options.share) // 2), max(2, int(shape.count * options.share))):
-        files = files_of(folder, shape, count)
-        for job in shape.jobs:
-            series = run_in_turns(commands_of(options, shape, job, files), options.times)
-            ours, size = series["ours"], sum(map(os.path.getsize, list(files.values())[:2 if job == "check" else 1]))
-            linted = ours.time if job == "lint" else linted
-            doubled = ratio(ours.time, before.get(job, 0))
-            beside = ratio(series["beside"].time, ours.time) if "beside" in series else "-"
-            before[job] = ours.time
+    """The rows of a shape: its jobs on the half and the whole size, each job on both in the same turns."""
+    half, whole = max(1, int(shape.count * options.share) // 2), max(2, int(shape.count * options.share))
+    files, linted = {count: files_of(folder, shape, count) for count in (half, whole)}, {}
+    for job in shape.jobs:
+        commands = {count: commands_of(options, shape, job, files[count]) for count in files}
+        series = run_in_turns({(count, who): words for count in files for who, words in commands[count].items()}, options.times)
+        for count in files:
+            ours, size = series[count, "ours"], sum(map(os.path.getsize, list(files[count].values())[:2 if job == "check" else 1]))
+            linted[count] = ours.time if job == "lint" else linted.get(count, 0)
+            doubled = ratio(ours.time, series[half, "ours"].time if count == whole else 0)
+            beside = ratio(series[count, "beside"].time, ours.time) if (count, "beside") in series else "-"
             name = f"{shape.name}, {count}: {job}"
-            yield row(name, size, ours, series["plain"], doubled, ratio(ours.time, linted), beside)
-        for path in [] if options.kept else files.values():
+            yield row(name, size, ours, series[count, "plain"], doubled, ratio(ours.time, linted[count]), beside)
+    for path in [] if options.kept else [path for count in files for path in files[count].values()]:
+        if os.path.exists(path):
             os.remove(path)
 
 
