@@ -1,24 +1,16 @@
 -- One more solution is judged.
-use Rattle.std.proofs.Common.{◌≡◌, ℕ, zero, suc, ◌+◌, ◌<◌, ◌≤◌, Bool, true, false, if◌then◌else◌, List, [], ◌∷◌, ◌++◌, length, map, drop, get_or, codes, decimal, None, Some, option_map, slice_get, Result, Ok, Err, IfOk, IfErr, refl, sym, ap, ◌∙◌, append_assoc, append-nil, arith}
+use Rattle.std.proofs.Common.{◌≡◌, ℕ, zero, suc, ◌+◌, ◌<◌, ◌≤◌, List, [], ◌∷◌, ◌++◌, length, map, drop, get_or, codes, decimal, Some, option_map, slice_get, refl, sym, ap, ◌∙◌, append_assoc, append-nil, arith}
 use Rattle.std.specs.List.{filter_map, cons_option, enumerate_from}
-use Rattle.std.specs.Str.{IsUtf8, is_utf8}
-use Rattle.std.proofs.lemmas.Str.{IsUtf8-from_is_utf8}
 use Rattle.cudf_document.specs.declared.mode.Mode.{Mode}
 use Rattle.cudf_text.specs.declared.fault.Fault.{Fault}
-use Rattle.cudf_text.specs.Joined.{is_fail}
-use Rattle.cudf_text.specs.Stanzas.{PlainText, plain_text}
-use Rattle.cudf_text.specs.LineFaults.{utf8_fault}
 use Rattle.cudf_document.specs.declared.error.ReadError.{ReadError}
 use Rattle.cudf_document.specs.declared.error.ReadError.TheVariants as read_error
-use Rattle.cudf_document.specs.Faults.{least}
-use Rattle.cudf_document.specs.Promises.Faults.{IsFirstFault}
-use Rattle.cudf_document.specs.SolutionFaults.{solution_faults}
 use Rattle.cudf_document.specs.Universe.{PlainProblem}
-use Rattle.cudf_check.specs.RankReport.{solution_fault, judgement_of, placed_fault, placed_faults, standing_of, standings, first_faulty_or}
-use Rattle.cudf_check.specs.Report.{Report, proposal_of, faulty}
-use Rattle.cudf_check.specs.Working.Judged.{IsJudged, IsFaultOf, AreJudged, IsFaultAt}
+use Rattle.cudf_check.specs.RankReport.{placed_fault, placed_faults, standing_of, standings, first_faulty_or}
+use Rattle.cudf_check.specs.Report.{Report, faulty, solution_fault}
+use Rattle.cudf_check.specs.Working.Judged.{IsJudged, AreJudged, IsFaultAt}
+use Rattle.cudf_check.specs.Working.Refusals.{IsFaultOf}
 use Rattle.cudf_check.specs.declared.ranking.Judgement.{Judgement}
-use Rattle.cudf_check.specs.declared.ranking.Judgement.TheVariants.{SaysFail}
 use Rattle.cudf_check.specs.declared.ranking.Standing.{Standing}
 
 -- those that are left, with their places
@@ -81,51 +73,10 @@ pub first_is : (faults : List (ℕ × Fault)) (report : Report) (place : ℕ) (f
 first_is [] report place f is = absurd (cc is)
 first_is (first ∷ others) report place f is = let same : first ≡ (place, f) = cc in ap (λ x. faulty (codes "solution " ++ decimal x.0) x.1) (sym same)
 
--- ---- one solution
-
-module _ (mode : Mode) (problem : PlainProblem) (bytes : List ℕ) where
-  -- its fault, as far as its bytes say
-  fault_is : (a b : Bool) → is_utf8 bytes ≡ a → is_fail bytes ≡ b
-      → solution_fault mode bytes ≡ (if a then (if b then None else least (solution_faults (plain_text bytes) mode)) else Some (utf8_fault bytes))
-  fault_is a b utf8 fails = λ k. if utf8 k then (if fails k then None else least (solution_faults (plain_text bytes) mode)) else Some (utf8_fault bytes)
-
-  -- a text that says FAIL
-  pub fail_judged : is_utf8 bytes ≡ true → is_fail bytes ≡ true → IsJudged mode problem bytes SaysFail
-  fail_judged utf8 fails = record {
-    found = ap (λ b. if b then SaysFail else judgement_of (proposal_of problem (plain_text bytes))) (sym fails);
-    sound = fault_is true true utf8 fails;
-  }
-
-  -- a text in stanzas
-  pub stanzas_judged : is_utf8 bytes ≡ true → is_fail bytes ≡ false → (text : PlainText) → text ≡ plain_text bytes → (result : Result Judgement ReadError)
-      → IfOk result (λ j. solution_faults text mode ≡ []) → IfOk result (λ j. j ≡ judgement_of (proposal_of problem text)) → IfOk result (IsJudged mode problem bytes)
-  stanzas_judged utf8 fails text same (Err e) sound found = tt
-  stanzas_judged utf8 fails text same (Ok j) sound found = record {
-    found = found ∙ ap (λ t. judgement_of (proposal_of problem t)) same ∙ ap (λ b. if b then SaysFail else judgement_of (proposal_of problem (plain_text bytes))) (sym fails);
-    sound = fault_is true false utf8 fails ∙ ap (λ t. least (solution_faults t mode)) (sym same) ∙ ap least sound;
-  }
-
-  pub stanzas_refused : is_utf8 bytes ≡ true → is_fail bytes ≡ false → (text : PlainText) → text ≡ plain_text bytes → (result : Result Judgement ReadError)
-      → IfErr result (IsFirstFault (solution_faults text mode)) → IfErr result (IsFaultOf mode bytes)
-  stanzas_refused utf8 fails text same (Ok j) first = tt
-  stanzas_refused utf8 fails text same (Err (read_error.Memory e)) first = tt
-  stanzas_refused utf8 fails text same (Err (read_error.Fault f)) first = fault_is true false utf8 fails ∙ ap (λ t. least (solution_faults t mode)) (sym same) ∙ first
-
-  -- bytes that are no text
-  pub no_text : is_utf8 bytes ≡ false → (f : Fault) → f ≡ utf8_fault bytes → solution_fault mode bytes ≡ Some f
-  no_text utf8 f same = fault_is false (is_fail bytes) utf8 refl ∙ ap Some (sym same)
-
 -- ---- the first that is refused
 
 pub refused_at : {A : Type 0} (mode : Mode) (problem : PlainProblem) (view : A → List ℕ) (xs : List A) (n : ℕ) (d : A) (ss : List Standing) → n < length xs → JudgedSoFar mode problem view xs n ss
-    → (bytes : List ℕ) → bytes ≡ view (get_or xs n d) → (e : ReadError) → IsFaultOf mode bytes e → IsFaultAt mode (map view xs) (n + 1) e
+    → (bytes : List ℕ) → bytes ≡ view (get_or xs n d) → (e : ReadError) → IsFaultOf (solution_fault mode bytes) e → IsFaultAt mode (map view xs) (n + 1) e
 refused_at mode problem view xs n d ss below m bytes same (read_error.Memory e) first = tt
 refused_at mode problem view xs n d ss below m bytes same (read_error.Fault f) first =
     refused_here mode problem view xs n d ss below m (n + 1) refl f (ap (solution_fault mode) (sym same) ∙ first)
-
-pub not_utf8 : (bytes : List ℕ) → (IsUtf8 bytes → ⊥) → is_utf8 bytes ≡ false
-not_utf8 bytes other = by (is_utf8 bytes) refl
-  where
-    by : (b : Bool) → is_utf8 bytes ≡ b → is_utf8 bytes ≡ false
-    by true is = absurd (other (IsUtf8-from_is_utf8 bytes is))
-    by false is = is

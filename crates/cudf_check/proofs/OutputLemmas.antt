@@ -1,8 +1,8 @@
 -- What a writer took, step by step.
-use Rattle.std.proofs.Common.{◌≡◌, ℕ, zero, suc, ◌-◌, ◌<◌, List, [], ◌++◌, Option, Ok, length, take, drop, refl, sym, ap, ◌∙◌, append_assoc, take-append-drop, arith}
+use Rattle.std.proofs.Common.{◌≡◌, ℕ, zero, suc, ◌-◌, ◌<◌, List, ◌++◌, Option, Ok, length, take, drop, refl, sym, ap, ◌∙◌, append_assoc, take-append-drop, arith}
 use Rattle.std.proofs.lemmas.List.{take_rest}
 use Rattle.std.specs.Io.KnownBytes.{Appends}
-use Rattle.std.proofs.KnownBytes.{Appends-nil, Appends-trans}
+use Rattle.std.proofs.KnownBytes.{Appends-trans}
 use Rattle.cudf_check.specs.Device.{failed_writes}
 use Rattle.cudf_check.specs.Prefix.{AppendsPrefix}
 
@@ -27,10 +27,6 @@ pub failed_writes-Ok : (n : ℕ) → 0 < n → failed_writes (Ok n) ≡ 0
 failed_writes-Ok zero h = absurd (omega arith)
 failed_writes-Ok (suc n) h = refl
 
--- nothing taken is a prefix of every text
-pub AppendsPrefix-nil : (a : Option (List ℕ)) (text : List ℕ) → AppendsPrefix a a text
-AppendsPrefix-nil a text = record { taken = []; left = text; whole = refl; appended = Appends-nil a }
-
 -- a prefix of a text is one of every longer text
 pub AppendsPrefix-longer : (a b : Option (List ℕ)) (text more : List ℕ) → AppendsPrefix a b text → AppendsPrefix a b (text ++ more)
 AppendsPrefix-longer a b text more f = record {
@@ -38,17 +34,4 @@ AppendsPrefix-longer a b text more f = record {
   left = f.left ++ more;
   whole = sym (append_assoc f.taken f.left more) ∙ ap (λ l. l ++ more) f.whole;
   appended = f.appended;
-}
-
--- the same behind what waited
-pub AppendsPrefix-behind : (a b : Option (List ℕ)) (held text more : List ℕ) → AppendsPrefix a b (held ++ text) → AppendsPrefix a b (held ++ (text ++ more))
-AppendsPrefix-behind a b held text more f = rw (← append_assoc held text more) (AppendsPrefix-longer a b (held ++ text) more f)
-
--- one text was taken whole, and then a prefix of the next
-pub Appends-prefix : (a b c : Option (List ℕ)) (text more : List ℕ) → Appends a b text → AppendsPrefix b c more → AppendsPrefix a c (text ++ more)
-Appends-prefix a b c text more p f = record {
-  taken = text ++ f.taken;
-  left = f.left;
-  whole = append_assoc text f.taken f.left ∙ ap (λ l. text ++ l) f.whole;
-  appended = Appends-trans a b c text f.taken p f.appended;
 }

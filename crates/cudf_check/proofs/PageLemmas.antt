@@ -4,7 +4,7 @@ use Rattle.std.specs.List.{flat_map}
 use Rattle.std.specs.Ordering.{is_lt, ordering_reverse}
 use Rattle.std.proofs.lemmas.Bool.{true≢false}
 use Rattle.std.proofs.lemmas.Cmp.{nat_list_cmp_total}
-use Rattle.std.proofs.lemmas.List.{take_more, drop_all, length-drop}
+use Rattle.std.proofs.lemmas.List.{take_more, take_all, drop_all, length-drop}
 use Rattle.cudf_referee.specs.Instances.{PlainInstance}
 use Rattle.cudf_referee.specs.Keys.{PlainKey, key_ranks, key_cmp, precedes_all, ascend, key_text}
 use Rattle.cudf_referee.specs.declared.key.Key.{Key}
@@ -15,7 +15,7 @@ use Rattle.cudf_referee.specs.Violations.{listing, rest}
 use Rattle.cudf_check.specs.Report.{line, instance_line, listed, limited, last_key, more_text, check_text}
 use Rattle.cudf_referee.specs.Promises.Pages as pages
 use Rattle.cudf_referee.specs.Promises.Walks.{Walking, left}
-use Rattle.cudf_check.specs.Working.Pages.{Ascends, IsPageEnd, more_behind}
+use Rattle.cudf_check.specs.Working.Pages.{Ascends, IsPageEnd, IsEnded, more_behind}
 use Rattle.cudf_check.proofs.CommonLemmas.{and_left, and_right, is_less}
 
 -- ---- the order of keys
@@ -167,16 +167,6 @@ step is n i left h =
 
 -- ---- a page of so many instances
 
--- what is left of a page, one instance later
-pub take-step : (limit n : ℕ) (i : PlainInstance) (is : List PlainInstance) → n < limit → take (limit - n) (i ∷ is) ≡ i ∷ take (limit - (n + 1)) is
-take-step limit n i is h =
-    let one : limit - n ≡ suc (limit - (n + 1)) = omega arith in
-    ap (λ m. take m (i ∷ is)) one
-
--- nothing is left of a page that was passed
-pub take-none : (limit n : ℕ) (is : List PlainInstance) → limit ≤ n → take (limit - n) is ≡ []
-take-none limit n is h = let none : limit - n ≡ 0 = omega arith in ap (λ m. take m is) none
-
 pub take-nothing : (m : ℕ) (is : List PlainInstance) → is ≡ [] → take m is ≡ []
 take-nothing m is h = ap (take m) h ∙ take-empty m
   where
@@ -187,6 +177,16 @@ take-nothing m is h = ap (take m) h ∙ take-empty m
 -- nothing follows where nothing did before
 pub drop-further : (n limit : ℕ) (is : List PlainInstance) → n ≤ limit → drop n is ≡ [] → drop limit is ≡ []
 drop-further n limit is h none = drop_all limit is (let len : length is - n ≡ 0 = sym (length-drop n is) ∙ ap length none in omega arith)
+
+pub take-further : (n limit : ℕ) (is : List PlainInstance) → n ≤ limit → drop n is ≡ [] → take n is ≡ take limit is
+take-further n limit is h none =
+    let len : length is - n ≡ 0 = sym (length-drop n is) ∙ ap length none in
+    take_all n is (omega arith) ∙ sym (take_all limit is (omega arith))
+
+-- the end of a page without so many
+pub ended : (limit : ℕ) (old new : List PlainInstance) (has_failed : Bool) → drop limit old ≡ [] → IsEnded limit old new None has_failed
+ended limit old new true none = tt
+ended limit old new false none = inr none
 
 -- the end of a page at its limit
 pub page_end : (limit : ℕ) (old new : List PlainInstance) (last : Option Key) → option_map key_view last ≡ last_key (take limit old) → new ≡ drop limit old

@@ -3,17 +3,11 @@ use Rattle.std.proofs.Common.{◌≡◌, ℕ, ◌-◌, ◌==◌, Bool, true, fal
 use Rattle.std.specs.List.{flat_map, enumerate_from}
 use Rattle.std.specs.Option.{option_map_or}
 use Rattle.std.specs.Ordering.{is_lt}
-use Rattle.std.specs.Str.{is_utf8}
 use Rattle.std.proofs.lemmas.Option.{slice_get-map}
-use Rattle.cudf_text.specs.Joined.{is_fail}
 use Rattle.cudf_text.specs.Stanzas.{PlainStanza, PlainText, plain_text}
-use Rattle.cudf_text.specs.LineFaults.{utf8_fault}
-use Rattle.cudf_document.specs.declared.mode.Mode.{Mode}
-use Rattle.cudf_document.specs.Faults.{least}
 use Rattle.cudf_document.specs.Ids.{Id, is_among}
-use Rattle.cudf_document.specs.SolutionFaults.{solution_faults}
 use Rattle.cudf_document.specs.Statuses.{is_initial, is_proposed, installed_id, installed_ids, unknown_with, unknown_of, unknown_stanzas}
-use Rattle.cudf_document.specs.Promises.Thin.{thin_package, thin_problem, IsThinFor}
+use Rattle.cudf_document.specs.Promises.Thin.{thin_package, thin_problem}
 use Rattle.cudf_document.specs.Universe.{PlainPackage, PlainProblem, package_id, package_at}
 use Rattle.cudf_document.specs.Documents.{is_empty}
 use Rattle.cudf_referee.specs.Instances.{PlainWhat, needs, conflicts_with, keep_version, keep_package, keep_feature, install, remove, upgrade, unknown, PlainInstance}
@@ -23,9 +17,9 @@ use Rattle.cudf_referee.specs.Promises.Laws.{AreJudgedAlike, ThinIsEnough}
 use Rattle.cudf_referee.specs.Proposals.{Proposal, proposal}
 use Rattle.cudf_referee.specs.Violations.{listing, met_by}
 use Rattle.cudf_referee.specs.declared.key.Aspect.{Aspect}
-use Rattle.cudf_check.specs.declared.outcome.Outcome.TheVariants.{Yes, No, Fail}
-use Rattle.cudf_check.specs.Report.{Report, line, what_text, place_text, met_line, instance_line, listed, limited, last_key, more_text, criteria_text, aims_text, verdict_text, judged_report, proposal_of, solution_report, faulty_or, alone, faulty}
-use Rattle.cudf_check.specs.Working.Chosen.{AreChosen}
+use Rattle.cudf_check.specs.declared.outcome.Outcome.TheVariants.{Yes, No}
+use Rattle.cudf_check.specs.Report.{line, what_text, place_text, met_line, instance_line, listed, limited, last_key, more_text, criteria_text, aims_text, verdict_text, judged_report, proposal_of}
+use Rattle.cudf_check.specs.Working.Chosen.{AreChosen, ReportsAlike}
 use Rattle.cudf_check.specs.Working.Findings.{found_text}
 use Rattle.cudf_check.specs.declared.lines.judged.Findings.{Findings}
 use Rattle.cudf_check.specs.declared.lines.judged.Findings.TheVariants.{Page, Score, Aims}
@@ -123,33 +117,22 @@ proposal-same k problem text = λ i. proposal (thin_problem k problem)
 
 -- ---- the report
 
-judged-thin : ThinIsEnough → (is_chosen : Id → Bool) (thin whole : PlainProblem) → IsThinFor is_chosen thin whole
+judged-thin : ThinIsEnough → (is_chosen : Id → Bool) (thin whole : PlainProblem) → thin ≡ thin_problem is_chosen whole
     → (text : PlainText) → ((id : Id) → is_chosen id ≡ is_among (installed_ids text.stanzas) id)
     → (found : Findings) → judged_report (found_text found) (proposal_of thin text) ≡ judged_report (found_text found) (proposal_of whole text)
-judged-thin law is_chosen thin whole fits text same found =
-    ap (λ problem. judged_report (found_text found) (proposal_of problem text)) fits.is
-    ∙ ap (judged_report (found_text found)) (proposal-same fits.is_kept whole text)
-    ∙ judged-same fits.is_kept
-    (proposal (thin_problem fits.is_kept whole) (is_initial whole) (is_proposed whole text.stanzas) (unknown_stanzas whole text.stanzas))
+judged-thin law is_chosen thin whole is text same found =
+    ap (λ problem. judged_report (found_text found) (proposal_of problem text)) is
+    ∙ ap (judged_report (found_text found)) (proposal-same is_chosen whole text)
+    ∙ judged-same is_chosen
+    (proposal (thin_problem is_chosen whole) (is_initial whole) (is_proposed whole text.stanzas) (unknown_stanzas whole text.stanzas))
     (proposal_of whole text) refl
-    (law whole fits.is_kept (is_initial whole) (is_proposed whole text.stanzas) (unknown_stanzas whole text.stanzas) premise) found
+    (law whole is_chosen (is_initial whole) (is_proposed whole text.stanzas) (unknown_stanzas whole text.stanzas) premise) found
   where
-    premise : (place : ℕ) (p : PlainPackage) → package_at whole place ≡ Some p → is_proposed whole text.stanzas place ≡ true → fits.is_kept (package_id p) ≡ true
-    premise place p there proposed = fits.covers (package_id p)
-        (same (package_id p) ∙ sym (ap (λ o. option_map_or (λ q. is_among (installed_ids text.stanzas) (package_id q)) o false) there) ∙ proposed)
+    premise : (place : ℕ) (p : PlainPackage) → package_at whole place ≡ Some p → is_proposed whole text.stanzas place ≡ true → is_chosen (package_id p) ≡ true
+    premise place p there proposed =
+        same (package_id p) ∙ sym (ap (λ o. option_map_or (λ q. is_among (installed_ids text.stanzas) (package_id q)) o false) there) ∙ proposed
 
 -- a problem that is thinned for what the bytes install has the report of the whole one
-pub report-thin : (mode : Mode) → ThinIsEnough → (chosen : List Id) (thin whole : PlainProblem) → IsThinFor (is_among chosen) thin whole
-    → (bytes : List ℕ) → AreChosen chosen bytes
-    → (found : Findings) → solution_report mode (found_text found) bytes thin ≡ solution_report mode (found_text found) bytes whole
-report-thin mode law chosen thin whole fits bytes same found = by (is_utf8 bytes) refl
-  where
-    judged : PlainProblem → Report
-    judged problem = if is_fail bytes then alone (codes "solution FAIL") Fail
-        else faulty_or (codes "solution") (least (solution_faults (plain_text bytes) mode)) (judged_report (found_text found) (proposal_of problem (plain_text bytes)))
-
-    by : (b : Bool) → is_utf8 bytes ≡ b
-        → (if b then judged thin else faulty (codes "solution") (utf8_fault bytes)) ≡ (if b then judged whole else faulty (codes "solution") (utf8_fault bytes))
-    by true is = ap (λ r. if is_fail bytes then alone (codes "solution FAIL") Fail else faulty_or (codes "solution") (least (solution_faults (plain_text bytes) mode)) r)
-        (judged-thin law (is_among chosen) thin whole fits (plain_text bytes) (same is) found)
-    by false is = refl
+pub report-thin : ThinIsEnough → (chosen : List Id) (thin whole : PlainProblem) → thin ≡ thin_problem (is_among chosen) whole
+    → (bytes : List ℕ) → AreChosen chosen bytes → ReportsAlike bytes thin whole
+report-thin law chosen thin whole is bytes same = λ utf8 found. judged-thin law (is_among chosen) thin whole is (plain_text bytes) (same utf8) found

@@ -124,7 +124,7 @@ pub record HasTaken (old now : Walking) : Type 0 where
   pub within : number ≤ length (left old)
   pub spent : HasSpent (take number (left old)) old now
 
-pub taken-start : (old : Walking) → HasTaken old old
+unfoldable pub taken-start : (old : Walking) → HasTaken old old
 taken-start old = record {
   number = 0;
   left_is = refl;
@@ -132,7 +132,7 @@ taken-start old = record {
   spent = record { judged = refl; position = refl; steps = omega arith };
 }
 
-pub taken-more : (i : PlainInstance) (old now new : Walking) → HasTaken old now → Moves now (Some i) new → HasTaken old new
+unfoldable pub taken-more : (i : PlainInstance) (old now new : Walking) → HasTaken old now → Moves now (Some i) new → HasTaken old new
 taken-more i old now new h moves =
     let one = step (left old) h.number i (left new) (sym h.left_is ∙ moves.gives) in
     record {

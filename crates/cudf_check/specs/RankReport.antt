@@ -1,15 +1,11 @@
 -- The report of a ranking: a function of the aims, the problem and its solutions to a text and an outcome. Own.
-use Rattle.std.specs.Prelude.{ℕ, Bool, true, false, List, [], ◌∷◌, ◌++◌, map, codes, decimal, Option, Some, None, option_map, if◌then◌else◌}
+use Rattle.std.specs.Prelude.{ℕ, Bool, true, false, List, [], ◌∷◌, ◌++◌, map, codes, decimal, Option, option_map, if◌then◌else◌}
 use Rattle.std.specs.List.{flat_map, filter_map, list_any, enumerate_from}
-use Rattle.std.specs.Str.{is_utf8}
 use Rattle.cudf_document.specs.declared.mode.Mode.{Mode}
 use Rattle.cudf_text.specs.declared.fault.Fault.{Fault}
 use Rattle.cudf_text.specs.Joined.{is_fail}
 use Rattle.cudf_text.specs.Stanzas.{plain_text}
-use Rattle.cudf_text.specs.LineFaults.{utf8_fault}
-use Rattle.cudf_document.specs.Faults.{least}
-use Rattle.cudf_document.specs.SolutionFaults.{solution_faults}
-use Rattle.cudf_document.specs.Universe.{PlainProblem}
+use Rattle.cudf_document.specs.Universe.{PlainProblem, plain_problem}
 use Rattle.cudf_referee.specs.Aims.{aim_text, count_of}
 use Rattle.cudf_referee.specs.Criteria.{criteria}
 use Rattle.cudf_referee.specs.Proposals.{Proposal}
@@ -17,7 +13,7 @@ use Rattle.cudf_referee.specs.Solutions.{is_solution}
 use Rattle.cudf_referee.specs.declared.aims.Aim.{Aim}
 use Rattle.cudf_referee.specs.declared.criteria.Criteria.{Criteria}
 use Rattle.cudf_check.specs.Ranking.{ranking}
-use Rattle.cudf_check.specs.Report.{Report, line, faulty, of_problem, proposal_of}
+use Rattle.cudf_check.specs.Report.{Report, line, faulty, faulty_or, problem_fault, solution_fault, proposal_of}
 use Rattle.cudf_check.specs.declared.outcome.Outcome.{Outcome}
 use Rattle.cudf_check.specs.declared.outcome.Outcome.TheVariants.{Yes, No, Fail}
 use Rattle.cudf_check.specs.declared.ranking.Judgement.{Judgement}
@@ -25,10 +21,6 @@ use Rattle.cudf_check.specs.declared.ranking.Judgement.TheVariants.{Solution, No
 use Rattle.cudf_check.specs.declared.ranking.Standing.{Standing}
 
 -- ---- one solution
-
--- its first fault, if it has one; a text that says FAIL can have E1 alone
-abbrev pub solution_fault : Mode → List ℕ → Option Fault
-solution_fault mode bytes = if is_utf8 bytes then (if is_fail bytes then None else least (solution_faults (plain_text bytes) mode)) else Some (utf8_fault bytes)
 
 -- what is put forward is a solution, with these counts, or it is none
 abbrev pub judgement_of : Proposal → Judgement
@@ -111,10 +103,8 @@ abbrev pub first_faulty_or : List (ℕ × Fault) → Report → Report
 first_faulty_or [] report = report
 first_faulty_or (first ∷ others) report = faulty (codes "solution " ++ decimal first.0) first.1
 
--- solutions, beside a problem without fault
-abbrev pub solutions_report : List Aim → Mode → List (List ℕ) → PlainProblem → Report
-solutions_report aims mode solutions problem = first_faulty_or (placed_faults mode solutions) (ranked_report aims (standings problem solutions))
-
--- a problem and solutions
+-- a problem and solutions: the problem's fault, or else that of the first faulty solution, or else the ranking
 unfoldable pub rank_report : List Aim → Mode → List ℕ → List (List ℕ) → Report
-rank_report aims mode problem solutions = of_problem mode problem (solutions_report aims mode solutions)
+rank_report aims mode problem solutions =
+    faulty_or (codes "problem") (problem_fault mode problem)
+    (first_faulty_or (placed_faults mode solutions) (ranked_report aims (standings (plain_problem (plain_text problem)) solutions)))

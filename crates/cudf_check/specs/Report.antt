@@ -58,9 +58,13 @@ abbrev pub faulty_or : List ℕ → Option Fault → Report → Report
 faulty_or whose None report = report
 faulty_or whose (Some f) report = faulty whose f
 
--- the report of what the bytes say, or of E1 where they aren't UTF-8
-abbrev pub of_bytes : List ℕ → List ℕ → (PlainText → Report) → Report
-of_bytes whose bytes report = if is_utf8 bytes then report (plain_text bytes) else faulty whose (utf8_fault bytes)
+-- the first fault of a problem: E1 where its bytes aren't UTF-8
+abbrev pub problem_fault : Mode → List ℕ → Option Fault
+problem_fault mode bytes = if is_utf8 bytes then least (problem_faults (plain_text bytes) mode) else Some (utf8_fault bytes)
+
+-- the first fault of a solution; a text that says FAIL can have E1 alone
+abbrev pub solution_fault : Mode → List ℕ → Option Fault
+solution_fault mode bytes = if is_utf8 bytes then (if is_fail bytes then None else least (solution_faults (plain_text bytes) mode)) else Some (utf8_fault bytes)
 
 -- ---- instances
 
@@ -192,26 +196,17 @@ proposal_of problem text = proposal problem (is_initial problem) (is_proposed pr
 
 -- ---- documents
 
--- a solution that doesn't say FAIL
-abbrev pub solution_text_report : Mode → (Proposal → List ℕ) → PlainProblem → PlainText → Report
-solution_text_report mode found problem text = faulty_or (codes "solution") (least (solution_faults text mode)) (judged_report found (proposal_of problem text))
-
--- a solution, beside a problem without fault
-abbrev pub solution_report : Mode → (Proposal → List ℕ) → List ℕ → PlainProblem → Report
-solution_report mode found bytes problem = of_bytes (codes "solution") bytes
-    (λ text. if is_fail bytes then alone (codes "solution FAIL") Fail else solution_text_report mode found problem text)
-
--- the report of what the problem is, or of its first fault
-abbrev pub of_problem : Mode → List ℕ → (PlainProblem → Report) → Report
-of_problem mode bytes report = of_bytes (codes "problem") bytes (λ text. faulty_or (codes "problem") (least (problem_faults text mode)) (report (plain_problem text)))
-
--- a problem and a solution
+-- a problem and a solution: the problem's fault, or else the solution's, or else FAIL, or else what is found of the proposed status
 abbrev pub pair_report : Mode → (Proposal → List ℕ) → List ℕ → List ℕ → Report
-pair_report mode found problem solution = of_problem mode problem (solution_report mode found solution)
+pair_report mode found problem solution =
+    faulty_or (codes "problem") (problem_fault mode problem)
+    (faulty_or (codes "solution") (solution_fault mode solution)
+    (if is_fail solution then alone (codes "solution FAIL") Fail
+    else judged_report found (proposal_of (plain_problem (plain_text problem)) (plain_text solution))))
 
 -- a problem alone
 abbrev pub lint_report : Mode → List ℕ → Report
-lint_report mode problem = of_problem mode problem (λ p. alone (codes "problem ok") Yes)
+lint_report mode problem = faulty_or (codes "problem") (problem_fault mode problem) (alone (codes "problem ok") Yes)
 
 -- ---- the report
 

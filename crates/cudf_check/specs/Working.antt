@@ -4,5 +4,6 @@ pub mod Findings
 pub mod InTurn
 pub mod Judged
 pub mod Pages
-pub mod Printing
+pub mod Paper
 pub mod Refusals
+pub mod Writing

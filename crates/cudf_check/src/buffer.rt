@@ -1,6 +1,6 @@
 //! The buffer through which a report is written.
-ghost use Rattle.std.specs.Prelude.{◌≡◌, [], OnOk, IfOk, IsOkUnless};
-ghost use Rattle.cudf_check.specs.Working.Printing.{Writes, Prints, joined};
+ghost use Rattle.std.specs.Prelude.{◌≡◌, [], ◌++◌, if◌then◌else◌, OnOk, IfOk, IsOkUnless};
+ghost use Rattle.cudf_check.specs.Working.Writing.{Writes};
 
 use crate::device::Sink;
 use crate::outcome::RunError;
@@ -39,26 +39,15 @@ impl ReportBuffer {
         }
     }
 
-    /// Prints `text`: it waits, or is written after all that waited before it.
-    pub(crate) fn push<W: Sink>(&mut self, out: &mut W, text: &[u8]) -> Result<(), RunError>
-        ensures { Prints (W.state out.old) (W.state out.new) self.old self.new result text.now }
+    /// Keeps `text` behind what waits, where there is room for it.
+    pub(crate) fn keep(&mut self, text: &[u8]) -> bool
+        ensures { self.new ≡ (if result then self.old ++ text.now else self.old) }
     {
-        if text.len() <= SIZE - self.waiting.len() {
-            self.waiting.extend_from_slice(text).unwrap();
-            return Ok(());
+        if text.len() > SIZE - self.waiting.len() {
+            return false;
         }
-        self.flush(out)?;
-        write_all(out, text)
-    }
-
-    /// Prints the pieces of a line in turn.
-    pub(crate) fn push_all<W: Sink>(&mut self, out: &mut W, pieces: &[&str]) -> Result<(), RunError>
-        ensures { Prints (W.state out.old) (W.state out.new) self.old self.new result (joined pieces.now) }
-    {
-        for piece in pieces {
-            self.push(out, piece.as_bytes())?;
-        }
-        Ok(())
+        self.waiting.extend_from_slice(text).unwrap();
+        true
     }
 
     /// Writes all that waits.

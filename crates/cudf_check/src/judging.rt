@@ -1,15 +1,16 @@
 //! Judges the solutions of a problem.
-ghost use Rattle.std.specs.Prelude.{◌≡◌, [], map, IfOk, IfErr};
-ghost use Rattle.cudf_document.specs.Promises.Faults.{IsFirstFault};
-ghost use Rattle.cudf_document.specs.SolutionFaults.{solution_faults};
+ghost use Rattle.std.specs.Prelude.{◌≡◌, ℕ, List, map, IfOk, IfErr};
+ghost use Rattle.cudf_document.specs.Universe.{PlainProblem};
 ghost use Rattle.cudf_check.specs.RankReport.{judgement_of};
-ghost use Rattle.cudf_check.specs.Report.{proposal_of};
-ghost use Rattle.cudf_check.specs.Working.Judged.{IsJudged, IsFaultOf, AreJudged, IsFirstRefused};
+ghost use Rattle.cudf_check.specs.Report.{solution_fault};
+ghost use Rattle.cudf_check.specs.Working.Judged.{IsJudged, AreJudged, IsFirstRefused};
+ghost use Rattle.cudf_check.specs.Working.Refusals.{IsFaultOf, IsRefused};
 
 use crate::ranking::{Judgement, Standing};
-use cudf_document::{Mode, Problem, ReadError, solution_of};
+use crate::readings::{Refusal, proposed_in};
+use cudf_document::{Mode, Problem, ReadError};
 use cudf_referee::Referee;
-use cudf_text::{Stanzas, is_fail, source_of};
+use cudf_text::Room;
 use std::alloc::{AllocError, Global};
 
 /// Why the solutions aren't ranked.
@@ -31,21 +32,14 @@ fn judgement_by(referee: &Referee<'_, '_>) -> Judgement
     }
 }
 
-/// Judges what a solution's stanzas propose.
-fn judge_stanzas(
-    alloc: Global,
-    problem: &Problem<'_>,
-    stanzas: Stanzas<'_>,
-    mode: Mode,
-) -> Result<Judgement, ReadError>
-    ensures sound { IfOk result (λ _. solution_faults stanzas.entry.text mode ≡ []) }
-    ensures judged { IfOk result (λ j. j ≡ judgement_of (proposal_of problem.now stanzas.entry.text)) }
-    ensures fault { IfErr result (IsFirstFault (solution_faults stanzas.entry.text mode)) }
+/// A solution that isn't judged, where it says FAIL.
+fn unjudged(refusal: Refusal) -> Result<Judgement, ReadError>
+    ensures judged { (mode : Mode) → (problem : PlainProblem) → (bytes : List ℕ) → IsRefused mode bytes refusal → IfOk result (IsJudged mode problem bytes) }
+    ensures fault { (mode : Mode) → (bytes : List ℕ) → IsRefused mode bytes refusal → IfErr result (IsFaultOf (solution_fault mode bytes)) }
 {
-    let solution = solution_of(alloc, stanzas, problem, mode)?;
-    match Referee::new(alloc, problem, &solution) {
-        Ok(referee) => Ok(judgement_by(&referee)),
-        Err(error) => Err(ReadError::Memory(error)),
+    match refusal {
+        Refusal::SaysFail => Ok(Judgement::SaysFail),
+        Refusal::Unread(error) => Err(error),
     }
 }
 
@@ -57,16 +51,15 @@ fn judge(
     mode: Mode,
 ) -> Result<Judgement, ReadError>
     ensures judged { IfOk result (IsJudged mode problem.now bytes.now) }
-    ensures fault { IfErr result (IsFaultOf mode bytes.now) }
+    ensures fault { IfErr result (IsFaultOf (solution_fault mode bytes.now)) }
 {
-    match source_of(bytes) {
-        Ok(source) => {
-            if is_fail(source) {
-                return Ok(Judgement::SaysFail);
-            }
-            judge_stanzas(alloc, problem, Stanzas::new(source), mode)
-        }
-        Err(fault) => Err(ReadError::Fault(fault)),
+    let mut room = Room::new(alloc);
+    match proposed_in(alloc, bytes, &mut room, problem, mode) {
+        Ok(solution) => match Referee::new(alloc, problem, &solution) {
+            Ok(referee) => Ok(judgement_by(&referee)),
+            Err(error) => Err(ReadError::Memory(error)),
+        },
+        Err(refusal) => unjudged(refusal),
     }
 }
 

@@ -17,8 +17,10 @@ pub mod laws;
 mod lines;
 mod outcome;
 mod output;
+mod paper;
 mod rank_report;
 mod ranking;
+mod readings;
 mod report;
 
 pub use cudf_document::Mode;

@@ -1,5 +1,5 @@
 //! Writes bytes to a sink, in as many calls as it takes.
-ghost use Rattle.cudf_check.specs.Working.Printing.{Writes};
+ghost use Rattle.cudf_check.specs.Working.Writing.{Writes};
 
 use crate::device::Sink;
 use crate::outcome::RunError;

@@ -76,6 +76,11 @@ map_next view xs ys i x within is same =
     let inside : i < length xs = subst (λ l. i < length l) same within in
     map_more view xs i x inside ∙ ap (λ y. map view (take i xs) ++ view y ∷ []) (sym (is ∙ ap (λ l. get_or l i x) same))
 
+-- the same where the items are copied
+pub map_next-copied : {A B : Type 0} (view : A → B) (xs ys : List A) (i : ℕ) (d : A) → i < length ys → ys ≡ xs → map view (take (i + 1) xs) ≡ map view (take i xs) ++ view (get_or ys i d) ∷ []
+map_next-copied view xs ys i d within same =
+    map_more view xs i d (subst (λ l. i < length l) same within) ∙ ap (λ l. map view (take i xs) ++ view (get_or l i d) ∷ []) (sym same)
+
 -- ---- keys of a set
 
 -- the keys, seen through a view, after one is inserted

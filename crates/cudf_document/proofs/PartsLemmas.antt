@@ -1,25 +1,22 @@
 -- What is kept of stanzas on the walk.
-use Rattle.std.proofs.Common.{◌≡◌, Bool, true, false, not, List, [], ◌∷◌, ◌++◌, map, filter_map, Option, Some, None, option_map, option_to_list, is_some, find, if◌then◌else◌, refl, sym, ap, ◌∙◌}
+use Rattle.std.proofs.Common.{◌≡◌, Bool, true, false, List, [], ◌∷◌, ◌++◌, map, filter_map, Option, Some, None, option_map, option_to_list, is_some, find, if◌then◌else◌, refl, sym, ap, ◌∙◌}
 use Rattle.std.proofs.lemmas.Bool.{true≢false}
 use Rattle.std.proofs.lemmas.List.{map-append}
-use Rattle.cudf_text.specs.declared.text.Stanza.{Stanza}
 use Rattle.cudf_text.specs.Stanzas.{PlainStanza, PlainText}
-use Rattle.cudf_text.specs.Promises.Views.{stanza_view}
 use Rattle.cudf_value.specs.Declarations.{PlainDeclaration}
 use Rattle.cudf_document.specs.declared.mode.Mode.{Mode}
 use Rattle.cudf_document.specs.declared.problem.parts.Parts.{Parts}
 use Rattle.cudf_document.specs.declared.problem.walk.Walk.{Walk}
 use Rattle.cudf_document.specs.declared.stanza.postmark.Postmark.{Postmark}
 use Rattle.cudf_document.specs.declared.stanza.postmark.Postmark.TheVariants.{Preamble, Package, Request}
-use Rattle.cudf_document.specs.Documents.{is_empty, postmark, marks_preamble, marks_package, marks_request, is_request}
-use Rattle.cudf_document.specs.Promises.Packages.{is_preamble, is_package, are_distinct}
+use Rattle.cudf_document.specs.Documents.{is_empty, postmark, marks_package, marks_request, is_request}
+use Rattle.cudf_document.specs.Promises.Packages.{is_package, are_distinct}
 use Rattle.cudf_document.specs.Ids.{Id, id_of, id_under}
 use Rattle.cudf_document.specs.Preamble.{declared}
 use Rattle.cudf_document.specs.Promises.Thin.{thin_package, thin_problem}
 use Rattle.cudf_document.specs.Universe.{PlainPackage, PlainRequest, plain_problem, package_id, request_of, packages_in, request_in}
 use Rattle.cudf_document.specs.Promises.Views.{package_view, request_view}
-use Rattle.cudf_document.specs.Working.Borrows.{are_borrowed}
-use Rattle.cudf_document.specs.Working.Kept.{AreParts, IsParts, IsReady, kept_by, has_joined, gathered_of}
+use Rattle.cudf_document.specs.Working.Kept.{AreParts, IsParts, IsReady, kept_by, gathered_of}
 use Rattle.cudf_document.specs.Working.PackageFields.{package_fields_of, package_from, passes, needing_if}
 use Rattle.cudf_document.specs.Working.ProblemBuilders.{PlainBuilder, with_stanza, problem_of, IsBuilt}
 use Rattle.cudf_document.specs.Working.Walks.{IsWhole}
@@ -92,15 +89,6 @@ passed is_kept before s p no_package no_request so_far = record { kept_are = so_
         as_before was next.packages_are next.request_is
     by was (Some Package) marked = absurd (true≢false (sym (ap marks_package marked) ∙ no_package))
     by was (Some Request) marked = absurd (true≢false (sym (ap marks_request marked) ∙ no_request))
-
--- what is to be kept of a stanza with a postmark is there, but in a preamble
-pub kept_values : (s : Stanza) (mark : Option Postmark) → has_joined s ≡ false → postmark (stanza_view s) ≡ mark → marks_preamble mark ≡ false → are_borrowed s.properties.items ≡ true
-kept_values s mark lost marked other = by (are_borrowed s.properties.items) (is_preamble (stanza_view s)) lost (ap marks_preamble marked ∙ other)
-  where
-    by : (b p : Bool) → (if b then false else not p) ≡ false → p ≡ false → b ≡ true
-    by true p h q = refl
-    by false true h q = absurd cc
-    by false false h q = absurd cc
 
 -- ---- the whole text
 

@@ -1,7 +1,7 @@
 -- Packages without what they need.
-use Rattle.std.proofs.Common.{◌≡◌, ℕ, Bool, true, false, List, [], ◌∷◌, map, Option, Some, None, option_map, option_to_list, refl, sym, ap, ◌∙◌}
+use Rattle.std.proofs.Common.{◌≡◌, ℕ, Bool, true, false, List, [], ◌∷◌, map, Option, Some, None, option_map, option_to_list, refl, ap}
 use Rattle.cudf_document.specs.Ids.{Id}
-use Rattle.cudf_document.specs.Promises.Thin.{thinned, thin_package, thin_problem, IsThinFor}
+use Rattle.cudf_document.specs.Promises.Thin.{thinned, thin_package, thin_problem}
 use Rattle.cudf_document.specs.Universe.{PlainPackage, PlainProblem, package_id}
 use Rattle.cudf_document.specs.Working.PackageFields.{PlainPackageFields, package_from, passes, needing_if}
 
@@ -30,14 +30,3 @@ same_thin test all (p ∷ packages) = (λ i. thinned (all (package_id p) i) p �
 
 pub thin_problem-all : (test : Id → Bool) → ((id : Id) → test id ≡ true) → (problem : PlainProblem) → thin_problem test problem ≡ problem
 thin_problem-all test all problem = λ i. record problem { packages = same_thin test all problem.packages i }
-
-pub whole_of : (thin whole : PlainProblem) → IsThinFor (λ id. true) thin whole → thin ≡ whole
-whole_of thin whole it = it.is ∙ thin_problem-all it.is_kept (λ id. it.covers id refl) whole
-
--- the whole is enough for any choice
-pub whole_is_thin : (is_chosen : Id → Bool) (thin whole : PlainProblem) → thin ≡ whole → IsThinFor is_chosen thin whole
-whole_is_thin is_chosen thin whole same = record {
-  is_kept = λ id. true;
-  covers = λ id chosen. refl;
-  is = same ∙ sym (thin_problem-all (λ id. true) (λ id. refl) whole);
-}

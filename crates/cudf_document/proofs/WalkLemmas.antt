@@ -100,25 +100,6 @@ none_behind None y h = h
 none_behind (Some f) None h = absurd cc
 none_behind (Some f) (Some g) h = absurd cc
 
-pub GoesOn-next : (mode : Mode) (required : List (List ℕ)) (Old New : List PlainStanza → Type 0) (old new : Walk) (left later text : PlainText) (s : PlainStanza)
-    → GoesOn mode required Old old left text
-    → ◌≡◌ {A = PlainText} left (record later { stanzas = s ∷ later.stanzas })
-    → ((before : List PlainStanza) → false ≡ is_empty before → old.declarations ≡ declared before → required ≡ required_names mode (declared before)
-    → IsKnown mode old before → IsKnown mode new (before ++ s ∷ []))
-    → (new.first ≡ None → old.first ≡ None)
-    → ((before : List PlainStanza) → old.declarations ≡ declared before → old.first ≡ None → Old before → New (before ++ s ∷ []))
-    → new.declarations ≡ old.declarations → GoesOn mode required New new later text
-GoesOn-next mode required Old New old new left later text s goes read knows was keeps same = record {
-  now = goes.now ++ s ∷ [];
-  some = sym (is_empty-push goes.now s);
-  declared_are = same ∙ goes.declared_are ∙ sym (declared_later goes.now s goes.some);
-  required_are = goes.required_are ∙ ap (required_names mode) (sym (declared_later goes.now s goes.some));
-  known = knows goes.now goes.some goes.declared_are goes.required_are goes.known;
-  kept = λ none. keeps goes.now goes.declared_are (was none) (goes.kept (was none));
-  whole = (λ i. let t : PlainText = record later { stanzas = append_assoc goes.now (s ∷ []) later.stanzas i } in t)
-      ∙ (λ i. let t : PlainText = record (sym read i) { stanzas = goes.now ++ (sym read i).stanzas } in t) ∙ goes.whole;
-}
-
 -- nothing is left behind these stanzas
 all_known : (mode : Mode) (Kept : List PlainStanza → Type 0) (old new : Walk) (now : List PlainStanza) (left text : PlainText) (fault : Option Fault) (lines : ℕ)
     → old.declarations ≡ declared now → IsKnown mode old now → (old.first ≡ None → Kept now)
@@ -143,27 +124,7 @@ all_known mode Kept old new now left text fault lines ds knows keeps whole read 
           subst Kept ss (keeps (none_behind fault old.first (none_before (lesser fault old.first) (least (fault_if (not old.requested) (max 1 lines) E13)) (sym first ∙ none))));
     }
 
-pub GoesOn-end : (mode : Mode) (required : List (List ℕ)) (Kept : List PlainStanza → Type 0) (old new : Walk) (left text : PlainText) (fault : Option Fault) (lines : ℕ) → GoesOn mode required Kept old left text
-    → ◌≡◌ {A = PlainText} left (record { stanzas = []; fault = fault; lines = lines })
-    → new.first ≡ lesser (lesser fault old.first) (least (fault_if (not old.requested) (max 1 lines) E13))
-    → new.declarations ≡ old.declarations → new.ids ≡ old.ids → IsWhole mode Kept new text
-GoesOn-end mode required Kept old new left text fault lines goes read first same_ds same_ids =
-    all_known mode Kept old new goes.now left text fault lines goes.declared_are goes.known goes.kept goes.whole read first same_ds same_ids
-
-pub no_stanza : (mode : Mode) (Kept : List PlainStanza → Type 0) (old new : Walk) (text : PlainText) (fault : Option Fault) (lines : ℕ)
-    → old.declarations ≡ [] → IsKnown mode old [] → Kept []
-    → ◌≡◌ {A = PlainText} text (record { stanzas = []; fault = fault; lines = lines })
-    → new.first ≡ lesser (lesser fault old.first) (least (fault_if (not old.requested) (max 1 lines) E13))
-    → new.declarations ≡ old.declarations → new.ids ≡ old.ids → IsWhole mode Kept new text
-no_stanza mode Kept old new text fault lines ds knows keeps read first same_ds same_ids =
-    all_known mode Kept old new [] text text fault lines ds knows (λ none. keeps) refl read first same_ds same_ids
-
-pub GoesOn-first : (mode : Mode) (Kept : List PlainStanza → Type 0) (k : Walk) (later text : PlainText) (s : PlainStanza)
-    → ◌≡◌ {A = PlainText} text (record later { stanzas = s ∷ later.stanzas })
-    → IsKnown mode k (s ∷ []) → k.declarations ≡ declared (s ∷ []) → Kept (s ∷ []) → GoesOn mode (required_names mode k.declarations) Kept k later text
-GoesOn-first mode Kept k later text s read knows ds keeps = record { now = s ∷ []; some = refl; declared_are = ds; required_are = ap (required_names mode) ds; known = knows; kept = λ none. keeps; whole = sym read }
-
--- ---- stanzas that are held
+-- ---- one stanza more
 
 pub IsSoFar-none : (mode : Mode) (Kept : List PlainStanza → Type 0) (k : Walk) → k.declarations ≡ [] → IsKnown mode k [] → Kept [] → IsSoFar mode Kept k []
 IsSoFar-none mode Kept k ds knows keeps = record { declared_are = ds; known = knows; kept = λ none. keeps }
@@ -213,3 +174,40 @@ required_next mode true old new k [] s first ds old_is here later = here refl �
 required_next mode false old new k [] s first ds old_is here later = absurd cc
 required_next mode true old new k (t ∷ before) s first ds old_is here later = absurd cc
 required_next mode false old new k (t ∷ before) s first ds old_is here later = later refl ∙ old_is
+
+-- ---- the stanzas of a text, one after the other
+
+pub GoesOn-start : (mode : Mode) (Kept : List PlainStanza → Type 0) (k : Walk) (required : List (List ℕ)) (text : PlainText)
+    → k.declarations ≡ [] → IsKnown mode k [] → Kept [] → required ≡ [] → GoesOn mode Kept k true required text text
+GoesOn-start mode Kept k required text ds knows keeps none = record {
+  now = [];
+  first_is = refl;
+  required_are = none ∙ required_none mode;
+  so_far = IsSoFar-none mode Kept k ds knows keeps;
+  whole = refl;
+}
+
+pub GoesOn-next : (mode : Mode) (Old New : List PlainStanza → Type 0) (old new : Walk) (is_first : Bool) (before required : List (List ℕ)) (left later text : PlainText) (s : PlainStanza)
+    → GoesOn mode Old old is_first before left text
+    → ◌≡◌ {A = PlainText} left (record later { stanzas = s ∷ later.stanzas })
+    → ((now : List PlainStanza) → is_first ≡ is_empty now → before ≡ required_names mode (declared now) → IsSoFar mode Old old now → IsSoFar mode New new (now ++ s ∷ []))
+    → (IsTrue is_first → required ≡ required_names mode new.declarations) → (IsTrue (not is_first) → required ≡ before)
+    → GoesOn mode New new false required later text
+GoesOn-next mode Old New old new is_first before required left later text s goes read takes here behind =
+    let so_far = takes goes.now goes.first_is goes.required_are goes.so_far in
+    record {
+      now = goes.now ++ s ∷ [];
+      first_is = sym (is_empty-push goes.now s);
+      required_are = required_next mode is_first before required new goes.now s goes.first_is so_far.declared_are goes.required_are here behind;
+      so_far = so_far;
+      whole = (λ i. let t : PlainText = record later { stanzas = append_assoc goes.now (s ∷ []) later.stanzas i } in t)
+          ∙ (λ i. let t : PlainText = record (sym read i) { stanzas = goes.now ++ (sym read i).stanzas } in t) ∙ goes.whole;
+    }
+
+pub GoesOn-end : (mode : Mode) (Kept : List PlainStanza → Type 0) (old new : Walk) (is_first : Bool) (required : List (List ℕ)) (left text : PlainText) (fault : Option Fault) (lines : ℕ)
+    → GoesOn mode Kept old is_first required left text
+    → ◌≡◌ {A = PlainText} left (record { stanzas = []; fault = fault; lines = lines })
+    → new.first ≡ lesser (lesser fault old.first) (least (fault_if (not old.requested) (max 1 lines) E13))
+    → new.declarations ≡ old.declarations → new.ids ≡ old.ids → IsWhole mode Kept new text
+GoesOn-end mode Kept old new is_first required left text fault lines goes read first same_ds same_ids =
+    all_known mode Kept old new goes.now left text fault lines goes.so_far.declared_are goes.so_far.known goes.so_far.kept goes.whole read first same_ds same_ids

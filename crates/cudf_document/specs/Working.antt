@@ -1,4 +1,3 @@
-pub mod Borrows
 pub mod Chosen
 pub mod Enums
 pub mod Flags

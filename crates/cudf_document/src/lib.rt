@@ -21,7 +21,7 @@ pub use problem::Problem;
 pub use problem::chosen::Chosen;
 pub use problem::lint::first_fault;
 pub use problem::reader::read_problem;
-pub use problem::source::{Room, problem_for, problem_of};
+pub use problem::source::{problem_for, problem_of};
 pub use request::Request;
 pub use solution::reader::{read_solution, solution_of};
 pub use solution::status::{Status, initial};

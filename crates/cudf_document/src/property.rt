@@ -1,6 +1,5 @@
 //! Properties of a stanza, whatever it is.
 
-pub(crate) mod borrowed;
 pub(crate) mod fields;
 pub(crate) mod named;
 pub(crate) mod seen_names;

@@ -2,10 +2,10 @@
 //! and memory is missed in none.
 use crate::table::assert_rows;
 use cudf_document::{
-    Chosen, Mode, Problem, ReadError, Room, Solution, first_fault, problem_for, problem_of,
-    read_problem, read_solution, solution_of,
+    Chosen, Mode, Problem, ReadError, Solution, first_fault, problem_for, problem_of, read_problem,
+    read_solution, solution_of,
 };
-use cudf_text::{Stanzas, Text, is_fail, read, stanzas};
+use cudf_text::{Room, Text, is_fail, read, stanzas};
 use cudf_value::{read_formula, read_veqpkglist, read_vpkglist};
 use std::alloc::{AllocError, Global};
 
@@ -177,39 +177,60 @@ fn is_installed(
 }
 
 fn stanzas_are_read(alloc: Global, problem: &str, solution: &str, count: u64) -> bool {
-    match (stanzas(problem.as_bytes()), stanzas(solution.as_bytes())) {
-        (Ok(problem), Ok(solution)) => {
-            is_sound(alloc, problem.fork())
-                && all_is_read(alloc, problem.fork(), solution.fork(), count)
-                && chosen_is_read(alloc, problem, solution, count)
-        }
-        _ => false,
-    }
+    is_sound(alloc, problem.as_bytes())
+        && all_is_read(alloc, problem.as_bytes(), solution.as_bytes(), count)
+        && chosen_is_read(alloc, problem.as_bytes(), solution.as_bytes(), count)
 }
 
-fn is_sound(alloc: Global, problem: Stanzas<'_>) -> bool {
-    match first_fault(alloc, problem, Mode::Lenient) {
-        Ok(fault) => fault.is_none(),
+fn is_sound(alloc: Global, problem: &[u8]) -> bool {
+    let mut room = Room::new(alloc);
+    match stanzas(alloc, problem, &mut room) {
+        Ok(stanzas) => match first_fault(alloc, stanzas, Mode::Lenient) {
+            Ok(fault) => fault.is_none(),
+            Err(_) => false,
+        },
         Err(_) => false,
     }
 }
 
-fn all_is_read(alloc: Global, problem: Stanzas<'_>, solution: Stanzas<'_>, count: u64) -> bool {
+fn all_is_read(alloc: Global, problem: &[u8], solution: &[u8], count: u64) -> bool {
     let mut room = Room::new(alloc);
-    match problem_of(alloc, problem, &mut room, Mode::Lenient) {
-        Ok(problem) => is_installed(
-            &problem,
-            solution_of(alloc, solution, &problem, Mode::Lenient),
+    match stanzas(alloc, problem, &mut room) {
+        Ok(stanzas) => match problem_of(alloc, stanzas, Mode::Lenient) {
+            Ok(problem) => is_proposed(alloc, &problem, solution, count),
+            Err(_) => false,
+        },
+        Err(_) => false,
+    }
+}
+
+fn is_proposed(alloc: Global, problem: &Problem<'_>, solution: &[u8], count: u64) -> bool {
+    let mut room = Room::new(alloc);
+    match stanzas(alloc, solution, &mut room) {
+        Ok(stanzas) => is_installed(
+            problem,
+            solution_of(alloc, stanzas, problem, Mode::Lenient),
             count,
         ),
         Err(_) => false,
     }
 }
 
-fn chosen_is_read(alloc: Global, problem: Stanzas<'_>, solution: Stanzas<'_>, count: u64) -> bool {
+fn chosen_is_read(alloc: Global, problem: &[u8], solution: &[u8], count: u64) -> bool {
     let mut room = Room::new(alloc);
-    match Chosen::of(alloc, solution) {
-        Ok(chosen) => match problem_for(alloc, problem, &mut room, &chosen, Mode::Lenient) {
+    match stanzas(alloc, solution, &mut room) {
+        Ok(stanzas) => match Chosen::of(alloc, stanzas) {
+            Ok(chosen) => is_read_for(alloc, problem, &chosen, count),
+            Err(_) => false,
+        },
+        Err(_) => false,
+    }
+}
+
+fn is_read_for(alloc: Global, problem: &[u8], chosen: &Chosen<'_>, count: u64) -> bool {
+    let mut room = Room::new(alloc);
+    match stanzas(alloc, problem, &mut room) {
+        Ok(stanzas) => match problem_for(alloc, stanzas, chosen, Mode::Lenient) {
             Ok(problem) => problem.packages().len() as u64 == count,
             Err(_) => false,
         },

@@ -1,18 +1,25 @@
--- The stops of the walk that come after a key are those that are left behind it.
-use Rattle.std.proofs.Common.{◌≡◌, ℕ, zero, suc, not, ◌==◌, ◌+◌, ◌-◌, ◌<◌, ◌≤◌, Bool, true, false, ◌&&◌, inl, inr, nat_lt, nat_le, List, [], ◌∷◌, ◌++◌, map, filter, drop, cond, arith, refl, ap, sym, ◌∙◌, subst, Option, Some, None}
+-- The stops of the walk that come after a key: those behind the number of places that the key has passed.
+use Rattle.std.proofs.Common.{◌≡◌, ℕ, zero, suc, not, ◌==◌, ◌+◌, ◌*◌, ◌-◌, ◌<◌, ◌≤◌, Bool, true, false, ◌&&◌, inl, inr, min, nat_lt, nat_le, List, [], ◌∷◌, ◌++◌, length, map, filter, drop, cond, arith, refl, ap, sym, ◌∙◌, subst, Option, Some, None}
 use Rattle.std.specs.Prelude.{slice_get}
 use Rattle.std.proofs.lemmas.Bool.{cases_lt, ltb-true}
 use Rattle.std.proofs.lemmas.Bool.Decides.{nat_tests}
 use Rattle.std.proofs.lemmas.Cmp.{nat_cmp_total, nat_list_cmp_total, tied_itself}
+use Rattle.std.proofs.lemmas.List.{length-map, length-append, length-drop, drop-append-le, drop-map, drop_min}
 use Rattle.std.proofs.lemmas.List.Elements.{filter-append, filter_agree}
+use Rattle.std.proofs.lemmas.List.Sums.{length-filter, count_by-le-length}
+use Rattle.std.proofs.lemmas.List.FromFn.{length-enumerate_from}
+use Rattle.std.proofs.Math.ListN.{drop_of_length-le}
 use Rattle.std.specs.Cmp.{nat_cmp_is}
 use Rattle.std.specs.Cmp.Lexicographic.{slice_cmp}
 use Rattle.std.specs.List.{flat_map, enumerate_from}
 use Rattle.std.specs.Ordering.{nat_cmp, ordering_then, ordering_reverse, is_lt}
 use Rattle.std.specs.declared.cmp.Ordering.TheVariants.{Less, Equal, Greater}
 use Rattle.cudf_value.specs.Vpkgs.{PlainVpkg}
+use Rattle.cudf_value.specs.Promises.Views.{clause_view, vpkg_view}
 use Rattle.cudf_document.specs.declared.package.Keep.{Keep}
 use Rattle.cudf_document.specs.declared.package.Keep.TheVariants.{Version, Package, Feature, Nothing}
+use Rattle.cudf_document.specs.declared.request.Request.{Request}
+use Rattle.cudf_document.specs.Promises.Views.{request_view}
 use Rattle.cudf_document.specs.Universe.{PlainPackage, PlainRequest}
 use Rattle.cudf_document.specs.Statuses.{PlainUnknown}
 use Rattle.cudf_universe.specs.Satisfaction.{Placed}
@@ -22,14 +29,17 @@ use Rattle.cudf_referee.specs.declared.key.Rule.{Rule}
 use Rattle.cudf_referee.specs.declared.key.Rule.TheVariants as rule
 use Rattle.cudf_referee.specs.declared.key.Aspect.{Aspect}
 use Rattle.cudf_referee.specs.declared.key.Aspect.TheVariants.{Unsatisfied, Many, Lower}
-use Rattle.cudf_referee.specs.Keys.{PlainKey, fits_part, fits_aspect, is_counted, is_key, rule_rank, aspect_rank, key_ranks}
+use Rattle.cudf_referee.specs.declared.sites.candidate.Candidate.{Candidate}
+use Rattle.cudf_referee.specs.Keys.{PlainKey, part_rank, part_place, fits_part, fits_aspect, is_counted, is_key, rule_rank, aspect_rank, key_ranks}
 use Rattle.cudf_referee.specs.Promises.Keys.{is_fitting}
-use Rattle.cudf_referee.specs.Proposals.{Proposal, holds_place}
-use Rattle.cudf_referee.specs.Promises.Sites.{Site, conjunct, conflicts_entry, kept_version, kept_package, kept_feature, install_entry, remove_entry, upgrade_entry, unknown_stanza, site_key, package_key, needed_sites, kept_sites, package_sites, upgrade_sites, request_sites, Stop, at_site, package_end, package_stops, walk, precedes, is_after}
-use Rattle.cudf_referee.specs.Working.Searches.{passed, entries_left, needed_left, kept_left, package_sites_left, package_left, aspects_after, aspects_left, upgrade_left, request_left, unknown_left, packages_left, stops_left}
-use Rattle.cudf_referee.proofs.AscentLemmas.{Below, same_first, less_first, Climbs, from_lower, to_higher, climbs-over, site_ranks, package_climbs, packages_climb, entry_climbs, entries_climb, request_climbs}
+use Rattle.cudf_referee.specs.Proposals.{Proposal}
+use Rattle.cudf_referee.specs.Promises.Sites.{Site, conjunct, conflicts_entry, kept_version, kept_package, kept_feature, install_entry, remove_entry, upgrade_entry, unknown_stanza, site_key, package_key, kept_sites, package_sites, upgrade_sites, request_sites, Stop, at_site, package_end, package_stops, precedes, precedes_end, is_after}
+use Rattle.cudf_referee.specs.Working.Searches.{unknown_left, package_rest, packages_rest}
+use Rattle.cudf_referee.specs.Working.SiteNumbers.{placed_view, Fits, clauses_of, conflicts_of, kept_of, passed_of, passed_upgrade}
+use Rattle.cudf_referee.proofs.AscentLemmas.{Below, same_first, less_first, Climbs, from_lower, to_higher, climbs-over, site_ranks, sites_climb, package_climbs, packages_climb, entry_climbs, entries_climb, request_climbs}
 use Rattle.cudf_referee.proofs.ListLemmas.{and_left, and_right, filter-map, all_kept, none_kept}
-use Rattle.cudf_referee.proofs.PositionLemmas.{stop_ranks, is_after-ranks}
+use Rattle.cudf_referee.proofs.PositionLemmas.{stop_ranks, lt_less, is_after-ranks}
+use Rattle.cudf_referee.proofs.SiteNumberLemmas.{candidate-sites, count-entries, count-upgrades}
 
 -- ---- what is kept of a list
 
@@ -54,11 +64,28 @@ kept_above ranks low (x ∷ xs) high h =
     (λ i. cond (is_lt (h.0 i)) (x ∷ more i) (more i))
 
 -- none comes after what they climb to
-pub dropped_below : {A : Type 0} (ranks : A → List ℕ) (low : List ℕ) (xs : List A) (high : List ℕ) → Climbs ranks low xs high → filter (ranks_after high ranks) xs ≡ []
+dropped_below : {A : Type 0} (ranks : A → List ℕ) (low : List ℕ) (xs : List A) (high : List ℕ) → Climbs ranks low xs high → filter (ranks_after high ranks) xs ≡ []
 dropped_below ranks low [] high h = refl
 dropped_below ranks low (x ∷ xs) high h =
     let more = dropped_below ranks (ranks x) xs high h.1 in
     (λ i. cond (not_below (ranks x) high (climbs-over ranks (ranks x) xs high h.1) i) (x ∷ more i) (more i))
+
+-- of a list that climbs those come after ranks that are behind as many as don't
+suffix : {A : Type 0} (ranks : A → List ℕ) (low key : List ℕ) (xs : List A) (high : List ℕ) → Climbs ranks low xs high
+    → filter (ranks_after key ranks) xs ≡ drop (length xs - length (filter (ranks_after key ranks) xs)) xs
+suffix ranks low key [] high h = refl
+suffix {A = A} ranks low key (x ∷ xs) high h = by (ranks_after key ranks x) refl (suffix ranks (ranks x) key xs high h.1)
+  where
+    left : List A
+    left = filter (ranks_after key ranks) xs
+
+    by : (b : Bool) → ranks_after key ranks x ≡ b → left ≡ drop (length xs - length left) xs → cond b (x ∷ left) left ≡ drop (length (x ∷ xs) - length (cond b (x ∷ left) left)) (x ∷ xs)
+    by true e more =
+        let all = kept_above ranks key xs high (from_lower ranks key (ranks x) high xs (lt_less (slice_cmp nat_cmp key (ranks x)) e) h.1) in
+        ap (λ l. x ∷ l) all ∙ ap (λ n. drop n (x ∷ xs)) {x = 0} {y = length (x ∷ xs) - length (x ∷ left)} (omega (arith, ap length all))
+    by false e more =
+        more ∙ ap (λ n. drop n (x ∷ xs)) {x = suc (length xs - length left)} {y = length (x ∷ xs) - length left}
+        (omega (arith, length-filter (ranks_after key ranks) xs, count_by-le-length (ranks_after key ranks) xs))
 
 pub after-ranks : (key : PlainKey) (xs : List Stop) → filter (is_after key) xs ≡ filter (ranks_after (key_ranks key) stop_ranks) xs
 after-ranks key xs = filter_agree (is_after key) (ranks_after (key_ranks key) stop_ranks) (is_after-ranks key) xs
@@ -96,76 +123,136 @@ place_decides place k aspect = by (nat_lt place k) (place == k) aspect
 
 by_ranks : {A : Type 0} (a b place aspect : ℕ) (xs : List A)
     → filter (λ x. is_lt (slice_cmp nat_cmp (a ∷ place ∷ aspect ∷ []) (b ∷ x.0 ∷ 0 ∷ []))) (enumerate_from 1 xs)
-    ≡ entries_left (cond (nat_lt a b) (Some 0) (cond (nat_lt b a) None (Some place))) xs
+    ≡ drop (cond (nat_lt a b) 0 (cond (nat_lt b a) (length xs) (min place (length xs)))) (enumerate_from 1 xs)
 by_ranks {A = A} a b place aspect xs = by (nat_lt a b) (a == b) (nat_lt b a) (λ e. grind (arith, nat_tests))
   where
+    all : List (ℕ × A)
+    all = enumerate_from 1 xs
+
+    count : length all ≡ length xs
+    count = length-enumerate_from 1 xs
+
     by : (below same above : Bool) → (below ≡ false → same ≡ not above)
         → filter (λ (x : ℕ × A). is_lt (ordering_then (cond below Less (cond same Equal Greater)) (slice_cmp nat_cmp (place ∷ aspect ∷ []) (x.0 ∷ 0 ∷ [])))) (enumerate_from 1 xs)
-        ≡ entries_left (cond below (Some 0) (cond above None (Some place))) xs
+        ≡ drop (cond below 0 (cond above (length xs) (min place (length xs)))) (enumerate_from 1 xs)
     by true same above h = all_kept (λ x. true) (λ x. refl) (enumerate_from 1 xs)
-    by false false true h = none_kept (λ x. false) (λ x. refl) (enumerate_from 1 xs)
-    by false true false h = filter_agree _ (λ x. nat_lt place x.0) (λ x. place_decides place x.0 aspect) (enumerate_from 1 xs) ∙ later_places place 1 place xs (omega arith)
+    by false false true h = none_kept (λ x. false) (λ x. refl) (enumerate_from 1 xs) ∙ sym (drop_of_length-le (enumerate_from 1 xs) (omega (arith, count)))
+    by false true false h =
+        filter_agree _ (λ x. nat_lt place x.0) (λ x. place_decides place x.0 aspect) (enumerate_from 1 xs) ∙ later_places place 1 place xs (omega arith)
+        ∙ sym (ap (λ n. drop (min place n) (enumerate_from 1 xs)) (sym count) ∙ drop_min place (enumerate_from 1 xs))
     by false true true h = absurd (cc (h refl))
     by false false false h = absurd (cc (h refl))
 
-entries_after : {A : Type 0} (key : PlainKey) (r : Rule) (xs : List A) → filter (λ x. entry_after key r x.0) (enumerate_from 1 xs) ≡ entries_left (passed key r) xs
-entries_after key r xs = by_ranks (rule_rank key.rule) (rule_rank r) key.place (aspect_rank key.aspect) xs
-
 -- of the sites that are made of a rule's entries those are left that come after the key
 made_after : {A : Type 0} (key : PlainKey) (r : Rule) (make : ℕ × A → Site) (xs : List A) → ((x : ℕ × A) → precedes key (site_key (make x)) ≡ entry_after key r x.0)
-    → filter (λ x. precedes key (site_key x)) (map make (enumerate_from 1 xs)) ≡ map make (entries_left (passed key r) xs)
+    → filter (λ x. precedes key (site_key x)) (map make (enumerate_from 1 xs)) ≡ drop (passed_of key r (length xs)) (map make (enumerate_from 1 xs))
 made_after key r make xs same =
     filter-map (λ x. precedes key (site_key x)) make (enumerate_from 1 xs)
-    ∙ ap (map make) (filter_agree (λ x. precedes key (site_key (make x))) (λ x. entry_after key r x.0) same (enumerate_from 1 xs) ∙ entries_after key r xs)
+    ∙ ap (map make) (filter_agree (λ x. precedes key (site_key (make x))) (λ x. entry_after key r x.0) same (enumerate_from 1 xs)
+    ∙ by_ranks (rule_rank key.rule) (rule_rank r) key.place (aspect_rank key.aspect) xs)
+    ∙ sym (drop-map make (passed_of key r (length xs)) (enumerate_from 1 xs))
+
+drop-none : {A : Type 0} (n : ℕ) → drop {A = A} n [] ≡ []
+drop-none zero = refl
+drop-none (suc n) = refl
+
+-- of these places those come after a key that are behind this many
+pub record After (key : PlainKey) (xs : List Site) (n : ℕ) : Type 0 where
+  pub left : filter (λ x. precedes key (site_key x)) xs ≡ drop n xs
+  pub within : n ≤ length xs
+
+-- so it is of three lists that climb, one after another
+three-after : (key : PlainKey) (low high : List ℕ) (xs ys zs : List Site) (k l m : ℕ) → Climbs site_ranks low (xs ++ ys ++ zs) high
+    → After key xs k → After key ys l → After key zs m → filter (λ x. precedes key (site_key x)) (xs ++ ys ++ zs) ≡ drop (k + l + m) (xs ++ ys ++ zs)
+three-after key low high xs ys zs k l m climbs a b c = suffix site_ranks low (key_ranks key) (xs ++ ys ++ zs) high climbs ∙ ap (λ n. drop n (xs ++ ys ++ zs)) number
+  where
+    later : Site → Bool
+    later x = precedes key (site_key x)
+
+    number : length (xs ++ ys ++ zs) - length (filter later (xs ++ ys ++ zs)) ≡ k + l + m
+    number = omega (
+      arith,
+      a.within,
+      b.within,
+      c.within,
+      length-append (xs ++ ys) zs,
+      length-append xs ys,
+      ap length (filter-append later (xs ++ ys) zs),
+      length-append (filter later (xs ++ ys)) (filter later zs),
+      ap length (filter-append later xs ys),
+      length-append (filter later xs) (filter later ys),
+      ap length a.left,
+      length-drop k xs,
+      ap length b.left,
+      length-drop l ys,
+      ap length c.left,
+      length-drop m zs,
+    )
+
+passed-within : (key : PlainKey) (r : Rule) (n : ℕ) → passed_of key r n ≤ n
+passed-within key r n = by (nat_lt (rule_rank key.rule) (rule_rank r)) (nat_lt (rule_rank r) (rule_rank key.rule))
+  where
+    by : (below above : Bool) → cond below 0 (cond above n (min key.place n)) ≤ n
+    by true above = omega arith
+    by false true = omega arith
+    by false false = omega arith
+
+-- of entries as they are seen
+entries-after : {A B : Type 0} (key : PlainKey) (r : Rule) (view : B → A) (make : ℕ × A → Site) (ys : List B) (n : ℕ)
+    → ((x : ℕ × A) → precedes key (site_key (make x)) ≡ entry_after key r x.0) → n ≡ passed_of key r (length ys)
+    → After key (map make (enumerate_from 1 (map view ys))) n
+entries-after key r view make ys n same is = record {
+  left = made_after key r make (map view ys) same ∙ ap (λ m. drop m (map make (enumerate_from 1 (map view ys)))) (ap (passed_of key r) (length-map ys view) ∙ sym is);
+  within = omega (arith, passed-within key r (length ys), count-entries view make ys);
+}
 
 -- ---- a key's package
 
-abbrev pub key_of : Part → Rule → ℕ → Option Aspect → PlainKey
-key_of p r place aspect = record { part = p; rule = r; place = place; aspect = aspect }
+-- a key of this package
+abbrev IsOf : PlainKey → Placed → Type 0
+IsOf key p = key.part ≡ part.Package p.0
 
-module _ (r : Rule) (place : ℕ) (aspect : Option Aspect) where
-  -- a key of the package at this place
-  abbrev of_package : ℕ → PlainKey
-  of_package n = key_of (part.Package n) r place aspect
+same_package : (key : PlainKey) (p : Placed) (other : Rule) (k : ℕ) → IsOf key p → precedes key (package_key p other k) ≡ entry_after key other k
+same_package key p other k of =
+    ap (λ q. is_lt (slice_cmp nat_cmp (part_rank q ∷ part_place q ∷ rule_rank key.rule ∷ key.place ∷ aspect_rank key.aspect ∷ []) (key_ranks (package_key p other k)))) of
+    ∙ ap (λ o. is_lt (ordering_then o (slice_cmp nat_cmp (rule_rank key.rule ∷ key.place ∷ aspect_rank key.aspect ∷ []) (rule_rank other ∷ k ∷ 0 ∷ [])))) (tied_itself nat_cmp_total p.0)
 
-  same_package : (p : Placed) (other : Rule) (k : ℕ) → precedes (of_package p.0) (package_key p other k) ≡ entry_after (of_package p.0) other k
-  same_package p other k = ap (λ o. is_lt (ordering_then o (slice_cmp nat_cmp (rule_rank r ∷ place ∷ aspect_rank aspect ∷ []) (rule_rank other ∷ k ∷ 0 ∷ [])))) (tied_itself nat_cmp_total p.0)
+-- what has one place is an entry of its own
+alone_after : (key : PlainKey) (p : Placed) (site : Site) → IsOf key p → site_key site ≡ package_key p rule.Keep 1
+    → filter (λ x. precedes key (site_key x)) (site ∷ []) ≡ drop (passed_of key rule.Keep 1) (site ∷ [])
+alone_after key p site of same =
+    filter-map (λ x. precedes key (site_key x)) (λ x. site) (enumerate_from 1 (p ∷ []))
+    ∙ ap (map (λ x. site)) (ap (λ b. cond b ((1, p) ∷ []) []) (ap (precedes key) same ∙ same_package key p rule.Keep 1 of)
+    ∙ by_ranks (rule_rank key.rule) (rule_rank rule.Keep) key.place (aspect_rank key.aspect) (p ∷ []))
+    ∙ sym (drop-map (λ x. site) (passed_of key rule.Keep 1) (enumerate_from 1 (p ∷ [])))
 
-  -- what has one place is an entry of its own
-  alone_after : (p : Placed) (site : Site) → precedes (of_package p.0) (site_key site) ≡ entry_after (of_package p.0) rule.Keep 1
-      → filter (λ x. precedes (of_package p.0) (site_key x)) (site ∷ []) ≡ map (λ x. site) (entries_left (passed (of_package p.0) rule.Keep) (p ∷ []))
-  alone_after p site same =
-      filter-map (λ x. precedes (of_package p.0) (site_key x)) (λ x. site) (enumerate_from 1 (p ∷ []))
-      ∙ ap (map (λ x. site)) (ap (λ b. cond b ((1, p) ∷ []) []) same ∙ entries_after (of_package p.0) rule.Keep (p ∷ []))
+kept_after : (key : PlainKey) (k : Keep) (p : Placed) → IsOf key p → filter (λ x. precedes key (site_key x)) (kept_sites k p) ≡ drop (passed_of key rule.Keep (length (kept_sites k p))) (kept_sites k p)
+kept_after key Version p of = alone_after key p (kept_version p) of refl
+kept_after key Package p of = alone_after key p (kept_package p) of refl
+kept_after key Feature p of =
+    made_after key rule.Keep (λ v. kept_feature p v.0 v.1) p.1.provides (λ v. same_package key p rule.Keep v.0 of)
+    ∙ ap (λ n. drop (passed_of key rule.Keep n) (kept_sites Feature p)) (sym (length-map (enumerate_from 1 p.1.provides) (λ v. kept_feature p v.0 v.1) ∙ length-enumerate_from 1 p.1.provides))
+kept_after key Nothing p of = sym (drop-none (passed_of key rule.Keep 0))
 
-  kept_after : (k : Keep) (p : Placed) → filter (λ x. precedes (of_package p.0) (site_key x)) (kept_sites k p) ≡ kept_left (passed (of_package p.0) rule.Keep) k p
-  kept_after Version p = alone_after p (kept_version p) (same_package p rule.Keep 1)
-  kept_after Package p = alone_after p (kept_package p) (same_package p rule.Keep 1)
-  kept_after Feature p = made_after (of_package p.0) rule.Keep (λ v. kept_feature p v.0 v.1) p.1.provides (λ v. same_package p rule.Keep v.0)
-  kept_after Nothing p = refl
+kept_if : (key : PlainKey) (b : Bool) (k : Keep) (p : Placed) → IsOf key p
+    → filter (λ x. precedes key (site_key x)) (cond b (kept_sites k p) []) ≡ drop (passed_of key rule.Keep (length (cond b (kept_sites k p) []))) (cond b (kept_sites k p) [])
+kept_if key true k p of = kept_after key k p of
+kept_if key false k p of = sym (drop-none (passed_of key rule.Keep 0))
 
-  needed_after : (p : Placed) → filter (λ x. precedes (of_package p.0) (site_key x)) (needed_sites p) ≡ needed_left (of_package p.0) p
-  needed_after p =
-      filter-append (λ x. precedes (of_package p.0) (site_key x)) (map (λ c. conjunct p c.0 c.1) (enumerate_from 1 p.1.depends)) (map (λ v. conflicts_entry p v.0 v.1) (enumerate_from 1 p.1.conflicts))
-      ∙ (λ i. made_after (of_package p.0) rule.Depends (λ c. conjunct p c.0 c.1) p.1.depends (λ c. same_package p rule.Depends c.0) i
-      ++ made_after (of_package p.0) rule.Conflicts (λ v. conflicts_entry p v.0 v.1) p.1.conflicts (λ v. same_package p rule.Conflicts v.0) i)
-
-  sites_after : (s : Proposal) (p : Placed) → filter (λ x. precedes (of_package p.0) (site_key x)) (package_sites s p) ≡ package_sites_left s (of_package p.0) p
-  sites_after s p =
-      filter-append later (cond (holds_place s.proposed p.0) (needed_sites p) []) (cond (holds_place s.initial p.0) (kept_sites p.1.keep p) [])
-      ∙ (λ i. filter-if later (holds_place s.proposed p.0) (needed_sites p) i ++ filter-if later (holds_place s.initial p.0) (kept_sites p.1.keep p) i)
-      ∙ (λ i. cond (holds_place s.proposed p.0) (needed_after p i) [] ++ cond (holds_place s.initial p.0) (kept_after p.1.keep p i) [])
-    where
-      later : Site → Bool
-      later x = precedes (of_package p.0) (site_key x)
-
-  own_after : (s : Proposal) (p : Placed) → filter (is_after (of_package p.0)) (package_stops s p) ≡ package_left s (of_package p.0) (Some p)
-  own_after s p =
-      filter-append (is_after (of_package p.0)) (map at_site (package_sites s p)) (package_end p.0 ∷ [])
-      ∙ (λ i. (filter-map (is_after (of_package p.0)) at_site (package_sites s p) ∙ ap (map at_site) (sites_after s p)) i ++ cond (itself i) (package_end p.0 ∷ []) [])
-    where
-      itself : nat_le p.0 p.0 ≡ true
-      itself = grind (arith, nat_tests)
+-- the places that a key of the package has passed are the first of them
+pub candidate-after : (s : Proposal) (key : PlainKey) (c : Candidate) (k l m : ℕ) → Fits s c → key.part ≡ part.Package c.place
+    → k ≡ passed_of key rule.Depends (length (clauses_of c)) → l ≡ passed_of key rule.Conflicts (length (conflicts_of c)) → m ≡ passed_of key rule.Keep (length (kept_of c))
+    → filter (λ x. precedes key (site_key x)) (package_sites s (placed_view c)) ≡ drop (k + l + m) (package_sites s (placed_view c))
+candidate-after s key c k l m fits of h h' h'' =
+    subst (λ (xs : List Site). Climbs site_ranks (1 ∷ c.place ∷ []) xs (1 ∷ c.place ∷ 4 ∷ []) → filter (λ x. precedes key (site_key x)) xs ≡ drop (k + l + m) xs) (sym (candidate-sites s c fits))
+    (λ climbs. three-after key (1 ∷ c.place ∷ []) (1 ∷ c.place ∷ 4 ∷ []) _ _ (kept_of c) k l m climbs
+    (entries-after key rule.Depends clause_view (λ e. conjunct (placed_view c) e.0 e.1) (clauses_of c) k (λ x. same_package key (placed_view c) rule.Depends x.0 of) h)
+    (entries-after key rule.Conflicts vpkg_view (λ e. conflicts_entry (placed_view c) e.0 e.1) (conflicts_of c) l (λ x. same_package key (placed_view c) rule.Conflicts x.0 of) h')
+    (record {
+      left = kept_if key c.package.now.installed c.package.now.keep (placed_view c) of ∙ ap (λ n. drop n (kept_of c)) (sym h'');
+      within = omega (arith, passed-within key rule.Keep (length (kept_of c)));
+    }))
+    (sites_climb s (placed_view c))
 
 -- ---- the packages before and after it
 
@@ -176,50 +263,70 @@ up_to m n x xs h = elim (cases_lt m n) [ inl below ↦ less_first m n [] (x ∷ 
     at_same : m ≡ n → Below (m ∷ []) (n ∷ x ∷ xs)
     at_same same = subst (λ (l : ℕ). Below (l ∷ []) (n ∷ x ∷ xs)) (sym same) (same_first n [] (x ∷ xs) refl)
 
-module _ (r : Rule) (place : ℕ) (aspect : Option Aspect) (s : Proposal) where
-  -- a key of the package at this place
-  abbrev to_package : ℕ → PlainKey
-  to_package n = key_of (part.Package n) r place aspect
+module _ (s : Proposal) (key : PlainKey) where
+  earlier_package : (n : ℕ) (p : Placed) → key.part ≡ part.Package n → p.0 < n → filter (is_after key) (package_stops s p) ≡ []
+  earlier_package n p of h =
+      after-ranks key (package_stops s p)
+      ∙ dropped_below stop_ranks (1 ∷ p.0 ∷ []) (package_stops s p) (key_ranks key)
+      (to_higher stop_ranks (1 ∷ p.0 ∷ []) (1 ∷ (p.0 + 1) ∷ []) (key_ranks key) (package_stops s p) (package_climbs s p)
+      (subst (λ (q : Part). Below (1 ∷ (p.0 + 1) ∷ []) (part_rank q ∷ part_place q ∷ more)) (sym of)
+      (same_first 1 ((p.0 + 1) ∷ []) (n ∷ more) (up_to (p.0 + 1) n (rule_rank key.rule) (key.place ∷ aspect_rank key.aspect ∷ []) (omega arith)))))
+    where
+      more : List ℕ
+      more = rule_rank key.rule ∷ key.place ∷ aspect_rank key.aspect ∷ []
 
-  earlier_package : (n : ℕ) (p : Placed) → p.0 < n → filter (is_after (to_package n)) (package_stops s p) ≡ []
-  earlier_package n p h =
-      after-ranks (to_package n) (package_stops s p)
-      ∙ dropped_below stop_ranks (1 ∷ p.0 ∷ []) (package_stops s p) (key_ranks (to_package n))
-      (to_higher stop_ranks (1 ∷ p.0 ∷ []) (1 ∷ (p.0 + 1) ∷ []) (key_ranks (to_package n)) (package_stops s p) (package_climbs s p)
-      (same_first 1 ((p.0 + 1) ∷ []) (n ∷ rule_rank r ∷ place ∷ aspect_rank aspect ∷ []) (up_to (p.0 + 1) n (rule_rank r) (place ∷ aspect_rank aspect ∷ []) (omega arith))))
-
-  later_packages : (n m : ℕ) (packages : List PlainPackage) → n < m
-      → filter (is_after (to_package n)) (flat_map (package_stops s) (enumerate_from m packages)) ≡ flat_map (package_stops s) (enumerate_from m packages)
-  later_packages n m packages h =
+  later_packages : (n m : ℕ) (packages : List PlainPackage) → key.part ≡ part.Package n → n < m
+      → filter (is_after key) (flat_map (package_stops s) (enumerate_from m packages)) ≡ flat_map (package_stops s) (enumerate_from m packages)
+  later_packages n m packages of h =
       let stops = flat_map (package_stops s) (enumerate_from m packages) in
-      after-ranks (to_package n) stops
-      ∙ kept_above stop_ranks (key_ranks (to_package n)) stops (2 ∷ [])
-      (from_lower stop_ranks (key_ranks (to_package n)) (1 ∷ m ∷ []) (2 ∷ []) stops
-      (same_first 1 (n ∷ rule_rank r ∷ place ∷ aspect_rank aspect ∷ []) (m ∷ []) (less_first n m (rule_rank r ∷ place ∷ aspect_rank aspect ∷ []) [] h))
+      after-ranks key stops
+      ∙ kept_above stop_ranks (key_ranks key) stops (2 ∷ [])
+      (from_lower stop_ranks (key_ranks key) (1 ∷ m ∷ []) (2 ∷ []) stops
+      (subst (λ (q : Part). Below (part_rank q ∷ part_place q ∷ more) (1 ∷ m ∷ [])) (sym of) (same_first 1 (n ∷ more) (m ∷ []) (less_first n m more [] h)))
       (packages_climb s m packages))
+    where
+      more : List ℕ
+      more = rule_rank key.rule ∷ key.place ∷ aspect_rank key.aspect ∷ []
 
-  own_package : (n : ℕ) (p : Placed) → p.0 ≡ n → filter (is_after (to_package n)) (package_stops s p) ≡ package_left s (to_package n) (Some p)
-  own_package n p same = subst (λ (m : ℕ). filter (is_after (to_package m)) (package_stops s p) ≡ package_left s (to_package m) (Some p)) same (own_after r place aspect s p)
+  -- the key's own package, of whose places it has passed this many
+  own_package : (k : ℕ) (p : Placed) → key.part ≡ part.Package p.0 → filter (λ x. precedes key (site_key x)) (package_sites s p) ≡ drop k (package_sites s p)
+      → filter (is_after key) (package_stops s p) ≡ package_rest s k p
+  own_package k p of left =
+      filter-append (is_after key) (map at_site (package_sites s p)) (package_end p.0 ∷ [])
+      ∙ (λ i. (filter-map (is_after key) at_site (package_sites s p) ∙ ap (map at_site) left) i
+      ++ cond ((ap (λ q. precedes_end q p.0) of ∙ itself) i) (package_end p.0 ∷ []) [])
+    where
+      itself : nat_le p.0 p.0 ≡ true
+      itself = grind (arith, nat_tests)
 
-  packages_after : (n m i : ℕ) (packages : List PlainPackage) → n ≡ m + i
-      → filter (is_after (to_package n)) (flat_map (package_stops s) (enumerate_from m packages))
-      ≡ package_left s (to_package n) (slice_get (enumerate_from m packages) i) ++ flat_map (package_stops s) (drop (suc i) (enumerate_from m packages))
-  packages_after n m i [] h = refl
-  packages_after n m zero (x ∷ packages) h =
-      filter-append (is_after (to_package n)) (package_stops s (m, x)) (flat_map (package_stops s) (enumerate_from (m + 1) packages))
-      ∙ (λ j. own_package n (m, x) (omega arith) j ++ later_packages n (m + 1) packages (omega arith) j)
-  packages_after n m (suc i) (x ∷ packages) h =
-      filter-append (is_after (to_package n)) (package_stops s (m, x)) (flat_map (package_stops s) (enumerate_from (m + 1) packages))
-      ∙ (λ j. earlier_package n (m, x) (omega arith) j ++ packages_after n (m + 1) i packages (omega arith) j)
+  pub packages_after : (k n m i : ℕ) (packages : List PlainPackage) → key.part ≡ part.Package n → n ≡ m + i
+      → ((p : PlainPackage) → slice_get packages i ≡ Some p → filter (λ x. precedes key (site_key x)) (package_sites s (n, p)) ≡ drop k (package_sites s (n, p)))
+      → filter (is_after key) (flat_map (package_stops s) (enumerate_from m packages)) ≡ packages_rest s k (drop i (enumerate_from m packages))
+  packages_after k n m i [] of h own = ap (packages_rest s k) (sym (drop-none i))
+  packages_after k n m zero (x ∷ packages) of h own =
+      filter-append (is_after key) (package_stops s (m, x)) (flat_map (package_stops s) (enumerate_from (m + 1) packages))
+      ∙ (λ j. here j ++ later_packages n (m + 1) packages of (omega arith) j)
+    where
+      number : n ≡ m
+      number = omega arith
+
+      here : filter (is_after key) (package_stops s (m, x)) ≡ package_rest s k (m, x)
+      here = subst (λ (l : ℕ). filter (is_after key) (package_stops s (l, x)) ≡ package_rest s k (l, x)) number (own_package k (n, x) of (own x refl))
+  packages_after k n m (suc i) (x ∷ packages) of h own =
+      filter-append (is_after key) (package_stops s (m, x)) (flat_map (package_stops s) (enumerate_from (m + 1) packages))
+      ∙ (λ j. earlier_package n (m, x) of (omega arith) j ++ packages_after k n (m + 1) i packages of (omega arith) own j)
 
 -- a key of another part comes after all packages
-packages_before : (s : Proposal) (key : PlainKey) → Below (2 ∷ []) (key_ranks key) → filter (is_after key) (flat_map (package_stops s) (enumerate_from 1 s.problem.packages)) ≡ []
+pub packages_before : (s : Proposal) (key : PlainKey) → Below (2 ∷ []) (key_ranks key) → filter (is_after key) (flat_map (package_stops s) (enumerate_from 1 s.problem.packages)) ≡ []
 packages_before s key h =
     let stops = flat_map (package_stops s) (enumerate_from 1 s.problem.packages) in
     after-ranks key stops ∙ dropped_below stop_ranks (1 ∷ 1 ∷ []) stops (key_ranks key)
     (to_higher stop_ranks (1 ∷ 1 ∷ []) (2 ∷ []) (key_ranks key) stops (packages_climb s 1 s.problem.packages) h)
 
 -- ---- the request
+
+abbrev pub key_of : Part → Rule → ℕ → Option Aspect → PlainKey
+key_of p r place aspect = record { part = p; rule = r; place = place; aspect = aspect }
 
 abbrev to_upgrade : ℕ → Option Aspect → PlainKey
 to_upgrade place aspect = key_of part.Request rule.Upgrade place aspect
@@ -229,7 +336,7 @@ abbrev passing : Bool → Bool → Bool → Site → Site → Site → List Site
 passing a b c x y z = cond a (x ∷ cond b (y ∷ cond c (z ∷ []) []) (cond c (z ∷ []) [])) (cond b (y ∷ cond c (z ∷ []) []) (cond c (z ∷ []) []))
 
 own_entry : (place : ℕ) (aspect : Option Aspect) (v : ℕ × PlainVpkg) → place ≡ v.0
-    → filter (λ x. precedes (to_upgrade place aspect) (site_key x)) (upgrade_sites v) ≡ aspects_after aspect v
+    → filter (λ x. precedes (to_upgrade place aspect) (site_key x)) (upgrade_sites v) ≡ drop (aspect_rank aspect) (upgrade_sites v)
 own_entry place aspect v same = (λ i. passing (by Unsatisfied i) (by Many i) (by Lower i) (upgrade_entry v.0 v.1 Unsatisfied) (upgrade_entry v.0 v.1 Many) (upgrade_entry v.0 v.1 Lower)) ∙ cases aspect
   where
     by : (a : Aspect) → precedes (to_upgrade place aspect) (site_key (upgrade_entry v.0 v.1 a)) ≡ is_lt (slice_cmp nat_cmp (aspect_rank aspect ∷ []) (aspect_rank (Some a) ∷ []))
@@ -241,7 +348,7 @@ own_entry place aspect v same = (λ i. passing (by Unsatisfied i) (by Many i) (b
     cases : (aspect : Option Aspect)
         → passing (is_lt (slice_cmp nat_cmp (aspect_rank aspect ∷ []) (1 ∷ []))) (is_lt (slice_cmp nat_cmp (aspect_rank aspect ∷ []) (2 ∷ []))) (is_lt (slice_cmp nat_cmp (aspect_rank aspect ∷ []) (3 ∷ [])))
         (upgrade_entry v.0 v.1 Unsatisfied) (upgrade_entry v.0 v.1 Many) (upgrade_entry v.0 v.1 Lower)
-        ≡ aspects_after aspect v
+        ≡ drop (aspect_rank aspect) (upgrade_sites v)
     cases None = refl
     cases (Some Unsatisfied) = refl
     cases (Some Many) = refl
@@ -262,61 +369,95 @@ later_entries place aspect m vs h =
 
 aspects_split : (place : ℕ) (aspect : Option Aspect) (m i : ℕ) (vs : List PlainVpkg) → place ≡ m + i
     → filter (λ x. precedes (to_upgrade place aspect) (site_key x)) (flat_map upgrade_sites (enumerate_from m vs))
-    ≡ aspects_left aspect (slice_get (enumerate_from m vs) i) ++ flat_map upgrade_sites (drop (suc i) (enumerate_from m vs))
-aspects_split place aspect m i [] h = refl
+    ≡ drop (3 * min i (length vs) + aspect_rank aspect) (flat_map upgrade_sites (enumerate_from m vs))
+aspects_split place aspect m i [] h = sym (drop-none (3 * min i 0 + aspect_rank aspect))
 aspects_split place aspect m zero (v ∷ vs) h =
-    filter-append (λ x. precedes (to_upgrade place aspect) (site_key x)) (upgrade_sites (m, v)) (flat_map upgrade_sites (enumerate_from (m + 1) vs))
+    filter-append (λ x. precedes (to_upgrade place aspect) (site_key x)) (upgrade_sites (m, v)) more
     ∙ (λ j. own_entry place aspect (m, v) (omega arith) j ++ later_entries place aspect (m + 1) vs (omega arith) j)
+    ∙ sym (drop-append-le (aspect_rank aspect) (upgrade_sites (m, v)) more (aspects_within aspect))
+    ∙ ap (λ n. drop n (upgrade_sites (m, v) ++ more)) {x = aspect_rank aspect} {y = 3 * min 0 (length (v ∷ vs)) + aspect_rank aspect} (omega arith)
+  where
+    more : List Site
+    more = flat_map upgrade_sites (enumerate_from (m + 1) vs)
+
+    aspects_within : (aspect : Option Aspect) → aspect_rank aspect ≤ 3
+    aspects_within None = omega arith
+    aspects_within (Some Unsatisfied) = omega arith
+    aspects_within (Some Many) = omega arith
+    aspects_within (Some Lower) = omega arith
 aspects_split place aspect m (suc i) (v ∷ vs) h =
-    filter-append (λ x. precedes (to_upgrade place aspect) (site_key x)) (upgrade_sites (m, v)) (flat_map upgrade_sites (enumerate_from (m + 1) vs))
+    filter-append (λ x. precedes (to_upgrade place aspect) (site_key x)) (upgrade_sites (m, v)) more
     ∙ (λ j. earlier_entry place aspect (m, v) (omega arith) j ++ aspects_split place aspect (m + 1) i vs (omega arith) j)
+    ∙ ap (λ n. drop n (upgrade_sites (m, v) ++ more)) {x = suc (suc (suc (3 * min i (length vs) + aspect_rank aspect)))} {y = 3 * min (suc i) (length (v ∷ vs)) + aspect_rank aspect} (omega arith)
+  where
+    more : List Site
+    more = flat_map upgrade_sites (enumerate_from (m + 1) vs)
 
 -- numbers are from 1
 place_counted : (p : Part) (r : Rule) (place : ℕ) (aspect : Option Aspect) → is_key p r place aspect ≡ true → 0 < place
 place_counted p r place aspect h = ltb-true 0 place (and_right (fits_part p r && is_counted p) (nat_lt 0 place) (and_left (fits_part p r && is_counted p && nat_lt 0 place) (fits_aspect r aspect) h))
 
-package_counted : (n : ℕ) (r : Rule) (place : ℕ) (aspect : Option Aspect) → is_key (part.Package n) r place aspect ≡ true → 0 < n
+pub package_counted : (n : ℕ) (r : Rule) (place : ℕ) (aspect : Option Aspect) → is_key (part.Package n) r place aspect ≡ true → 0 < n
 package_counted n r place aspect h =
     ltb-true 0 n (and_right (fits_part (part.Package n) r) (nat_lt 0 n) (and_left (fits_part (part.Package n) r && nat_lt 0 n) (nat_lt 0 place)
     (and_left (fits_part (part.Package n) r && nat_lt 0 n && nat_lt 0 place) (fits_aspect r aspect) h)))
 
-upgrade_after : (r : Rule) (place : ℕ) (aspect : Option Aspect) (vs : List PlainVpkg) → is_key part.Request r place aspect ≡ true
-    → filter (λ x. precedes (key_of part.Request r place aspect) (site_key x)) (flat_map upgrade_sites (enumerate_from 1 vs)) ≡ upgrade_left (key_of part.Request r place aspect) vs
-upgrade_after rule.Install place aspect vs h =
+upgrades-left : (r : Rule) (place : ℕ) (aspect : Option Aspect) (vs : List PlainVpkg) → is_key part.Request r place aspect ≡ true
+    → filter (λ x. precedes (key_of part.Request r place aspect) (site_key x)) (flat_map upgrade_sites (enumerate_from 1 vs))
+    ≡ drop (passed_upgrade (key_of part.Request r place aspect) (length vs)) (flat_map upgrade_sites (enumerate_from 1 vs))
+upgrades-left rule.Install place aspect vs h =
     kept_above site_ranks (2 ∷ 0 ∷ 4 ∷ place ∷ aspect_rank aspect ∷ []) (flat_map upgrade_sites (enumerate_from 1 vs)) (3 ∷ [])
     (from_lower site_ranks (2 ∷ 0 ∷ 4 ∷ place ∷ aspect_rank aspect ∷ []) (2 ∷ 0 ∷ 6 ∷ 1 ∷ []) (3 ∷ []) (flat_map upgrade_sites (enumerate_from 1 vs)) refl (entries_climb 1 vs))
-upgrade_after rule.Remove place aspect vs h =
+upgrades-left rule.Remove place aspect vs h =
     kept_above site_ranks (2 ∷ 0 ∷ 5 ∷ place ∷ aspect_rank aspect ∷ []) (flat_map upgrade_sites (enumerate_from 1 vs)) (3 ∷ [])
     (from_lower site_ranks (2 ∷ 0 ∷ 5 ∷ place ∷ aspect_rank aspect ∷ []) (2 ∷ 0 ∷ 6 ∷ 1 ∷ []) (3 ∷ []) (flat_map upgrade_sites (enumerate_from 1 vs)) refl (entries_climb 1 vs))
-upgrade_after rule.Upgrade place aspect vs h =
+upgrades-left rule.Upgrade place aspect vs h =
     let positive = place_counted part.Request rule.Upgrade place aspect h in
-    let next : suc (place - 1) ≡ place = omega arith in
     aspects_split place aspect 1 (place - 1) vs (omega arith)
-    ∙ ap (λ n. aspects_left aspect (slice_get (enumerate_from 1 vs) (place - 1)) ++ flat_map upgrade_sites (drop n (enumerate_from 1 vs))) next
-upgrade_after rule.Depends place aspect vs h = absurd (cc h)
-upgrade_after rule.Conflicts place aspect vs h = absurd (cc h)
-upgrade_after rule.Keep place aspect vs h = absurd (cc h)
-upgrade_after rule.Unknown place aspect vs h = absurd (cc h)
+    ∙ sym (drop_min (3 * min (place - 1) (length vs) + aspect_rank aspect) (flat_map upgrade_sites (enumerate_from 1 vs)))
+    ∙ ap (λ n. drop (min (3 * min (place - 1) (length vs) + aspect_rank aspect) n) (flat_map upgrade_sites (enumerate_from 1 vs))) (count-upgrades 1 vs)
+upgrades-left rule.Depends place aspect vs h = absurd (cc h)
+upgrades-left rule.Conflicts place aspect vs h = absurd (cc h)
+upgrades-left rule.Keep place aspect vs h = absurd (cc h)
+upgrades-left rule.Unknown place aspect vs h = absurd (cc h)
 
-request_after : (r : Rule) (place : ℕ) (aspect : Option Aspect) (request : PlainRequest) → is_key part.Request r place aspect ≡ true
-    → filter (λ x. precedes (key_of part.Request r place aspect) (site_key x)) (request_sites request) ≡ request_left (key_of part.Request r place aspect) request
-request_after r place aspect request h =
-    filter-append later (wanted ++ unwanted) (flat_map upgrade_sites (enumerate_from 1 request.upgrade))
-    ∙ (λ i. filter-append later wanted unwanted i ++ upgrade_after r place aspect request.upgrade h i)
-    ∙ (λ i. (made_after key rule.Install (λ v. install_entry v.0 v.1) request.install (λ v. refl) i ++ made_after key rule.Remove (λ v. remove_entry v.0 v.1) request.remove (λ v. refl) i)
-    ++ upgrade_left key request.upgrade)
+upgrades-within : (key : PlainKey) (n : ℕ) → passed_upgrade key n ≤ 3 * n
+upgrades-within key n = by (nat_lt (rule_rank key.rule) 6)
+  where
+    by : (below : Bool) → cond below 0 (min (3 * min (key.place - 1) n + aspect_rank key.aspect) (3 * n)) ≤ 3 * n
+    by true = omega arith
+    by false = omega arith
+
+-- the places that a key of the request has passed are the first of them
+request-by : (r : Rule) (place : ℕ) (aspect : Option Aspect) (request : Request) (k l m : ℕ) → is_key part.Request r place aspect ≡ true
+    → k ≡ passed_of (key_of part.Request r place aspect) rule.Install (length request.install.items) → l ≡ passed_of (key_of part.Request r place aspect) rule.Remove (length request.remove.items)
+    → m ≡ passed_upgrade (key_of part.Request r place aspect) (length request.upgrade.items)
+    → filter (λ x. precedes (key_of part.Request r place aspect) (site_key x)) (request_sites (request_view request)) ≡ drop (k + l + m) (request_sites (request_view request))
+request-by r place aspect request k l m fits h h' h'' =
+    three-after key (2 ∷ []) (3 ∷ []) _ _ upgrades k l m (request_climbs (request_view request))
+    (entries-after key rule.Install vpkg_view (λ v. install_entry v.0 v.1) request.install.items k (λ x. refl) h)
+    (entries-after key rule.Remove vpkg_view (λ v. remove_entry v.0 v.1) request.remove.items l (λ x. refl) h')
+    (record {
+      left = upgrades-left r place aspect (map vpkg_view request.upgrade.items) fits ∙ ap (λ n. drop n upgrades) (ap (passed_upgrade key) (length-map request.upgrade.items vpkg_view) ∙ sym h'');
+      within = omega (arith, upgrades-within key (length request.upgrade.items), count-upgrades 1 (map vpkg_view request.upgrade.items), length-map request.upgrade.items vpkg_view);
+    })
   where
     key : PlainKey
     key = key_of part.Request r place aspect
 
-    later : Site → Bool
-    later x = precedes key (site_key x)
+    upgrades : List Site
+    upgrades = flat_map upgrade_sites (enumerate_from 1 (map vpkg_view request.upgrade.items))
 
-    wanted : List Site
-    wanted = map (λ v. install_entry v.0 v.1) (enumerate_from 1 request.install)
-
-    unwanted : List Site
-    unwanted = map (λ v. remove_entry v.0 v.1) (enumerate_from 1 request.remove)
+pub request-after : (key : PlainKey) (request : Request) (k l m : ℕ) → is_fitting key ≡ true → key.part ≡ part.Request
+    → k ≡ passed_of key rule.Install (length request.install.items) → l ≡ passed_of key rule.Remove (length request.remove.items) → m ≡ passed_upgrade key (length request.upgrade.items)
+    → filter (λ x. precedes key (site_key x)) (request_sites (request_view request)) ≡ drop (k + l + m) (request_sites (request_view request))
+request-after key request k l m fits of h h' h'' = by key.part of fits
+  where
+    by : (p : Part) → p ≡ part.Request → is_key p key.rule key.place key.aspect ≡ true
+        → filter (λ x. precedes (key_of p key.rule key.place key.aspect) (site_key x)) (request_sites (request_view request)) ≡ drop (k + l + m) (request_sites (request_view request))
+    by part.Request same fits = request-by key.rule key.place key.aspect request k l m fits h h' h''
+    by (part.Package n) same fits = absurd (cc same)
+    by part.Solution same fits = absurd (cc same)
 
 -- ---- the solution
 
@@ -336,43 +477,10 @@ all_unknown_after key h unknown =
 
 -- ---- the walk
 
-others_after : (key : PlainKey) (request left : List Site) (unknown more : List Site)
-    → filter (λ x. precedes key (site_key x)) request ≡ left → filter (λ x. precedes key (site_key x)) unknown ≡ more
-    → filter (is_after key) (map at_site (request ++ unknown)) ≡ map at_site (left ++ more)
-others_after key request left unknown more h k =
-    filter-map (is_after key) at_site (request ++ unknown)
-    ∙ ap (map at_site) (filter-append (λ x. precedes key (site_key x)) request unknown ∙ (λ i. h i ++ k i))
+-- the whole request comes after the keys of packages
+pub request-later : (key : PlainKey) (r : PlainRequest) → Below (key_ranks key) (2 ∷ []) → filter (λ x. precedes key (site_key x)) (request_sites r) ≡ request_sites r
+request-later key r h = kept_above site_ranks (key_ranks key) (request_sites r) (3 ∷ []) (from_lower site_ranks (key_ranks key) (2 ∷ []) (3 ∷ []) (request_sites r) h (request_climbs r))
 
-by_part : (s : Proposal) (p : Part) (r : Rule) (place : ℕ) (aspect : Option Aspect) → is_key p r place aspect ≡ true
-    → filter (is_after (key_of p r place aspect)) (walk s) ≡ stops_left s (key_of p r place aspect)
-unfolding walk
-by_part s (part.Package n) r place aspect h =
-    let key = key_of (part.Package n) r place aspect in
-    let positive = package_counted n r place aspect h in
-    let next : suc (n - 1) ≡ n = omega arith in
-    let request = kept_above site_ranks (key_ranks key) (request_sites s.problem.request) (3 ∷ []) (from_lower site_ranks (key_ranks key) (2 ∷ []) (3 ∷ []) (request_sites s.problem.request) refl (request_climbs s.problem.request)) in
-    filter-append (is_after key) (flat_map (package_stops s) (enumerate_from 1 s.problem.packages)) (map at_site (request_sites s.problem.request ++ map unknown_stanza s.unknown))
-    ∙ (λ i. packages_after r place aspect s n 1 (n - 1) s.problem.packages (omega arith) i
-    ++ others_after key (request_sites s.problem.request) (request_sites s.problem.request) (map unknown_stanza s.unknown) (map unknown_stanza s.unknown) request (all_unknown_after key (λ u. refl) s.unknown) i)
-    ∙ ap (λ m. package_left s key (slice_get (enumerate_from 1 s.problem.packages) (n - 1)) ++ packages_left s m ++ map at_site (request_sites s.problem.request ++ map unknown_stanza s.unknown)) next
-by_part s part.Request r place aspect h =
-    let key = key_of part.Request r place aspect in
-    filter-append (is_after key) (flat_map (package_stops s) (enumerate_from 1 s.problem.packages)) (map at_site (request_sites s.problem.request ++ map unknown_stanza s.unknown))
-    ∙ (λ i. packages_before s key refl i
-    ++ others_after key (request_sites s.problem.request) (request_left key s.problem.request) (map unknown_stanza s.unknown) (map unknown_stanza s.unknown) (request_after r place aspect s.problem.request h) (all_unknown_after key (λ u. refl) s.unknown) i)
-by_part s part.Solution rule.Unknown place aspect h =
-    let key = key_of part.Solution rule.Unknown place aspect in
-    let request = dropped_below site_ranks (2 ∷ []) (request_sites s.problem.request) (key_ranks key) (to_higher site_ranks (2 ∷ []) (3 ∷ []) (key_ranks key) (request_sites s.problem.request) (request_climbs s.problem.request) refl) in
-    filter-append (is_after key) (flat_map (package_stops s) (enumerate_from 1 s.problem.packages)) (map at_site (request_sites s.problem.request ++ map unknown_stanza s.unknown))
-    ∙ (λ i. packages_before s key refl i
-    ++ others_after key (request_sites s.problem.request) [] (map unknown_stanza s.unknown) (map unknown_stanza (unknown_left place s.unknown)) request (unknown_after place aspect s.unknown) i)
-by_part s part.Solution rule.Depends place aspect h = absurd (cc h)
-by_part s part.Solution rule.Conflicts place aspect h = absurd (cc h)
-by_part s part.Solution rule.Keep place aspect h = absurd (cc h)
-by_part s part.Solution rule.Install place aspect h = absurd (cc h)
-by_part s part.Solution rule.Remove place aspect h = absurd (cc h)
-by_part s part.Solution rule.Upgrade place aspect h = absurd (cc h)
-
--- where a key's parts fit each other, the stops after it are those that are left behind it
-pub after-left : (s : Proposal) (key : PlainKey) → is_fitting key ≡ true → filter (is_after key) (walk s) ≡ stops_left s key
-after-left s key h = by_part s key.part key.rule key.place key.aspect h
+-- and none of it after those of the solution
+pub request-earlier : (key : PlainKey) (r : PlainRequest) → Below (3 ∷ []) (key_ranks key) → filter (λ x. precedes key (site_key x)) (request_sites r) ≡ []
+request-earlier key r h = dropped_below site_ranks (2 ∷ []) (request_sites r) (key_ranks key) (to_higher site_ranks (2 ∷ []) (3 ∷ []) (key_ranks key) (request_sites r) (request_climbs r) h)

@@ -135,11 +135,13 @@ kept_climb Package p = (same_first p.0 (3 ∷ []) (3 ∷ 1 ∷ 0 ∷ []) refl, s
 kept_climb Feature p = climbs-rule (λ v. kept_feature p v.0 v.1) 1 p.0 3 (λ x. refl) p.1.provides
 kept_climb Nothing p = same_first p.0 (3 ∷ []) (4 ∷ []) refl
 
-pub package_climbs : (s : Proposal) (p : Placed) → Climbs stop_ranks (1 ∷ p.0 ∷ []) (package_stops s p) (1 ∷ (p.0 + 1) ∷ [])
-package_climbs s p =
-    climbs-append stop_ranks (1 ∷ p.0 ∷ []) (1 ∷ p.0 ∷ 4 ∷ []) (1 ∷ (p.0 + 1) ∷ []) (map at_site (package_sites s p)) (package_end p.0 ∷ [])
-    (climbs-map stop_ranks at_site (1 ∷ p.0 ∷ []) (package_sites s p) (1 ∷ p.0 ∷ 4 ∷ []) sites_climb)
-    (same_first p.0 (4 ∷ []) (8 ∷ []) refl, next_first p.0 (8 ∷ []) [])
+pub sites_climb : (s : Proposal) (p : Placed) → Climbs site_ranks (1 ∷ p.0 ∷ []) (package_sites s p) (1 ∷ p.0 ∷ 4 ∷ [])
+sites_climb s p =
+    from_lower site_ranks (1 ∷ p.0 ∷ []) (1 ∷ p.0 ∷ 1 ∷ []) (1 ∷ p.0 ∷ 4 ∷ []) (package_sites s p) (same_first p.0 [] (1 ∷ []) refl)
+    (climbs-append site_ranks (1 ∷ p.0 ∷ 1 ∷ []) (1 ∷ p.0 ∷ 3 ∷ []) (1 ∷ p.0 ∷ 4 ∷ [])
+    (cond (holds_place s.proposed p.0) (needed_sites p) []) (cond (holds_place s.initial p.0) (kept_sites p.1.keep p) [])
+    (climbs-if site_ranks (1 ∷ p.0 ∷ 1 ∷ []) (1 ∷ p.0 ∷ 3 ∷ []) (holds_place s.proposed p.0) (needed_sites p) (same_first p.0 (1 ∷ []) (3 ∷ []) refl) needed)
+    (climbs-if site_ranks (1 ∷ p.0 ∷ 3 ∷ []) (1 ∷ p.0 ∷ 4 ∷ []) (holds_place s.initial p.0) (kept_sites p.1.keep p) (same_first p.0 (3 ∷ []) (4 ∷ []) refl) (kept_climb p.1.keep p)))
   where
     depends : List Site
     depends = map (λ c. conjunct p c.0 c.1) (enumerate_from 1 p.1.depends)
@@ -152,13 +154,11 @@ package_climbs s p =
         (climbs-rule (λ c. conjunct p c.0 c.1) 1 p.0 1 (λ x. refl) p.1.depends)
         (climbs-rule (λ v. conflicts_entry p v.0 v.1) 1 p.0 2 (λ x. refl) p.1.conflicts)
 
-    sites_climb : Climbs site_ranks (1 ∷ p.0 ∷ []) (package_sites s p) (1 ∷ p.0 ∷ 4 ∷ [])
-    sites_climb =
-        from_lower site_ranks (1 ∷ p.0 ∷ []) (1 ∷ p.0 ∷ 1 ∷ []) (1 ∷ p.0 ∷ 4 ∷ []) (package_sites s p) (same_first p.0 [] (1 ∷ []) refl)
-        (climbs-append site_ranks (1 ∷ p.0 ∷ 1 ∷ []) (1 ∷ p.0 ∷ 3 ∷ []) (1 ∷ p.0 ∷ 4 ∷ [])
-        (cond (holds_place s.proposed p.0) (needed_sites p) []) (cond (holds_place s.initial p.0) (kept_sites p.1.keep p) [])
-        (climbs-if site_ranks (1 ∷ p.0 ∷ 1 ∷ []) (1 ∷ p.0 ∷ 3 ∷ []) (holds_place s.proposed p.0) (needed_sites p) (same_first p.0 (1 ∷ []) (3 ∷ []) refl) needed)
-        (climbs-if site_ranks (1 ∷ p.0 ∷ 3 ∷ []) (1 ∷ p.0 ∷ 4 ∷ []) (holds_place s.initial p.0) (kept_sites p.1.keep p) (same_first p.0 (3 ∷ []) (4 ∷ []) refl) (kept_climb p.1.keep p)))
+pub package_climbs : (s : Proposal) (p : Placed) → Climbs stop_ranks (1 ∷ p.0 ∷ []) (package_stops s p) (1 ∷ (p.0 + 1) ∷ [])
+package_climbs s p =
+    climbs-append stop_ranks (1 ∷ p.0 ∷ []) (1 ∷ p.0 ∷ 4 ∷ []) (1 ∷ (p.0 + 1) ∷ []) (map at_site (package_sites s p)) (package_end p.0 ∷ [])
+    (climbs-map stop_ranks at_site (1 ∷ p.0 ∷ []) (package_sites s p) (1 ∷ p.0 ∷ 4 ∷ []) (sites_climb s p))
+    (same_first p.0 (4 ∷ []) (8 ∷ []) refl, next_first p.0 (8 ∷ []) [])
 
 pub packages_climb : (s : Proposal) (n : ℕ) (packages : List PlainPackage) → Climbs stop_ranks (1 ∷ n ∷ []) (flat_map (package_stops s) (enumerate_from n packages)) (2 ∷ [])
 packages_climb s n packages = climbs-flat_map stop_ranks (package_stops s) (λ m. 1 ∷ m ∷ []) (2 ∷ []) (package_climbs s) (λ m. refl) n packages

@@ -1,5 +1,5 @@
 -- What is known of the package at an index of the universe.
-use Rattle.std.proofs.Common.{◌≡◌, ℕ, zero, suc, ◌+◌, ◌-◌, ◌<◌, ◌≤◌, ◌==◌, Bool, true, false, ◌&&◌, List, [], ◌∷◌, length, map, filter, cond, get_or, Option, Some, None, refl, ap, sym, ◌∙◌, arith, eq-eqb, ne_eqb}
+use Rattle.std.proofs.Common.{◌≡◌, ℕ, zero, suc, ◌+◌, ◌-◌, ◌<◌, ◌≤◌, ◌==◌, Bool, true, false, ◌&&◌, List, [], ◌∷◌, length, map, filter, cond, get_or, Option, Some, None, refl, ap, sym, ◌∙◌, subst, arith, eq-eqb, ne_eqb}
 use Rattle.std.specs.Prelude.{find, slice_get, option_map}
 use Rattle.std.specs.List.{enumerate_from}
 use Rattle.std.specs.Option.{option_map_or}
@@ -8,7 +8,10 @@ use Rattle.cudf_document.specs.Statuses.{is_initial}
 use Rattle.cudf_document.specs.Universe.{PlainPackage, PlainProblem, package_at}
 use Rattle.cudf_universe.specs.Promises.Prices.{own_entries, own_cost}
 use Rattle.cudf_universe.specs.Satisfaction.{Placed, members}
+use Rattle.cudf_referee.specs.declared.sites.candidate.Candidate.{Candidate}
+use Rattle.cudf_referee.specs.Promises.Walks.{Walking}
 use Rattle.cudf_referee.specs.Proposals.{holds_place}
+use Rattle.cudf_referee.specs.Working.SiteNumbers.{Fits}
 use Rattle.cudf_referee.proofs.ListLemmas.{and_true}
 use Rattle.cudf_referee.proofs.StatusLemmas.{holds-filter, holds-enumerate}
 
@@ -63,3 +66,7 @@ own-at t xs i p is = own_at t (i + 1) 1 xs i p (omega arith) is
 pub flag-at : (f : PlainPackage → Bool) (flags : List Bool) (xs : List PlainPackage) (i : ℕ) (p : PlainPackage) (d : Bool) → flags ≡ map f xs → slice_get xs i ≡ Some p → f p ≡ get_or flags i d
 flag-at f flags xs i p d same is =
     sym (ap (λ bs. get_or bs i d) same ∙ get_or_from_slice_get (map f xs) i (f p) d (slice_get-map f xs i ∙ ap (option_map f) is))
+
+-- the proposal of the same walk
+pub fits-same : (a b : Walking) (c : Candidate) → a ≡ b → Fits a.judged c → Fits b.judged c
+fits-same a b c same fits = subst (λ (w : Walking). Fits w.judged c) same fits

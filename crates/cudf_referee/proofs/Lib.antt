@@ -1,8 +1,8 @@
 pub mod AheadLemmas
 pub mod AimLemmas
 pub mod AscentLemmas
-pub mod BehindLemmas
 pub mod EntryLemmas
+pub mod CursorLemmas
 pub mod Examples
 pub mod GroundLemmas
 pub mod KeyLemmas
@@ -20,6 +20,7 @@ pub mod PriceExamples
 pub mod RecommendLemmas
 pub mod SearchLemmas
 pub mod SiteLemmas
+pub mod SiteNumberLemmas
 pub mod SolutionLemmas
 pub mod StandingLemmas
 pub mod StatusLemmas

@@ -12,17 +12,16 @@ use Rattle.cudf_referee.specs.declared.instance.Instance.{Instance}
 use Rattle.cudf_document.specs.Documents.{is_empty}
 use Rattle.cudf_referee.specs.Instances.{PlainInstance}
 use Rattle.cudf_referee.specs.Keys.{PlainKey, key_ranks}
-use Rattle.cudf_referee.specs.Promises.Pages.{behind, at_instance}
+use Rattle.cudf_referee.specs.Promises.Pages.{at_instance}
 use Rattle.cudf_referee.specs.Proposals.{Proposal}
 use Rattle.cudf_referee.specs.Promises.Sites.{Stop, at_site, package_end, walk, stop_cost, least_cost, PlainPosition, at_start, at_key, at_end, precedes, is_after, is_ahead, stops_between, cost_between, least_between}
 use Rattle.cudf_referee.specs.Promises.Views.{instance_view}
 use Rattle.cudf_referee.specs.Promises.Walks.{Walking, left, Moves}
 use Rattle.cudf_referee.specs.Working.Judged.{instance_at, is_violated, given_at, all_given}
-use Rattle.cudf_referee.specs.Working.Places.{IsFitting, ahead}
-use Rattle.cudf_referee.specs.Working.Searches.{or_later, first_given, unless_found, sum_to_first, cost_to_first, least_to_first, Finds}
-use Rattle.cudf_referee.specs.Working.Behind.{stops_behind}
-use Rattle.cudf_referee.proofs.AheadLemmas.{not_below, kept_above, after-ranks, after-left}
-use Rattle.cudf_referee.proofs.ListLemmas.{all_kept, none_kept, filter-both, weaker_case}
+use Rattle.cudf_referee.specs.Working.Places.{ahead}
+use Rattle.cudf_referee.specs.Working.Searches.{or_later, first_given, unless_found, sum_to_first, cost_to_first, least_to_first, Finds, Searches}
+use Rattle.cudf_referee.proofs.AheadLemmas.{not_below, kept_above, after-ranks}
+use Rattle.cudf_referee.proofs.ListLemmas.{none_kept, filter-both, weaker_case}
 use Rattle.cudf_referee.proofs.AscentLemmas.{Below, chained, Climbs, from_lower, climbs-filter, walk-climbs}
 use Rattle.cudf_referee.proofs.PositionLemmas.{stop_ranks, is_after-ranks, IsLater, later-key, later-start}
 use Rattle.cudf_referee.proofs.SiteLemmas.{key_at, left-walk}
@@ -197,7 +196,7 @@ yields s old n m h (Some i) first =
     ∙ ap (λ is. i ∷ is) (sym (left-walk (at_key i.key) s))
 
 -- so a search of the stops ahead is a move
-pub moves : (s : Proposal) (old : PlainPosition) (found : Option PlainInstance) (n m : ℕ) → ascend_above 0 s.unknown ≡ true → Finds s (ahead s old) found n m
+moves : (s : Proposal) (old : PlainPosition) (found : Option PlainInstance) (n m : ℕ) → ascend_above 0 s.unknown ≡ true → Finds s (ahead s old) found n m
     → Moves (walking s old n) found (walking s (at_instance found) m)
 moves s old found n m h finds = record {
   gives = yields s old n m h found (sym finds.given);
@@ -207,28 +206,22 @@ moves s old found n m h finds = record {
   grows = omega (arith, finds.grows, least-first s old h, ap (λ o. least_between s old (at_instance o)) finds.given);
 }
 
--- ---- searches from a position
-
--- at the end there is nothing to be found
-pub finds-end : (s : Proposal) (position : PlainPosition) (n : ℕ) → position ≡ at_end → Finds s (ahead s position) None n n
-finds-end s position n same =
-    let none : ahead s position ≡ [] = ap (ahead s) same ∙ none_kept (is_ahead at_end) (λ x. refl) (walk s) in
-    record { given = ap (first_given s) (sym none); price = omega arith; grows = omega (arith, ap (least_to_first s) none) }
-
-all_ahead : (s : Proposal) (key : Option PlainKey) → IsFitting (behind key) → stops_behind s key ≡ ahead s (behind key)
-all_ahead s None fits = sym (all_kept (is_ahead at_start) (λ x. refl) (walk s))
-all_ahead s (Some key) fits = sym (after-left s key fits)
-
--- a search of the stops behind a key, or of all, is one of those ahead
-pub finds-ahead : (s : Proposal) (position : PlainPosition) (key : Option PlainKey) (found : Option PlainInstance) (n m : ℕ) → IsFitting position → position ≡ behind key
-    → Finds s (stops_behind s key) found n m → Finds s (ahead s position) found n m
-finds-ahead s position key found n m fits same finds =
-    subst (λ (stops : List Stop). Finds s stops found n m) (all_ahead s key (subst IsFitting same fits) ∙ ap (ahead s) (sym same)) finds
-
 -- ---- moves
 
-pub moves-same : (a b c d : Walking) (found : Option PlainInstance) → Moves a found b → a ≡ c → b ≡ d → Moves c found d
-moves-same a b c d found moves h k = subst (λ (w : Walking). Moves c found w) k (subst (λ (w : Walking). Moves w found b) h moves)
+-- a search of the stops ahead, and then the position behind what it found, is a move
+pub searched : (old there new : Walking) (found : Option PlainInstance) → ascend_above 0 old.judged.unknown ≡ true → Searches old (ahead old.judged old.position) found there
+    → new ≡ walking there.judged (at_instance found) there.steps → Moves old found new
+searched old there new found h searches is =
+    subst (λ (w : Walking). Moves old found w) ((λ i. walking (sym searches.judged i) (at_instance found) there.steps) ∙ sym is)
+    (moves old.judged old.position found old.steps there.steps h searches.finds)
+
+-- what it found is what is given first, as it is judged afterwards
+pub given-there : (old there seen : Walking) (found : Option PlainInstance) → Searches old (ahead old.judged old.position) found there → seen ≡ there
+    → found ≡ first_given seen.judged (ahead seen.judged seen.position)
+given-there old there seen found searches same =
+    let judged = ap (λ (w : Walking). w.judged) same ∙ searches.judged in
+    let position = ap (λ (w : Walking). w.position) same ∙ searches.position in
+    searches.finds.given ∙ sym (λ i. first_given (judged i) (ahead (judged i) (position i)))
 
 -- a move makes progress
 pub moved-on : (can : Walking → Type 0) → ((w : Walking) → can w) → (old : Walking) (r : Option Instance) (new : Walking) → Moves old (option_map instance_view r) new

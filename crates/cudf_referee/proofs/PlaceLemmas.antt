@@ -68,13 +68,13 @@ left_behind m (suc n) (x ∷ us) u more ascends h =
 
 -- ---- the stops before the unknown stanzas
 
-abbrev known_stops : Proposal → List Stop
+abbrev pub known_stops : Proposal → List Stop
 known_stops s = flat_map (package_stops s) (enumerate_from 1 s.problem.packages) ++ map at_site (request_sites s.problem.request)
 
-abbrev unknown_stops : List PlainUnknown → List Stop
+abbrev pub unknown_stops : List PlainUnknown → List Stop
 unknown_stops unknown = map at_site (map unknown_stanza unknown)
 
-walk-split : (s : Proposal) → walk s ≡ known_stops s ++ unknown_stops s.unknown
+pub walk-split : (s : Proposal) → walk s ≡ known_stops s ++ unknown_stops s.unknown
 unfolding walk
 walk-split s =
     ap (λ xs. flat_map (package_stops s) (enumerate_from 1 s.problem.packages) ++ xs) (map-append at_site (request_sites s.problem.request) (map unknown_stanza s.unknown))
@@ -114,7 +114,7 @@ behind_key part.Solution rule.Install place aspect unknown h = absurd (cc h)
 behind_key part.Solution rule.Remove place aspect unknown h = absurd (cc h)
 behind_key part.Solution rule.Upgrade place aspect unknown h = absurd (cc h)
 
-ahead_unknown : (old : PlainPosition) (unknown : List PlainUnknown) → IsFitting old → filter (is_ahead old) (unknown_stops unknown) ≡ unknown_stops (unknown_ahead old unknown)
+pub ahead_unknown : (old : PlainPosition) (unknown : List PlainUnknown) → IsFitting old → filter (is_ahead old) (unknown_stops unknown) ≡ unknown_stops (unknown_ahead old unknown)
 ahead_unknown at_start unknown fits = all_kept (is_ahead at_start) (λ x. refl) (unknown_stops unknown)
 ahead_unknown (at_key key) unknown fits = behind_key key.part key.rule key.place key.aspect unknown fits
 ahead_unknown at_end unknown fits = none_kept (is_ahead at_end) (λ x. refl) (unknown_stops unknown)

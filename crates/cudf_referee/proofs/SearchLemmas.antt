@@ -1,22 +1,24 @@
--- Searches along the walk: one stop, one search after another, and a loop over entries.
-use Rattle.std.proofs.Common.{◌≡◌, ℕ, ◌+◌, ◌-◌, ◌<◌, ◌≤◌, zero, suc, List, [], ◌∷◌, ◌++◌, length, map, take, drop, min, get_or, Bor, Option, Some, None, refl, ap, sym, ◌∙◌, add_assoc, subst, arith}
-use Rattle.std.specs.List.{All, enumerate_from}
+-- Searches along the walk: one stop, one search after another, and a loop over places or packages.
+use Rattle.std.proofs.Common.{◌≡◌, ℕ, ◌+◌, ◌<◌, ◌≤◌, Bool, true, false, List, [], ◌∷◌, ◌++◌, length, map, drop, get_or, cond, Bor, Option, Some, None, refl, ap, sym, ◌∙◌, add_assoc, subst, arith}
+use Rattle.std.specs.List.{All, flat_map, enumerate_from}
 use Rattle.std.specs.Prelude.{option_map, slice_get}
 use Rattle.std.specs.Slice.{IsItemAt}
 use Rattle.std.proofs.lemmas.Bool.{ltb-true}
-use Rattle.std.proofs.lemmas.Option.{slice_get-get_or, slice_get_within, slice_get_past, get_or_from_slice_get}
-use Rattle.std.proofs.Math.ListN.{get_or-map}
-use Rattle.std.proofs.lemmas.List.{at_drop_more, at_drop_all, drop_min, length-map, get_or-drop}
+use Rattle.std.proofs.lemmas.Option.{slice_get-map, slice_get-get_or, slice_get_within, get_or_from_slice_get}
+use Rattle.std.proofs.lemmas.List.{at_drop_more, at_drop_all}
 use Rattle.std.proofs.lemmas.List.FromFn.{length-enumerate_from, get_or-enumerate_from}
+use Rattle.cudf_document.specs.declared.package.Package.{Package}
+use Rattle.cudf_document.specs.Promises.Views.{package_view}
+use Rattle.cudf_document.specs.Universe.{PlainPackage}
 use Rattle.cudf_document.specs.Statuses.{PlainUnknown}
+use Rattle.cudf_universe.specs.Satisfaction.{Placed}
 use Rattle.cudf_referee.specs.Instances.{PlainInstance}
 use Rattle.cudf_referee.specs.Proposals.{Proposal}
-use Rattle.cudf_referee.specs.Promises.Sites.{Site, unknown_stanza, Stop, at_site, stop_cost, least_cost}
+use Rattle.cudf_referee.specs.Promises.Sites.{Site, unknown_stanza, Stop, at_site, package_stops, stop_cost, least_cost}
+use Rattle.cudf_referee.specs.Promises.Walks.{Walking}
 use Rattle.cudf_referee.specs.Violations.{unknown_instance}
-use Rattle.cudf_referee.specs.Working.Behind.{unknown_stops}
-use Rattle.cudf_referee.specs.Working.Judged.{given_at}
-use Rattle.cudf_referee.specs.Working.Passes.{Passes, EntriesPass, stops_from, entry_stops, count_passed}
-use Rattle.cudf_referee.specs.Working.Searches.{Finds, first_given, sum_to_first, cost_to_first, least_to_first, or_later, unless_found, entries_left}
+use Rattle.cudf_referee.specs.Working.Judged.{instance_at, given_at}
+use Rattle.cudf_referee.specs.Working.Searches.{Finds, Passes, Searches, Goes, first_given, sum_to_first, cost_to_first, least_to_first, or_later, unless_found, package_rest, packages_rest, unknown_rest}
 
 -- ---- one stop, and several
 
@@ -29,7 +31,7 @@ unless_found-zero None = refl
 unless_found-zero (Some i) = refl
 
 -- what a stop gives, for its price
-pub Finds-one : (s : Proposal) (stop : Stop) (found : Option PlainInstance) (old new : ℕ)
+Finds-one : (s : Proposal) (stop : Stop) (found : Option PlainInstance) (old new : ℕ)
     → found ≡ given_at s stop → new ≤ old + stop_cost s.proposed stop → old + least_cost s.proposed stop ≤ new → Finds s (stop ∷ []) found old new
 Finds-one s stop found old new given price grows = record {
   given = given ∙ sym (or_later-none (given_at s stop));
@@ -65,11 +67,11 @@ least-append s xs ys = sum-append (least_cost s.proposed) s xs ys
 
 -- ---- a search goes on
 
-pub Passes-start : (s : Proposal) (all : List Stop) (old : ℕ) → Passes s all all old old
+Passes-start : (s : Proposal) (all : List Stop) (old : ℕ) → Passes s all all old old
 Passes-start s all old = record { given = refl; price = omega arith; grows = omega arith }
 
 -- behind stops that gave nothing
-pub Passes-more : (s : Proposal) (all xs left : List Stop) (old now new : ℕ)
+Passes-more : (s : Proposal) (all xs left : List Stop) (old now new : ℕ)
     → Passes s all (xs ++ left) old now → Finds s xs None now new → Passes s all left old new
 Passes-more s all xs left old now new passes finds = record {
   given = passes.given ∙ first_given-append s xs left ∙ ap (λ o. or_later o (first_given s left)) (sym finds.given);
@@ -78,7 +80,7 @@ Passes-more s all xs left old now new passes finds = record {
 }
 
 -- to what is found
-pub Passes-found : (s : Proposal) (all xs left : List Stop) (i : PlainInstance) (old now new : ℕ)
+Passes-found : (s : Proposal) (all xs left : List Stop) (i : PlainInstance) (old now new : ℕ)
     → Passes s all (xs ++ left) old now → Finds s xs (Some i) now new → Finds s all (Some i) old new
 Passes-found s all xs left i old now new passes finds = record {
   given = sym (passes.given ∙ first_given-append s xs left ∙ ap (λ o. or_later o (first_given s left)) (sym finds.given));
@@ -87,7 +89,7 @@ Passes-found s all xs left i old now new passes finds = record {
 }
 
 -- to the last stops
-pub Passes-last : (s : Proposal) (all left : List Stop) (found : Option PlainInstance) (old now new : ℕ)
+Passes-last : (s : Proposal) (all left : List Stop) (found : Option PlainInstance) (old now new : ℕ)
     → Passes s all left old now → Finds s left found now new → Finds s all found old new
 Passes-last s all left found old now new passes finds = record {
   given = finds.given ∙ sym passes.given;
@@ -96,226 +98,136 @@ Passes-last s all left found old now new passes finds = record {
 }
 
 -- to the end
-pub Passes-end : (s : Proposal) (all : List Stop) (old now : ℕ) → Passes s all [] old now → Finds s all None old now
+Passes-end : (s : Proposal) (all : List Stop) (old now : ℕ) → Passes s all [] old now → Finds s all None old now
 Passes-end s all old now passes = record { given = sym passes.given; price = omega (arith, passes.price); grows = omega (arith, passes.grows) }
 
--- ---- a loop over the entries that are left
+-- ---- walks
 
--- what a loop over the entries behind the first ones reads
-abbrev pub rest_of : {B : Type 0} → List B → ℕ → List B
-rest_of ys first = take (length ys - first) (drop first ys)
+pub goes-start : (old : Walking) (all : List Stop) → Goes old all all old
+goes-start old all = record { judged = refl; position = refl; passes = Passes-start old.judged all old.steps }
 
-length-rest : {B : Type 0} (ys : List B) (first : ℕ) → length (rest_of ys first) ≡ length ys - first
-length-rest ys first = grind (arith, Rattle.std.proofs.lemmas.Grind.common_steps)
+-- what is found of the stops from here on is found in what is judged from the start
+here : (old now new : Walking) (stops : List Stop) (found : Option PlainInstance) → now.judged ≡ old.judged → Searches now stops found new → Finds old.judged stops found now.steps new.steps
+here old now new stops found same searches = subst (λ (s : Proposal). Finds s stops found now.steps new.steps) same searches.finds
 
-read_rest : {B : Type 0} (ys : List B) (first i : ℕ) (d : B) → i < length ys - first → get_or (rest_of ys first) i d ≡ get_or ys (first + i) d
-read_rest ys first i d below = grind (arith, Rattle.std.proofs.lemmas.Grind.common_steps, get_or-drop first ys i d)
-
--- the entry with its place
-numbered-one : {A : Type 0} (xs : List A) (n : ℕ) (d : A) → n < length xs → get_or (enumerate_from 1 xs) n (0, d) ≡ (n + 1, get_or xs n d)
-numbered-one xs n d below = get_or-enumerate_from 1 xs n (0, d) below ∙ (λ i. (place i, get_or xs n d))
-  where
-    place : 1 + n ≡ n + 1
-    place = omega arith
-
--- the same of an entry as it is seen
-pub numbered : {A B : Type 0} (view : B → A) (xs : List B) (n : ℕ) (d : B) → n < length xs
-    → get_or (enumerate_from 1 (map view xs)) n (0, view d) ≡ (n + 1, view (get_or xs n d))
-numbered view xs n d below = numbered-one (map view xs) n (view d) (omega (arith, length-map xs view)) ∙ (λ i. (n + 1, get_or-map view xs n d i))
-
-pub passes-at : (s : Proposal) (all left left' : List Stop) (old now : ℕ) → left ≡ left' → Passes s all left old now → Passes s all left' old now
-passes-at s all left left' old now same passes = subst (λ (l : List Stop). Passes s all l old now) same passes
-
--- the next stop
-stops-next : {A : Type 0} (make : ℕ × A → Site) (xs : List A) (n : ℕ) (d : A) → n < length xs
-    → stops_from make xs n ≡ at_site (make (n + 1, get_or xs n d)) ∷ stops_from make xs (n + 1)
-stops-next make xs n d below = at_drop_more (λ l. map at_site (map make l)) (enumerate_from 1 xs) n (0, d) within
-    ∙ ap (λ e. at_site (make e) ∷ stops_from make xs (n + 1)) (numbered-one xs n d below)
-  where
-    within : n < length (enumerate_from 1 xs)
-    within = omega (arith, length-enumerate_from 1 xs)
-
-left-drop : {A : Type 0} (passed : Option ℕ) (xs : List A) → entries_left passed xs ≡ drop (count_passed passed (length xs)) (enumerate_from 1 xs)
-left-drop None xs = sym (at_drop_all (λ l. l) (enumerate_from 1 xs) (length xs) within)
-  where
-    within : length (enumerate_from 1 xs) ≤ length xs
-    within = omega (arith, length-enumerate_from 1 xs)
-left-drop (Some n) xs = sym (ap (λ m. drop (min n m) (enumerate_from 1 xs)) (sym (length-enumerate_from 1 xs)) ∙ drop_min n (enumerate_from 1 xs))
-
--- ---- the turns of a loop over the entries behind the first ones
-
-read-rest : {B : Type 0} (ys xs : List B) (first i : ℕ) (d item : B) → ys ≡ xs → i < length (rest_of ys first) → item ≡ get_or (rest_of ys first) i d → item ≡ get_or xs (first + i) d
-read-rest ys xs first i d item same below is = is ∙ read_rest ys first i d (omega (arith, length-rest ys first)) ∙ ap (λ l. get_or l (first + i) d) same
-
-within-rest : {B : Type 0} (ys xs : List B) (first i : ℕ) → ys ≡ xs → i < length (rest_of ys first) → first + i < length xs
-within-rest ys xs first i same below = omega (arith, length-rest ys first, ap length same)
-
-pub loop-start : {A : Type 0} (s : Proposal) (make : ℕ × A → Site) (passed : Option ℕ) (xs : List A) (first old : ℕ)
-    → first ≡ count_passed passed (length xs) → EntriesPass s make passed xs (first + 0) old old
-loop-start s make passed xs first old is = passes-at s (entry_stops make passed xs) _ _ old old same (Passes-start s (entry_stops make passed xs) old)
-  where
-    number : count_passed passed (length xs) ≡ first + 0
-    number = omega (arith, is)
-
-    same : entry_stops make passed xs ≡ stops_from make xs (first + 0)
-    same = ap (λ l. map at_site (map make l)) (left-drop passed xs ∙ ap (λ m. drop m (enumerate_from 1 xs)) number)
-
--- the stop that is next in the loop
-loop-next : {A : Type 0} (make : ℕ × A → Site) (xs : List A) (first i : ℕ) (d item : A)
-    → i < length (rest_of xs first) → item ≡ get_or (rest_of xs first) i d
-    → stops_from make xs (first + i) ≡ at_site (make (first + i + 1, item)) ∷ stops_from make xs (first + (i + 1))
-loop-next make xs first i d item below is =
-    stops-next make xs (first + i) d (within-rest xs xs first i refl below)
-    ∙ ap (λ x. at_site (make (first + i + 1, x)) ∷ stops_from make xs (first + i + 1)) (sym (read-rest xs xs first i d item refl below is))
-    ∙ ap (λ n. at_site (make (first + i + 1, item)) ∷ stops_from make xs n) (add_assoc first i 1)
-
--- behind an entry that gave nothing
-pub loop-more : {A : Type 0} (s : Proposal) (make : ℕ × A → Site) (passed : Option ℕ) (xs : List A) (first i : ℕ) (d item : A) (old now new : ℕ)
-    → i < length (rest_of xs first) → item ≡ get_or (rest_of xs first) i d → Finds s (at_site (make (first + i + 1, item)) ∷ []) None now new
-    → EntriesPass s make passed xs (first + i) old now → EntriesPass s make passed xs (first + (i + 1)) old new
-loop-more s make passed xs first i d item old now new below is finds passes =
-    Passes-more s _ _ _ old now new (passes-at s _ _ _ old now (loop-next make xs first i d item below is) passes) finds
-
--- to an entry that gave an instance
-pub loop-found : {A : Type 0} (s : Proposal) (make : ℕ × A → Site) (passed : Option ℕ) (xs : List A) (first i : ℕ) (d item : A) (instance : PlainInstance) (old now new : ℕ)
-    → i < length (rest_of xs first) → item ≡ get_or (rest_of xs first) i d → Finds s (at_site (make (first + i + 1, item)) ∷ []) (Some instance) now new
-    → EntriesPass s make passed xs (first + i) old now → Finds s (entry_stops make passed xs) (Some instance) old new
-loop-found s make passed xs first i d item instance old now new below is finds passes =
-    Passes-found s _ _ _ instance old now new (passes-at s _ _ _ old now (loop-next make xs first i d item below is) passes) finds
-
--- to the end of the entries
-pub loop-end : {A : Type 0} (s : Proposal) (make : ℕ × A → Site) (passed : Option ℕ) (xs : List A) (first i : ℕ) (old now : ℕ)
-    → length (rest_of xs first) ≤ i → EntriesPass s make passed xs (first + i) old now → Finds s (entry_stops make passed xs) None old now
-loop-end s make passed xs first i old now end passes =
-    Passes-end s _ old now (passes-at s _ _ _ old now (at_drop_all (λ l. map at_site (map make l)) (enumerate_from 1 xs) (first + i) within) passes)
-  where
-    within : length (enumerate_from 1 xs) ≤ first + i
-    within = omega (arith, length-rest xs first, length-enumerate_from 1 xs)
-
--- ---- what a call answered
-
-pub at_none : {A : Type 0} (s : Proposal) (stops : List Stop) (view : A → PlainInstance) (answer : Option A) (old new : ℕ)
-    → answer ≡ None → Finds s stops (option_map view answer) old new → Finds s stops None old new
-at_none s stops view answer old new is finds = record { given = sym (ap (option_map view) is) ∙ finds.given; price = finds.price; grows = finds.grows }
-
-pub at_some : {A : Type 0} (s : Proposal) (stops : List Stop) (view : A → PlainInstance) (answer : Option A) (i : A) (old new : ℕ)
-    → answer ≡ Some i → Finds s stops (option_map view answer) old new → Finds s stops (Some (view i)) old new
-at_some s stops view answer i old new is finds = record { given = sym (ap (option_map view) is) ∙ finds.given; price = finds.price; grows = finds.grows }
-
--- ---- one search after another
-
-pub Finds-then : (s : Proposal) (xs ys : List Stop) (found : Option PlainInstance) (old now new : ℕ)
-    → Finds s xs None old now → Finds s ys found now new → Finds s (xs ++ ys) found old new
-Finds-then s xs ys found old now new none finds = record {
-  given = finds.given ∙ ap (λ o. or_later o (first_given s ys)) none.given ∙ sym (first_given-append s xs ys);
-  price = omega (arith, none.price, finds.price, cost-append s xs ys, ap (λ o. unless_found o (cost_to_first s ys)) none.given);
-  grows = omega (arith, none.grows, finds.grows, least-append s xs ys, ap (λ o. unless_found o (least_to_first s ys)) none.given);
+goes-more : (old now new : Walking) (all xs left : List Stop) → Goes old all (xs ++ left) now → Searches now xs None new → Goes old all left new
+goes-more old now new all xs left goes searches = record {
+  judged = searches.judged ∙ goes.judged;
+  position = searches.position ∙ goes.position;
+  passes = Passes-more old.judged all xs left old.steps now.steps new.steps goes.passes (here old now new xs None goes.judged searches);
 }
 
-pub Finds-first : (s : Proposal) (xs ys : List Stop) (i : PlainInstance) (old new : ℕ) → Finds s xs (Some i) old new → Finds s (xs ++ ys) (Some i) old new
-Finds-first s xs ys i old new finds = record {
-  given = ap (λ o. or_later o (first_given s ys)) finds.given ∙ sym (first_given-append s xs ys);
-  price = omega (arith, finds.price, cost-append s xs ys);
-  grows = omega (arith, finds.grows, least-append s xs ys, ap (λ o. unless_found o (least_to_first s ys)) finds.given);
+goes-found : (old now new : Walking) (all xs left : List Stop) (i : PlainInstance) → Goes old all (xs ++ left) now → Searches now xs (Some i) new → Searches old all (Some i) new
+goes-found old now new all xs left i goes searches = record {
+  judged = searches.judged ∙ goes.judged;
+  position = searches.position ∙ goes.position;
+  finds = Passes-found old.judged all xs left i old.steps now.steps new.steps goes.passes (here old now new xs (Some i) goes.judged searches);
 }
 
-pub Finds-nothing : (s : Proposal) (n : ℕ) → Finds s [] None n n
-Finds-nothing s n = record { given = refl; price = omega arith; grows = omega arith }
+pub goes-last : (old now new : Walking) (all left : List Stop) (found : Option PlainInstance) → Goes old all left now → Searches now left found new → Searches old all found new
+goes-last old now new all left found goes searches = record {
+  judged = searches.judged ∙ goes.judged;
+  position = searches.position ∙ goes.position;
+  finds = Passes-last old.judged all left found old.steps now.steps new.steps goes.passes (here old now new left found goes.judged searches);
+}
 
--- of stops that are the same
-pub Finds-at : (s : Proposal) (stops stops' : List Stop) (found : Option PlainInstance) (old new : ℕ) → stops ≡ stops' → Finds s stops found old new → Finds s stops' found old new
-Finds-at s stops stops' found old new same finds = subst (λ (l : List Stop). Finds s l found old new) same finds
+pub goes-end : (old now : Walking) (all : List Stop) → Goes old all [] now → Searches old all None now
+goes-end old now all goes = record { judged = goes.judged; position = goes.position; finds = Passes-end old.judged all old.steps now.steps goes.passes }
 
--- what is found of entries is found of what is seen of them
-map-seen : {A B : Type 0} (view : B → A) (make : ℕ × A → Site) (k n : ℕ) (xs : List B)
-    → map (λ e. make (e.0, view e.1)) (drop k (enumerate_from n xs)) ≡ map make (drop k (enumerate_from n (map view xs)))
-map-seen view make zero n [] = refl
-map-seen view make zero n (x ∷ xs) = ap (λ l. make (n, view x) ∷ l) (map-seen view make zero (n + 1) xs)
-map-seen view make (suc k) n [] = refl
-map-seen view make (suc k) n (x ∷ xs) = map-seen view make k (n + 1) xs
+pub goes-at : (old now : Walking) (all left left' : List Stop) → left ≡ left' → Goes old all left now → Goes old all left' now
+goes-at old now all left left' same goes = subst (λ (l : List Stop). Goes old all l now) same goes
 
-stops-seen : {A B : Type 0} (view : B → A) (make : ℕ × A → Site) (passed : Option ℕ) (xs : List B)
-    → entry_stops (λ e. make (e.0, view e.1)) passed xs ≡ entry_stops make passed (map view xs)
-stops-seen view make None xs = refl
-stops-seen view make (Some k) xs = ap (map at_site) (map-seen view make k 1 xs)
+pub searches-at : (old new : Walking) (stops stops' : List Stop) (found found' : Option PlainInstance) → stops ≡ stops' → found ≡ found' → Searches old stops found new → Searches old stops' found' new
+searches-at old new stops stops' found found' same same' searches =
+    subst (λ (l : List Stop). Searches old l found' new) same (subst (λ (o : Option PlainInstance). Searches old stops o new) same' searches)
 
-pub Finds-seen : {A B : Type 0} (s : Proposal) (view : B → A) (make : ℕ × A → Site) (n m : Option ℕ) (ys xs : List B) (found : Option PlainInstance) (old new : ℕ)
-    → n ≡ m → ys ≡ xs → Finds s (entry_stops (λ e. make (e.0, view e.1)) n ys) found old new → Finds s (entry_stops make m (map view xs)) found old new
-Finds-seen s view make n m ys xs found old new passed same finds =
-    Finds-at s _ _ found old new (stops-seen view make n ys ∙ ap (λ k. entry_stops make k (map view ys)) passed ∙ ap (λ l. entry_stops make m (map view l)) same) finds
+-- the same where the stops are those of what is judged
+module _ (old now new : Walking) (all left : List Stop) (F : Proposal → List Stop) where
+  from-here : Goes old all (F old.judged ++ left) now → Goes old all (F now.judged ++ left) now
+  from-here goes = goes-at old now all _ _ (ap (λ s. F s ++ left) (sym goes.judged)) goes
 
--- beside steps that others took
-pub Finds-beside : (s : Proposal) (stops : List Stop) (found : Option PlainInstance) (n old new : ℕ) → Finds s stops found old new → Finds s stops found (n + old) (n + new)
-Finds-beside s stops found n old new finds = record { given = finds.given; price = omega (arith, finds.price); grows = omega (arith, finds.grows) }
+  pub part-more : Goes old all (F old.judged ++ left) now → Searches now (F now.judged) None new → Goes old all left new
+  part-more goes searches = goes-more old now new all (F now.judged) left (from-here goes) searches
 
--- ---- the turns of a loop over stops made from the elements of a list
+  pub part-found : (i : PlainInstance) → Goes old all (F old.judged ++ left) now → Searches now (F now.judged) (Some i) new → Searches old all (Some i) new
+  part-found i goes searches = goes-found old now new all (F now.judged) left i (from-here goes) searches
 
-pub stops-more : {A : Type 0} (s : Proposal) (make : A → Stop) (all : List Stop) (xs : List A) (i : ℕ) (d : A) (old now new : ℕ)
-    → i < length xs → Finds s (make (get_or xs i d) ∷ []) None now new
-    → Passes s all (map make (drop i xs)) old now → Passes s all (map make (drop (i + 1) xs)) old new
-stops-more s make all xs i d old now new below finds passes =
-    Passes-more s all (make (get_or xs i d) ∷ []) (map make (drop (i + 1) xs)) old now new (passes-at s all _ _ old now (at_drop_more (map make) xs i d below) passes) finds
+pub part-last : (old now new : Walking) (all : List Stop) (F : Proposal → List Stop) (found : Option PlainInstance) → Goes old all (F old.judged) now → Searches now (F now.judged) found new → Searches old all found new
+part-last old now new all F found goes searches = goes-last old now new all (F now.judged) found (goes-at old now all _ _ (ap F (sym goes.judged)) goes) searches
 
-pub stops-found : {A : Type 0} (s : Proposal) (make : A → Stop) (all : List Stop) (xs : List A) (i : ℕ) (d : A) (instance : PlainInstance) (old now new : ℕ)
-    → i < length xs → Finds s (make (get_or xs i d) ∷ []) (Some instance) now new
-    → Passes s all (map make (drop i xs)) old now → Finds s all (Some instance) old new
-stops-found s make all xs i d instance old now new below finds passes =
-    Passes-found s all (make (get_or xs i d) ∷ []) (map make (drop (i + 1) xs)) instance old now new (passes-at s all _ _ old now (at_drop_more (map make) xs i d below) passes) finds
+-- a search of what is seen as this
+pub searches-same : (a b new : Walking) (F : Proposal → List Stop) (found : Option PlainInstance) → a ≡ b → Searches a (F a.judged) found new → Searches b (F b.judged) found new
+searches-same a b new F found same searches = subst (λ (w : Walking). Searches w (F w.judged) found new) same searches
 
-pub stops-end : {A : Type 0} (s : Proposal) (make : A → Stop) (all : List Stop) (xs : List A) (i old now : ℕ)
-    → length xs ≤ i → Passes s all (map make (drop i xs)) old now → Finds s all None old now
-stops-end s make all xs i old now end passes = Passes-end s all old now (passes-at s all _ _ old now (at_drop_all (map make) xs i end) passes)
+-- ---- a loop over places
 
--- ---- the turns of a loop over entries that have several stops each
+module _ (old now new : Walking) (all : List Stop) (F : List Site → List Stop) (goes-on : (y : Site) (ys : List Site) → F (y ∷ ys) ≡ at_site y ∷ F ys)
+    (sites : List Site) (n : ℕ) (x : Site) (is : slice_get sites n ≡ Some x) (answer : Bool) where
+  next-site : F (drop n sites) ≡ at_site x ∷ F (drop (n + 1) sites)
+  next-site = at_drop_more F sites n x (slice_get_within sites n x is) ∙ ap (λ y. F (y ∷ drop (n + 1) sites)) (get_or_from_slice_get sites n x x is) ∙ goes-on x (drop (n + 1) sites)
 
-block-next : {A B : Type 0} (G : List (ℕ × A) → List Stop) (F : ℕ × A → List Stop) (view : B → A) (ys xs : List B) (first i : ℕ) (d item : B)
-    → ((e : ℕ × A) (es : List (ℕ × A)) → G (e ∷ es) ≡ F e ++ G es) → ys ≡ xs → i < length (rest_of ys first) → item ≡ get_or (rest_of ys first) i d
-    → G (drop (first + i) (enumerate_from 1 (map view xs))) ≡ F (first + i + 1, view item) ++ G (drop (first + i + 1) (enumerate_from 1 (map view xs)))
-block-next {A = A} G F view ys xs first i d item goes same below is =
-    at_drop_more G (enumerate_from 1 (map view xs)) n (0, view d) (omega (arith, inside, length-map xs view, length-enumerate_from 1 (map view xs)))
-    ∙ ap (λ e. G (e ∷ more)) (numbered view xs n d inside ∙ ap (λ x. (n + 1, view x)) (sym (read-rest ys xs first i d item same below is)))
-    ∙ goes (n + 1, view item) more
+  pub sites-more : answer ≡ false → Searches now (at_site x ∷ []) (cond answer (Some (instance_at now.judged x)) None) new
+      → Goes old all (F (drop n sites)) now → Goes old all (F (drop (n + 1) sites)) new
+  sites-more is_not searches goes =
+      goes-more old now new all (at_site x ∷ []) (F (drop (n + 1) sites)) (goes-at old now all _ _ next-site goes)
+      (searches-at now new _ _ _ _ refl (ap (λ b. cond b (Some (instance_at now.judged x)) None) is_not) searches)
+
+  pub sites-found : (i : PlainInstance) → answer ≡ true → i ≡ instance_at now.judged x → Searches now (at_site x ∷ []) (cond answer (Some (instance_at now.judged x)) None) new
+      → Goes old all (F (drop n sites)) now → Searches old all (Some i) new
+  sites-found i is_so same searches goes =
+      goes-found old now new all (at_site x ∷ []) (F (drop (n + 1) sites)) i (goes-at old now all _ _ next-site goes)
+      (searches-at now new _ _ _ _ refl (ap (λ b. cond b (Some (instance_at now.judged x)) None) is_so ∙ ap Some (sym same)) searches)
+
+pub sites-end : (old now : Walking) (all : List Stop) (F : List Site → List Stop) (sites : List Site) (n : ℕ) → length sites ≤ n → Goes old all (F (drop n sites)) now → Goes old all (F []) now
+sites-end old now all F sites n end goes = goes-at old now all _ _ (at_drop_all F sites n end) goes
+
+-- ---- a loop over packages
+
+pub rest-whole : (s : Proposal) (ps : List Placed) → packages_rest s 0 ps ≡ flat_map (package_stops s) ps
+rest-whole s [] = refl
+rest-whole s (p ∷ ps) = refl
+
+packages-next : (s : Proposal) (k i : ℕ) (p : PlainPackage) → slice_get s.problem.packages i ≡ Some p
+    → packages_rest s k (drop i (enumerate_from 1 s.problem.packages)) ≡ package_rest s k (i + 1, p) ++ packages_rest s 0 (drop (i + 1) (enumerate_from 1 s.problem.packages))
+packages-next s k i p is =
+    at_drop_more (packages_rest s k) all i (0, p) (omega (arith, below, length-enumerate_from 1 s.problem.packages))
+    ∙ ap (λ q. packages_rest s k (q ∷ drop (i + 1) all)) (get_or-enumerate_from 1 s.problem.packages i (0, p) below
+    ∙ (λ j. (number j, get_or_from_slice_get s.problem.packages i p p is j)))
+    ∙ ap (λ xs. package_rest s k (i + 1, p) ++ xs) (sym (rest-whole s (drop (i + 1) all)))
   where
-    n : ℕ
-    n = first + i
+    all : List Placed
+    all = enumerate_from 1 s.problem.packages
 
-    more : List (ℕ × A)
-    more = drop (n + 1) (enumerate_from 1 (map view xs))
+    below : i < length s.problem.packages
+    below = slice_get_within s.problem.packages i p is
 
-    inside : n < length xs
-    inside = within-rest ys xs first i same below
+    number : 1 + i ≡ i + 1
+    number = omega arith
 
-pub blocks-more : {A B : Type 0} (s : Proposal) (G : List (ℕ × A) → List Stop) (F : ℕ × A → List Stop) (view : B → A) (all : List Stop) (ys xs : List B) (first i : ℕ) (d item : B) (old now new : ℕ)
-    → ((e : ℕ × A) (es : List (ℕ × A)) → G (e ∷ es) ≡ F e ++ G es)
-    → ys ≡ xs → i < length (rest_of ys first) → item ≡ get_or (rest_of ys first) i d → Finds s (F (first + i + 1, view item)) None now new
-    → Passes s all (G (drop (first + i) (enumerate_from 1 (map view xs)))) old now → Passes s all (G (drop (first + (i + 1)) (enumerate_from 1 (map view xs)))) old new
-blocks-more s G F view all ys xs first i d item old now new goes same below is finds passes =
-    passes-at s all _ _ old new (ap (λ n. G (drop n (enumerate_from 1 (map view xs)))) (add_assoc first i 1))
-    (Passes-more s all (F (first + i + 1, view item)) (G (drop (first + i + 1) (enumerate_from 1 (map view xs)))) old now new
-    (passes-at s all _ _ old now (block-next G F view ys xs first i d item goes same below is) passes) finds)
+module _ (old now new : Walking) (all : List Stop) (k i : ℕ) (p : PlainPackage) (is : slice_get now.judged.problem.packages i ≡ Some p) where
+  at-package : Goes old all (packages_rest old.judged k (drop i (enumerate_from 1 old.judged.problem.packages))) now
+      → Goes old all (package_rest old.judged k (i + 1, p) ++ packages_rest old.judged 0 (drop (i + 1) (enumerate_from 1 old.judged.problem.packages))) now
+  at-package goes = goes-at old now all _ _ (packages-next old.judged k i p ((λ j. slice_get (sym goes.judged j).problem.packages i) ∙ is)) goes
 
-pub blocks-found : {A B : Type 0} (s : Proposal) (G : List (ℕ × A) → List Stop) (F : ℕ × A → List Stop) (view : B → A) (all : List Stop) (ys xs : List B) (first i : ℕ) (d item : B) (instance : PlainInstance) (old now new : ℕ)
-    → ((e : ℕ × A) (es : List (ℕ × A)) → G (e ∷ es) ≡ F e ++ G es)
-    → ys ≡ xs → i < length (rest_of ys first) → item ≡ get_or (rest_of ys first) i d → Finds s (F (first + i + 1, view item)) (Some instance) now new
-    → Passes s all (G (drop (first + i) (enumerate_from 1 (map view xs)))) old now → Finds s all (Some instance) old new
-blocks-found s G F view all ys xs first i d item instance old now new goes same below is finds passes =
-    Passes-found s all (F (first + i + 1, view item)) (G (drop (first + i + 1) (enumerate_from 1 (map view xs)))) instance old now new
-    (passes-at s all _ _ old now (block-next G F view ys xs first i d item goes same below is) passes) finds
+  pub packages-more : Goes old all (packages_rest old.judged k (drop i (enumerate_from 1 old.judged.problem.packages))) now
+      → Searches now (package_rest now.judged k (i + 1, p)) None new → Goes old all (packages_rest old.judged 0 (drop (i + 1) (enumerate_from 1 old.judged.problem.packages))) new
+  packages-more goes none = part-more old now new all _ (λ s. package_rest s k (i + 1, p)) (at-package goes) none
 
-pub blocks-end : {A B : Type 0} (s : Proposal) (G : List (ℕ × A) → List Stop) (view : B → A) (all : List Stop) (ys xs : List B) (first i old now : ℕ)
-    → G [] ≡ [] → ys ≡ xs → length (rest_of ys first) ≤ i → Passes s all (G (drop (first + i) (enumerate_from 1 (map view xs)))) old now → Finds s all None old now
-blocks-end s G view all ys xs first i old now ends same end passes =
-    Passes-end s all old now (passes-at s all _ _ old now (at_drop_all G (enumerate_from 1 (map view xs)) (first + i) within ∙ ends) passes)
-  where
-    within : length (enumerate_from 1 (map view xs)) ≤ first + i
-    within = omega (arith, length-rest ys first, ap length same, length-map xs view, length-enumerate_from 1 (map view xs))
+  pub packages-found : (instance : PlainInstance) → Goes old all (packages_rest old.judged k (drop i (enumerate_from 1 old.judged.problem.packages))) now
+      → Searches now (package_rest now.judged k (i + 1, p)) (Some instance) new → Searches old all (Some instance) new
+  packages-found instance goes found = part-found old now new all _ (λ s. package_rest s k (i + 1, p)) instance (at-package goes) found
 
--- at the first of the entries
-pub blocks-start : {A : Type 0} (s : Proposal) (G : List (ℕ × A) → List Stop) (xs : List (ℕ × A)) (first old : ℕ) → Passes s (G (drop first xs)) (G (drop (first + 0) xs)) old old
-blocks-start s G xs first old = passes-at s (G (drop first xs)) _ _ old old (ap (λ n. G (drop n xs)) count) (Passes-start s (G (drop first xs)) old)
-  where
-    count : first ≡ first + 0
-    count = omega arith
+pub packages-end : (old now : Walking) (all : List Stop) (k i : ℕ) → length old.judged.problem.packages ≤ i
+    → Goes old all (packages_rest old.judged k (drop i (enumerate_from 1 old.judged.problem.packages))) now → Searches old all None now
+packages-end old now all k i end goes = goes-end old now all (goes-at old now all _ _
+    (at_drop_all (packages_rest old.judged k) (enumerate_from 1 old.judged.problem.packages) i (omega (arith, length-enumerate_from 1 old.judged.problem.packages))) goes)
+
+-- the package at an index of those that are judged
+pub package-here : (s t : Proposal) (ys : List Package) (i : ℕ) (y : Package) → map package_view ys ≡ s.problem.packages → t ≡ s → i < length ys → y ≡ get_or ys i y
+    → slice_get t.problem.packages i ≡ Some (package_view y)
+package-here s t ys i y same same' below is =
+    (λ j. slice_get (same' j).problem.packages i) ∙ ap (λ ps. slice_get ps i) (sym same)
+    ∙ slice_get-map package_view ys i ∙ ap (option_map package_view) (slice_get-get_or ys i y below ∙ ap Some (sym is))
 
 -- ---- one element of a list
 
@@ -325,36 +237,23 @@ item-some xs i item is = slice_get-get_or xs i item.now (ltb-true i (length xs) 
 pub item-none : {A : Type 0} (xs : List A) (i : ℕ) → IsItemAt xs i None → length xs ≤ i
 item-none xs i is = is.3
 
-pub numbered-some : {A B : Type 0} (view : B → A) (xs : List B) (i : ℕ) (x : B) → slice_get xs i ≡ Some x → slice_get (enumerate_from 1 (map view xs)) i ≡ Some (i + 1, view x)
-numbered-some view xs i x is =
-    slice_get-get_or (enumerate_from 1 (map view xs)) i (0, view x) (omega (arith, slice_get_within xs i x is, length-map xs view, length-enumerate_from 1 (map view xs)))
-    ∙ ap Some (numbered view xs i x below ∙ ap (λ y. (i + 1, view y)) (get_or_from_slice_get xs i x x is))
-  where
-    below : i < length xs
-    below = slice_get_within xs i x is
+pub the-same : {A : Type 0} (x y : A) → Some x ≡ Some y → x ≡ y
+the-same x y is = cc
 
-pub numbered-none : {A B : Type 0} (view : B → A) (xs : List B) (i : ℕ) → length xs ≤ i → slice_get (enumerate_from 1 (map view xs)) i ≡ None
-numbered-none view xs i end = slice_get_past (enumerate_from 1 (map view xs)) i (omega (arith, length-map xs view, length-enumerate_from 1 (map view xs)))
-
--- between steps that others took
-pub Finds-between : (s : Proposal) (stops : List Stop) (found : Option PlainInstance) (n a b c d : ℕ) → Finds s stops found (a + b) (c + d) → Finds s stops found (a + n + b) (c + n + d)
-Finds-between s stops found n a b c d finds = record { given = finds.given; price = omega (arith, finds.price); grows = omega (arith, finds.grows) }
+pub seen-item : {A B : Type 0} (view : B → A) (xs : List B) (i : ℕ) (x : B) → slice_get xs i ≡ Some x → slice_get (map view xs) i ≡ Some (view x)
+seen-item view xs i x is = slice_get-map view xs i ∙ ap (option_map view) is
 
 pub all-at : {A : Type 0} (P : A → Type 0) (xs : List A) (i : ℕ) (x : A) → slice_get xs i ≡ Some x → All P xs → P x
 all-at P xs i x is all = subst P (get_or_from_slice_get xs i x x is) (all i x (slice_get_within xs i x is))
 
 -- the next unknown stanza, which is always violated
-pub unknown-found : (s : Proposal) (us : List PlainUnknown) (n : ℕ) (u : PlainUnknown) (i : PlainInstance) (old new : ℕ)
-    → slice_get us n ≡ Some u → i ≡ unknown_instance u → new ≡ old + 1 → Finds s (unknown_stops n us) (Some i) old new
-unknown-found s us n u i old new is instance price =
-    Finds-at s _ (unknown_stops n us) (Some i) old new (sym next)
-    (Finds-first s (at_site (unknown_stanza u) ∷ []) (unknown_stops (n + 1) us) i old new
+pub unknown-found : (s : Proposal) (n : ℕ) (u : PlainUnknown) (i : PlainInstance) (old new : ℕ)
+    → slice_get s.unknown n ≡ Some u → i ≡ unknown_instance u → new ≡ old + 1 → Finds s (unknown_rest s n) (Some i) old new
+unknown-found s n u i old new is instance price =
+    subst (λ (stops : List Stop). Finds s stops (Some i) old new) (sym next)
+    (Passes-found s (at_site (unknown_stanza u) ∷ unknown_rest s (n + 1)) (at_site (unknown_stanza u) ∷ []) (unknown_rest s (n + 1)) i old old new (Passes-start s _ old)
     (Finds-one s (at_site (unknown_stanza u)) (Some i) old new (ap Some instance) (omega arith) (omega arith)))
   where
-    next : unknown_stops n us ≡ at_site (unknown_stanza u) ∷ unknown_stops (n + 1) us
-    next = at_drop_more (λ l. map at_site (map unknown_stanza l)) us n u (slice_get_within us n u is)
-        ∙ ap (λ x. at_site (unknown_stanza x) ∷ unknown_stops (n + 1) us) (get_or_from_slice_get us n u u is)
-
--- as many as there are at most
-pub drop-least : {A : Type 0} (n m : ℕ) (xs : List A) → m ≡ length xs → drop (min n m) xs ≡ drop n xs
-drop-least n m xs is = ap (λ k. drop (min n k) xs) is ∙ drop_min n xs
+    next : unknown_rest s n ≡ at_site (unknown_stanza u) ∷ unknown_rest s (n + 1)
+    next = at_drop_more (λ l. map at_site (map unknown_stanza l)) s.unknown n u (slice_get_within s.unknown n u is)
+        ∙ ap (λ x. at_site (unknown_stanza x) ∷ unknown_rest s (n + 1)) (get_or_from_slice_get s.unknown n u u is)

@@ -1,12 +1,9 @@
-pub mod Behind
-pub mod Candidates
-pub mod Grounds
 pub mod Judged
 pub mod KeyTexts
 pub mod Named
 pub mod Numbered
-pub mod Passes
 pub mod Places
 pub mod Searches
+pub mod SiteNumbers
 pub mod Standings
 pub mod Walkers

@@ -10,7 +10,8 @@ mod key;
 pub mod laws;
 mod position;
 mod referee;
-mod walk;
+mod rules;
+mod sites;
 
 pub use aims::{Aim, Sign, compare, read_criterion};
 pub use criteria::{Count, Criteria};

@@ -3,10 +3,9 @@ use Rattle.std.proofs.Common.{◌≡◌, ℕ, ◌+◌, ◌≤◌, Bool, true, fa
 use Rattle.std.specs.List.{enumerate_from}
 use Rattle.cudf_text.specs.declared.cursor.Place.{Place}
 use Rattle.cudf_text.specs.declared.fault.Fault.{Fault}
-use Rattle.cudf_text.specs.declared.text.Property.{Property}
 use Rattle.cudf_text.specs.Lines.{class, lines, NumberedLine}
 use Rattle.cudf_text.specs.Working.Left.{left, numbered_from, text_left}
-use Rattle.cudf_text.specs.Working.Tracked.{TrackedStanza, TrackedText}
+use Rattle.cudf_text.specs.Working.Tracked.{TrackedProperty, TrackedStanza, TrackedText}
 use Rattle.cudf_text.specs.Working.Steps.{State, open_state, step}
 use Rattle.cudf_text.proofs.RunLemmas.{outcome, closed_is, state}
 
@@ -20,9 +19,9 @@ left-start : (last : ℕ) (fault : Option Fault) (ls : List NumberedLine) → �
 left-start last None ls = closed_is [] last ls
 left-start last (Some f) ls = refl
 
-pub SoFar-start : (place : Place) (ps : List Property) → ps ≡ [] → SoFar place (open_state ps 0) place
+pub SoFar-start : (place : Place) (ps : List TrackedProperty) → ps ≡ [] → SoFar place (open_state ps 0) place
 SoFar-start place ps none = record {
-  run = ap (λ (qs : List Property). outcome (open_state qs 0) place.fault (numbered_from (place.lines + 1) place.rest.now)) none
+  run = ap (λ (qs : List TrackedProperty). outcome (open_state qs 0) place.fault (numbered_from (place.lines + 1) place.rest.now)) none
       ∙ left-start 0 place.fault (numbered_from (place.lines + 1) place.rest.now);
   count = refl;
   bound = omega arith;

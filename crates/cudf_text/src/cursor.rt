@@ -1,21 +1,19 @@
-ghost use Rattle.std.specs.Prelude.{◌≡◌, [], map, string_bytes, IfOk, IsTrue};
+ghost use Rattle.std.specs.Prelude.{◌≡◌, ◌++◌, [], ◌∷◌, map, string_bytes, IfOk, IsTrue};
 ghost use Rattle.cudf_text.specs.Promises.Cursor.{is_end};
 ghost use Rattle.cudf_text.specs.Lines.{class};
 ghost use Rattle.cudf_text.specs.Working.Left.{text_left, with_tracked, IsCounted};
-ghost use Rattle.cudf_text.specs.Working.Steps.{open_state, step, stepped, extend_last, value_onto};
-ghost use Rattle.cudf_text.specs.Working.Tracked.{tracked_property, tracked_value};
+ghost use Rattle.cudf_text.specs.Working.Steps.{open_state, line_of, step, stepped, extend_last, value_onto};
+ghost use Rattle.cudf_text.specs.Working.Tracked.{tracked_part, tracked_properties, tracked_property, tracked_value};
 
 use crate::fault::{Fault, Kind};
+use crate::lending::keep_properties;
 use crate::line::{Line, classify};
 use crate::lines::first_line;
-use crate::text::{Property, Stanza, Text};
+use crate::room::{Room, Texts};
+use crate::text::{Property, PropertyRef};
 use std::alloc::{AllocError, Global};
 use std::borrow::CowStr;
 use std::marker::Model;
-use std::mem;
-
-/// The most properties that a stanza gets room for before they are read.
-const ROOM: usize = 64;
 
 /// What a cursor answers.
 #[derive(Clone, Copy, Debug, PartialEq, Eq)]
@@ -26,45 +24,41 @@ pub enum Next {
     End { fault: Option<Fault>, lines: u64 },
 }
 
-/// A text's stanzas, each of which is read as it is asked for.
+/// A text's stanzas, each of which is read as it is asked for. A value that is joined of two texts is put
+/// into the room; each other one is a part of the source.
 #[derive(Drop)]
-pub struct Stanzas<'a> {
-    source: &'a str,
-    place: Place<'a>,
+pub struct Stanzas<'t> {
+    place: Place<'t>,
+    /// The properties of the last stanza that was read, from the first that was continued on.
+    others: Vec<Property<'t>>,
+    texts: Texts<'t>,
 }
 
-impl<'a> Model for Stanzas<'a> {
-    ghost use Rattle.cudf_text.specs.Promises.Cursor.{Left};
+impl<'t> Model for Stanzas<'t> {
+    ghost use Rattle.cudf_text.specs.Stanzas.{PlainText};
     ghost use Rattle.cudf_text.specs.Working.Left.{text_left, IsCounted};
-    ghost use Rattle.cudf_text.specs.Working.Tracked.{plain_left};
+    ghost use Rattle.cudf_text.specs.Working.Tracked.{plain_of};
 
-    ghost Value = { Left };
+    ghost Value = { PlainText };
 
-    ghost view = { λ s. plain_left s.source.now (text_left s.place) };
+    ghost view = { λ s. plain_of (text_left s.place) };
 
     ghost invariant = { λ s. IsCounted s.place };
 }
 
-impl<'a> Stanzas<'a> {
+impl<'t> Stanzas<'t> {
     ghost use Rattle.std.specs.Prelude.{◌≡◌, [], IfOk, IfErr, IsTrue};
     ghost use Rattle.cudf_text.specs.Stanzas.{plain_text};
-    ghost use Rattle.cudf_text.specs.Promises.Borrows.{joined_values};
     ghost use Rattle.cudf_text.specs.Promises.Cursor.{with_next, is_end};
-    ghost use Rattle.cudf_text.specs.Promises.Views.{text_view, owned_values};
 
-    /// All stanzas of a text.
-    pub fn new(source: &'a str) -> Self
-        ensures source { result.source ≡ source.now }
-        ensures text { result.text ≡ plain_text source.now }
-        ensures joins { result.joins ≡ joined_values source.now }
+    /// All stanzas of a text. Takes no memory.
+    pub fn new(alloc: Global, source: &'t str, room: &'t mut Room) -> Self
+        ensures { result ≡ plain_text source.now }
     {
         Stanzas {
-            source,
-            place: Place {
-                rest: source,
-                lines: 0,
-                fault: None,
-            },
+            place: Place::start(source),
+            others: Vec::new(alloc),
+            texts: Texts::new(room),
         }
     }
 
@@ -73,7 +67,7 @@ impl<'a> Stanzas<'a> {
     pub fn next(
         &mut self,
         alloc: Global,
-        properties: &mut Vec<Property<'a>>,
+        properties: &mut Vec<PropertyRef<'t>>,
     ) -> Result<Next, AllocError>
         // What was left is what was read, then what is left now.
         ensures read { IfOk result (λ next.
@@ -87,11 +81,8 @@ impl<'a> Stanzas<'a> {
         // and the list is empty.
         ensures emptied { IfErr result (λ _. properties.new.items ≡ []) }
     {
-        match read_stanza(alloc, self.place, properties) {
-            Ok((next, place)) => {
-                self.place = place;
-                Ok(next)
-            }
+        match self.read(alloc, properties) {
+            Ok(next) => Ok(next),
             Err(error) => {
                 properties.clear();
                 Err(error)
@@ -99,61 +90,23 @@ impl<'a> Stanzas<'a> {
         }
     }
 
-    /// A cursor of its own over what is left. Takes no memory.
-    pub fn fork(&self) -> Self
-        ensures { result ≡ self.now }
+    /// Reads the next stanza.
+    fn read(
+        &mut self,
+        alloc: Global,
+        properties: &mut Vec<PropertyRef<'t>>,
+    ) -> Result<Next, AllocError>
+        ensures read { IfOk result (λ next.
+            self.old ≡ with_next next properties.new.items self.new) }
+        ensures end { IfOk result (λ next. IsTrue (is_end next) → self.new ≡ self.old) }
+        ensures nothing { IfOk result (λ next. IsTrue (is_end next) → properties.new.items ≡ []) }
+        ensures kept { IfErr result (λ _. self.new ≡ self.old) }
     {
-        Stanzas {
-            source: self.source,
-            place: self.place,
-        }
+        let (next, place) = read_stanza(alloc, self.place, properties, &mut self.others)?;
+        keep_properties(alloc, &self.others, &mut self.texts, properties)?;
+        self.place = place;
+        Ok(next)
     }
-
-    /// Reads the stanzas that are left, as a text of the same source.
-    pub fn read_rest(self, alloc: Global) -> Result<Text<'a>, AllocError>
-        ensures source { IfOk result (λ t. t.source.now ≡ self.entry.source) }
-        ensures text { IfOk result (λ t. text_view t ≡ self.entry.text) }
-        ensures borrowed { IfOk result (λ t. owned_values t ≡ self.entry.joins) }
-    {
-        let source = self.source;
-        let mut cursor = self;
-        let mut stanzas = Vec::new(alloc);
-        let mut properties = Vec::new(alloc);
-        'stanzas: loop {
-            match cursor.next(alloc, &mut properties)? {
-                Next::Stanza { line, last } => {
-                    let properties = take_all(alloc, &mut properties)?;
-                    stanzas.push(Stanza {
-                        line,
-                        last,
-                        properties,
-                    })?;
-                }
-                Next::End { fault, lines } => {
-                    return Ok(Text {
-                        source,
-                        stanzas,
-                        fault,
-                        lines,
-                    });
-                }
-            }
-        }
-    }
-}
-
-/// The properties, in no more room than they need. Stanzas are often alike: the next one gets
-/// room for as many at once.
-fn take_all<'a>(
-    alloc: Global,
-    properties: &mut Vec<Property<'a>>,
-) -> Result<Vec<Property<'a>>, AllocError>
-    ensures { IfOk result (λ taken. taken.items ≡ properties.old.items) }
-{
-    let room = properties.len().min(ROOM);
-    let mut taken = mem::replace(properties, Vec::with_capacity(alloc, room)?);
-    taken.shrink_to_fit();
-    Ok(taken)
 }
 
 /// How far a text was read.
@@ -167,27 +120,48 @@ pub(crate) struct Place<'a> {
     fault: Option<Fault>,
 }
 
-/// Reads the next stanza into the list, in place of what was there.
-fn read_stanza<'a>(
+impl<'a> Place<'a> {
+    ghost use Rattle.std.specs.Prelude.{◌≡◌};
+    ghost use Rattle.cudf_text.specs.Working.Left.{text_left, IsCounted};
+    ghost use Rattle.cudf_text.specs.Working.Tracked.{whole};
+
+    /// Before the first line.
+    pub(crate) fn start(source: &'a str) -> Self
+        ensures left { text_left result ≡ whole source.now }
+        ensures counted { IsCounted result }
+    {
+        Place {
+            rest: source,
+            lines: 0,
+            fault: None,
+        }
+    }
+}
+
+/// Reads the next stanza into the lists, in place of what was there: as parts the properties before the first
+/// that is continued, and then the others.
+pub(crate) fn read_stanza<'a>(
     alloc: Global,
     place: Place<'a>,
-    properties: &mut Vec<Property<'a>>,
+    parts: &mut Vec<PropertyRef<'a>>,
+    others: &mut Vec<Property<'a>>,
 ) -> Result<(Next, Place<'a>), AllocError>
     requires { IsCounted place }
     ensures read { IfOk result (λ r.
-        text_left place.entry ≡ with_tracked r.0 properties.new.items (text_left r.1)) }
+        text_left place.entry ≡ with_tracked r.0 (tracked_properties parts.new.items others.new.items) (text_left r.1)) }
     ensures end { IfOk result (λ r. IsTrue (is_end r.0) → text_left r.1 ≡ text_left place.entry) }
-    ensures nothing { IfOk result (λ r. IsTrue (is_end r.0) → properties.new.items ≡ []) }
+    ensures nothing { IfOk result (λ r. IsTrue (is_end r.0) → tracked_properties parts.new.items others.new.items ≡ []) }
     ensures counted { IfOk result (λ r. IsCounted r.1) }
 {
     let mut place = place;
     let mut last = 0;
-    properties.clear();
+    parts.clear();
+    others.clear();
     while let Some((line, rest)) = first_line(place.rest) {
         place.rest = rest;
         place.lines += 1;
         if place.fault.is_none() {
-            match take(alloc, properties, &mut last, place.lines, line)? {
+            match take(alloc, parts, others, &mut last, place.lines, line)? {
                 Taken::On => {}
                 Taken::Fault(kind) => {
                     place.fault = Some(Fault {
@@ -199,17 +173,16 @@ fn read_stanza<'a>(
             }
         }
     }
-    let next = match properties.first() {
-        Some(first) => Next::Stanza {
-            line: first.line,
-            last,
-        },
-        None => Next::End {
-            fault: place.fault,
-            lines: place.lines,
-        },
-    };
-    Ok((next, place))
+    match first_line_of(parts.as_slice(), others.as_slice()) {
+        Some(line) => Ok((Next::Stanza { line, last }, place)),
+        None => {
+            let next = Next::End {
+                fault: place.fault,
+                lines: place.lines,
+            };
+            Ok((next, place))
+        }
+    }
 }
 
 /// What a line did to the open stanza.
@@ -226,35 +199,40 @@ pub(crate) enum Taken {
 /// Takes the next line into the open stanza.
 fn take<'a>(
     alloc: Global,
-    properties: &mut Vec<Property<'a>>,
+    parts: &mut Vec<PropertyRef<'a>>,
+    others: &mut Vec<Property<'a>>,
     last: &mut u64,
     number: u64,
     line: &'a str,
 ) -> Result<Taken, AllocError>
     ensures { IfOk result (λ taken.
-        step (open_state properties.old.items last.old) number (class line.now)
-        ≡ stepped taken number (open_state properties.new.items last.new)) }
+        step (open_state (tracked_properties parts.old.items others.old.items) last.old) number (class line.now)
+        ≡ stepped taken number (open_state (tracked_properties parts.new.items others.new.items) last.new)) }
 {
     match classify(line) {
         Line::Comment => {}
         Line::Blank => {
-            if let Some(first) = properties.first() {
-                return Ok(Taken::End(first.line));
+            if let Some(first) = first_line_of(parts.as_slice(), others.as_slice()) {
+                return Ok(Taken::End(first));
             }
         }
         Line::Continuation(text) => {
-            if properties.is_empty() {
+            if first_line_of(parts.as_slice(), others.as_slice()).is_none() {
                 return Ok(Taken::Fault(Kind::E3));
             }
-            continue_property(alloc, properties, text)?;
+            continue_last(alloc, parts, others, text)?;
             *last = number;
         }
         Line::Named(name, text) => {
-            properties.push(Property {
-                line: number,
-                name,
-                value: CowStr::Borrowed(text),
-            })?;
+            add(
+                parts,
+                others,
+                PropertyRef {
+                    line: number,
+                    name,
+                    value: text,
+                },
+            )?;
             *last = number;
         }
         Line::Faulty => {
@@ -265,7 +243,80 @@ fn take<'a>(
     Ok(Taken::On)
 }
 
+/// The line of the first property.
+fn first_line_of(parts: &[PropertyRef<'_>], others: &[Property<'_>]) -> Option<u64>
+    ensures { result ≡ line_of (tracked_properties parts.now others.now) }
+{
+    match parts.first() {
+        Some(first) => Some(first.line),
+        None => Some(others.first()?.line),
+    }
+}
+
+/// Adds a property of one text.
+fn add<'a>(
+    parts: &mut Vec<PropertyRef<'a>>,
+    others: &mut Vec<Property<'a>>,
+    part: PropertyRef<'a>,
+) -> Result<(), AllocError>
+    ensures { IfOk result (λ _.
+        tracked_properties parts.new.items others.new.items
+        ≡ tracked_properties parts.old.items others.old.items ++ tracked_part part.entry ∷ []) }
+{
+    if others.is_empty() {
+        parts.push(part)?;
+        return Ok(());
+    }
+    others.push(owned(part))?;
+    Ok(())
+}
+
+/// The same property.
+pub(crate) fn owned(part: PropertyRef<'_>) -> Property<'_>
+    ensures { tracked_property result ≡ tracked_part part.entry }
+{
+    Property {
+        line: part.line,
+        name: part.name,
+        value: CowStr::Borrowed(part.value),
+    }
+}
+
 /// Adds one more text to the value of the last property.
+fn continue_last<'a>(
+    alloc: Global,
+    parts: &mut Vec<PropertyRef<'a>>,
+    others: &mut Vec<Property<'a>>,
+    text: &'a str,
+) -> Result<(), AllocError>
+    ensures { IfOk result (λ _.
+        tracked_properties parts.new.items others.new.items
+        ≡ extend_last (tracked_properties parts.old.items others.old.items) text.now) }
+{
+    move_last(parts, others)?;
+    continue_property(alloc, others, text)
+}
+
+/// Puts the last property among the others.
+fn move_last<'a>(
+    parts: &mut Vec<PropertyRef<'a>>,
+    others: &mut Vec<Property<'a>>,
+) -> Result<(), AllocError>
+    ensures same { IfOk result (λ _.
+        tracked_properties parts.new.items others.new.items ≡ tracked_properties parts.old.items others.old.items) }
+    ensures last { IfOk result (λ _. others.new.items ≡ [] → parts.new.items ≡ []) }
+{
+    if !others.is_empty() {
+        return Ok(());
+    }
+    let Some(part) = parts.pop() else {
+        return Ok(());
+    };
+    others.push(owned(part))?;
+    Ok(())
+}
+
+/// Adds one more text to the value of the last of these.
 fn continue_property<'a>(
     alloc: Global,
     properties: &mut Vec<Property<'a>>,

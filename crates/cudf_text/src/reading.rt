@@ -1,14 +1,16 @@
-ghost use Rattle.std.specs.Prelude.{◌≡◌, ◌+◌, IfErr, IfOk, IsUtf8, alloc_error, count_by};
+ghost use Rattle.std.specs.Prelude.{◌≡◌, ◌+◌, IfErr, IfOk, IsUtf8, alloc_error, count_by, map};
 ghost use Rattle.cudf_text.specs.Lines.{is_lf};
 ghost use Rattle.cudf_text.specs.Stanzas.{plain_text};
 ghost use Rattle.cudf_text.specs.Promises.Borrows.{joined_values};
-ghost use Rattle.cudf_text.specs.Promises.Views.{IsText, owned_values};
+ghost use Rattle.cudf_text.specs.Promises.Views.{IsText, owned_values, text_view};
 ghost use Rattle.cudf_text.specs.LineFaults.{utf8_fault};
+ghost use Rattle.cudf_text.specs.Working.Tracked.{tracked_properties, tracked_property};
 
-use crate::cursor::Stanzas;
+use crate::cursor::{Next, Place, Stanzas, owned, read_stanza};
 use crate::fault::{Fault, Kind};
-use crate::text::{Text, TextError};
-use std::alloc::Global;
+use crate::room::Room;
+use crate::text::{Property, PropertyRef, Stanza, Text, TextError};
+use std::alloc::{AllocError, Global};
 use std::str;
 
 /// Reads the stanzas of a document (CUDF 2.0, syntax of stanzas and properties), up to its first
@@ -28,23 +30,69 @@ pub fn read<'a>(alloc: Global, bytes: &'a [u8]) -> Result<Text<'a>, TextError>
     ensures not_utf8 { ¬ (IsUtf8 bytes.now) → result ≡ Err (TextError.Fault (utf8_fault bytes.now)) }
 {
     match source_of(bytes) {
-        Ok(source) => Stanzas::new(source)
-            .read_rest(alloc)
-            .map_err(TextError::Memory),
+        Ok(source) => read_text(alloc, source).map_err(TextError::Memory),
         Err(fault) => Err(TextError::Fault(fault)),
     }
 }
 
+/// Reads the stanzas of a source.
+fn read_text<'a>(alloc: Global, source: &'a str) -> Result<Text<'a>, AllocError>
+    ensures source { IfOk result (λ t. t.source.now ≡ source.now) }
+    ensures text { IfOk result (λ t. text_view t ≡ plain_text source.now) }
+    ensures borrowed { IfOk result (λ t. owned_values t ≡ joined_values source.now) }
+{
+    let mut place = Place::start(source);
+    let mut stanzas = Vec::new(alloc);
+    let mut parts = Vec::new(alloc);
+    let mut others = Vec::new(alloc);
+    'stanzas: loop {
+        let (next, behind) = read_stanza(alloc, place, &mut parts, &mut others)?;
+        match next {
+            Next::Stanza { line, last } => {
+                let properties = take_all(alloc, &parts, &mut others)?;
+                stanzas.push(Stanza {
+                    line,
+                    last,
+                    properties,
+                })?;
+            }
+            Next::End { fault, lines } => {
+                return Ok(Text {
+                    source,
+                    stanzas,
+                    fault,
+                    lines,
+                });
+            }
+        }
+        place = behind;
+    }
+}
+
+/// All properties of a stanza, in no more room than they need.
+fn take_all<'a>(
+    alloc: Global,
+    parts: &[PropertyRef<'a>],
+    others: &mut Vec<Property<'a>>,
+) -> Result<Vec<Property<'a>>, AllocError>
+    ensures { IfOk result (λ taken. map tracked_property taken.items ≡ tracked_properties parts.now others.old.items) }
+{
+    let mut taken = Vec::with_capacity(alloc, parts.len().saturating_add(others.len()))?;
+    for part in parts {
+        taken.push(owned(*part))?;
+    }
+    taken.append(others)?;
+    Ok(taken)
+}
+
 /// The stanzas of a document, each of which is read as it is asked for, or E1 where the bytes
-/// aren't UTF-8. Takes no memory.
-pub fn stanzas(bytes: &[u8]) -> Result<Stanzas<'_>, Fault>
-    ensures utf8 { IfOk result (λ s. IsUtf8 bytes.now × (s.text ≡ plain_text bytes.now)) }
-    ensures source { IfOk result (λ s. s.source ≡ bytes.now) }
-    ensures joins { IfOk result (λ s. s.joins ≡ joined_values bytes.now) }
+/// aren't UTF-8. Values that are joined are put into the room. Takes no memory.
+pub fn stanzas<'t>(alloc: Global, bytes: &'t [u8], room: &'t mut Room) -> Result<Stanzas<'t>, Fault>
+    ensures utf8 { IfOk result (λ s. IsUtf8 bytes.now × (s ≡ plain_text bytes.now)) }
     ensures fault { IfErr result (λ f. (¬ (IsUtf8 bytes.now)) × (f ≡ utf8_fault bytes.now)) }
 {
     match source_of(bytes) {
-        Ok(source) => Ok(Stanzas::new(source)),
+        Ok(source) => Ok(Stanzas::new(alloc, source, room)),
         Err(fault) => Err(fault),
     }
 }

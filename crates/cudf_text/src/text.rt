@@ -1,5 +1,3 @@
-ghost use Rattle.cudf_text.specs.Promises.Joins.{IsJoined};
-
 use crate::fault::Fault;
 use std::alloc::AllocError;
 use std::borrow::CowStr;
@@ -41,7 +39,29 @@ pub struct Property<'a> {
     /// those that aren't empty are joined by one space. A part of the source, unless two
     /// texts are joined.
     pub value: CowStr<'a>,
-    pub ghost joined: { IsJoined value },
+}
+
+/// A stanza that is read as it is asked for.
+#[derive(Debug, Drop)]
+pub struct StanzaRef<'t> {
+    /// The line of the first property, from 1.
+    pub line: u64,
+    /// The line of the last property or continuation, or of the E2 that ends the stanza.
+    pub last: u64,
+    /// The properties, in order.
+    pub properties: Vec<PropertyRef<'t>>,
+}
+
+/// A property of such a stanza.
+#[derive(Clone, Copy, Debug)]
+pub struct PropertyRef<'t> {
+    /// The line of the name, from 1.
+    pub line: u64,
+    /// The text before the colon: an ASCII letter, then letters, digits, `-` and `_`.
+    pub name: &'t str,
+    /// The text after the colon and the texts of the continuations, trimmed of spaces and tabs;
+    /// those that aren't empty are joined by one space.
+    pub value: &'t str,
 }
 
 /// Why bytes have no `Text`.

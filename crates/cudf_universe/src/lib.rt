@@ -8,7 +8,7 @@ pub mod laws;
 mod steps;
 
 pub use cudf_document::{
-    Chosen, Keep, Mode, Package, Problem, ReadError, Request, Room, Solution, Status, Unknown,
+    Chosen, Keep, Mode, Package, Problem, ReadError, Request, Solution, Status, Unknown,
     first_fault, initial, problem_for, problem_of, read_problem, read_solution, solution_of,
 };
 pub use greatest::{GreatestNumbers, MeteredNumbers};

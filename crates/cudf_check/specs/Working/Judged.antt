@@ -4,7 +4,8 @@ use Rattle.cudf_document.specs.declared.mode.Mode.{Mode}
 use Rattle.cudf_document.specs.declared.error.ReadError.{ReadError}
 use Rattle.cudf_document.specs.declared.error.ReadError.TheVariants.{Fault, Memory}
 use Rattle.cudf_document.specs.Universe.{PlainProblem}
-use Rattle.cudf_check.specs.RankReport.{solution_fault, judgement, standings, placed_faults}
+use Rattle.cudf_check.specs.RankReport.{judgement, standings, placed_faults}
+use Rattle.cudf_check.specs.Report.{solution_fault}
 use Rattle.cudf_check.specs.declared.judging.Refused.{Refused}
 use Rattle.cudf_check.specs.declared.ranking.Judgement.{Judgement}
 use Rattle.cudf_check.specs.declared.ranking.Standing.{Standing}
@@ -13,11 +14,6 @@ use Rattle.cudf_check.specs.declared.ranking.Standing.{Standing}
 pub record IsJudged (mode : Mode) (problem : PlainProblem) (bytes : List ℕ) (j : Judgement) : Type 0 where
   pub found : j ≡ judgement problem bytes
   pub sound : solution_fault mode bytes ≡ None
-
--- its first fault, or want of memory
-abbrev pub IsFaultOf : Mode → List ℕ → ReadError → Type 0
-IsFaultOf mode bytes (Fault f) = solution_fault mode bytes ≡ Some f
-IsFaultOf mode bytes (Memory e) = Unit {0}
 
 -- none has a fault, and these are their standings
 pub record AreJudged (mode : Mode) (problem : PlainProblem) (solutions : List (List ℕ)) (ss : List Standing) : Type 0 where

@@ -1,5 +1,5 @@
 -- Where the walk over the instances stands after a page, and what it has spent.
-use Rattle.std.specs.Prelude.{◌≡◌, ◌≤◌, ◌+◌, ◌⊎◌, ℕ, List, [], ◌∷◌, ◌++◌, codes, length, take, drop, map, IsTrue, Option, Some, None, if◌then◌else◌}
+use Rattle.std.specs.Prelude.{◌≡◌, ◌≤◌, ◌+◌, ◌⊎◌, ℕ, Bool, true, false, List, [], ◌∷◌, ◌++◌, codes, length, take, drop, map, IsTrue, Option, Some, None, if◌then◌else◌}
 use Rattle.cudf_document.specs.Documents.{is_empty}
 use Rattle.cudf_referee.specs.Keys.{PlainKey, key_text, ascend}
 use Rattle.cudf_referee.specs.Promises.Pages.{cost_along}
@@ -20,6 +20,12 @@ Ascends s = IsTrue (ascend (map (λ i. i.key) (listing s)))
 abbrev pub IsPageEnd : ℕ → List PlainInstance → List PlainInstance → Option Key → Type 0
 IsPageEnd limit old new (Some key) = (last_key (take limit old) ≡ Some (key_view key)) × (new ≡ drop limit old)
 IsPageEnd limit old new None = (last_key (take limit old) ≡ None) ⊎ (drop limit old ≡ [])
+
+-- the same, unless a write failed before the page was whole
+abbrev pub IsEnded : ℕ → List PlainInstance → List PlainInstance → Option Key → Bool → Type 0
+IsEnded limit old new (Some key) has_failed = IsPageEnd limit old new (Some key)
+IsEnded limit old new None true = Unit {0}
+IsEnded limit old new None false = IsPageEnd limit old new None
 
 -- where the next page begins, if an instance is left
 abbrev pub more_behind : List PlainInstance → PlainKey → List ℕ

@@ -1,19 +1,20 @@
 -- What is answered where a document has a fault.
-use Rattle.std.specs.Prelude.{◌≡◌, ℕ, List, codes}
-use Rattle.cudf_text.specs.Stanzas.{PlainText}
+use Rattle.std.specs.Prelude.{◌≡◌, ℕ, true, List, Option, Some, None}
+use Rattle.cudf_text.specs.declared.fault.Fault.{Fault}
+use Rattle.cudf_text.specs.Joined.{is_fail}
 use Rattle.cudf_document.specs.declared.error.ReadError.{ReadError}
-use Rattle.cudf_document.specs.declared.error.ReadError.TheVariants.{Fault, Memory}
+use Rattle.cudf_document.specs.declared.error.ReadError.TheVariants as read_error
 use Rattle.cudf_document.specs.declared.mode.Mode.{Mode}
-use Rattle.cudf_document.specs.Faults.{least}
-use Rattle.cudf_document.specs.ProblemFaults.{problem_faults}
-use Rattle.cudf_document.specs.Universe.{PlainProblem, plain_problem}
-use Rattle.cudf_check.specs.Report.{Report, faulty, faulty_or}
+use Rattle.cudf_check.specs.Report.{solution_fault}
+use Rattle.cudf_check.specs.declared.readings.Refusal.{Refusal}
+use Rattle.cudf_check.specs.declared.readings.Refusal.TheVariants.{SaysFail, Unread}
 
--- a fault makes the report; where memory ran out, any report may have been meant
-abbrev pub IsReportOf : List ℕ → ReadError → Report → Type 0
-IsReportOf whose (Fault fault) report = report ≡ faulty whose fault
-IsReportOf whose (Memory error) report = Unit {0}
+-- this is the fault, or memory was wanting
+abbrev pub IsFaultOf : Option Fault → ReadError → Type 0
+IsFaultOf fault (read_error.Fault f) = fault ≡ Some f
+IsFaultOf fault (read_error.Memory e) = Unit {0}
 
--- the report of what a problem's text says, or of its first fault
-abbrev pub of_problem_text : Mode → (PlainProblem → Report) → PlainText → Report
-of_problem_text mode report text = faulty_or (codes "problem") (least (problem_faults text mode)) (report (plain_problem text))
+-- a solution isn't judged: it says FAIL, or has this fault, or memory was wanting
+abbrev pub IsRefused : Mode → List ℕ → Refusal → Type 0
+IsRefused mode bytes SaysFail = (solution_fault mode bytes ≡ None) × (is_fail bytes ≡ true)
+IsRefused mode bytes (Unread error) = IsFaultOf (solution_fault mode bytes) error

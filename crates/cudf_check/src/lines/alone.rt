@@ -1,29 +1,42 @@
 //! Reports of one line.
-ghost use Rattle.cudf_check.specs.Report.{faulty};
+ghost use Rattle.std.specs.Prelude.{◌++◌, codes, decimal};
+ghost use Rattle.cudf_text.specs.Faults.{fault_text};
+ghost use Rattle.cudf_check.specs.Report.{line, alone, faulty};
 ghost use Rattle.cudf_check.specs.Working.Answering.{Answers};
-ghost use Rattle.cudf_check.specs.Working.Printing.{joined};
+ghost use Rattle.cudf_check.specs.Working.Paper.{Says};
 
 use crate::buffer::ReportBuffer;
 use crate::device::Sink;
-use crate::lines::print;
 use crate::outcome::{Outcome, RunError};
+use crate::paper::Paper;
 use cudf_text::Fault;
-use itoa::Buffer;
 use std::alloc::Global;
 
-/// Writes a report of these pieces alone.
+/// Writes a report of this line alone.
 pub(crate) fn answer<W: Sink>(
     alloc: Global,
     out: &mut W,
-    pieces: &[&str],
+    line: &str,
     outcome: Outcome,
 ) -> Result<Outcome, RunError>
-    ensures { Answers (W.state out.old) (W.state out.new) (record { text = joined pieces.now; outcome = outcome }) result }
+    ensures { Answers (W.state out.old) (W.state out.new) (alone line.now outcome) result }
 {
-    let mut buffer = ReportBuffer::new(alloc)?;
-    print(&mut buffer, out, pieces)?;
-    buffer.flush(out)?;
-    Ok(outcome)
+    let mut waiting = ReportBuffer::new(alloc)?;
+    let mut paper = Paper::new(out, &mut waiting);
+    paper.text(line);
+    paper.text("\n");
+    paper.finish(outcome)
+}
+
+/// Prints where a fault stands and which it is, behind whose it is, and ends the line.
+pub(crate) fn print_fault<W: Sink>(paper: &mut Paper<'_, W>, fault: Fault)
+    ensures { Says W.state paper.old paper.new (line (codes " line " ++ decimal fault.line ++ codes ": " ++ fault_text fault.kind)) }
+{
+    paper.text(" line ");
+    paper.number(fault.line);
+    paper.text(": ");
+    paper.text(fault.kind.text());
+    paper.text("\n");
 }
 
 /// Writes the report of a faulty document.
@@ -35,13 +48,9 @@ pub(crate) fn answer_fault<W: Sink>(
 ) -> Result<Outcome, RunError>
     ensures { Answers (W.state out.old) (W.state out.new) (faulty whose.now fault) result }
 {
-    let mut numbers = Buffer::new();
-    let number = numbers.format(fault.line);
-    let kind = fault.kind.text();
-    answer(
-        alloc,
-        out,
-        &[whose, " line ", number, ": ", kind, "\n"],
-        Outcome::Faulty,
-    )
+    let mut waiting = ReportBuffer::new(alloc)?;
+    let mut paper = Paper::new(out, &mut waiting);
+    paper.text(whose);
+    print_fault(&mut paper, fault);
+    paper.finish(Outcome::Faulty)
 }

@@ -1,308 +1,228 @@
 //! Prints the line of an instance.
-ghost use Rattle.std.specs.Prelude.{◌≡◌, ◌++◌, codes, option_map};
+ghost use Rattle.std.specs.Prelude.{◌++◌, codes, option_map};
 ghost use Rattle.std.specs.List.{flat_map};
 ghost use Rattle.cudf_value.specs.Promises.Views.{vpkg_view, atom_view, clause_view};
-ghost use Rattle.cudf_value.specs.Printing.{vpkg_text, atom_text, clause_text};
+ghost use Rattle.cudf_value.specs.Printing.{bound_text, vpkg_text, atom_text, clause_text};
 ghost use Rattle.cudf_document.specs.Promises.Views.{package_view};
-ghost use Rattle.cudf_referee.specs.Keys.{key_text, aspect_text};
+ghost use Rattle.cudf_referee.specs.Keys.{key_text, part_text, aspect_text};
 ghost use Rattle.cudf_referee.specs.KeyViews.{key_view};
 ghost use Rattle.cudf_referee.specs.Promises.Views.{instance_view, what_view};
-ghost use Rattle.cudf_check.specs.Report.{line, meeting_text, aspect_line, upgrade_text, what_text, place_text, met_line};
-ghost use Rattle.cudf_check.specs.Working.Printing.{Prints};
+ghost use Rattle.cudf_check.specs.Report.{meeting_text, aspect_line, upgrade_text, what_text, subject_text, place_text, met_line};
+ghost use Rattle.cudf_check.specs.Working.Paper.{Says};
 
-use crate::buffer::ReportBuffer;
 use crate::device::Sink;
-use crate::lines::print;
-use crate::outcome::RunError;
+use crate::paper::Paper;
 use cudf_document::Package;
 use cudf_referee::{Aspect, Instance, Key, Part, What};
-use cudf_value::{Atom, Clause, Vpkg};
-use itoa::Buffer;
+use cudf_value::{Atom, Clause, Relop, Vpkg};
 
-/// The words of a vpkg that has a bound.
-#[derive(Clone, Copy)]
-struct Bounded<'x> {
-    name: &'x str,
-    symbol: &'x str,
-    digits: &'x str,
-}
-
-/// Prints a name, an operator and a number between two texts.
-fn print_bounded<'x, W: Sink>(
-    buffer: &mut ReportBuffer,
-    out: &mut W,
-    before: &'x str,
-    words: Bounded<'x>,
-    after: &'x str,
-) -> Result<(), RunError>
-    ensures { Prints (W.state out.old) (W.state out.new) buffer.old buffer.new result
-        (before.now ++ (words.entry.name.now ++ (codes " " ++ words.entry.symbol.now ++ codes " " ++ words.entry.digits.now)) ++ after.now) }
+/// Prints a bound, if there is one.
+fn print_bound<W: Sink>(paper: &mut Paper<'_, W>, bound: Option<(Relop, u64)>)
+    ensures { Says W.state paper.old paper.new (bound_text bound) }
 {
-    let Bounded {
-        name,
-        symbol,
-        digits,
-    } = words;
-    print(
-        buffer,
-        out,
-        &[before, name, " ", symbol, " ", digits, after],
-    )
-}
-
-/// Prints a vpkg between two texts.
-fn print_vpkg<'x, W: Sink>(
-    buffer: &mut ReportBuffer,
-    out: &mut W,
-    before: &'x str,
-    vpkg: &'x Vpkg<'x>,
-    after: &'x str,
-) -> Result<(), RunError>
-    ensures { Prints (W.state out.old) (W.state out.new) buffer.old buffer.new result
-        (before.now ++ vpkg_text (vpkg_view vpkg.now) ++ after.now) }
-{
-    match vpkg.bound {
-        None => print(buffer, out, &[before, vpkg.name, after]),
-        Some((relop, number)) => {
-            let mut numbers = Buffer::new();
-            let words = Bounded {
-                name: vpkg.name,
-                symbol: relop.symbol(),
-                digits: numbers.format(number),
-            };
-            print_bounded(buffer, out, before, words, after)
-        }
+    if let Some((relop, number)) = bound {
+        paper.text(" ");
+        paper.text(relop.symbol());
+        paper.text(" ");
+        paper.number(number);
     }
 }
 
-/// Prints an atom behind a text.
-fn print_atom<'x, W: Sink>(
-    buffer: &mut ReportBuffer,
-    out: &mut W,
-    before: &'x str,
-    atom: &'x Atom<'x>,
-) -> Result<(), RunError>
-    ensures { Prints (W.state out.old) (W.state out.new) buffer.old buffer.new result
-        (before.now ++ atom_text (atom_view atom.now)) }
+/// Prints a vpkg.
+fn print_vpkg<W: Sink>(paper: &mut Paper<'_, W>, vpkg: &Vpkg<'_>)
+    ensures { Says W.state paper.old paper.new (vpkg_text (vpkg_view vpkg.now)) }
+{
+    paper.text(vpkg.name);
+    print_bound(paper, vpkg.bound);
+}
+
+/// Prints an atom.
+fn print_atom<W: Sink>(paper: &mut Paper<'_, W>, atom: &Atom<'_>)
+    ensures { Says W.state paper.old paper.new (atom_text (atom_view atom.now)) }
 {
     match atom {
-        Atom::Yes => print(buffer, out, &[before, "true!"]),
-        Atom::No => print(buffer, out, &[before, "false!"]),
-        Atom::Is(vpkg) => print_vpkg(buffer, out, before, vpkg, ""),
+        Atom::Yes => paper.text("true!"),
+        Atom::No => paper.text("false!"),
+        Atom::Is(vpkg) => print_vpkg(paper, vpkg),
     }
 }
 
-/// Prints the atoms behind the first one, and ends the line.
-fn print_atoms<W: Sink>(
-    buffer: &mut ReportBuffer,
-    out: &mut W,
-    atoms: &[Atom<'_>],
-) -> Result<(), RunError>
-    ensures { Prints (W.state out.old) (W.state out.new) buffer.old buffer.new result
-        (line (flat_map (λ a. codes " | " ++ atom_text (atom_view a)) atoms.now)) }
+/// Prints the atoms behind the first one.
+fn print_others<W: Sink>(paper: &mut Paper<'_, W>, atoms: &[Atom<'_>])
+    ensures { Says W.state paper.old paper.new (flat_map (λ a. codes " | " ++ atom_text (atom_view a)) atoms.now) }
 {
     for atom in atoms {
-        print_atom(buffer, out, " | ", atom)?;
+        paper.text(" | ");
+        print_atom(paper, atom);
     }
-    print(buffer, out, &["\n"])
 }
 
-/// Prints what a clause needs, and ends the line.
-fn print_needs<W: Sink>(
-    buffer: &mut ReportBuffer,
-    out: &mut W,
-    clause: &Clause<'_>,
-) -> Result<(), RunError>
-    ensures { Prints (W.state out.old) (W.state out.new) buffer.old buffer.new result
-        (line (codes "needs " ++ clause_text (clause_view clause.now))) }
+/// Prints a clause.
+fn print_clause<W: Sink>(paper: &mut Paper<'_, W>, clause: &Clause<'_>)
+    ensures { Says W.state paper.old paper.new (clause_text (clause_view clause.now)) }
 {
-    match clause.atoms.as_slice().split_first() {
-        None => print(buffer, out, &["needs ", "\n"]),
-        Some((first, rest)) => {
-            print_atom(buffer, out, "needs ", first)?;
-            print_atoms(buffer, out, rest)
+    if let Some((first, others)) = clause.atoms.as_slice().split_first() {
+        print_atom(paper, first);
+        print_others(paper, others);
+    }
+}
+
+/// Prints the package that meets an entry, if there is one.
+fn print_meeting<W: Sink>(paper: &mut Paper<'_, W>, met: Option<&Package<'_>>)
+    ensures { Says W.state paper.old paper.new (meeting_text (option_map (λ p. package_view p.now) met.entry)) }
+{
+    if let Some(package) = met {
+        paper.text(", met by ");
+        paper.text(package.name);
+        paper.text(" ");
+        paper.number(package.version);
+    }
+}
+
+/// Prints what is wrong with an entry of `upgrade` in this way.
+fn print_aspect<W: Sink>(paper: &mut Paper<'_, W>, vpkg: &Vpkg<'_>, aspect: Aspect)
+    ensures { Says W.state paper.old paper.new (aspect_line (vpkg_view vpkg.now) aspect) }
+{
+    match aspect {
+        Aspect::Unsatisfied => {
+            paper.text("upgrade needs ");
+            print_vpkg(paper, vpkg);
+        }
+        Aspect::Many => {
+            paper.text("upgrade ");
+            paper.text(vpkg.name);
+            paper.text(" has several versions");
+        }
+        Aspect::Lower => {
+            paper.text("upgrade ");
+            paper.text(vpkg.name);
+            paper.text(" is lower than before");
         }
     }
 }
 
-/// Prints the package that meets an entry, if there is one, and ends the line.
-fn print_meeting<W: Sink>(
-    buffer: &mut ReportBuffer,
-    out: &mut W,
-    met: Option<&Package<'_>>,
-) -> Result<(), RunError>
-    ensures { Prints (W.state out.old) (W.state out.new) buffer.old buffer.new result
-        (line (meeting_text (option_map (λ p. package_view p.now) met.entry))) }
+/// Prints what is wrong with an entry of `upgrade`.
+fn print_upgrade<W: Sink>(paper: &mut Paper<'_, W>, vpkg: &Vpkg<'_>, aspect: Option<Aspect>)
+    ensures { Says W.state paper.old paper.new (upgrade_text (vpkg_view vpkg.now) aspect) }
 {
-    match met {
-        None => print(buffer, out, &["\n"]),
-        Some(package) => {
-            let mut numbers = Buffer::new();
-            let version = numbers.format(package.version);
-            print(
-                buffer,
-                out,
-                &[", met by ", package.name, " ", version, "\n"],
-            )
-        }
+    if let Some(aspect) = aspect {
+        print_aspect(paper, vpkg, aspect);
     }
 }
 
-/// Prints an entry behind a text, the package that meets it, and ends the line.
-fn print_met<'x, W: Sink>(
-    buffer: &mut ReportBuffer,
-    out: &mut W,
-    before: &'x str,
-    vpkg: &'x Vpkg<'x>,
-    met: Option<&Package<'_>>,
-) -> Result<(), RunError>
-    ensures { Prints (W.state out.old) (W.state out.new) buffer.old buffer.new result
-        (line (before.now ++ vpkg_text (vpkg_view vpkg.now) ++ meeting_text (option_map (λ p. package_view p.now) met.entry))) }
-{
-    print_vpkg(buffer, out, before, vpkg, "")?;
-    print_meeting(buffer, out, met)
-}
-
-/// Prints what is wrong with an entry of `upgrade` in this way, and ends the line.
-fn print_aspect<W: Sink>(
-    buffer: &mut ReportBuffer,
-    out: &mut W,
+/// Prints an entry behind a text, and the package that meets it.
+fn print_met<W: Sink>(
+    paper: &mut Paper<'_, W>,
+    before: &str,
     vpkg: &Vpkg<'_>,
-    aspect: Aspect,
-) -> Result<(), RunError>
-    ensures { Prints (W.state out.old) (W.state out.new) buffer.old buffer.new result
-        (line (aspect_line (vpkg_view vpkg.now) aspect)) }
+    met: Option<&Package<'_>>,
+)
+    ensures { Says W.state paper.old paper.new (before.now ++ vpkg_text (vpkg_view vpkg.now) ++ meeting_text (option_map (λ p. package_view p.now) met.entry)) }
 {
-    match aspect {
-        Aspect::Unsatisfied => print_vpkg(buffer, out, "upgrade needs ", vpkg, "\n"),
-        Aspect::Many => print(
-            buffer,
-            out,
-            &["upgrade ", vpkg.name, " has several versions", "\n"],
-        ),
-        Aspect::Lower => print(
-            buffer,
-            out,
-            &["upgrade ", vpkg.name, " is lower than before", "\n"],
-        ),
-    }
+    paper.text(before);
+    print_vpkg(paper, vpkg);
+    print_meeting(paper, met);
 }
 
-/// Prints what is wrong with an entry of `upgrade`, and ends the line.
-fn print_upgrade<W: Sink>(
-    buffer: &mut ReportBuffer,
-    out: &mut W,
-    vpkg: &Vpkg<'_>,
-    aspect: Option<Aspect>,
-) -> Result<(), RunError>
-    ensures { Prints (W.state out.old) (W.state out.new) buffer.old buffer.new result
-        (line (upgrade_text (vpkg_view vpkg.now) aspect)) }
-{
-    match aspect {
-        None => print(buffer, out, &["\n"]),
-        Some(aspect) => print_aspect(buffer, out, vpkg, aspect),
-    }
-}
-
-/// Prints what is wrong, and ends the line.
+/// Prints what is wrong, with the package that meets the entry.
 fn print_what<W: Sink>(
-    buffer: &mut ReportBuffer,
-    out: &mut W,
+    paper: &mut Paper<'_, W>,
     what: &What<'_, '_>,
     aspect: Option<Aspect>,
     met: Option<&Package<'_>>,
-) -> Result<(), RunError>
-    ensures { Prints (W.state out.old) (W.state out.new) buffer.old buffer.new result
-        (line (what_text (what_view what.now) aspect (option_map (λ p. package_view p.now) met.entry))) }
+)
+    ensures { Says W.state paper.old paper.new (what_text (what_view what.now) aspect (option_map (λ p. package_view p.now) met.entry)) }
 {
     match what {
-        What::Needs(clause) => print_needs(buffer, out, clause),
-        What::ConflictsWith(vpkg) => print_met(buffer, out, "conflicts with ", vpkg, met),
-        What::KeepVersion => print(buffer, out, &["keep version", "\n"]),
-        What::KeepPackage => print(buffer, out, &["keep package", "\n"]),
-        What::KeepFeature(vpkg) => print_vpkg(buffer, out, "keep feature ", vpkg, "\n"),
-        What::Install(vpkg) => print_vpkg(buffer, out, "needs ", vpkg, "\n"),
-        What::Remove(vpkg) => print_met(buffer, out, "must remove ", vpkg, met),
-        What::Upgrade(vpkg) => print_upgrade(buffer, out, vpkg, aspect),
-        What::Unknown => print(buffer, out, &["not in the universe", "\n"]),
+        What::Needs(clause) => {
+            paper.text("needs ");
+            print_clause(paper, clause);
+        }
+        What::ConflictsWith(vpkg) => print_met(paper, "conflicts with ", vpkg, met),
+        What::KeepVersion => paper.text("keep version"),
+        What::KeepPackage => paper.text("keep package"),
+        What::KeepFeature(vpkg) => {
+            paper.text("keep feature ");
+            print_vpkg(paper, vpkg);
+        }
+        What::Install(vpkg) => {
+            paper.text("needs ");
+            print_vpkg(paper, vpkg);
+        }
+        What::Remove(vpkg) => print_met(paper, "must remove ", vpkg, met),
+        What::Upgrade(vpkg) => print_upgrade(paper, vpkg, aspect),
+        What::Unknown => paper.text("not in the universe"),
     }
 }
 
-/// The point before an aspect's word, and the word.
-fn aspect_words(aspect: Option<Aspect>) -> (&'static str, &'static str)
-    ensures { result.0.now ++ result.1.now ≡ aspect_text aspect }
+/// Prints the part of a key.
+fn print_part<W: Sink>(paper: &mut Paper<'_, W>, part: Part)
+    ensures { Says W.state paper.old paper.new (part_text part) }
 {
-    match aspect {
-        None => ("", ""),
-        Some(aspect) => (".", aspect.text()),
+    match part {
+        Part::Package(place) => {
+            paper.text("p");
+            paper.number(place);
+        }
+        Part::Request => paper.text("r"),
+        Part::Solution => paper.text("s"),
+    }
+}
+
+/// Prints the aspect of a key, if it has one.
+fn print_key_aspect<W: Sink>(paper: &mut Paper<'_, W>, aspect: Option<Aspect>)
+    ensures { Says W.state paper.old paper.new (aspect_text aspect) }
+{
+    if let Some(aspect) = aspect {
+        paper.text(".");
+        paper.text(aspect.text());
     }
 }
 
 /// Prints a key.
-pub(crate) fn print_key<W: Sink>(
-    buffer: &mut ReportBuffer,
-    out: &mut W,
-    key: Key,
-) -> Result<(), RunError>
-    ensures { Prints (W.state out.old) (W.state out.new) buffer.old buffer.new result
-        (key_text (key_view key)) }
+pub(crate) fn print_key<W: Sink>(paper: &mut Paper<'_, W>, key: Key)
+    ensures { Says W.state paper.old paper.new (key_text (key_view key)) }
 {
-    let mut places = Buffer::new();
-    let place = places.format(key.place());
-    let rule = key.rule().text();
-    let (point, aspect) = aspect_words(key.aspect());
-    match key.part() {
-        Part::Package(owner) => {
-            let mut owners = Buffer::new();
-            let owner = owners.format(owner);
-            print(
-                buffer,
-                out,
-                &["p", owner, ".", rule, ".", place, point, aspect],
-            )
-        }
-        Part::Request => print(buffer, out, &["r", ".", rule, ".", place, point, aspect]),
-        Part::Solution => print(buffer, out, &["s", ".", rule, ".", place, point, aspect]),
+    print_part(paper, key.part());
+    paper.text(".");
+    paper.text(key.rule().text());
+    paper.text(".");
+    paper.number(key.place());
+    print_key_aspect(paper, key.aspect());
+}
+
+/// Prints the name and version that an instance is about, if there are any.
+fn print_subject<W: Sink>(paper: &mut Paper<'_, W>, subject: Option<(&str, u64)>)
+    ensures { Says W.state paper.old paper.new (subject_text (option_map (λ s. (s.0.now, s.1)) subject.entry)) }
+{
+    if let Some((name, version)) = subject {
+        paper.text(" ");
+        paper.text(name);
+        paper.text(" ");
+        paper.number(version);
     }
 }
 
 /// Prints what an instance is about, and its line.
-fn print_place<W: Sink>(
-    buffer: &mut ReportBuffer,
-    out: &mut W,
-    subject: Option<(&str, u64)>,
-    number: u64,
-) -> Result<(), RunError>
-    ensures { Prints (W.state out.old) (W.state out.new) buffer.old buffer.new result
-        (place_text (option_map (λ s. (s.0.now, s.1)) subject.entry) number) }
+fn print_place<W: Sink>(paper: &mut Paper<'_, W>, subject: Option<(&str, u64)>, number: u64)
+    ensures { Says W.state paper.old paper.new (place_text (option_map (λ s. (s.0.now, s.1)) subject.entry) number) }
 {
-    let mut numbers = Buffer::new();
-    let number = numbers.format(number);
-    match subject {
-        None => print(buffer, out, &[" line ", number, ": "]),
-        Some((name, version)) => {
-            let mut versions = Buffer::new();
-            let version = versions.format(version);
-            print(
-                buffer,
-                out,
-                &[" ", name, " ", version, " line ", number, ": "],
-            )
-        }
-    }
+    print_subject(paper, subject);
+    paper.text(" line ");
+    paper.number(number);
+    paper.text(": ");
 }
 
 /// Prints the line of an instance that this package meets.
 pub(crate) fn print_instance<W: Sink>(
-    buffer: &mut ReportBuffer,
-    out: &mut W,
+    paper: &mut Paper<'_, W>,
     instance: &Instance<'_, '_>,
     met: Option<&Package<'_>>,
-) -> Result<(), RunError>
-    ensures { Prints (W.state out.old) (W.state out.new) buffer.old buffer.new result
-        (met_line (instance_view instance.now) (option_map (λ p. package_view p.now) met.entry)) }
+)
+    ensures { Says W.state paper.old paper.new (met_line (instance_view instance.now) (option_map (λ p. package_view p.now) met.entry)) }
 {
-    print_key(buffer, out, instance.key)?;
-    print_place(buffer, out, instance.subject, instance.line)?;
-    print_what(buffer, out, &instance.what, instance.key.aspect(), met)
+    print_key(paper, instance.key);
+    print_place(paper, instance.subject, instance.line);
+    print_what(paper, &instance.what, instance.key.aspect(), met);
+    paper.text("\n");
 }

@@ -1,19 +1,18 @@
 //! The report of a judged solution: what was found, and the verdict.
 ghost use Rattle.std.specs.Prelude.{◌≡◌, if◌then◌else◌};
-ghost use Rattle.cudf_referee.specs.Solutions.{is_solution};
 ghost use Rattle.cudf_check.specs.Report.{verdict_text, judged_report};
 ghost use Rattle.cudf_check.specs.Working.Answering.{Answers};
 ghost use Rattle.cudf_check.specs.Working.Findings.{found_text};
 ghost use Rattle.cudf_check.specs.Working.Pages.{Ascends};
-ghost use Rattle.cudf_check.specs.Working.Printing.{Prints};
+ghost use Rattle.cudf_check.specs.Working.Paper.{Says};
 
 use crate::buffer::ReportBuffer;
 use crate::device::Sink;
 use crate::lines::aims::print_aim_lines;
 use crate::lines::page::print_page;
-use crate::lines::print;
 use crate::lines::score::print_score;
 use crate::outcome::{Outcome, RunError};
+use crate::paper::Paper;
 use cudf_referee::{Aim, Key, Referee};
 use std::alloc::Global;
 
@@ -44,43 +43,22 @@ fn verdict_of(is_solution: bool) -> (&'static str, Outcome)
 }
 
 /// Prints what was found.
-fn print_found<W: Sink>(
-    buffer: &mut ReportBuffer,
-    out: &mut W,
-    referee: &Referee<'_, '_>,
-    found: Findings<'_>,
-) -> Result<(), RunError>
+fn print_found<W: Sink>(paper: &mut Paper<'_, W>, referee: &Referee<'_, '_>, found: Findings<'_>)
     requires ascending { Ascends referee.now }
-    ensures { Prints (W.state out.old) (W.state out.new) buffer.old buffer.new result (found_text found.entry referee.entry.now) }
+    ensures { Says W.state paper.old paper.new (found_text found.entry referee.entry.now) }
 {
     match found {
         // A solution's listing is empty, so no place is judged again for a page of it.
-        Findings::Page { .. } if referee.is_solution() => Ok(()),
-        Findings::Page { after, limit } => print_page(buffer, out, referee, after, limit).1,
-        Findings::Score => print_score(buffer, out, referee.criteria()),
-        Findings::Aims(aims) => print_aim_lines(buffer, out, &referee.criteria(), aims),
+        Findings::Page { .. } if referee.is_solution() => {}
+        Findings::Page { after, limit } => {
+            let _walk = print_page(paper, referee, after, limit);
+        }
+        Findings::Score => print_score(paper, referee.criteria()),
+        Findings::Aims(aims) => print_aim_lines(paper, &referee.criteria(), aims),
     }
 }
 
-/// Prints what was found, and the verdict.
-fn print_judged<W: Sink>(
-    buffer: &mut ReportBuffer,
-    out: &mut W,
-    referee: &Referee<'_, '_>,
-    found: Findings<'_>,
-    verdict: &str,
-) -> Result<(), RunError>
-    requires ascending { Ascends referee.now }
-    requires verdict { verdict.now ≡ verdict_text (is_solution referee.now) }
-
-    ensures { Prints (W.state out.old) (W.state out.new) buffer.old buffer.new result
-        (judged_report (found_text found.entry) referee.entry.now).text }
-{
-    print_found(buffer, out, referee, found)?;
-    print(buffer, out, &[verdict, "\n"])
-}
-
-/// Writes the report of what the referee found.
+/// Writes the report of what the referee found: what was asked for, and the verdict.
 pub(crate) fn answer_judged<W: Sink>(
     alloc: Global,
     out: &mut W,
@@ -91,8 +69,10 @@ pub(crate) fn answer_judged<W: Sink>(
     ensures { Answers (W.state out.old) (W.state out.new) (judged_report (found_text found.entry) referee.entry.now) result }
 {
     let (verdict, outcome) = verdict_of(referee.is_solution());
-    let mut buffer = ReportBuffer::new(alloc)?;
-    print_judged(&mut buffer, out, referee, found, verdict)?;
-    buffer.flush(out)?;
-    Ok(outcome)
+    let mut waiting = ReportBuffer::new(alloc)?;
+    let mut paper = Paper::new(out, &mut waiting);
+    print_found(&mut paper, referee, found);
+    paper.text(verdict);
+    paper.text("\n");
+    paper.finish(outcome)
 }

@@ -1,5 +1,5 @@
 -- A problem without what the packages need that nobody chose: own. What is left says the same of a status of chosen packages.
-use Rattle.std.specs.Prelude.{◌≡◌, Bool, true, [], map, None, if◌then◌else◌}
+use Rattle.std.specs.Prelude.{Bool, [], map, None, if◌then◌else◌}
 use Rattle.cudf_document.specs.Ids.{Id}
 use Rattle.cudf_document.specs.Universe.{PlainPackage, PlainProblem, package_id}
 
@@ -27,9 +27,3 @@ thin_problem is_chosen problem = record {
   request = problem.request;
   recommends = problem.recommends;
 }
-
--- a problem is the other one, but for what some packages need that aren't chosen
-pub record IsThinFor (is_chosen : Id → Bool) (thin whole : PlainProblem) : Type 0 where
-  pub is_kept : Id → Bool
-  pub covers : (id : Id) → is_chosen id ≡ true → is_kept id ≡ true
-  pub is : thin ≡ thin_problem is_kept whole

@@ -1,17 +1,14 @@
 -- What is kept of the stanzas of a problem on the walk.
-use Rattle.std.specs.Prelude.{◌≡◌, Bool, true, false, not, List, map, Option, Some, None, option_map, IsSome, if◌then◌else◌}
+use Rattle.std.specs.Prelude.{◌≡◌, Bool, true, List, map, Option, Some, None, option_map, IsSome}
 use Rattle.std.specs.Borrow.{Bor}
-use Rattle.cudf_text.specs.declared.text.Stanza.{Stanza}
 use Rattle.cudf_text.specs.Stanzas.{PlainStanza}
-use Rattle.cudf_text.specs.Promises.Views.{stanza_view}
 use Rattle.cudf_document.specs.declared.problem.parts.Parts.{Parts}
 use Rattle.cudf_document.specs.declared.problem.walk.Walk.{Walk}
-use Rattle.cudf_document.specs.Promises.Packages.{is_preamble, are_distinct}
+use Rattle.cudf_document.specs.Promises.Packages.{are_distinct}
 use Rattle.cudf_document.specs.Ids.{Id, is_among}
 use Rattle.cudf_document.specs.Promises.Thin.{thin_package}
 use Rattle.cudf_document.specs.Universe.{package_id, packages_in, request_in}
 use Rattle.cudf_document.specs.Promises.Views.{package_view, request_view}
-use Rattle.cudf_document.specs.Working.Borrows.{are_borrowed}
 use Rattle.cudf_document.specs.Working.ProblemBuilders.{PlainBuilder}
 
 -- what packages need is kept of those that are chosen; of all, where it isn't known which are
@@ -28,10 +25,6 @@ AreParts is_kept before p =
 pub record IsParts (is_kept : Id → Bool) (before : List PlainStanza) (p : Parts) : Type 0 where
   pub kept_are : kept_by p.chosen ≡ is_kept
   pub parts_are : AreParts is_kept before p
-
--- a value that is to be kept is joined of two texts; of a preamble nothing is kept
-abbrev pub has_joined : Stanza → Bool
-has_joined s = if are_borrowed s.properties.items then false else not (is_preamble (stanza_view s))
 
 -- ---- the end of a walk
 

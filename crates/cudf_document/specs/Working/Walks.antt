@@ -1,5 +1,5 @@
 -- What is known after some stanzas of a problem, on the walk.
-use Rattle.std.specs.Prelude.{◌≡◌, ℕ, false, List, [], ◌++◌, filter_map, map, Option, Some, None}
+use Rattle.std.specs.Prelude.{◌≡◌, ℕ, Bool, List, [], ◌++◌, filter_map, map, Option, Some, None}
 use Rattle.std.specs.Borrow.{Bor}
 use Rattle.std.specs.List.{list_any, flat_map}
 use Rattle.cudf_text.specs.Stanzas.{PlainStanza, PlainText}
@@ -47,15 +47,12 @@ pub record IsSoFar (mode : Mode) (IsKept : List PlainStanza → Type 0) (k : Wal
   pub known : IsKnown mode k before
   pub kept : k.first ≡ None → IsKept before
 
--- some stanzas of the text are known, which require these names, this was kept of them unless there was a fault, and
--- these are left
-pub record GoesOn (mode : Mode) (required : List (List ℕ)) (IsKept : List PlainStanza → Type 0) (k : Walk) (left text : PlainText) : Type 0 where
+-- some stanzas of the text are known, which require these names, and these are left
+pub record GoesOn (mode : Mode) (IsKept : List PlainStanza → Type 0) (k : Walk) (is_first : Bool) (required : List (List ℕ)) (left text : PlainText) : Type 0 where
   pub now : List PlainStanza
-  pub some : false ≡ is_empty now
-  pub declared_are : k.declarations ≡ declared now
+  pub first_is : is_first ≡ is_empty now
   pub required_are : required ≡ required_names mode (declared now)
-  pub known : IsKnown mode k now
-  pub kept : k.first ≡ None → IsKept now
+  pub so_far : IsSoFar mode IsKept k now
   pub whole : ◌≡◌ {A = PlainText} (record left { stanzas = now ++ left.stanzas }) text
 
 -- the whole text is known: its first fault, declarations, names and versions, and what was kept, unless it has a fault

@@ -12,16 +12,16 @@ ghost use Rattle.cudf_document.specs.declared.stanza.postmark.Postmark.TheVarian
 use crate::declaration::declarations::Declarations;
 use crate::fault::lesser;
 use crate::property::seen_names::SeenNames;
-use cudf_text::{Fault, Kind, Property, Stanza};
+use cudf_text::{Fault, Kind, PropertyRef, StanzaRef};
 use std::alloc::{AllocError, Global};
 
 /// The first fault of a preamble's properties; what they declare takes the place of what was
 /// declared before.
-pub(crate) fn read_preamble<'t, 'a>(
+pub(crate) fn read_preamble<'t>(
     alloc: Global,
     names: &mut SeenNames<'t>,
     declarations: &mut Declarations<'t>,
-    stanza: &'t Stanza<'a>,
+    stanza: &StanzaRef<'t>,
 ) -> Result<Option<Fault>, AllocError>
     ensures fault { IfOk result (λ fault.
         fault ≡ least (properties_faults [] (Some PreambleMark) (stanza_view stanza.now).properties)) }
@@ -39,11 +39,11 @@ pub(crate) fn read_preamble<'t, 'a>(
 }
 
 /// Adds what a property declares, and answers its fault.
-fn read_property<'t, 'a>(
+fn read_property<'t>(
     alloc: Global,
     names: &mut SeenNames<'t>,
     declarations: &mut Declarations<'t>,
-    property: &'t Property<'a>,
+    property: &PropertyRef<'t>,
 ) -> Result<Option<Fault>, AllocError>
     ensures fault { IfOk result (λ fault.
         fault
@@ -54,7 +54,7 @@ fn read_property<'t, 'a>(
 {
     let is_new = names.insert(property.name)?;
     if property.name == "property" {
-        let is_good = declarations.add(alloc, property.value.as_str())?;
+        let is_good = declarations.add(alloc, property.value)?;
         Ok(fault_unless(is_good, property.line, Kind::E10))
     } else {
         Ok(fault_unless(is_new, property.line, Kind::E7))

@@ -1,9 +1,8 @@
 //! Packages without what they need.
-ghost use Rattle.std.specs.Prelude.{◌≡◌, Some, true, IfOk, OnOk};
+ghost use Rattle.std.specs.Prelude.{◌≡◌, Some, IfOk, OnOk};
 ghost use Rattle.cudf_text.specs.Promises.Views.{stanza_view};
 ghost use Rattle.cudf_document.specs.Faults.{least};
 ghost use Rattle.cudf_document.specs.ProblemFaults.{properties_faults};
-ghost use Rattle.cudf_document.specs.Working.Borrows.{are_borrowed};
 ghost use Rattle.cudf_document.specs.Working.Identities.{IsIdentity};
 ghost use Rattle.cudf_document.specs.Working.PackageFields.{package_fields_view, package_fields_of, without_needs, is_need};
 ghost use Rattle.cudf_document.specs.Working.SeenNames.{AreNames};
@@ -15,7 +14,7 @@ use crate::package::identity::Identity;
 use crate::package::property::PackageProperty;
 use crate::property::fields::{Fields, judge_property, read_properties};
 use crate::property::seen_names::SeenNames;
-use cudf_text::{Fault, Kind, Property, Stanza};
+use cudf_text::{Fault, Kind, PropertyRef, StanzaRef};
 use std::alloc::{AllocError, Global};
 
 /// What the properties of a package stanza say, but what the package needs: that is only judged.
@@ -42,7 +41,7 @@ impl<'t> Fields<'t> for BarePackage<'t> {
         alloc: Global,
         declarations: &Declarations<'_>,
         named: Option<PackageProperty>,
-        property: &Property<'t>,
+        property: &PropertyRef<'t>,
     ) -> Result<Option<Kind>, AllocError> {
         if is_need(named) {
             return Ok(judge_property(declarations, named, property));
@@ -62,22 +61,20 @@ fn is_need(named: Option<PackageProperty>) -> bool
     )
 }
 
-/// The first fault of a package's properties, and what they say, but what the package needs, where
-/// each value is a part of the source.
+/// The first fault of a package's properties, and what they say, but what the package needs.
 pub(crate) fn read_bare_package<'a>(
     alloc: Global,
     names: &mut SeenNames<'a>,
     declarations: &Declarations<'_>,
     identity: Identity<'a>,
-    stanza: &Stanza<'a>,
+    stanza: &StanzaRef<'a>,
 ) -> Result<(Option<Fault>, PackageFields<'a>), AllocError>
     requires { IsIdentity identity (stanza_view stanza.now).properties }
     ensures fault { IfOk result (λ r.
         r.0
         ≡ least (properties_faults declarations.now (Some PackageMark) (stanza_view stanza.now).properties)) }
     ensures names { OnOk result (AreNames names.new (stanza_view stanza.now).properties) }
-    ensures values { are_borrowed stanza.now.properties.items ≡ true →
-        IfOk result (λ r.
+    ensures values { IfOk result (λ r.
         package_fields_view r.1
         ≡ without_needs (package_fields_of declarations.now (stanza_view stanza.now).properties)) }
 {

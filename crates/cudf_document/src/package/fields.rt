@@ -4,9 +4,8 @@ use crate::declaration::declarations::{Declarations, mistyped_unless};
 use crate::package::identity::Identity;
 use crate::package::property::PackageProperty;
 use crate::package::{Keep, Package, read_keep};
-use crate::property::borrowed::source_value;
-use crate::property::fields::{Fields, judge_property};
-use cudf_text::{Kind, Property};
+use crate::property::fields::Fields;
+use cudf_text::{Kind, PropertyRef};
 use cudf_value::{Formula, Vpkg, read_bool, read_formula, read_veqpkglist, read_vpkglist};
 use std::alloc::{AllocError, Global};
 
@@ -147,11 +146,8 @@ impl<'t> Fields<'t> for PackageFields<'t> {
         alloc: Global,
         declarations: &Declarations<'_>,
         named: Option<PackageProperty>,
-        property: &Property<'t>,
+        property: &PropertyRef<'t>,
     ) -> Result<Option<Kind>, AllocError> {
-        match source_value(property) {
-            Some(text) => self.keep(alloc, declarations, named, property.name, text),
-            None => Ok(judge_property(declarations, named, property)),
-        }
+        self.keep(alloc, declarations, named, property.name, property.value)
     }
 }

@@ -1,13 +1,12 @@
 //! The name and the version of a package.
 ghost use Rattle.std.specs.Prelude.{◌≡◌, option_copied, codes};
-ghost use Rattle.cudf_text.specs.Promises.Views.{stanza_view, property_view};
+ghost use Rattle.cudf_text.specs.Promises.Views.{stanza_view};
 ghost use Rattle.cudf_document.specs.Documents.{value_of};
 ghost use Rattle.cudf_document.specs.Values.{name_value};
 
 use crate::property::named::first_named;
-use cudf_text::{Property, Stanza};
+use cudf_text::StanzaRef;
 use cudf_value::{is_pkgname, read_posint};
-use std::borrow::CowStr;
 
 /// What a package stanza says of its name and version, read once.
 #[derive(Clone, Copy)]
@@ -25,14 +24,14 @@ impl<'a> Identity<'a> {
     ghost use Rattle.cudf_text.specs.Promises.Views.{stanza_view};
     ghost use Rattle.cudf_document.specs.Working.Identities.{IsIdentity, known_id};
 
-    pub(crate) fn of(stanza: &Stanza<'a>) -> Self
+    pub(crate) fn of(stanza: &StanzaRef<'a>) -> Self
         ensures { IsIdentity result (stanza_view stanza.now).properties }
     {
         let name = package_name(stanza);
         match first_named(stanza, "version") {
             Some(version) => Identity {
                 name,
-                version: read_posint(version.value.as_str()),
+                version: read_posint(version.value),
                 version_line: Some(version.line),
             },
             None => Identity {
@@ -52,27 +51,17 @@ impl<'a> Identity<'a> {
 }
 
 /// The name of a package, where its first `package` is one.
-fn package_name<'a>(stanza: &Stanza<'a>) -> Option<&'a str>
+fn package_name<'a>(stanza: &StanzaRef<'a>) -> Option<&'a str>
     ensures { option_copied result ≡ value_of name_value (codes "package") (stanza_view stanza.now).properties }
 {
     match first_named(stanza, "package") {
-        Some(property) => source_name(property),
+        Some(property) => read_name(property.value),
         None => None,
     }
 }
 
-/// The value, where it is a package's name: a part of the source, since a joined one has a blank.
-pub(crate) fn source_name<'a>(property: &Property<'a>) -> Option<&'a str>
-    ensures { option_copied result ≡ name_value (property_view property.now).value }
-{
-    match property.value {
-        CowStr::Borrowed(text) => read_name(text),
-        CowStr::Owned(_) => None,
-    }
-}
-
 /// The text, where it is a package's name.
-fn read_name(text: &str) -> Option<&str>
+pub(crate) fn read_name(text: &str) -> Option<&str>
     ensures { option_copied result ≡ name_value text.now }
 {
     if is_pkgname(text) { Some(text) } else { None }

@@ -1,7 +1,7 @@
 //! What a solution chooses of a universe.
 use crate::package::ids::Ids;
 use crate::solution::reader::read_stanza;
-use cudf_text::{Next, Stanza, Stanzas};
+use cudf_text::{Next, StanzaRef, Stanzas};
 use std::alloc::{AllocError, Global};
 use std::marker::Model;
 
@@ -43,11 +43,11 @@ impl<'a> Chosen<'a> {
     /// `AllocError` where memory for them is refused.
     pub fn of(alloc: Global, stanzas: Stanzas<'a>) -> Result<Self, AllocError>
         ensures { IfOk result (λ c.
-            (id : Id) → is_among c id ≡ is_among (installed_ids stanzas.entry.text.stanzas) id) }
+            (id : Id) → is_among c id ≡ is_among (installed_ids stanzas.entry.stanzas) id) }
     {
         let mut stanzas = stanzas;
         let mut chosen = Chosen::none(alloc);
-        let mut stanza = Stanza {
+        let mut stanza = StanzaRef {
             line: 0,
             last: 0,
             properties: Vec::new(alloc),
@@ -65,7 +65,7 @@ impl<'a> Chosen<'a> {
     }
 
     /// Adds the pair that a stanza installs, if it installs one.
-    fn take(&mut self, stanza: &Stanza<'a>) -> Result<(), AllocError>
+    fn take(&mut self, stanza: &StanzaRef<'a>) -> Result<(), AllocError>
         ensures { OnOk result (self.new ≡ with_id self.old (installed_id (stanza_view stanza.now))) }
     {
         let said = read_stanza(stanza);

@@ -10,7 +10,7 @@ use crate::problem::walk::{Kept, Walk, walk_all};
 use crate::property::fields::judge_package;
 use crate::property::seen_names::SeenNames;
 use crate::request::fields::read_request;
-use cudf_text::{Fault, Stanza, Stanzas};
+use cudf_text::{Fault, StanzaRef, Stanzas};
 use std::alloc::{AllocError, Global};
 
 /// The first fault of a problem that is read in this mode, if it has one.
@@ -19,20 +19,10 @@ pub fn first_fault(
     stanzas: Stanzas<'_>,
     mode: Mode,
 ) -> Result<Option<Fault>, AllocError>
-    ensures { IfOk result (λ fault. fault ≡ least (problem_faults stanzas.entry.text mode)) }
+    ensures { IfOk result (λ fault. fault ≡ least (problem_faults stanzas.entry mode)) }
 {
-    let mut head = Stanza {
-        line: 0,
-        last: 0,
-        properties: Vec::new(alloc),
-    };
-    let walked: Option<(Walk<'_, '_>, Nothing)> = walk_all(
-        alloc, stanzas, &mut head, Nothing, mode,
-    )?;
-    match walked {
-        Some((walk, _nothing)) => Ok(walk.first),
-        None => Ok(None),
-    }
+    let (walk, _nothing): (Walk<'_>, Nothing) = walk_all(alloc, stanzas, Nothing, mode)?;
+    Ok(walk.first)
 }
 
 /// Where stanzas are only judged.
@@ -40,17 +30,9 @@ pub fn first_fault(
 struct Nothing;
 
 impl<'a> Kept<'a> for Nothing {
-    ghost use Rattle.std.specs.Prelude.{⊤, false};
+    ghost use Rattle.std.specs.Prelude.{⊤};
 
     ghost IsKept = { λ is_kept before nothing. ⊤ };
-
-    ghost is_lost = { λ s. false };
-
-    ghost may_stop = { false };
-
-    fn loses(&self, stanza: &Stanza<'a>) -> bool {
-        false
-    }
 
     fn take_package(
         &mut self,
@@ -58,7 +40,7 @@ impl<'a> Kept<'a> for Nothing {
         names: &mut SeenNames<'a>,
         declarations: &Declarations<'_>,
         identity: Identity<'a>,
-        stanza: &Stanza<'a>,
+        stanza: &StanzaRef<'a>,
     ) -> Result<Option<Fault>, AllocError> {
         judge_package(alloc, names, declarations, identity, stanza)
     }
@@ -67,11 +49,11 @@ impl<'a> Kept<'a> for Nothing {
         &mut self,
         alloc: Global,
         names: &mut SeenNames<'a>,
-        stanza: &Stanza<'a>,
+        stanza: &StanzaRef<'a>,
     ) -> Result<Option<Fault>, AllocError> {
         let (fault, _request) = read_request(alloc, names, stanza)?;
         Ok(fault)
     }
 
-    fn pass(&self, stanza: &Stanza<'a>) {}
+    fn pass(&self, stanza: &StanzaRef<'a>) {}
 }

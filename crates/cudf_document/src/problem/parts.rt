@@ -1,4 +1,4 @@
-//! What is kept of a problem whose values are parts of the source.
+//! What is kept of a problem.
 ghost use Rattle.std.specs.Prelude.{◌≡◌, ◌++◌, map, option_map, option_to_list, OnOk};
 ghost use Rattle.cudf_document.specs.Ids.{is_among};
 ghost use Rattle.cudf_document.specs.Promises.Views.{package_view};
@@ -12,13 +12,11 @@ use crate::package::identity::Identity;
 use crate::problem::Problem;
 use crate::problem::chosen::Chosen;
 use crate::problem::walk::{Kept, Walk};
-use crate::property::borrowed::are_borrowed;
 use crate::property::fields::read_properties;
 use crate::property::seen_names::SeenNames;
 use crate::request::Request;
 use crate::request::fields::read_request;
-use crate::stanza::postmark::is_preamble;
-use cudf_text::{Fault, Stanza};
+use cudf_text::{Fault, StanzaRef};
 use std::alloc::{AllocError, Global};
 
 /// The packages and the first request of the stanzas so far.
@@ -31,13 +29,12 @@ pub(crate) struct Parts<'a, 'c, 's> {
 }
 
 impl<'a, 'c, 's> Parts<'a, 'c, 's> {
-    ghost use Rattle.std.specs.Prelude.{◌≡◌, [], true, Some, option_map, is_some, if◌then◌else◌, IfOk, OnOk};
+    ghost use Rattle.std.specs.Prelude.{◌≡◌, [], Some, option_map, is_some, if◌then◌else◌, IfOk, OnOk};
     ghost use Rattle.cudf_text.specs.Promises.Views.{stanza_view};
     ghost use Rattle.cudf_document.specs.Faults.{least};
     ghost use Rattle.cudf_document.specs.ProblemFaults.{properties_faults};
     ghost use Rattle.cudf_document.specs.Promises.Views.{request_view};
     ghost use Rattle.cudf_document.specs.declared.stanza.postmark.Postmark.TheVariants.{Package as PackageMark};
-    ghost use Rattle.cudf_document.specs.Working.Borrows.{are_borrowed};
     ghost use Rattle.cudf_document.specs.Working.Kept.{IsParts, IsReady, kept_by, gathered_of};
     ghost use Rattle.cudf_document.specs.Working.Identities.{IsIdentity, known_id};
     ghost use Rattle.cudf_document.specs.Working.PackageFields.{package_fields_view, package_fields_of, passes, needing_if};
@@ -55,8 +52,8 @@ impl<'a, 'c, 's> Parts<'a, 'c, 's> {
         }
     }
 
-    /// The first fault of a package's properties, and what they say, where each value is a part of the
-    /// source; without what it needs if others are chosen.
+    /// The first fault of a package's properties, and what they say; without what it needs if others
+    /// are chosen.
     #[inline(always)]
     fn read_kept(
         &self,
@@ -64,15 +61,14 @@ impl<'a, 'c, 's> Parts<'a, 'c, 's> {
         names: &mut SeenNames<'a>,
         declarations: &Declarations<'_>,
         identity: Identity<'a>,
-        stanza: &Stanza<'a>,
+        stanza: &StanzaRef<'a>,
     ) -> Result<(Option<Fault>, PackageFields<'a>), AllocError>
         requires { IsIdentity identity (stanza_view stanza.now).properties }
         ensures fault { IfOk result (λ r.
             r.0
             ≡ least (properties_faults declarations.now (Some PackageMark) (stanza_view stanza.now).properties)) }
         ensures names { OnOk result (AreNames names.new (stanza_view stanza.now).properties) }
-        ensures values { are_borrowed stanza.now.properties.items ≡ true →
-            IfOk result (λ r.
+        ensures values { IfOk result (λ r.
             package_fields_view r.1
             ≡ needing_if (passes (kept_by self.now.chosen) (known_id identity.entry)) (package_fields_of declarations.now (stanza_view stanza.now).properties)) }
     {
@@ -108,13 +104,11 @@ impl<'a, 'c, 's> Parts<'a, 'c, 's> {
     }
 
     /// The problem, once a walk without fault is over.
-    pub(crate) fn into_problem<'h>(
+    pub(crate) fn into_problem(
         self,
         alloc: Global,
-        walk: Walk<'h, 'a>,
-    ) -> Result<Problem<'h>, AllocError>
-    where
-        'a: 'h,
+        walk: Walk<'a>,
+    ) -> Result<Problem<'a>, AllocError>
         requires { IsReady walk self }
         ensures { IfOk result (λ p. p ≡ problem_of (gathered_of walk.entry self.entry)) }
     {
@@ -149,21 +143,9 @@ fn push_some<'t>(
 }
 
 impl<'a, 'c, 's> Kept<'a> for Parts<'a, 'c, 's> {
-    ghost use Rattle.std.specs.Prelude.{true};
-    ghost use Rattle.cudf_document.specs.Working.Kept.{IsParts, has_joined};
+    ghost use Rattle.cudf_document.specs.Working.Kept.{IsParts};
 
     ghost IsKept = { λ is_kept before parts. IsParts is_kept before parts };
-
-    ghost is_lost = { has_joined };
-
-    ghost may_stop = { true };
-
-    fn loses(&self, stanza: &Stanza<'a>) -> bool {
-        if are_borrowed(&stanza.properties) {
-            return false;
-        }
-        !is_preamble(stanza)
-    }
 
     fn take_package(
         &mut self,
@@ -171,7 +153,7 @@ impl<'a, 'c, 's> Kept<'a> for Parts<'a, 'c, 's> {
         names: &mut SeenNames<'a>,
         declarations: &Declarations<'_>,
         identity: Identity<'a>,
-        stanza: &Stanza<'a>,
+        stanza: &StanzaRef<'a>,
     ) -> Result<Option<Fault>, AllocError> {
         let (fault, fields) = self.read_kept(alloc, names, declarations, identity, stanza)?;
         push_some(
@@ -185,12 +167,12 @@ impl<'a, 'c, 's> Kept<'a> for Parts<'a, 'c, 's> {
         &mut self,
         alloc: Global,
         names: &mut SeenNames<'a>,
-        stanza: &Stanza<'a>,
+        stanza: &StanzaRef<'a>,
     ) -> Result<Option<Fault>, AllocError> {
         let (fault, request) = read_request(alloc, names, stanza)?;
         self.keep_first(request);
         Ok(fault)
     }
 
-    fn pass(&self, stanza: &Stanza<'a>) {}
+    fn pass(&self, stanza: &StanzaRef<'a>) {}
 }

@@ -13,8 +13,7 @@ use crate::mode::Mode;
 use crate::problem::Problem;
 use crate::problem::parts::Parts;
 use crate::problem::walk::Walk;
-use crate::property::borrowed::lend;
-use cudf_text::{Stanza, Text};
+use cudf_text::{StanzaRef, Text, lend};
 use std::alloc::{AllocError, Global};
 
 /// Reads a problem.
@@ -46,13 +45,13 @@ fn walk_held<'t, 'a>(
     alloc: Global,
     text: &'t Text<'a>,
     mode: Mode,
-) -> Result<(Walk<'t, 't>, Parts<'t, 't, 't>), AllocError>
+) -> Result<(Walk<'t>, Parts<'t, 't, 't>), AllocError>
     ensures { IfOk result (λ r.
         IsWhole mode (λ ss. IsParts (λ id. true) ss r.1) r.0 (text_view text.now)) }
 {
-    let mut walk: Walk<'t, 't> = Walk::new(alloc);
+    let mut walk: Walk<'t> = Walk::new(alloc);
     let mut parts: Parts<'t, 't, 't> = Parts::new(alloc, None);
-    let mut lent = Stanza {
+    let mut lent = StanzaRef {
         line: 0,
         last: 0,
         properties: Vec::new(alloc),
@@ -61,7 +60,7 @@ fn walk_held<'t, 'a>(
     let mut is_first = true;
     for stanza in &text.stanzas {
         lend(stanza, &mut lent)?;
-        walk.take_held(alloc, &mut parts, is_first, &lent, stanza, &required)?;
+        walk.take(alloc, &mut parts, is_first, &lent, &required)?;
         require(alloc, &mut required, is_first, &walk.declarations, mode)?;
         is_first = false;
     }

@@ -1,21 +1,21 @@
 //! The walk over a problem's stanzas, one at a time: their first fault, and what is kept of them.
-ghost use Rattle.std.specs.Prelude.{◌≡◌, Bool, not, ◌||◌, ◌&&◌, List, [], ◌∷◌, ◌++◌, Some, None, false, max, is_none, unwrap_or, IfOk, OnOk, IfSome, IfNone, IsTrue};
+ghost use Rattle.std.specs.Prelude.{◌≡◌, Bool, not, ◌||◌, ◌&&◌, List, [], ◌∷◌, ◌++◌, Some, None, false, max, is_none, unwrap_or, IfOk, OnOk};
 ghost use Rattle.cudf_document.specs.Preamble.{declared};
-ghost use Rattle.cudf_text.specs.Stanzas.{PlainStanza, PlainText};
+ghost use Rattle.cudf_text.specs.Stanzas.{PlainStanza};
 ghost use Rattle.cudf_text.specs.Promises.Views.{stanza_view};
 ghost use Rattle.cudf_text.specs.declared.fault.Kind.TheVariants.{E11, E12};
 ghost use Rattle.cudf_document.specs.Faults.{least, fault_if};
 ghost use Rattle.cudf_document.specs.Documents.{postmark, marks_preamble, marks_request};
 ghost use Rattle.cudf_document.specs.Ids.{Id};
-ghost use Rattle.cudf_document.specs.ProblemFaults.{properties_faults, place_faults, required_names};
+ghost use Rattle.cudf_document.specs.ProblemFaults.{properties_faults, place_faults};
 ghost use Rattle.cudf_document.specs.Working.Identities.{IsIdentity};
 ghost use Rattle.cudf_document.specs.Working.SeenNames.{AreNames};
-ghost use Rattle.cudf_document.specs.Working.Walks.{texts, GoesOn, IsWhole};
+ghost use Rattle.cudf_document.specs.Working.Walks.{texts, IsWhole};
 ghost use Rattle.cudf_document.specs.declared.stanza.postmark.Postmark.TheVariants.{Preamble as PreambleMark, Package as PackageMark};
 
 use crate::declaration::declarations::Declarations;
 use crate::declaration::preamble::read_preamble;
-use crate::declaration::required::lacks_one;
+use crate::declaration::required::{lacks_one, require};
 use crate::fault::{fault_if, keep_lesser, lesser};
 use crate::mode::Mode;
 use crate::package::identity::Identity;
@@ -23,13 +23,12 @@ use crate::package::ids::Ids;
 use crate::property::fields::judge_package;
 use crate::property::seen_names::SeenNames;
 use crate::stanza::postmark::{Postmark, is_preamble, postmark_of};
-use cudf_text::{Fault, Kind, Next, Stanza, Stanzas};
+use cudf_text::{Fault, Kind, Next, StanzaRef, Stanzas};
 use std::alloc::{AllocError, Global};
 
 /// What is kept of a problem's stanzas on the walk.
 pub(crate) trait Kept<'a>: Sized + Drop {
-    ghost use Rattle.std.specs.Prelude.{◌≡◌, Bool, ◌++◌, ◌∷◌, [], List, Some, false, IfOk, OnOk, IsTrue};
-    ghost use Rattle.cudf_text.specs.declared.text.Stanza.{Stanza};
+    ghost use Rattle.std.specs.Prelude.{◌≡◌, Bool, ◌++◌, ◌∷◌, [], List, Some, false, IfOk, OnOk};
     ghost use Rattle.cudf_text.specs.Stanzas.{PlainStanza};
     ghost use Rattle.cudf_text.specs.Promises.Views.{stanza_view};
     ghost use Rattle.cudf_document.specs.Faults.{least};
@@ -45,17 +44,6 @@ pub(crate) trait Kept<'a>: Sized + Drop {
     // This was kept of the stanzas, where the test tells of which packages what they need is kept.
     ghost IsKept: { (Id → Bool) → List PlainStanza → Self → Type 0 };
 
-    // What the stanza says can't be kept.
-    ghost is_lost: { Stanza → Bool };
-
-    // Some stanzas are lost, so that the walk may stop before the end.
-    ghost may_stop: { Bool };
-
-    /// Whether what the stanza says can't be kept: then the walk stops.
-    fn loses(&self, stanza: &Stanza<'a>) -> bool
-        ensures lost { result ≡ is_lost stanza.now }
-        ensures stops { IsTrue result → IsTrue may_stop };
-
     /// Keeps a package with this identity, and answers the first fault of its properties.
     fn take_package(
         &mut self,
@@ -63,7 +51,7 @@ pub(crate) trait Kept<'a>: Sized + Drop {
         names: &mut SeenNames<'a>,
         declarations: &Declarations<'_>,
         identity: Identity<'a>,
-        stanza: &Stanza<'a>,
+        stanza: &StanzaRef<'a>,
     ) -> Result<Option<Fault>, AllocError>
         requires { IsIdentity identity (stanza_view stanza.now).properties }
         ensures fault { IfOk result (λ fault.
@@ -72,7 +60,6 @@ pub(crate) trait Kept<'a>: Sized + Drop {
         // The names are those of its properties.
         ensures names { OnOk result (AreNames names.new (stanza_view stanza.now).properties) }
         ensures kept { (is_kept : Id → Bool) →
-            is_lost stanza.now ≡ false →
             (before : List PlainStanza) →
             postmark (stanza_view stanza.now) ≡ Some PackageMark →
             declarations.now ≡ declared before →
@@ -84,19 +71,18 @@ pub(crate) trait Kept<'a>: Sized + Drop {
         &mut self,
         alloc: Global,
         names: &mut SeenNames<'a>,
-        stanza: &Stanza<'a>,
+        stanza: &StanzaRef<'a>,
     ) -> Result<Option<Fault>, AllocError>
         ensures fault { IfOk result (λ fault.
             fault ≡ least (properties_faults [] (Some RequestMark) (stanza_view stanza.now).properties)) }
         ensures kept { (is_kept : Id → Bool) →
-            is_lost stanza.now ≡ false →
             (before : List PlainStanza) →
             postmark (stanza_view stanza.now) ≡ Some RequestMark →
             IsKept is_kept before self.old →
             OnOk result (IsKept is_kept (before ++ stanza_view stanza.now ∷ []) self.new) };
 
     /// Of any other stanza nothing is kept. (Does nothing: its contract is a law.)
-    fn pass(&self, stanza: &Stanza<'a>)
+    fn pass(&self, stanza: &StanzaRef<'a>)
         ensures { (is_kept : Id → Bool) →
             (before : List PlainStanza) →
             is_package (stanza_view stanza.now) ≡ false →
@@ -105,79 +91,23 @@ pub(crate) trait Kept<'a>: Sized + Drop {
             IsKept is_kept (before ++ stanza_view stanza.now ∷ []) self.now };
 }
 
-/// Walks over all stanzas; the first one is held in `head`. Before it nothing is kept. `None` where
-/// the walk stopped before the end.
-pub(crate) fn walk_all<'h, 'a, K: Kept<'a>>(
+/// Walks over all stanzas. Before them nothing is kept.
+pub(crate) fn walk_all<'t, K: Kept<'t>>(
     alloc: Global,
-    stanzas: Stanzas<'a>,
-    head: &'h mut Stanza<'a>,
+    stanzas: Stanzas<'t>,
     kept: K,
     mode: Mode,
-) -> Result<Option<(Walk<'h, 'a>, K)>, AllocError>
-    ensures whole { (is_kept : Id → Bool) →
+) -> Result<(Walk<'t>, K), AllocError>
+    ensures { (is_kept : Id → Bool) →
         K.IsKept is_kept [] kept →
-        IfOk result (λ r.
-        IfSome r (λ w. IsWhole mode (λ ss. K.IsKept is_kept ss w.1) w.0 stanzas.entry.text)) }
-    ensures stopped { IfOk result (λ r. IfNone r (IsTrue K.may_stop)) }
+        IfOk result (λ w. IsWhole mode (λ ss. K.IsKept is_kept ss w.1) w.0 stanzas.entry) }
 {
     let mut stanzas = stanzas;
     let mut kept = kept;
-    match stanzas.next(alloc, &mut head.properties)? {
-        Next::End { fault, lines } => {
-            let mut walk: Walk<'h, 'a> = Walk::new(alloc);
-            walk.end(fault, lines);
-            Ok(Some((walk, kept)))
-        }
-        Next::Stanza { line, last } => {
-            head.line = line;
-            head.last = last;
-            if kept.loses(head) {
-                return Ok(None);
-            }
-            let walk: Walk<'h, 'a> = Walk::start(alloc, &mut kept, head)?;
-            walk_behind(alloc, walk, kept, stanzas, mode)
-        }
-    }
-}
-
-/// Walks over the stanzas behind the first one, whose packages have to have what that requires. `None`
-/// where the walk stopped before the end.
-fn walk_behind<'h, 'a, K: Kept<'a>>(
-    alloc: Global,
-    walk: Walk<'h, 'a>,
-    kept: K,
-    stanzas: Stanzas<'a>,
-    mode: Mode,
-) -> Result<Option<(Walk<'h, 'a>, K)>, AllocError>
-    ensures whole { (is_kept : Id → Bool) →
-        (text : PlainText) →
-        GoesOn mode (required_names mode walk.entry.declarations) (λ ss. K.IsKept is_kept ss kept) walk.entry stanzas.entry.text text →
-        IfOk result (λ r. IfSome r (λ w. IsWhole mode (λ ss. K.IsKept is_kept ss w.1) w.0 text)) }
-    ensures stopped { IfOk result (λ r. IfNone r (IsTrue K.may_stop)) }
-{
-    let required = walk.declarations.required(alloc, mode)?;
-    walk_on(alloc, walk, kept, stanzas, &required)
-}
-
-/// Walks over stanzas. `None` where the walk stopped before the end.
-fn walk_on<'h, 'a, K: Kept<'a>>(
-    alloc: Global,
-    walk: Walk<'h, 'a>,
-    kept: K,
-    stanzas: Stanzas<'a>,
-    required: &[&str],
-) -> Result<Option<(Walk<'h, 'a>, K)>, AllocError>
-    ensures whole { (is_kept : Id → Bool) →
-        (mode : Mode) →
-        (text : PlainText) →
-        GoesOn mode (texts required.now) (λ ss. K.IsKept is_kept ss kept) walk.entry stanzas.entry.text text →
-        IfOk result (λ r. IfSome r (λ w. IsWhole mode (λ ss. K.IsKept is_kept ss w.1) w.0 text)) }
-    ensures stopped { IfOk result (λ r. IfNone r (IsTrue K.may_stop)) }
-{
-    let mut walk = walk;
-    let mut kept = kept;
-    let mut stanzas = stanzas;
-    let mut stanza = Stanza {
+    let mut walk: Walk<'t> = Walk::new(alloc);
+    let mut required: Vec<&'t str> = Vec::new(alloc);
+    let mut is_first = true;
+    let mut stanza = StanzaRef {
         line: 0,
         last: 0,
         properties: Vec::new(alloc),
@@ -187,14 +117,13 @@ fn walk_on<'h, 'a, K: Kept<'a>>(
             Next::Stanza { line, last } => {
                 stanza.line = line;
                 stanza.last = last;
-                if kept.loses(&stanza) {
-                    return Ok(None);
-                }
-                walk.take(alloc, &mut kept, false, &stanza, required)?;
+                walk.take(alloc, &mut kept, is_first, &stanza, &required)?;
+                require(alloc, &mut required, is_first, &walk.declarations, mode)?;
+                is_first = false;
             }
             Next::End { fault, lines } => {
                 walk.end(fault, lines);
-                return Ok(Some((walk, kept)));
+                return Ok((walk, kept));
             }
         }
     }
@@ -202,17 +131,17 @@ fn walk_on<'h, 'a, K: Kept<'a>>(
 
 /// The first fault of the stanzas so far, and what the faults of later ones rest on.
 #[derive(Drop)]
-pub(crate) struct Walk<'h, 'a> {
+pub(crate) struct Walk<'a> {
     pub(crate) first: Option<Fault>,
     /// What the first stanza declares.
-    pub(crate) declarations: Declarations<'h>,
+    pub(crate) declarations: Declarations<'a>,
     pub(crate) ids: Ids<'a>,
     /// Whether there was a request.
     pub(crate) requested: bool,
     pub(crate) names: SeenNames<'a>,
 }
 
-impl<'h, 'a> Walk<'h, 'a> {
+impl<'a> Walk<'a> {
     ghost use Rattle.std.specs.Prelude.{◌≡◌, Bool, false, List, [], ◌∷◌, ◌++◌, None, not, max, IfOk, OnOk};
     ghost use Rattle.cudf_text.specs.Stanzas.{PlainStanza};
     ghost use Rattle.cudf_text.specs.Promises.Views.{stanza_view};
@@ -242,88 +171,59 @@ impl<'h, 'a> Walk<'h, 'a> {
         }
     }
 
-    /// The first stanza.
-    fn start<K: Kept<'a>>(
-        alloc: Global,
-        kept: &mut K,
-        head: &'h Stanza<'a>,
-    ) -> Result<Self, AllocError>
-        ensures known { (mode : Mode) → IfOk result (λ k. IsKnown mode k (stanza_view head.now ∷ [])) }
-        ensures declared { IfOk result (λ k. k.declarations ≡ declared (stanza_view head.now ∷ [])) }
-        ensures kept { (is_kept : Id → Bool) →
-            K.is_lost head.now ≡ false →
-            K.IsKept is_kept [] kept.old →
-            OnOk result (K.IsKept is_kept (stanza_view head.now ∷ []) kept.new) }
-    {
-        let mut walk: Walk<'h, 'a> = Walk::new(alloc);
-        if is_preamble(head) {
-            kept.pass(head);
-            walk.take_preamble(alloc, head)?;
-            return Ok(walk);
-        }
-        walk.take(alloc, kept, true, head, &[])?;
-        Ok(walk)
-    }
-
-    /// Takes the next of some stanzas that are held, as it is lent.
-    pub(crate) fn take_held<'b, K: Kept<'a>>(
+    /// Takes the next stanza.
+    pub(crate) fn take<K: Kept<'a>>(
         &mut self,
         alloc: Global,
         kept: &mut K,
         is_first: bool,
-        lent: &Stanza<'a>,
-        held: &'h Stanza<'b>,
+        stanza: &StanzaRef<'a>,
         required: &[&str],
     ) -> Result<(), AllocError>
-        requires { stanza_view lent.now ≡ stanza_view held.now }
         ensures { (is_kept : Id → Bool) →
-            K.is_lost lent.now ≡ false →
             (mode : Mode) →
             (before : List PlainStanza) →
             is_first ≡ is_empty before →
             texts required.now ≡ required_names mode (declared before) →
             IsSoFar mode (λ ss. K.IsKept is_kept ss kept.old) self.old before →
-            OnOk result (IsSoFar mode (λ ss. K.IsKept is_kept ss kept.new) self.new (before ++ stanza_view held.now ∷ [])) }
+            OnOk result (IsSoFar mode (λ ss. K.IsKept is_kept ss kept.new) self.new (before ++ stanza_view stanza.now ∷ [])) }
     {
         if is_first {
-            return self.take_first(alloc, kept, lent, held);
+            return self.take_first(alloc, kept, stanza);
         }
-        self.take(alloc, kept, false, lent, required)
+        self.take_other(alloc, kept, false, stanza, required)
     }
 
-    /// Takes the first of some stanzas that are held: what it declares is read of the held one.
-    fn take_first<'b, K: Kept<'a>>(
+    /// Takes the first stanza, with what it declares.
+    fn take_first<K: Kept<'a>>(
         &mut self,
         alloc: Global,
         kept: &mut K,
-        lent: &Stanza<'a>,
-        held: &'h Stanza<'b>,
+        stanza: &StanzaRef<'a>,
     ) -> Result<(), AllocError>
-        requires { stanza_view lent.now ≡ stanza_view held.now }
         ensures known { (mode : Mode) →
             self.old.declarations ≡ [] →
             IsKnown mode self.old [] →
-            OnOk result (IsKnown mode self.new (stanza_view held.now ∷ [])) }
+            OnOk result (IsKnown mode self.new (stanza_view stanza.now ∷ [])) }
         ensures declared { self.old.declarations ≡ [] →
-            OnOk result (self.new.declarations ≡ declared (stanza_view held.now ∷ [])) }
+            OnOk result (self.new.declarations ≡ declared (stanza_view stanza.now ∷ [])) }
         ensures first { OnOk result (self.new.first ≡ None → self.old.first ≡ None) }
         ensures kept { (is_kept : Id → Bool) →
-            K.is_lost lent.now ≡ false →
             self.old.declarations ≡ [] →
             self.old.first ≡ None →
             K.IsKept is_kept [] kept.old →
-            OnOk result (K.IsKept is_kept (stanza_view held.now ∷ []) kept.new) }
+            OnOk result (K.IsKept is_kept (stanza_view stanza.now ∷ []) kept.new) }
     {
-        if is_preamble(held) {
-            kept.pass(lent);
-            self.take_preamble(alloc, held)
+        if is_preamble(stanza) {
+            kept.pass(stanza);
+            self.take_preamble(alloc, stanza)
         } else {
-            self.take(alloc, kept, true, lent, &[])
+            self.take_other(alloc, kept, true, stanza, &[])
         }
     }
 
     /// Takes a preamble that is first, with what it declares.
-    fn take_preamble<'b>(&mut self, alloc: Global, head: &'h Stanza<'b>) -> Result<(), AllocError>
+    fn take_preamble(&mut self, alloc: Global, head: &StanzaRef<'a>) -> Result<(), AllocError>
         ensures first { OnOk result (self.new.first
             ≡ lesser self.old.first (least (properties_faults [] (Some PreambleMark) (stanza_view head.now).properties))) }
         ensures declarations { OnOk result (self.new.declarations
@@ -338,12 +238,12 @@ impl<'h, 'a> Walk<'h, 'a> {
     }
 
     /// Takes the next stanza; what it declares is left out.
-    fn take<K: Kept<'a>>(
+    fn take_other<K: Kept<'a>>(
         &mut self,
         alloc: Global,
         kept: &mut K,
         is_first: bool,
-        stanza: &Stanza<'a>,
+        stanza: &StanzaRef<'a>,
         required: &[&str],
     ) -> Result<(), AllocError>
         ensures known { (mode : Mode) →
@@ -356,7 +256,6 @@ impl<'h, 'a> Walk<'h, 'a> {
         ensures declarations { OnOk result (self.new.declarations ≡ self.old.declarations) }
         ensures first { OnOk result (self.new.first ≡ None → self.old.first ≡ None) }
         ensures kept { (is_kept : Id → Bool) →
-            K.is_lost stanza.now ≡ false →
             (before : List PlainStanza) →
             self.old.declarations ≡ declared before →
             self.old.first ≡ None →
@@ -377,7 +276,7 @@ impl<'h, 'a> Walk<'h, 'a> {
         alloc: Global,
         kept: &mut K,
         mark: Option<Postmark>,
-        stanza: &Stanza<'a>,
+        stanza: &StanzaRef<'a>,
         required: &[&str],
     ) -> Result<Option<Fault>, AllocError>
         ensures fault { IfOk result (λ fault.
@@ -387,7 +286,6 @@ impl<'h, 'a> Walk<'h, 'a> {
         ensures requested { OnOk result (self.new.requested ≡ self.old.requested) }
         ensures first { OnOk result (self.new.first ≡ self.old.first) }
         ensures kept { (is_kept : Id → Bool) →
-            K.is_lost stanza.now ≡ false →
             (before : List PlainStanza) →
             postmark (stanza_view stanza.now) ≡ mark →
             self.old.declarations ≡ declared before →
@@ -414,7 +312,7 @@ impl<'h, 'a> Walk<'h, 'a> {
         &mut self,
         alloc: Global,
         kept: &mut K,
-        stanza: &Stanza<'a>,
+        stanza: &StanzaRef<'a>,
         required: &[&str],
     ) -> Result<Option<Fault>, AllocError>
         ensures fault { IfOk result (λ fault.
@@ -425,7 +323,6 @@ impl<'h, 'a> Walk<'h, 'a> {
         ensures requested { OnOk result (self.new.requested ≡ self.old.requested) }
         ensures first { OnOk result (self.new.first ≡ self.old.first) }
         ensures kept { (is_kept : Id → Bool) →
-            K.is_lost stanza.now ≡ false →
             (before : List PlainStanza) →
             postmark (stanza_view stanza.now) ≡ Some PackageMark →
             self.old.declarations ≡ declared before →
@@ -473,7 +370,7 @@ fn take_properties<'a, K: Kept<'a>>(
     names: &mut SeenNames<'a>,
     declarations: &Declarations<'_>,
     identity: Identity<'a>,
-    stanza: &Stanza<'a>,
+    stanza: &StanzaRef<'a>,
 ) -> Result<Option<Fault>, AllocError>
     requires { IsIdentity identity (stanza_view stanza.now).properties }
     ensures fault { IfOk result (λ fault.
@@ -481,7 +378,6 @@ fn take_properties<'a, K: Kept<'a>>(
         ≡ least (properties_faults declarations.now (Some PackageMark) (stanza_view stanza.now).properties)) }
     ensures names { OnOk result (AreNames names.new (stanza_view stanza.now).properties) }
     ensures kept { (is_kept : Id → Bool) →
-        K.is_lost stanza.now ≡ false →
         (before : List PlainStanza) →
         postmark (stanza_view stanza.now) ≡ Some PackageMark →
         declarations.now ≡ declared before →
@@ -521,7 +417,7 @@ fn is_late_preamble(is_first: bool, mark: Option<Postmark>) -> bool
 }
 
 /// The first fault of the properties of a preamble.
-fn judge_preamble(alloc: Global, stanza: &Stanza<'_>) -> Result<Option<Fault>, AllocError>
+fn judge_preamble(alloc: Global, stanza: &StanzaRef<'_>) -> Result<Option<Fault>, AllocError>
     ensures { IfOk result (λ fault.
         fault ≡ least (properties_faults [] (Some PreambleMark) (stanza_view stanza.now).properties)) }
 {

@@ -1,5 +1,5 @@
 //! What a package's properties are read into.
-ghost use Rattle.std.specs.Prelude.{◌≡◌, ◌++◌, ◌∷◌, [], List, Some, find, true, bytes_eq, IfOk, OnOk};
+ghost use Rattle.std.specs.Prelude.{◌≡◌, ◌++◌, ◌∷◌, [], List, Some, find, bytes_eq, IfOk, OnOk};
 ghost use Rattle.indexmap.specs.IndexSet.{insert_key};
 ghost use Rattle.cudf_text.specs.Stanzas.{PlainProperty};
 ghost use Rattle.cudf_text.specs.Promises.Views.{property_view, stanza_view};
@@ -7,7 +7,6 @@ ghost use Rattle.cudf_document.specs.Faults.{least};
 ghost use Rattle.cudf_document.specs.Documents.{has_name};
 ghost use Rattle.cudf_document.specs.Values.{test_of};
 ghost use Rattle.cudf_document.specs.ProblemFaults.{tests, property_faults, properties_faults};
-ghost use Rattle.cudf_document.specs.Working.Borrows.{is_borrowed, are_borrowed};
 ghost use Rattle.cudf_document.specs.Working.Identities.{IsIdentity};
 ghost use Rattle.cudf_document.specs.Working.PackageFields.{PlainPackageFields, fault_on, package_fields_of, package_property_named, package_property_test, with_package_property, wrong_kind};
 ghost use Rattle.cudf_document.specs.Working.SeenNames.{AreNames};
@@ -19,57 +18,53 @@ use crate::package::identity::Identity;
 use crate::package::property::{PackageProperty, package_property_named};
 use crate::package::read_keep;
 use crate::property::seen_names::SeenNames;
-use cudf_text::{Fault, Kind, Property, Stanza};
+use cudf_text::{Fault, Kind, PropertyRef, StanzaRef};
 use cudf_value::{is_formula, is_veqpkglist, is_vpkglist, read_bool};
 use std::alloc::{AllocError, Global};
 
 /// What a package's properties are read into.
 pub(crate) trait Fields<'s>: Sized + Drop {
-    ghost use Rattle.std.specs.Prelude.{◌≡◌, true, IfOk, OnOk};
+    ghost use Rattle.std.specs.Prelude.{◌≡◌, IfOk, OnOk};
     ghost use Rattle.cudf_text.specs.Promises.Views.{property_view};
-    ghost use Rattle.cudf_document.specs.Working.Borrows.{is_borrowed};
     ghost use Rattle.cudf_document.specs.Working.PackageFields.{PlainPackageFields, no_package_fields, with_package_property, package_property_test, wrong_kind};
 
-    // These values were read, each of a part of the source.
+    // These values were read.
     ghost IsRead: { PlainPackageFields → Self → Type 0 };
 
     fn start() -> Self
         ensures { IsRead no_package_fields result };
 
     /// Says what is wrong with a property that is the first of its name, and keeps what it says,
-    /// if it has a place here and its value is a part of the source.
+    /// if it has a place here.
     fn set(
         &mut self,
         alloc: Global,
         declarations: &Declarations<'_>,
         named: Option<PackageProperty>,
-        property: &Property<'s>,
+        property: &PropertyRef<'s>,
     ) -> Result<Option<Kind>, AllocError>
         ensures kind { IfOk result (λ kind.
             kind
             ≡ wrong_kind (package_property_test declarations.now named property.now.name.now) (property_view property.now).value) }
         ensures read { (values : PlainPackageFields) →
-            is_borrowed property.now ≡ true →
             IsRead values self.old →
             OnOk result (IsRead (with_package_property declarations.now named (property_view property.now).value values) self.new) };
 }
 
-/// The first fault of a package's properties, and what was read of them, where each value is a part
-/// of the source.
+/// The first fault of a package's properties, and what was read of them.
 pub(crate) fn read_properties<'a, S: Fields<'a>>(
     alloc: Global,
     names: &mut SeenNames<'a>,
     declarations: &Declarations<'_>,
     identity: Identity<'a>,
-    stanza: &Stanza<'a>,
+    stanza: &StanzaRef<'a>,
 ) -> Result<(Option<Fault>, S), AllocError>
     requires { IsIdentity identity (stanza_view stanza.now).properties }
     ensures fault { IfOk result (λ r.
         r.0
         ≡ least (properties_faults declarations.now (Some PackageMark) (stanza_view stanza.now).properties)) }
     ensures names { OnOk result (AreNames names.new (stanza_view stanza.now).properties) }
-    ensures read { are_borrowed stanza.now.properties.items ≡ true →
-        IfOk result (λ r.
+    ensures read { IfOk result (λ r.
         S.IsRead (package_fields_of declarations.now (stanza_view stanza.now).properties) r.1) }
 {
     names.clear(alloc);
@@ -90,7 +85,7 @@ fn read_property<'a, S: Fields<'a>>(
     declarations: &Declarations<'_>,
     identity: Identity<'a>,
     fields: &mut S,
-    property: &Property<'a>,
+    property: &PropertyRef<'a>,
 ) -> Result<Option<Fault>, AllocError>
     ensures fault { (before later : List PlainProperty) →
         AreNames names.old before →
@@ -101,7 +96,6 @@ fn read_property<'a, S: Fields<'a>>(
     ensures names { OnOk result (names.new ≡ insert_key bytes_eq names.old property.now.name.now) }
     ensures read { (before : List PlainProperty) →
         AreNames names.old before →
-        is_borrowed property.now ≡ true →
         S.IsRead (package_fields_of declarations.now before) fields.old →
         OnOk result (S.IsRead (package_fields_of declarations.now (before ++ property_view property.now ∷ [])) fields.new) }
 {
@@ -120,7 +114,7 @@ fn read_first<'a, S: Fields<'a>>(
     declarations: &Declarations<'_>,
     identity: Identity<'a>,
     fields: &mut S,
-    property: &Property<'a>,
+    property: &PropertyRef<'a>,
 ) -> Result<Option<Kind>, AllocError>
     ensures kind { (all : List PlainProperty) →
         IsIdentity identity.entry all →
@@ -129,7 +123,6 @@ fn read_first<'a, S: Fields<'a>>(
         kind
         ≡ wrong_kind (test_of property.now.name.now (tests declarations.now (Some PackageMark))) (property_view property.now).value) }
     ensures read { (values : PlainPackageFields) →
-        is_borrowed property.now ≡ true →
         S.IsRead values fields.old →
         OnOk result (S.IsRead (with_package_property declarations.now (package_property_named property.now.name.now) (property_view property.now).value values) fields.new) }
 {
@@ -159,7 +152,7 @@ impl<'s> Fields<'s> for Judged {
         alloc: Global,
         declarations: &Declarations<'_>,
         named: Option<PackageProperty>,
-        property: &Property<'s>,
+        property: &PropertyRef<'s>,
     ) -> Result<Option<Kind>, AllocError> {
         Ok(judge_property(declarations, named, property))
     }
@@ -171,7 +164,7 @@ pub(crate) fn judge_package<'a>(
     names: &mut SeenNames<'a>,
     declarations: &Declarations<'_>,
     identity: Identity<'a>,
-    stanza: &Stanza<'a>,
+    stanza: &StanzaRef<'a>,
 ) -> Result<Option<Fault>, AllocError>
     requires { IsIdentity identity (stanza_view stanza.now).properties }
     ensures fault { IfOk result (λ fault.
@@ -195,12 +188,12 @@ pub(crate) fn judge_package<'a>(
 pub(crate) fn judge_property(
     declarations: &Declarations<'_>,
     named: Option<PackageProperty>,
-    property: &Property<'_>,
+    property: &PropertyRef<'_>,
 ) -> Option<Kind>
     ensures { result
         ≡ wrong_kind (package_property_test declarations.now named property.now.name.now) (property_view property.now).value }
 {
-    let text = property.value.as_str();
+    let text = property.value;
     match named {
         Some(PackageProperty::Depends) => mistyped_unless(is_formula(text)),
         Some(PackageProperty::Conflicts) => mistyped_unless(is_vpkglist(text)),

@@ -1,21 +1,19 @@
 //! The lists of a request.
-ghost use Rattle.std.specs.Prelude.{◌≡◌, [], Some, true, IfOk};
+ghost use Rattle.std.specs.Prelude.{◌≡◌, [], Some, IfOk};
 ghost use Rattle.cudf_text.specs.Promises.Views.{stanza_view};
 ghost use Rattle.cudf_document.specs.Faults.{least};
 ghost use Rattle.cudf_document.specs.ProblemFaults.{properties_faults};
 ghost use Rattle.cudf_document.specs.Promises.Views.{request_view};
 ghost use Rattle.cudf_document.specs.Universe.{request_of};
-ghost use Rattle.cudf_document.specs.Working.Borrows.{are_borrowed};
 ghost use Rattle.cudf_document.specs.Working.RequestFields.{request_property_named, request_property_test, mistyped_kind};
 ghost use Rattle.cudf_document.specs.declared.stanza.postmark.Postmark.TheVariants.{Request as RequestMark};
 
 use crate::declaration::declarations::mistyped_unless;
 use crate::fault::{fault_on, keep_lesser};
-use crate::property::borrowed::source_value;
 use crate::property::seen_names::SeenNames;
 use crate::request::Request;
-use cudf_text::{Fault, Kind, Property, Stanza};
-use cudf_value::{Vpkg, is_vpkglist, read_vpkglist};
+use cudf_text::{Fault, Kind, PropertyRef, StanzaRef};
+use cudf_value::{Vpkg, read_vpkglist};
 use std::alloc::{AllocError, Global};
 
 /// A property of a request that counts.
@@ -38,16 +36,6 @@ fn request_property_named(name: &str) -> Option<RequestProperty>
     }
 }
 
-/// What is wrong with a property of this name that stands once.
-fn judge(name: &str, text: &str) -> Option<Kind>
-    ensures { result ≡ mistyped_kind (request_property_test (request_property_named name.now)) text.now }
-{
-    match request_property_named(name) {
-        Some(_) => mistyped_unless(is_vpkglist(text)),
-        None => None,
-    }
-}
-
 /// What the properties of a request say, each list where it is there and of its type.
 #[derive(Drop)]
 pub(crate) struct RequestFields<'t> {
@@ -57,10 +45,9 @@ pub(crate) struct RequestFields<'t> {
 }
 
 impl<'t> RequestFields<'t> {
-    ghost use Rattle.std.specs.Prelude.{◌≡◌, [], true, bytes_eq, IfOk, OnOk};
+    ghost use Rattle.std.specs.Prelude.{◌≡◌, [], bytes_eq, IfOk, OnOk};
     ghost use Rattle.indexmap.specs.IndexSet.{insert_key};
     ghost use Rattle.cudf_text.specs.Promises.Views.{property_view};
-    ghost use Rattle.cudf_document.specs.Working.Borrows.{is_borrowed};
     ghost use Rattle.cudf_document.specs.Working.PackageFields.{fault_on};
     ghost use Rattle.cudf_document.specs.Promises.Views.{request_view};
     ghost use Rattle.cudf_document.specs.Working.RequestFields.{request_property_named, request_property_test, mistyped_kind, request_fields_view, request_fields_of, with_request_property, request_kind_after, request_fields_after, request_with};
@@ -75,44 +62,26 @@ impl<'t> RequestFields<'t> {
         }
     }
 
-    /// Answers a property's fault, and keeps what it says, if it is the first of its name and its value
-    /// is a part of the source.
+    /// Answers a property's fault, and keeps what it says, if it is the first of its name.
     fn read(
         &mut self,
         alloc: Global,
         names: &mut SeenNames<'t>,
-        property: &Property<'t>,
+        property: &PropertyRef<'t>,
     ) -> Result<Option<Fault>, AllocError>
         ensures fault { IfOk result (λ fault.
             fault
             ≡ fault_on property.now.line (request_kind_after names.old (property_view property.now))) }
         ensures names { OnOk result (names.new
             ≡ insert_key bytes_eq names.old property.now.name.now) }
-        ensures fields { is_borrowed property.now ≡ true →
-            OnOk result (request_fields_view self.new
+        ensures fields { OnOk result (request_fields_view self.new
             ≡ request_fields_after names.old (property_view property.now) (request_fields_view self.old)) }
     {
         if !names.insert(property.name)? {
             return Ok(fault_on(property.line, Some(Kind::E7)));
         }
-        let kind = self.set(alloc, property)?;
+        let kind = self.keep(alloc, property.name, property.value)?;
         Ok(fault_on(property.line, kind))
-    }
-
-    /// Says what is wrong with a property that stands once, and keeps what it says, if it has a place
-    /// here and its value is a part of the source.
-    fn set(&mut self, alloc: Global, property: &Property<'t>) -> Result<Option<Kind>, AllocError>
-        ensures kind { IfOk result (λ kind.
-            kind
-            ≡ mistyped_kind (request_property_test (request_property_named property.now.name.now)) (property_view property.now).value) }
-        ensures fields { is_borrowed property.now ≡ true →
-            OnOk result (request_fields_view self.new
-            ≡ with_request_property (request_property_named property.now.name.now) (property_view property.now).value (request_fields_view self.old)) }
-    {
-        match source_value(property) {
-            Some(text) => self.keep(alloc, property.name, text),
-            None => Ok(judge(property.name, property.value.as_str())),
-        }
     }
 
     /// Keeps what a property says, if it has a place here, and says what is wrong with it.
@@ -151,17 +120,15 @@ impl<'t> RequestFields<'t> {
     }
 }
 
-/// The first fault of a request's properties, and what it asks for, where each value is a part of the
-/// source.
+/// The first fault of a request's properties, and what it asks for.
 pub(crate) fn read_request<'a>(
     alloc: Global,
     names: &mut SeenNames<'a>,
-    stanza: &Stanza<'a>,
+    stanza: &StanzaRef<'a>,
 ) -> Result<(Option<Fault>, Request<'a>), AllocError>
     ensures fault { IfOk result (λ r.
         r.0 ≡ least (properties_faults [] (Some RequestMark) (stanza_view stanza.now).properties)) }
-    ensures request { are_borrowed stanza.now.properties.items ≡ true →
-        IfOk result (λ r. request_view r.1 ≡ request_of (stanza_view stanza.now)) }
+    ensures request { IfOk result (λ r. request_view r.1 ≡ request_of (stanza_view stanza.now)) }
 {
     names.clear(alloc);
     let mut first = None;

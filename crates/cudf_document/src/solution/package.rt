@@ -9,8 +9,8 @@ ghost use Rattle.cudf_document.specs.Working.SolutionPackages.{solution_property
 
 use crate::declaration::declarations::mistyped_unless;
 use crate::fault::{fault_on, keep_lesser};
-use crate::package::identity::source_name;
-use cudf_text::{Fault, Kind, Property, Stanza};
+use crate::package::identity::read_name;
+use cudf_text::{Fault, Kind, PropertyRef, StanzaRef};
 use cudf_value::{read_bool, read_posint};
 
 /// A property of a solution's package that counts.
@@ -65,15 +65,15 @@ impl<'a> SolutionPackage<'a> {
     }
 
     /// Keeps what a property says, if it counts and is the first of its name, and answers its fault.
-    fn read(&mut self, property: &Property<'a>) -> Option<Fault>
+    fn read(&mut self, property: &PropertyRef<'a>) -> Option<Fault>
         ensures fault { result
             ≡ fault_on property.now.line (solution_kind_of (property_view property.now) (solution_package_view self.old)) }
         ensures entry { solution_package_view self.new
             ≡ with_property (property_view property.now) (solution_package_view self.old) }
     {
-        let text = property.value.as_str();
+        let text = property.value;
         let kind = match solution_property_named(property.name) {
-            Some(SolutionProperty::Package) => self.read_name(property),
+            Some(SolutionProperty::Package) => self.read_name(text),
             Some(SolutionProperty::Version) => self.read_version(text),
             Some(SolutionProperty::Installed) => self.read_installed(text),
             None => None,
@@ -81,17 +81,16 @@ impl<'a> SolutionPackage<'a> {
         fault_on(property.line, kind)
     }
 
-    fn read_name(&mut self, property: &Property<'a>) -> Option<Kind>
-        ensures kind { result
-            ≡ solution_kind (Some counted.Package) (property_view property.now).value (solution_package_view self.old) }
+    fn read_name(&mut self, text: &'a str) -> Option<Kind>
+        ensures kind { result ≡ solution_kind (Some counted.Package) text.now (solution_package_view self.old) }
         ensures entry { solution_package_view self.new
-            ≡ with_solution_property (Some counted.Package) (property_view property.now).value (solution_package_view self.old) }
+            ≡ with_solution_property (Some counted.Package) text.now (solution_package_view self.old) }
     {
         if self.is_named {
             return Some(Kind::E7);
         }
         self.is_named = true;
-        self.name = source_name(property);
+        self.name = read_name(text);
         mistyped_unless(self.name.is_some())
     }
 
@@ -142,7 +141,9 @@ impl<'a> SolutionPackage<'a> {
 }
 
 /// The first fault of the properties of a solution's package, and what they say.
-pub(crate) fn read_solution_package<'a>(stanza: &Stanza<'a>) -> (Option<Fault>, SolutionPackage<'a>)
+pub(crate) fn read_solution_package<'a>(
+    stanza: &StanzaRef<'a>,
+) -> (Option<Fault>, SolutionPackage<'a>)
     ensures fault { result.0
         ≡ least (flat_map value_faults (with_earlier [] (stanza_view stanza.now).properties)) }
     ensures entry { solution_package_view result.1 ≡ solution_package_of (stanza_view stanza.now).properties }

@@ -10,7 +10,7 @@ use crate::fault::{fault_if, keep_lesser};
 use crate::mode::Mode;
 use crate::package::ids::Ids;
 use crate::property::named::first_named;
-use cudf_text::{Fault, Kind, Stanza};
+use cudf_text::{Fault, Kind, StanzaRef};
 use std::alloc::{AllocError, Global};
 
 /// What is known of the pairs after some stanzas: strictly all of them, leniently none.
@@ -46,7 +46,7 @@ impl<'a> Pairs<'a> {
     pub(crate) fn take(
         &mut self,
         id: Option<(&'a str, u64)>,
-        stanza: &Stanza<'a>,
+        stanza: &StanzaRef<'a>,
     ) -> Result<(), AllocError>
         ensures { (mode : Mode) →
             (seen : List PlainStanza) →
@@ -67,7 +67,7 @@ impl<'a> Pairs<'a> {
 }
 
 /// The fault of a stanza whose pair is repeated, on the line of its first `version`.
-fn pair_fault(is_repeated: bool, stanza: &Stanza<'_>) -> Option<Fault>
+fn pair_fault(is_repeated: bool, stanza: &StanzaRef<'_>) -> Option<Fault>
     ensures { result
         ≡ least (fault_if is_repeated (line_of (version_property (stanza_view stanza.now))) E15) }
 {

@@ -21,7 +21,7 @@ use crate::solution::package::read_solution_package;
 use crate::solution::pairs::Pairs;
 use crate::solution::status::Status;
 use crate::stanza::postmark::{Postmark, postmark_of};
-use cudf_text::{Fault, Kind, Next, Stanza, Stanzas, Text};
+use cudf_text::{Fault, Kind, Next, StanzaRef, Stanzas, Text, lend};
 use std::alloc::{AllocError, Global};
 
 /// Reads a solution of the problem. Of its packages `package`, `version` and `installed` count,
@@ -56,8 +56,14 @@ pub fn read_solution<'t, 'a, 'p>(
     ensures fault { IfErr result (IsFirstFault (solution_faults (text_view text.now) mode)) }
 {
     let mut reader = SolutionReader::new(alloc, problem, mode)?;
+    let mut lent = StanzaRef {
+        line: 0,
+        last: 0,
+        properties: Vec::new(alloc),
+    };
     for stanza in &text.stanzas {
-        reader.take(problem, stanza)?;
+        lend(stanza, &mut lent)?;
+        reader.take(problem, &lent)?;
     }
     reader.finish(text.fault)
 }
@@ -75,24 +81,24 @@ pub fn solution_of<'a, 'p>(
     mode: Mode,
 ) -> Result<Solution<'a>, ReadError>
     // The solution has no fault,
-    ensures sound { IfOk result (λ _. solution_faults stanzas.entry.text mode ≡ []) }
+    ensures sound { IfOk result (λ _. solution_faults stanzas.entry mode ≡ []) }
     // and this is the status that it proposes,
     ensures status { IfOk result (λ s.
         (place : ℕ) → set.contains s.status place
-        ≡ is_proposed problem.now stanzas.entry.text.stanzas place) }
+        ≡ is_proposed problem.now stanzas.entry.stanzas place) }
     ensures within { IfOk result (λ s. IsStatusOf problem.now s.status) }
     // and what it installs besides.
     ensures unknown { IfOk result (λ s.
-        map unknown_view s.unknown.items ≡ unknown_stanzas problem.now stanzas.entry.text.stanzas) }
+        map unknown_view s.unknown.items ≡ unknown_stanzas problem.now stanzas.entry.stanzas) }
     ensures ascending { IfOk result (λ s. IsTrue (ascend_above 0 (map unknown_view s.unknown.items))) }
     ensures outside { IfOk result (λ s.
         IsTrue (are_outside problem.now (map unknown_view s.unknown.items))) }
     // The fault is the first of its faults.
-    ensures fault { IfErr result (IsFirstFault (solution_faults stanzas.entry.text mode)) }
+    ensures fault { IfErr result (IsFirstFault (solution_faults stanzas.entry mode)) }
 {
     let mut stanzas = stanzas;
     let mut reader = SolutionReader::new(alloc, problem, mode)?;
-    let mut stanza = Stanza {
+    let mut stanza = StanzaRef {
         line: 0,
         last: 0,
         properties: Vec::new(alloc),
@@ -148,7 +154,7 @@ impl<'a> SolutionReader<'a> {
     pub(crate) fn take(
         &mut self,
         problem: &Problem<'_>,
-        stanza: &Stanza<'a>,
+        stanza: &StanzaRef<'a>,
     ) -> Result<(), AllocError>
         requires { length self.old.builder.flags.items ≡ length problem.now.packages }
         ensures { (mode : Mode) →
@@ -210,7 +216,7 @@ pub(crate) struct SaidOfStanza<'a> {
 }
 
 /// Reads a stanza for itself.
-pub(crate) fn read_stanza<'a>(stanza: &Stanza<'a>) -> SaidOfStanza<'a>
+pub(crate) fn read_stanza<'a>(stanza: &StanzaRef<'a>) -> SaidOfStanza<'a>
     ensures fault { result.fault ≡ least (solution_stanza_faults (stanza_view stanza.now)) }
     ensures id { option_map (λ id. (id.0.now, id.1)) result.id ≡ id_of (stanza_view stanza.now) }
     ensures installed { option_map (λ id. (id.0.now, id.1)) result.installed

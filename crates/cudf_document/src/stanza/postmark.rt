@@ -4,7 +4,7 @@ ghost use Rattle.cudf_text.specs.Promises.Views.{stanza_view};
 ghost use Rattle.cudf_document.specs.Documents.{postmark, postmark_named};
 ghost use Rattle.cudf_document.specs.Promises.Packages.{is_preamble};
 
-use cudf_text::Stanza;
+use cudf_text::StanzaRef;
 
 /// What the first property's name says that a stanza is.
 #[derive(Clone, Copy, Debug, PartialEq, Eq)]
@@ -15,7 +15,7 @@ pub(crate) enum Postmark {
 }
 
 /// The stanza's postmark, if its first property is one.
-pub(crate) fn postmark_of(stanza: &Stanza<'_>) -> Option<Postmark>
+pub(crate) fn postmark_of(stanza: &StanzaRef<'_>) -> Option<Postmark>
     ensures { result ≡ postmark (stanza_view stanza.now) }
 {
     match stanza.properties.as_slice() {
@@ -36,7 +36,7 @@ fn mark_named(name: &str) -> Option<Postmark>
 }
 
 /// Whether the stanza is a preamble, in a right place or not.
-pub(crate) fn is_preamble(stanza: &Stanza<'_>) -> bool
+pub(crate) fn is_preamble(stanza: &StanzaRef<'_>) -> bool
     ensures { result ≡ is_preamble (stanza_view stanza.now) }
 {
     matches!(postmark_of(stanza), Some(Postmark::Preamble))

@@ -1,9 +1,7 @@
 //! The first fault of a problem, of each kind and of several at once.
 use crate::table::assert_rows;
-use cudf_document::{
-    Chosen, Mode, ReadError, Room, first_fault, problem_for, problem_of, read_problem,
-};
-use cudf_text::{Fault, Kind, read, stanzas};
+use cudf_document::{Chosen, Mode, ReadError, first_fault, problem_for, problem_of, read_problem};
+use cudf_text::{Fault, Kind, Room, read, stanzas};
 use std::alloc::{AllocError, Global};
 
 /// A source, and its first fault.
@@ -23,8 +21,8 @@ fn read_fault(alloc: Global, bytes: &[u8]) -> Option<Fault> {
 /// The fault that reading stanza by stanza answers.
 fn walk_fault(alloc: Global, bytes: &[u8]) -> Option<Fault> {
     let mut room = Room::new(alloc);
-    match stanzas(bytes) {
-        Ok(stanzas) => match problem_of(alloc, stanzas, &mut room, Mode::Lenient) {
+    match stanzas(alloc, bytes, &mut room) {
+        Ok(stanzas) => match problem_of(alloc, stanzas, Mode::Lenient) {
             Err(ReadError::Fault(fault)) => Some(fault),
             _ => None,
         },
@@ -36,8 +34,8 @@ fn walk_fault(alloc: Global, bytes: &[u8]) -> Option<Fault> {
 fn chosen_fault(alloc: Global, bytes: &[u8]) -> Option<Fault> {
     let mut room = Room::new(alloc);
     let chosen = Chosen::none(alloc);
-    match stanzas(bytes) {
-        Ok(stanzas) => match problem_for(alloc, stanzas, &mut room, &chosen, Mode::Lenient) {
+    match stanzas(alloc, bytes, &mut room) {
+        Ok(stanzas) => match problem_for(alloc, stanzas, &chosen, Mode::Lenient) {
             Err(ReadError::Fault(fault)) => Some(fault),
             _ => None,
         },
@@ -47,7 +45,8 @@ fn chosen_fault(alloc: Global, bytes: &[u8]) -> Option<Fault> {
 
 /// The fault that is found with no problem made.
 fn found_fault(alloc: Global, bytes: &[u8]) -> Option<Fault> {
-    match stanzas(bytes) {
+    let mut room = Room::new(alloc);
+    match stanzas(alloc, bytes, &mut room) {
         Ok(stanzas) => first_fault(alloc, stanzas, Mode::Lenient).unwrap_or(None),
         Err(fault) => Some(fault),
     }

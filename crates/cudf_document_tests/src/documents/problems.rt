@@ -1,9 +1,9 @@
 //! What problems say.
 use crate::table::{Listed, assert_rows, prints};
 use cudf_document::{
-    Chosen, Keep, Mode, Package, Problem, ReadError, Room, problem_for, problem_of, read_problem,
+    Chosen, Keep, Mode, Package, Problem, ReadError, problem_for, problem_of, read_problem,
 };
-use cudf_text::{Fault, Kind, Stanzas, read, stanzas};
+use cudf_text::{Fault, Kind, Room, Stanzas, read, stanzas};
 use std::alloc::{AllocError, Global};
 use std::fmt;
 
@@ -70,8 +70,8 @@ fn text_reads_as(alloc: Global, source: &str, want: &str) -> bool {
 
 fn stanzas_read_as(alloc: Global, source: &str, want: &str) -> bool {
     let mut room = Room::new(alloc);
-    match stanzas(source.as_bytes()) {
-        Ok(stanzas) => match problem_of(alloc, stanzas, &mut room, Mode::Lenient) {
+    match stanzas(alloc, source.as_bytes(), &mut room) {
+        Ok(stanzas) => match problem_of(alloc, stanzas, Mode::Lenient) {
             Ok(problem) => prints(alloc, &ShownProblem(&problem), want),
             Err(_) => false,
         },
@@ -174,8 +174,8 @@ fn text_recommends(alloc: Global, source: &str, want: Option<&str>) -> bool {
 
 fn stanzas_recommend(alloc: Global, source: &str, want: Option<&str>) -> bool {
     let mut room = Room::new(alloc);
-    match stanzas(source.as_bytes()) {
-        Ok(stanzas) => match problem_of(alloc, stanzas, &mut room, Mode::Lenient) {
+    match stanzas(alloc, source.as_bytes(), &mut room) {
+        Ok(stanzas) => match problem_of(alloc, stanzas, Mode::Lenient) {
             Ok(problem) => recommends_second(alloc, &problem, want),
             Err(_) => false,
         },
@@ -225,7 +225,12 @@ fn recommended(rt: HostRuntime) {
 
 /// Whether the problem is shown so where it is read for the solution.
 fn reads_for(alloc: Global, row: &(&str, &str, &str)) -> bool {
-    match (stanzas(row.0.as_bytes()), stanzas(row.1.as_bytes())) {
+    let mut room = Room::new(alloc);
+    let mut room_of_solution = Room::new(alloc);
+    match (
+        stanzas(alloc, row.0.as_bytes(), &mut room),
+        stanzas(alloc, row.1.as_bytes(), &mut room_of_solution),
+    ) {
         (Ok(problem), Ok(solution)) => match Chosen::of(alloc, solution) {
             Ok(chosen) => chosen_read_as(alloc, problem, &chosen, row.2),
             Err(_) => false,
@@ -235,8 +240,7 @@ fn reads_for(alloc: Global, row: &(&str, &str, &str)) -> bool {
 }
 
 fn chosen_read_as(alloc: Global, problem: Stanzas<'_>, chosen: &Chosen<'_>, want: &str) -> bool {
-    let mut room = Room::new(alloc);
-    match problem_for(alloc, problem, &mut room, chosen, Mode::Lenient) {
+    match problem_for(alloc, problem, chosen, Mode::Lenient) {
         Ok(problem) => prints(alloc, &ShownProblem(&problem), want),
         Err(_) => false,
     }

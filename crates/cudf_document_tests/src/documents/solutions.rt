@@ -4,7 +4,7 @@ use cudf_document::{
     Mode, Problem, ReadError, Solution, Status, Unknown, initial, read_problem, read_solution,
     solution_of,
 };
-use cudf_text::{Fault, Kind, Text, is_fail, read, stanzas};
+use cudf_text::{Fault, Kind, Room, Text, is_fail, read, stanzas};
 use std::alloc::Global;
 use std::fmt;
 
@@ -89,7 +89,8 @@ fn is_read_as(
     if is_fail(text.source) {
         return false;
     }
-    match stanzas(text.source.as_bytes()) {
+    let mut room = Room::new(alloc);
+    match stanzas(alloc, text.source.as_bytes(), &mut room) {
         Ok(stanzas) => {
             is_answer(alloc, read_solution(alloc, text, problem, mode), wanted)
                 && is_answer(alloc, solution_of(alloc, stanzas, problem, mode), wanted)

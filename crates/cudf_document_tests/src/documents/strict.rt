@@ -1,9 +1,7 @@
 //! The first fault of a problem in both modes: strictly a declared property without default has to stand in each package.
 use crate::table::assert_rows;
-use cudf_document::{
-    Chosen, Mode, ReadError, Room, first_fault, problem_for, problem_of, read_problem,
-};
-use cudf_text::{Fault, Kind, read, stanzas};
+use cudf_document::{Chosen, Mode, ReadError, first_fault, problem_for, problem_of, read_problem};
+use cudf_text::{Fault, Kind, Room, read, stanzas};
 use std::alloc::Global;
 
 /// A source, and its first fault where it is read strictly and where it is read leniently.
@@ -23,8 +21,8 @@ fn reads(alloc: Global, bytes: &[u8], mode: Mode, want: Option<(u64, Kind)>) -> 
 /// Whether reading stanza by stanza does.
 fn walks(alloc: Global, bytes: &[u8], mode: Mode, want: Option<(u64, Kind)>) -> bool {
     let mut room = Room::new(alloc);
-    match stanzas(bytes) {
-        Ok(stanzas) => match problem_of(alloc, stanzas, &mut room, mode) {
+    match stanzas(alloc, bytes, &mut room) {
+        Ok(stanzas) => match problem_of(alloc, stanzas, mode) {
             Ok(_problem) => want.is_none(),
             Err(error) => is_wanted(fault_of(error), want),
         },
@@ -36,8 +34,8 @@ fn walks(alloc: Global, bytes: &[u8], mode: Mode, want: Option<(u64, Kind)>) -> 
 fn chooses(alloc: Global, bytes: &[u8], mode: Mode, want: Option<(u64, Kind)>) -> bool {
     let mut room = Room::new(alloc);
     let chosen = Chosen::none(alloc);
-    match stanzas(bytes) {
-        Ok(stanzas) => match problem_for(alloc, stanzas, &mut room, &chosen, mode) {
+    match stanzas(alloc, bytes, &mut room) {
+        Ok(stanzas) => match problem_for(alloc, stanzas, &chosen, mode) {
             Ok(_problem) => want.is_none(),
             Err(error) => is_wanted(fault_of(error), want),
         },
@@ -47,7 +45,8 @@ fn chooses(alloc: Global, bytes: &[u8], mode: Mode, want: Option<(u64, Kind)>) -
 
 /// Whether this is found with no problem made.
 fn finds(alloc: Global, bytes: &[u8], mode: Mode, want: Option<(u64, Kind)>) -> bool {
-    match stanzas(bytes) {
+    let mut room = Room::new(alloc);
+    match stanzas(alloc, bytes, &mut room) {
         Ok(stanzas) => match first_fault(alloc, stanzas, mode) {
             Ok(fault) => is_wanted(fault, want),
             Err(_) => false,

@@ -1,23 +1,20 @@
--- Searches along the walk: what is found first and what that costs, and the stops that are left behind a key.
-use Rattle.std.specs.Prelude.{◌≡◌, ◌≤◌, ℕ, ◌+◌, ◌-◌, nat_lt, List, [], ◌∷◌, ◌++◌, map, filter, drop, slice_get, Option, Some, None, if◌then◌else◌}
+-- Searches along the walk: what is found first and what that costs, and the stops that are left.
+use Rattle.std.specs.Prelude.{◌≡◌, ◌≤◌, ℕ, ◌+◌, nat_lt, Bool, List, [], ◌∷◌, ◌++◌, map, filter, drop, Option, Some, None}
 use Rattle.std.specs.List.{flat_map, enumerate_from}
-use Rattle.cudf_value.specs.Vpkgs.{PlainVpkg}
-use Rattle.cudf_document.specs.declared.package.Keep.{Keep}
-use Rattle.cudf_document.specs.declared.package.Keep.TheVariants.{Version, Package, Feature, Nothing}
-use Rattle.cudf_document.specs.Universe.{PlainRequest}
 use Rattle.cudf_document.specs.Statuses.{PlainUnknown}
 use Rattle.cudf_universe.specs.Satisfaction.{Placed}
-use Rattle.cudf_referee.specs.declared.key.Part.{Part}
-use Rattle.cudf_referee.specs.declared.key.Part.TheVariants as part
-use Rattle.cudf_referee.specs.declared.key.Rule.{Rule}
-use Rattle.cudf_referee.specs.declared.key.Rule.TheVariants as rule
-use Rattle.cudf_referee.specs.declared.key.Aspect.{Aspect}
-use Rattle.cudf_referee.specs.declared.key.Aspect.TheVariants.{Unsatisfied, Many, Lower}
+use Rattle.cudf_referee.specs.declared.referee.instances.Cursor.{Cursor}
 use Rattle.cudf_referee.specs.Instances.{PlainInstance}
-use Rattle.cudf_referee.specs.Keys.{PlainKey, rule_rank}
-use Rattle.cudf_referee.specs.Proposals.{Proposal, holds_place}
-use Rattle.cudf_referee.specs.Promises.Sites.{Site, conjunct, conflicts_entry, kept_version, kept_package, kept_feature, install_entry, remove_entry, upgrade_entry, unknown_stanza, upgrade_sites, request_sites, Stop, at_site, package_end, package_stops, stop_cost, least_cost}
-use Rattle.cudf_referee.specs.Working.Judged.{given_at}
+use Rattle.cudf_referee.specs.Proposals.{Proposal}
+use Rattle.cudf_referee.specs.Promises.Sites.{Site, unknown_stanza, package_sites, request_sites, site_price, look_ups, Stop, at_site, package_end, package_stops, stop_cost, least_cost}
+use Rattle.cudf_referee.specs.Promises.Walks.{Walking}
+use Rattle.cudf_referee.specs.Working.Judged.{is_violated, given_at}
+
+-- a site is judged, and the steps went from one number to another
+pub record IsJudged (s : Proposal) (site : Site) (answer : Bool) (old new : ℕ) : Type 0 where
+  pub is : answer ≡ is_violated s site
+  pub price : new ≤ old + site_price s.proposed site
+  pub grows : old + look_ups s.proposed site ≤ new
 
 -- ---- searches
 
@@ -53,75 +50,44 @@ pub record Finds (s : Proposal) (stops : List Stop) (found : Option PlainInstanc
   pub price : new ≤ old + cost_to_first s stops
   pub grows : old + least_to_first s stops ≤ new
 
--- ---- what is left behind a key
+-- a search of all these stops has come to the ones that are left: those before gave nothing, and are paid for
+pub record Passes (s : Proposal) (all left : List Stop) (old now : ℕ) : Type 0 where
+  pub given : first_given s all ≡ first_given s left
+  pub price : now + cost_to_first s left ≤ old + cost_to_first s all
+  pub grows : old + least_to_first s all ≤ now + least_to_first s left
 
--- how many entries of a rule a key of the same part has passed: none where its rule comes before, all where it comes after
-abbrev pub passed : PlainKey → Rule → Option ℕ
-passed key r = if nat_lt (rule_rank key.rule) (rule_rank r) then Some 0 else (if nat_lt (rule_rank r) (rule_rank key.rule) then None else Some key.place)
+-- a walk does so, and stays where it is
+pub record Searches (old : Walking) (stops : List Stop) (found : Option PlainInstance) (new : Walking) : Type 0 where
+  pub judged : new.judged ≡ old.judged
+  pub position : new.position ≡ old.position
+  pub finds : Finds old.judged stops found old.steps new.steps
 
--- the entries that are left, with their places
-abbrev pub entries_left : {A : Type 0} → Option ℕ → List A → List (ℕ × A)
-entries_left None xs = []
-entries_left (Some n) xs = drop n (enumerate_from 1 xs)
+pub record Goes (old : Walking) (all left : List Stop) (new : Walking) : Type 0 where
+  pub judged : new.judged ≡ old.judged
+  pub position : new.position ≡ old.position
+  pub passes : Passes old.judged all left old.steps new.steps
 
-abbrev pub needed_left : PlainKey → Placed → List Site
-needed_left key p = map (λ c. conjunct p c.0 c.1) (entries_left (passed key rule.Depends) p.1.depends)
-    ++ map (λ v. conflicts_entry p v.0 v.1) (entries_left (passed key rule.Conflicts) p.1.conflicts)
+-- ---- what is left
 
--- what is kept has one place, but for features
-abbrev pub kept_left : Option ℕ → Keep → Placed → List Site
-kept_left n Version p = map (λ x. kept_version p) (entries_left n (p ∷ []))
-kept_left n Package p = map (λ x. kept_package p) (entries_left n (p ∷ []))
-kept_left n Feature p = map (λ v. kept_feature p v.0 v.1) (entries_left n p.1.provides)
-kept_left n Nothing p = []
+-- of a package behind this many sites
+abbrev pub package_rest : Proposal → ℕ → Placed → List Stop
+package_rest s n p = map at_site (drop n (package_sites s p)) ++ package_end p.0 ∷ []
 
-abbrev pub package_sites_left : Proposal → PlainKey → Placed → List Site
-package_sites_left s key p =
-    (if holds_place s.proposed p.0 then needed_left key p else [])
-    ++ (if holds_place s.initial p.0 then kept_left (passed key rule.Keep) p.1.keep p else [])
+-- of these packages behind this many sites of the first
+abbrev pub packages_rest : Proposal → ℕ → List Placed → List Stop
+packages_rest s n [] = []
+packages_rest s n (p ∷ ps) = package_rest s n p ++ flat_map (package_stops s) ps
 
--- of the package that the key is about, with its end
-abbrev pub package_left : Proposal → PlainKey → Option Placed → List Stop
-package_left s key None = []
-package_left s key (Some p) = map at_site (package_sites_left s key p) ++ package_end p.0 ∷ []
+abbrev pub request_rest : Proposal → ℕ → List Stop
+request_rest s n = map at_site (drop n (request_sites s.problem.request))
 
--- the aspects of an entry of `upgrade` that come after this one
-abbrev pub aspects_after : Option Aspect → ℕ × PlainVpkg → List Site
-aspects_after None v = upgrade_sites v
-aspects_after (Some Unsatisfied) v = upgrade_entry v.0 v.1 Many ∷ upgrade_entry v.0 v.1 Lower ∷ []
-aspects_after (Some Many) v = upgrade_entry v.0 v.1 Lower ∷ []
-aspects_after (Some Lower) v = []
+abbrev pub unknown_rest : Proposal → ℕ → List Stop
+unknown_rest s n = map at_site (map unknown_stanza (drop n s.unknown))
 
-abbrev pub aspects_left : Option Aspect → Option (ℕ × PlainVpkg) → List Site
-aspects_left aspect None = []
-aspects_left aspect (Some v) = aspects_after aspect v
-
--- behind a key of `upgrade` the other aspects of its entry, and then the entries after it
-abbrev pub upgrade_left : PlainKey → List PlainVpkg → List Site
-upgrade_left key vs =
-    if nat_lt (rule_rank key.rule) (rule_rank rule.Upgrade) then flat_map upgrade_sites (enumerate_from 1 vs)
-    else (aspects_left key.aspect (slice_get (enumerate_from 1 vs) (key.place - 1)) ++ flat_map upgrade_sites (drop key.place (enumerate_from 1 vs)))
-
-abbrev pub request_left : PlainKey → PlainRequest → List Site
-request_left key r = map (λ v. install_entry v.0 v.1) (entries_left (passed key rule.Install) r.install)
-    ++ map (λ v. remove_entry v.0 v.1) (entries_left (passed key rule.Remove) r.remove)
-    ++ upgrade_left key r.upgrade
+-- of all, behind so many packages, sites of the next one, sites of the request and unknown stanzas
+abbrev pub stops_from : Proposal → Cursor → List Stop
+stops_from s c = packages_rest s c.sites (drop c.packages (enumerate_from 1 s.problem.packages)) ++ (request_rest s c.request ++ unknown_rest s c.unknown)
 
 -- the unknown stanzas with greater numbers
 abbrev pub unknown_left : ℕ → List PlainUnknown → List PlainUnknown
 unknown_left n unknown = filter (λ u. nat_lt n u.stanza) unknown
-
--- the stops of the packages after a place
-abbrev pub packages_left : Proposal → ℕ → List Stop
-packages_left s n = flat_map (package_stops s) (drop n (enumerate_from 1 s.problem.packages))
-
--- those that come after a key of this part
-abbrev pub part_left : Proposal → PlainKey → Part → List Stop
-part_left s key (part.Package n) =
-    package_left s key (slice_get (enumerate_from 1 s.problem.packages) (n - 1)) ++ packages_left s n ++ map at_site (request_sites s.problem.request ++ map unknown_stanza s.unknown)
-part_left s key part.Request = map at_site (request_left key s.problem.request ++ map unknown_stanza s.unknown)
-part_left s key part.Solution = map at_site (map unknown_stanza (unknown_left key.place s.unknown))
-
--- those that come after a key
-abbrev pub stops_left : Proposal → PlainKey → List Stop
-stops_left s key = part_left s key key.part

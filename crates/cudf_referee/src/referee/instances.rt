@@ -1,22 +1,22 @@
 //! The walk over the violated instances.
-ghost use Rattle.std.specs.Prelude.{◌≡◌, ◌≤◌, ◌+◌, map, length, option_map};
+ghost use Rattle.std.specs.Prelude.{◌≡◌, ◌≤◌, ◌+◌, map, length};
 ghost use Rattle.std.specs.FinSet as set;
 ghost use Rattle.cudf_document.specs.Promises.Views.{unknown_view};
 ghost use Rattle.cudf_universe.specs.Promises.Prices.{digits};
 ghost use Rattle.cudf_referee.specs.KeyViews.{key_view};
 ghost use Rattle.cudf_referee.specs.Promises.Pages.{least_search};
-ghost use Rattle.cudf_referee.specs.Promises.PositionViews.{position_view};
 ghost use Rattle.cudf_referee.specs.Promises.Sites.{at_start, at_key};
-ghost use Rattle.cudf_referee.specs.Promises.Views.{instance_view};
-ghost use Rattle.cudf_referee.specs.Working.Places.{BeginsAt, IsFitting, ahead};
-ghost use Rattle.cudf_referee.specs.Working.Searches.{Finds};
 ghost use Rattle.cudf_referee.specs.Working.Walkers.{put_forward, Agrees};
 
 use crate::instance::Instance;
-use crate::key::Key;
+use crate::key::{Key, Part};
 use crate::position::{Position, first_unknown_behind, next_place, position_behind};
-use crate::walk::{self, Ground};
-use cudf_document::{Problem, Solution};
+use crate::rules::{is_requested_violated, is_violated};
+use crate::sites::{
+    Candidate, PackageSite, RequestSite, count_requested, passed_requested, requested_instance,
+    requested_site,
+};
+use cudf_document::{Package, Problem, Solution};
 use cudf_universe::{GreatestNumbers, Index, Metered, MeteredNumbers, Steps};
 use std::marker::Model;
 
@@ -121,37 +121,209 @@ impl<'r, 'p, 't> Instances<'r, 'p, 't> {
     }
 }
 
-/// The first violated instance ahead of a position.
-fn search<'p, 't>(
-    problem: &'p Problem<'t>,
-    solution: &'p Solution<'t>,
-    named: &[bool],
-    now: &mut Metered<'_, '_, '_>,
-    before: &mut MeteredNumbers<'_, '_, '_>,
-    steps: &mut Steps,
-    position: Position,
+/// Where a walk goes on: behind so many packages, places of the next one, places of the request and unknown stanzas.
+#[derive(Clone, Copy)]
+struct Cursor {
+    packages: usize,
+    sites: usize,
+    request: usize,
     unknown: usize,
-) -> Option<Instance<'p, 't>>
-    requires agrees { Agrees problem.now (set.contains solution.now.status) before.old.status now.old.status named.now (map unknown_view solution.now.unknown.items) }
-    requires fits { IsFitting (position_view position) }
-    requires place { BeginsAt (position_view position) (map unknown_view solution.now.unknown.items) unknown }
-    ensures found { let s = put_forward problem.now before.old.status now.old.status (map unknown_view solution.now.unknown.items) in
-        Finds s (ahead s (position_view position)) (option_map instance_view result)
-        (now.old.steps + before.old.steps + steps.old) (now.new.steps + before.new.steps + steps.new) }
-    ensures now { now.new.status ≡ now.old.status }
-    ensures before { before.new.status ≡ before.old.status }
-{
-    let key = match position {
-        Position::Start => None,
-        Position::At(key) => Some(key),
-        Position::End => return None,
-    };
-    let ground = Ground {
-        problem,
-        solution,
-        named,
-    };
-    walk::search(now, before, steps, ground, key, unknown)
+}
+
+impl<'r, 'p, 't> Instances<'r, 'p, 't> {
+    ghost use Rattle.std.specs.Prelude.{ℕ, [], ◌∷◌, filter, drop, slice_get, option_map, if◌then◌else◌};
+    ghost use Rattle.std.specs.List.{enumerate_from};
+    ghost use Rattle.cudf_document.specs.Promises.Views.{package_view};
+    ghost use Rattle.cudf_document.specs.Universe.{PlainPackage};
+    ghost use Rattle.cudf_referee.specs.declared.key.Part.TheVariants as part;
+    ghost use Rattle.cudf_referee.specs.Promises.Sites.{at_site, package_end, package_sites, precedes, site_key};
+    ghost use Rattle.cudf_referee.specs.Promises.Views.{instance_view};
+    ghost use Rattle.cudf_referee.specs.Working.Judged.{instance_at};
+    ghost use Rattle.cudf_referee.specs.Working.Places.{ahead};
+    ghost use Rattle.cudf_referee.specs.Working.Searches.{Searches, package_rest, packages_rest, request_rest, unknown_rest, stops_from};
+    ghost use Rattle.cudf_referee.specs.Working.SiteNumbers.{placed_view, Fits, package_site_view, request_site_view, StandsAt};
+
+    /// The package behind this many others, as it is judged.
+    fn candidate(&self, index: usize, package: &'p Package<'t>) -> Candidate<'p, 't>
+        requires { slice_get self.now.judged.problem.packages index ≡ Some (package_view «package».now) }
+        ensures placed { placed_view result ≡ (index + 1, package_view «package».now) }
+        ensures fits { Fits self.entry.now.judged result }
+    {
+        let is_named = self.named[index];
+        let place = index as u64 + 1;
+        Candidate {
+            place,
+            package,
+            is_installed: self.solution.status.holds(place),
+            is_named,
+        }
+    }
+
+    /// Judges a place of a package.
+    fn judge(&mut self, candidate: Candidate<'p, 't>, site: PackageSite<'p, 't>) -> bool
+        requires fits { Fits self.old.judged candidate }
+        requires stands { StandsAt candidate site }
+        ensures { let place = package_site_view (placed_view candidate.entry) site.entry in
+            Searches self.old (at_site place ∷ []) (if result then Some (instance_at self.old.judged place) else None) self.new }
+    {
+        self.steps.tick();
+        is_violated(&mut self.now, candidate, site)
+    }
+
+    /// Judges a place of the request.
+    fn judge_requested(&mut self, site: RequestSite<'p, 't>) -> bool
+        ensures { let place = request_site_view site.entry in
+            Searches self.old (at_site place ∷ []) (if result then Some (instance_at self.old.judged place) else None) self.new }
+    {
+        self.steps.tick();
+        is_requested_violated(&mut self.now, &mut self.before, site)
+    }
+
+    /// Goes by the end of a package.
+    fn pass_end(&mut self)
+        ensures { (place : ℕ) → Searches self.old (package_end place ∷ []) None self.new }
+    {
+        self.steps.tick();
+    }
+
+    /// The first instance of a package behind this many places.
+    fn search_package(
+        &mut self,
+        candidate: Candidate<'p, 't>,
+        first: usize,
+    ) -> Option<Instance<'p, 't>>
+        requires { Fits self.old.judged candidate }
+        ensures { Searches self.old (package_rest self.old.judged first (placed_view candidate.entry)) (option_map instance_view result) self.new }
+    {
+        for index in first..candidate.count_sites() {
+            let site = candidate.site(index);
+            if self.judge(candidate, site) {
+                return Some(candidate.instance(site));
+            }
+        }
+        self.pass_end();
+        None
+    }
+
+    /// The first instance of the packages behind so many of them and so many places of the next one.
+    fn search_packages(&mut self, first: usize, mut passed: usize) -> Option<Instance<'p, 't>>
+        ensures { Searches self.old (packages_rest self.old.judged passed (drop first (enumerate_from 1 self.old.judged.problem.packages))) (option_map instance_view result) self.new }
+    {
+        let packages = self.problem.packages();
+        for index in first..packages.len() {
+            let candidate = self.candidate(index, &packages[index]);
+            if let Some(instance) = self.search_package(candidate, passed) {
+                return Some(instance);
+            }
+            passed = 0;
+        }
+        None
+    }
+
+    /// The first instance of the request behind this many places.
+    fn search_request(&mut self, first: usize) -> Option<Instance<'p, 't>>
+        ensures { Searches self.old (request_rest self.old.judged first) (option_map instance_view result) self.new }
+    {
+        let request = self.problem.request();
+        for index in first..count_requested(request) {
+            let site = requested_site(request, index);
+            if self.judge_requested(site) {
+                return Some(requested_instance(request, site));
+            }
+        }
+        None
+    }
+
+    /// The instance of the unknown stanza behind this many others.
+    fn search_unknown(&mut self, first: usize) -> Option<Instance<'p, 't>>
+        ensures { Searches self.old (unknown_rest self.old.judged first) (option_map instance_view result) self.new }
+    {
+        match self.solution.unknown.get(first) {
+            Some(stanza) => {
+                self.steps.tick();
+                Some(Instance::of_unknown(stanza))
+            }
+            None => None,
+        }
+    }
+
+    /// The first instance ahead.
+    fn search(&mut self) -> Option<Instance<'p, 't>>
+        ensures { Searches self.old (ahead self.old.judged self.old.position) (option_map instance_view result) self.new }
+    {
+        let cursor = self.cursor();
+        if let Some(instance) = self.search_packages(cursor.packages, cursor.sites) {
+            return Some(instance);
+        }
+        if let Some(instance) = self.search_request(cursor.request) {
+            return Some(instance);
+        }
+        self.search_unknown(cursor.unknown)
+    }
+
+    /// Where the walk goes on.
+    fn cursor(&self) -> Cursor
+        ensures { stops_from self.entry.now.judged result ≡ ahead self.entry.now.judged self.entry.now.position }
+    {
+        match self.position {
+            Position::Start => Cursor {
+                packages: 0,
+                sites: 0,
+                request: 0,
+                unknown: self.unknown,
+            },
+            Position::At(key) => self.cursor_behind(key),
+            Position::End => Cursor {
+                packages: self.problem.packages().len(),
+                sites: 0,
+                request: count_requested(self.problem.request()),
+                unknown: self.unknown,
+            },
+        }
+    }
+
+    /// Where it goes on behind a key.
+    fn cursor_behind(&self, key: Key) -> Cursor
+        requires { self.now.position ≡ at_key (key_view key) }
+        ensures { stops_from self.entry.now.judged result ≡ ahead self.entry.now.judged self.entry.now.position }
+    {
+        let request = self.problem.request();
+        match key.part() {
+            Part::Package(place) => {
+                let packages = place as usize - 1;
+                Cursor {
+                    packages,
+                    sites: self.passed(packages, key),
+                    request: 0,
+                    unknown: self.unknown,
+                }
+            }
+            Part::Request => Cursor {
+                packages: self.problem.packages().len(),
+                sites: 0,
+                request: passed_requested(request, key),
+                unknown: self.unknown,
+            },
+            Part::Solution => Cursor {
+                packages: self.problem.packages().len(),
+                sites: 0,
+                request: count_requested(request),
+                unknown: self.unknown,
+            },
+        }
+    }
+
+    /// How many places of the package behind this many others a key of it has passed.
+    fn passed(&self, index: usize, key: Key) -> usize
+        requires { (key_view key).part ≡ part.Package (index + 1) }
+        ensures { (p : PlainPackage) → slice_get self.entry.now.judged.problem.packages index ≡ Some p
+            → filter (λ x. precedes (key_view key) (site_key x)) (package_sites self.entry.now.judged (index + 1, p)) ≡ drop result (package_sites self.entry.now.judged (index + 1, p)) }
+    {
+        match self.problem.packages().get(index) {
+            Some(package) => self.candidate(index, package).passed(key),
+            None => 0,
+        }
+    }
 }
 
 impl<'r, 'p, 't> Iterator for Instances<'r, 'p, 't> {
@@ -167,16 +339,7 @@ impl<'r, 'p, 't> Iterator for Instances<'r, 'p, 't> {
     ghost remaining = { item_count left };
 
     fn next(&mut self) -> Option<Instance<'p, 't>> {
-        let found = search(
-            self.problem,
-            self.solution,
-            self.named,
-            &mut self.now,
-            &mut self.before,
-            &mut self.steps,
-            self.position,
-            self.unknown,
-        );
+        let found = self.search();
         self.unknown = next_place(found, self.unknown);
         self.position = position_behind(found);
         found

@@ -1,10 +1,10 @@
 //! The calls on documents and values.
 use super::{Answer, Refused, expect, made};
 use cudf_referee::{Key, Referee, read_criterion};
-use cudf_text::{Text, TextError, is_fail, read, stanzas};
+use cudf_text::{Room, Text, TextError, is_fail, read, stanzas};
 use cudf_universe::{
-    Chosen, GreatestNumbers, Index, Mode, Problem, ReadError, Room, first_fault, initial,
-    problem_for, problem_of, read_problem, read_solution, solution_of,
+    Chosen, GreatestNumbers, Index, Mode, Problem, ReadError, first_fault, initial, problem_for,
+    problem_of, read_problem, read_solution, solution_of,
 };
 use cudf_value::{
     ValueType, fits, read_declarations, read_formula, read_veqpkglist, read_vpkg, read_vpkglist,
@@ -92,7 +92,11 @@ fn reads_problem(alloc: Global) -> Answer {
 /// Reads a problem stanza by stanza.
 fn reads_stanzas(alloc: Global, problem: &[u8], packages: usize) -> Answer {
     let mut room = Room::new(alloc);
-    match problem_of(alloc, made(stanzas(problem))?, &mut room, Mode::Lenient) {
+    match problem_of(
+        alloc,
+        made(stanzas(alloc, problem, &mut room))?,
+        Mode::Lenient,
+    ) {
         Ok(problem) => Ok(problem.packages().len() == packages),
         Err(ReadError::Memory(_)) => Err(Refused::Here),
         Err(ReadError::Fault(_)) => Ok(false),
@@ -101,7 +105,8 @@ fn reads_stanzas(alloc: Global, problem: &[u8], packages: usize) -> Answer {
 
 /// Finds what the solution installs.
 fn chooses(alloc: Global) -> Answer {
-    match Chosen::of(alloc, made(stanzas(SOLUTION))?) {
+    let mut room = Room::new(alloc);
+    match Chosen::of(alloc, made(stanzas(alloc, SOLUTION, &mut room))?) {
         Ok(_) => Ok(true),
         Err(_) => Err(Refused::Here),
     }
@@ -109,12 +114,15 @@ fn chooses(alloc: Global) -> Answer {
 
 /// Reads a problem stanza by stanza, for a solution that installs its packages.
 fn reads_chosen(alloc: Global) -> Answer {
-    let chosen = made(Chosen::of(alloc, made(stanzas(SOLUTION))?))?;
+    let mut room_of_solution = Room::new(alloc);
+    let chosen = made(Chosen::of(
+        alloc,
+        made(stanzas(alloc, SOLUTION, &mut room_of_solution))?,
+    ))?;
     let mut room = Room::new(alloc);
     match problem_for(
         alloc,
-        made(stanzas(PROBLEM))?,
-        &mut room,
+        made(stanzas(alloc, PROBLEM, &mut room))?,
         &chosen,
         Mode::Lenient,
     ) {
@@ -125,7 +133,12 @@ fn reads_chosen(alloc: Global) -> Answer {
 }
 
 fn finds_no_fault(alloc: Global) -> Answer {
-    match first_fault(alloc, made(stanzas(PROBLEM))?, Mode::Lenient) {
+    let mut room = Room::new(alloc);
+    match first_fault(
+        alloc,
+        made(stanzas(alloc, PROBLEM, &mut room))?,
+        Mode::Lenient,
+    ) {
         Ok(fault) => Ok(fault.is_none()),
         Err(_) => Err(Refused::Here),
     }
@@ -185,7 +198,13 @@ fn reads_proposed(alloc: Global, problem: &Problem<'_>, proposed: &Text<'_>, mod
 fn reads_proposed_stanzas(alloc: Global) -> Answer {
     let text = made(read(alloc, PROBLEM))?;
     let problem = made(read_problem(alloc, &text, Mode::Lenient))?;
-    match solution_of(alloc, made(stanzas(SOLUTION))?, &problem, Mode::Lenient) {
+    let mut room = Room::new(alloc);
+    match solution_of(
+        alloc,
+        made(stanzas(alloc, SOLUTION, &mut room))?,
+        &problem,
+        Mode::Lenient,
+    ) {
         Ok(solution) => Ok(solution.status.holds(2) && solution.unknown.len() == 1),
         Err(ReadError::Memory(_)) => Err(Refused::Here),
         Err(ReadError::Fault(_)) => Ok(false),
@@ -287,7 +306,7 @@ fn problem_of_stanzas(rt: HostRuntime) {
     expect(&rt, reads_stanzas(rt.alloc(), PROBLEM, 2));
 }
 
-/// Values of it stand on several lines, so that its text is held.
+/// Values of it stand on several lines, so that they are joined.
 #[test]
 fn problem_of_joined_stanzas(rt: HostRuntime) {
     let problem = b"package: a\nversion: 1\ndepends: b,\n c\n\nrequest: r\ninstall: a,\n b\n";

@@ -5,9 +5,8 @@ use Rattle.cudf_text.specs.declared.cursor.Place.{Place}
 use Rattle.cudf_text.specs.declared.cursor.Next.{Next}
 use Rattle.cudf_text.specs.declared.cursor.Next.TheVariants as next
 use Rattle.cudf_text.specs.declared.fault.Fault.{Fault}
-use Rattle.cudf_text.specs.declared.text.Property.{Property}
 use Rattle.cudf_text.specs.Lines.{blank, class, lines, NumberedLine, is_no_comment}
-use Rattle.cudf_text.specs.Working.Tracked.{TrackedStanza, TrackedText, stanzas_of, tracked_property}
+use Rattle.cudf_text.specs.Working.Tracked.{TrackedProperty, TrackedStanza, TrackedText, stanzas_of}
 use Rattle.cudf_text.specs.Working.Reading.{read_after, fault_after}
 
 -- the lines of a text, numbered from n
@@ -32,7 +31,7 @@ abbrev pub IsCounted : Place → Type 0
 IsCounted c = c.lines + length c.rest.now < 2 ^ 64
 
 -- what was left before this was read: one stanza more than is left now, or no stanza
-abbrev pub with_tracked : Next → List Property → TrackedText → TrackedText
+abbrev pub with_tracked : Next → List TrackedProperty → TrackedText → TrackedText
 with_tracked (next.Stanza line last) ps text =
-    record { stanzas = record { line = line; last = last; properties = map tracked_property ps } ∷ text.stanzas; fault = text.fault; lines = text.lines }
+    record { stanzas = record { line = line; last = last; properties = ps } ∷ text.stanzas; fault = text.fault; lines = text.lines }
 with_tracked (next.End fault lines) ps text = record { stanzas = []; fault = fault; lines = lines }

@@ -1,13 +1,12 @@
 -- What one line does to what was read before it. The reader takes these steps; that they lead
 -- to what the text says is proved in proofs/.
-use Rattle.std.specs.Prelude.{ℕ, ◌==◌, true, false, List, [], ◌∷◌, ◌++◌, length, map, if◌then◌else◌, Option, Some, None}
+use Rattle.std.specs.Prelude.{ℕ, ◌==◌, true, false, List, [], ◌∷◌, ◌++◌, length, if◌then◌else◌, Option, Some, None}
 use Rattle.cudf_text.specs.declared.fault.Fault.{Fault}
 use Rattle.cudf_text.specs.declared.fault.Kind.TheVariants.{E2, E3}
 use Rattle.cudf_text.specs.declared.cursor.Taken.{Taken}
 use Rattle.cudf_text.specs.declared.cursor.Taken.TheVariants as taken
-use Rattle.cudf_text.specs.declared.text.Property.{Property}
 use Rattle.cudf_text.specs.Lines.{Class, comment, blank, continuation, named, faulty}
-use Rattle.cudf_text.specs.Working.Tracked.{TrackedValue, TrackedProperty, TrackedStanza, tracked_property}
+use Rattle.cudf_text.specs.Working.Tracked.{TrackedValue, TrackedProperty, TrackedStanza}
 
 -- the stanzas that have ended, the properties of the open one, and its last line
 pub record State : Type 0 where
@@ -16,8 +15,13 @@ pub record State : Type 0 where
   pub last : ℕ
 
 -- no stanza has ended yet
-abbrev pub open_state : List Property → ℕ → State
-open_state ps last = record { stanzas = []; properties = map tracked_property ps; last = last }
+abbrev pub open_state : List TrackedProperty → ℕ → State
+open_state ps last = record { stanzas = []; properties = ps; last = last }
+
+-- the line of the first of these properties
+abbrev pub line_of : List TrackedProperty → Option ℕ
+line_of [] = None
+line_of (p ∷ ps) = Some p.line
 
 -- the stanzas, and after them the one of these properties, if there are any
 abbrev pub with_stanza : List TrackedStanza → ℕ → List TrackedProperty → List TrackedStanza

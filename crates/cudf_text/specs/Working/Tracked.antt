@@ -1,16 +1,17 @@
 -- What a text says, where each value tells whether it is joined of two texts or more.
-use Rattle.std.specs.Prelude.{ℕ, Bool, List, [], ◌∷◌, map, filter_map, Option, Some, None}
+use Rattle.std.specs.Prelude.{ℕ, Bool, false, List, [], ◌∷◌, ◌++◌, length, map, filter_map, Option, Some, None}
 use Rattle.std.specs.List.{slice_split, flat_map}
 use Rattle.std.specs.Cow.{cow_str_bytes}
 use Rattle.std.specs.declared.alloc.Global.{Global}
 use Rattle.std.specs.declared.borrow.CowStr.{CowStr}
 use Rattle.cudf_text.specs.declared.fault.Fault.{Fault}
 use Rattle.cudf_text.specs.declared.text.Property.{Property}
+use Rattle.cudf_text.specs.declared.text.PropertyRef.{PropertyRef}
 use Rattle.cudf_text.specs.Promises.Borrows.{is_joined}
-use Rattle.cudf_text.specs.Promises.Cursor.{Left}
 use Rattle.cudf_text.specs.Promises.Joins.{is_owned}
-use Rattle.cudf_text.specs.Lines.{named, NumberedLine}
-use Rattle.cudf_text.specs.Stanzas.{PlainProperty, PlainStanza, continuations, joined as joined_bytes, last_number, is_blank_line}
+use Rattle.cudf_text.specs.Lines.{blank, named, NumberedLine, judged_lines, lines}
+use Rattle.cudf_text.specs.Working.Reading.{fault_after, read_after}
+use Rattle.cudf_text.specs.Stanzas.{PlainProperty, PlainStanza, PlainText, continuations, joined as joined_bytes, last_number, is_blank_line}
 
 pub record TrackedValue : Type 0 where
   pub bytes : List ℕ
@@ -62,11 +63,19 @@ plain_stanza s = record { line = s.line; last = s.last; properties = map plain_p
 abbrev pub owned_of : List TrackedProperty → List Bool
 owned_of ps = map (λ p. p.value.owned) ps
 
-abbrev pub plain_left : List ℕ → TrackedText → Left
-plain_left source t = record {
-  source = source;
-  text = record { stanzas = map plain_stanza t.stanzas; fault = t.fault; lines = t.lines };
-  joins = flat_map (λ s. owned_of s.properties) t.stanzas;
+abbrev pub plain_of : TrackedText → PlainText
+plain_of t = record { stanzas = map plain_stanza t.stanzas; fault = t.fault; lines = t.lines }
+
+-- for each property, whether its value is joined
+abbrev pub joins_of : TrackedText → List Bool
+joins_of t = flat_map (λ s. owned_of s.properties) t.stanzas
+
+-- a whole text
+abbrev pub whole : List ℕ → TrackedText
+whole text = record {
+  stanzas = stanzas_of (read_after blank (judged_lines text));
+  fault = fault_after blank (judged_lines text);
+  lines = length (lines text);
 }
 
 -- ---- values and properties of the code
@@ -76,3 +85,10 @@ tracked_value v = record { bytes = cow_str_bytes v; owned = is_owned v }
 
 abbrev pub tracked_property : Property → TrackedProperty
 tracked_property p = record { line = p.line; name = p.name.now; value = tracked_value p.value }
+
+abbrev pub tracked_part : PropertyRef → TrackedProperty
+tracked_part p = record { line = p.line; name = p.name.now; value = record { bytes = p.value.now; owned = false } }
+
+-- those whose values are parts of the source, and then the others
+abbrev pub tracked_properties : List PropertyRef → List Property → List TrackedProperty
+tracked_properties parts others = map tracked_part parts ++ map tracked_property others

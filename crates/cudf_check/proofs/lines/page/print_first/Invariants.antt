@@ -1,17 +1,16 @@
--- The lines so far are printed, those that are left of the page make its text whole, and so many instances were taken, for
--- no more than the calls for them may cost.
-use Rattle.std.proofs.Common.{◌≡◌, ◌≤◌, ◌-◌, length, take, drop, option_map}
+-- The lines so far are printed, and so many instances were taken, for no more than the calls for them may cost.
+use Rattle.std.proofs.Common.{◌≡◌, ◌≤◌, length, take, drop, option_map}
 use Rattle.std.specs.List.{flat_map}
 use Rattle.cudf_referee.specs.KeyViews.{key_view}
 use Rattle.cudf_referee.specs.Promises.Walks.{left}
 use Rattle.cudf_check.specs.Report.{instance_line, last_key}
 use Rattle.cudf_check.specs.Working.Pages.{HasSpent}
-use Rattle.cudf_check.proofs.PrintLemmas.{PrintsSoFar}
+use Rattle.cudf_check.specs.Working.Paper.{Says}
 use Rattle.cudf_check.proofs.lines.page.print_first.Given as goal
 
 abbrev pub invariant-loop-turn : goal.invariant-loop-turn
-invariant-loop-turn g l = let sink = g.W.Sink in let line = flat_map (instance_line l.referee) in record {
-  printed : PrintsSoFar (sink.state l.fn.out) (sink.state l.out) l.fn.buffer l.buffer (line (take l.limit (left l.fn.instances))) (line (take (l.limit - l.turn) (left l.instances)));
+invariant-loop-turn g l = record {
+  printed : Says g.W.Sink.state l.fn.paper l.paper (flat_map (instance_line l.referee) (take l.turn (left l.fn.instances)));
   left_is : left l.instances ≡ drop l.turn (left l.fn.instances);
   taken : l.turn ≤ length (left l.fn.instances);
   spent : HasSpent (take l.turn (left l.fn.instances)) l.fn.instances l.instances;

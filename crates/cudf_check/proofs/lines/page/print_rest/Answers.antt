@@ -1,35 +1,45 @@
-use Rattle.std.proofs.Common.{◌≡◌, Option, None, option_map, ap, subst}
+use Rattle.std.proofs.Common.{◌≡◌, ◌+◌, Option, None, option_map, length, take, sym, ap, ◌∙◌, subst, arith}
 use Rattle.std.specs.List.{flat_map}
+use Rattle.std.proofs.lemmas.List.{take_all}
 use Rattle.cudf_referee.specs.declared.instance.Instance.{Instance}
 use Rattle.cudf_referee.specs.Promises.Views.{instance_view}
 use Rattle.cudf_referee.specs.Promises.Walks.{Walking, left, Moves}
 use Rattle.cudf_check.specs.Report.{instance_line}
-use Rattle.cudf_check.proofs.PrintLemmas.{SoFar-start, SoFar-more, SoFar-stop, SoFar-answer}
+use Rattle.cudf_check.proofs.PageLemmas.{step, take-further}
+use Rattle.cudf_check.proofs.PaperLemmas.{Says-none, Says-as, ◌▸◌, Says-front, texts-step}
 use Rattle.cudf_check.proofs.WalkLemmas.{taken-start, taken-more, price-taken, price-all}
 use Rattle.cudf_check.proofs.lines.page.print_rest.Goals as goal
 
 pub loop-instance-init : goal.loop-instance-init
-loop-instance-init g c = record {
-  printed = SoFar-start (g.W.Sink.state c.args.out.now) c.args.buffer.now (flat_map (instance_line c.args.referee.now) (left c.args.instances.now));
-  taken = taken-start c.args.instances.now;
-}
+unfolding taken-start
+loop-instance-init g c = record { taken = taken-start c.args.instances.now; printed = Says-none _ _ }
 
 pub loop-instance-preserved : goal.loop-instance-preserved
+unfolding taken-more
 loop-instance-preserved g c =
-    let lines = flat_map (instance_line c.args.referee.now) in
+    let taken = c.loop-instance.invariant.taken in
+    let is = left c.args.instances.now in
+    let i = instance_view c.in-Some.instance in
+    let one = step is taken.number i (left c.next.new.self) (sym taken.left_is ∙ c.in-Some.ensures.steps.gives) in
     record {
-      printed = SoFar-more _ _ _ _ _ _ _ _ _ (lines (left c.next.new.self)) (ap lines c.in-Some.ensures.steps.gives) c.loop-instance.invariant.printed c.in_ok-print_line.ensures;
-      taken = taken-more (instance_view c.in-Some.instance) _ _ _ c.loop-instance.invariant.taken c.in-Some.ensures.steps;
+      taken = taken-more i _ _ _ taken c.in-Some.ensures.steps;
+      printed = Says-as _ _ _ _ _ (texts-step (instance_line c.args.referee.now) (take taken.number is) (take (taken.number + 1) is) i one.taken)
+          (c.loop-instance.invariant.printed ▸ c.print_line.ensures);
     }
 
-pub returns-in_err-print_line-clause-printed : goal.returns-in_err-print_line-clause-printed
-returns-in_err-print_line-clause-printed g c =
-    let lines = flat_map (instance_line c.args.referee.now) in
-    SoFar-stop _ _ _ _ _ _ _ _ _ (lines (left c.next.new.self)) _ _ (ap lines c.in-Some.ensures.steps.gives)
-    c.loop-instance.invariant.printed c.from_residual.ensures c.in_err-print_line.ensures
+pub returns-then-has_failed-clause-printed : goal.returns-then-has_failed-clause-printed
+returns-then-has_failed-clause-printed g c =
+    let taken = c.loop-instance.invariant.taken in
+    let is = left c.args.instances.now in
+    let i = instance_view c.in-Some.instance in
+    let one = step is taken.number i (left c.next.new.self) (sym taken.left_is ∙ c.in-Some.ensures.steps.gives) in
+    let line = instance_line c.args.referee.now in
+    Says-as _ _ _ _ _ (ap (flat_map line) (take_all (length is) is (omega arith)))
+    (Says-front _ _ _ line is (taken.number + 1) (length is) one.below (sym c.has_failed.ensures ∙ c.if-has_failed.true)
+    (Says-as _ _ _ _ _ (texts-step line (take taken.number is) (take (taken.number + 1) is) i one.taken) (c.loop-instance.invariant.printed ▸ c.print_line.ensures)))
 
-pub returns-in_err-print_line-clause-price : goal.returns-in_err-print_line-clause-price
-returns-in_err-print_line-clause-price g c =
+pub returns-then-has_failed-clause-price : goal.returns-then-has_failed-clause-price
+returns-then-has_failed-clause-price g c =
     price-taken c.args.instances.now c.next.new.self (taken-more (instance_view c.in-Some.instance) _ _ _ c.loop-instance.invariant.taken c.in-Some.ensures.steps)
 
 -- nothing was found
@@ -38,9 +48,11 @@ at_end old new found is moves = subst (λ (o : Option Instance). Moves old (opti
 
 pub returns-clause-printed : goal.returns-clause-printed
 returns-clause-printed g c =
-    let lines = flat_map (instance_line c.args.referee.now) in
+    let taken = c.loop-instance.invariant.taken in
+    let is = left c.args.instances.now in
     let moves = at_end c.loop-instance.instances c.next.new.self c.next.result c.in_default.is c.next.ensures.steps in
-    SoFar-answer _ _ _ _ _ _ _ (ap lines moves.gives.0) c.loop-instance.invariant.printed
+    let whole = take-further taken.number (length is) is taken.within (sym taken.left_is ∙ moves.gives.0) in
+    Says-as _ _ _ _ _ (ap (flat_map (instance_line c.args.referee.now)) (whole ∙ take_all (length is) is (omega arith))) c.loop-instance.invariant.printed
 
 pub returns-clause-price : goal.returns-clause-price
 returns-clause-price g c =

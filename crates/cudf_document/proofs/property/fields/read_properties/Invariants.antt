@@ -1,6 +1,5 @@
-use Rattle.std.proofs.Common.{◌≡◌, true, Some, map, take}
+use Rattle.std.proofs.Common.{Some, map, take}
 use Rattle.cudf_text.specs.Promises.Views.{property_view}
-use Rattle.cudf_document.specs.Working.Borrows.{are_borrowed}
 use Rattle.cudf_document.specs.Working.PackageFields.{package_fields_of}
 use Rattle.cudf_document.specs.declared.stanza.postmark.Postmark.TheVariants.{Package}
 use Rattle.cudf_document.proofs.PropertyLemmas.{IsJudgedTo}
@@ -9,4 +8,4 @@ use Rattle.cudf_document.proofs.property.fields.read_properties.Given as goal
 abbrev pub invariant-loop-property : goal.invariant-loop-property
 invariant-loop-property g l =
     IsJudgedTo l.declarations (Some Package) (map property_view (take l.property-index l.stanza.properties.items)) l.names l.first
-    × (are_borrowed l.stanza.properties.items ≡ true → g.S.Fields.IsRead (package_fields_of l.declarations (map property_view (take l.property-index l.stanza.properties.items))) l.fields)
+    × g.S.Fields.IsRead (package_fields_of l.declarations (map property_view (take l.property-index l.stanza.properties.items))) l.fields

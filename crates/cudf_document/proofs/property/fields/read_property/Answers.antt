@@ -15,7 +15,7 @@ returns-then-not-branch-clause-fault g c = λ before later are identity.
     c.fault_on.ensures ∙ package_fault c.args.declarations.now before p true again
 
 pub returns-then-not-branch-clause-read : goal.returns-then-not-branch-clause-read
-returns-then-not-branch-clause-read g c = λ before are borrowed read.
+returns-then-not-branch-clause-read g c = λ before are read.
     let p = property_view c.args.property.now in
     let again : list_any (same_name p) before ≡ true = sym (are p.name) ∙ not_swap _ _ c.in_ok-insert.ensures.is_new ∙ ap not c.if-not-branch.true in
     subst (λ values. g.S.Fields.IsRead values c.args.fields.now) (sym (package_fields_of-repeated c.args.declarations.now before p again)) read
@@ -29,8 +29,8 @@ returns-clause-fault g c = λ before later are identity.
     ∙ package_fault c.args.declarations.now before p false new
 
 pub returns-clause-read : goal.returns-clause-read
-returns-clause-read g c = λ before are borrowed read.
+returns-clause-read g c = λ before are read.
     let p = property_view c.args.property.now in
     let new : list_any (same_name p) before ≡ false = sym (are p.name) ∙ not_swap _ _ c.in_ok-insert.ensures.is_new ∙ ap not c.if-not-branch.false in
     subst (λ values. g.S.Fields.IsRead values c.read_first.new.fields) (package_fields_of-first c.args.declarations.now before p new)
-    (c.in_ok-kind.ensures.read (package_fields_of c.args.declarations.now before) borrowed read)
+    (c.in_ok-kind.ensures.read (package_fields_of c.args.declarations.now before) read)

@@ -1,6 +1,5 @@
-use Rattle.std.proofs.Common.{◌≡◌, true, [], Some, map, take}
+use Rattle.std.proofs.Common.{◌≡◌, [], Some, map, take}
 use Rattle.cudf_text.specs.Promises.Views.{property_view}
-use Rattle.cudf_document.specs.Working.Borrows.{are_borrowed}
 use Rattle.cudf_document.specs.Working.RequestFields.{request_fields_view, request_fields_of}
 use Rattle.cudf_document.specs.declared.stanza.postmark.Postmark.TheVariants.{Request}
 use Rattle.cudf_document.proofs.PropertyLemmas.{IsJudgedTo}
@@ -9,4 +8,4 @@ use Rattle.cudf_document.proofs.request.fields.read_request.Given as goal
 abbrev pub invariant-loop-property : goal.invariant-loop-property
 invariant-loop-property l =
     IsJudgedTo [] (Some Request) (map property_view (take l.property-index l.stanza.properties.items)) l.names l.first
-    × (are_borrowed l.stanza.properties.items ≡ true → request_fields_view l.fields ≡ request_fields_of (map property_view (take l.property-index l.stanza.properties.items)))
+    × (request_fields_view l.fields ≡ request_fields_of (map property_view (take l.property-index l.stanza.properties.items)))

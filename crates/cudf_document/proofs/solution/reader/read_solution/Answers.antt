@@ -1,7 +1,7 @@
-use Rattle.std.proofs.Common.{map, take, refl, sym, subst, arith}
+use Rattle.std.proofs.Common.{map, take, refl, sym, ap, ◌∙◌, ◌++◌, ◌∷◌, [], subst, arith}
 use Rattle.std.proofs.lemmas.List.{take_all}
 use Rattle.std.proofs.lemmas.Result.{IfOk-weaker}
-use Rattle.cudf_text.specs.Promises.Views.{stanza_view, text_view}
+use Rattle.cudf_text.specs.Promises.Views.{own_stanza_view, text_view}
 use Rattle.cudf_document.specs.Working.SolutionReaders.{IsSolutionRead}
 use Rattle.cudf_document.proofs.ListLemmas.{map_next}
 use Rattle.cudf_document.proofs.solution.reader.read_solution.Goals as goal
@@ -10,16 +10,18 @@ pub loop-stanza-preserved : goal.loop-stanza-preserved
 loop-stanza-preserved c =
     let items = c.args.text.now.stanzas.items in
     let i = c.loop-stanza.stanza-index in
+    let before = map own_stanza_view (take i items) in
     subst (λ l. IsSolutionRead c.args.problem.now c.args.mode l c.take.new.self)
-    (sym (map_next stanza_view items c.deref-stanza-items.result.now i c.stanza-item.result (omega arith) c.stanza-item.is c.deref-stanza-items.ensures.value))
-    (c.in_ok-take.ensures c.args.mode (map stanza_view (take i items)) c.loop-stanza.invariant)
+    (ap (λ s. before ++ s ∷ []) c.in_ok-lend.ensures
+    ∙ sym (map_next own_stanza_view items c.deref-stanza-items.result.now i c.stanza-item.result (omega arith) c.stanza-item.is c.deref-stanza-items.ensures.value))
+    (c.in_ok-take.ensures c.args.mode before c.loop-stanza.invariant)
 
-all_read : (c : goal.After-finish) → IsSolutionRead c.args.problem.now c.args.mode (text_view c.args.text.now).stanzas c.loop-stanza.reader
+all_read : (c : goal.After-drop-lent-2) → IsSolutionRead c.args.problem.now c.args.mode (text_view c.args.text.now).stanzas c.loop-stanza.reader
 all_read c =
     let items = c.args.text.now.stanzas.items in
     let i = c.loop-stanza.stanza-index in
     let len = c.deref-stanza-items.ensures.len in
-    subst (λ l. IsSolutionRead c.args.problem.now c.args.mode (map stanza_view l) c.loop-stanza.reader) (take_all i items (omega arith)) c.loop-stanza.invariant
+    subst (λ l. IsSolutionRead c.args.problem.now c.args.mode (map own_stanza_view l) c.loop-stanza.reader) (take_all i items (omega arith)) c.loop-stanza.invariant
 
 pub returns : goal.returns
 returns c =

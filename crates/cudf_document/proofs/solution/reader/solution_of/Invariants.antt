@@ -3,7 +3,7 @@ use Rattle.cudf_document.specs.Working.SolutionReaders.{SolutionGoesOn}
 use Rattle.cudf_document.proofs.solution.reader.solution_of.Given as goal
 
 abbrev pub invariant-stanzas : goal.invariant-stanzas
-invariant-stanzas l = SolutionGoesOn l.problem l.fn.mode l.reader l.stanzas.text l.fn.stanzas.text
+invariant-stanzas l = SolutionGoesOn l.problem l.fn.mode l.reader l.stanzas l.fn.stanzas
 
 abbrev pub decreases-stanzas : goal.decreases-stanzas
-decreases-stanzas l = length l.stanzas.text.stanzas
+decreases-stanzas l = length l.stanzas.stanzas

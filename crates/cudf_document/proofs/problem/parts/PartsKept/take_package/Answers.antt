@@ -1,17 +1,15 @@
 use Rattle.std.proofs.Common.{◌++◌, map, option_map, option_to_list, refl, ap, ◌∙◌}
 use Rattle.cudf_text.specs.Promises.Views.{stanza_view}
 use Rattle.cudf_document.specs.declared.problem.parts.Parts.{Parts}
-use Rattle.cudf_document.specs.declared.stanza.postmark.Postmark.TheVariants.{Package}
-use Rattle.std.specs.Prelude.{Some}
 use Rattle.cudf_document.specs.Promises.Views.{package_view}
 use Rattle.cudf_document.specs.Working.Identities.{known_id}
 use Rattle.cudf_document.specs.Working.PackageFields.{package_from}
 use Rattle.cudf_document.proofs.IdentityLemmas.{known_id-is}
-use Rattle.cudf_document.proofs.PartsLemmas.{package_kept, kept_values}
+use Rattle.cudf_document.proofs.PartsLemmas.{package_kept}
 use Rattle.cudf_document.proofs.problem.parts.PartsKept.take_package.Goals as goal
 
 pub returns-clause-kept : goal.returns-clause-kept
-returns-clause-kept c = λ is_kept lost before marked ds so_far.
+returns-clause-kept c = λ is_kept before marked ds so_far.
     let s = stanza_view c.args.stanza.now in
     let old = c.args.self.now in
     let new : Parts = record old { packages = c.push_some.new.packages } in
@@ -20,5 +18,5 @@ returns-clause-kept c = λ is_kept lost before marked ds so_far.
     ∙ ap (λ o. map package_view old.packages.items ++ option_to_list o)
     (c.into_package.ensures
     ∙ ap (λ fields. option_map (package_from s.line fields) (known_id c.args.identity))
-    (c.in_ok-fault.ensures.values (kept_values c.args.stanza.now (Some Package) lost marked refl))))
+    c.in_ok-fault.ensures.values))
     refl refl

@@ -1,20 +1,19 @@
-use Rattle.std.proofs.Common.{◌||◌, sym, ◌∙◌}
-use Rattle.std.specs.Option.{option_or}
+use Rattle.std.proofs.Common.{sym, ◌∙◌}
 use Rattle.cudf_text.specs.Promises.Views.{stanza_view}
-use Rattle.cudf_document.specs.Faults.{lesser}
-use Rattle.cudf_document.specs.Working.Walks.{texts}
-use Rattle.cudf_document.proofs.WalkLemmas.{IsKnown-next, none_before}
+use Rattle.cudf_document.proofs.WalkLemmas.{IsSoFar-first, IsSoFar-next}
 use Rattle.cudf_document.proofs.problem.walk.Walk.take.Goals as goal
 
-pub returns-clause-known : goal.returns-clause-known
-returns-clause-known g c = λ mode before first ds required so_far.
-    IsKnown-next mode (texts c.args.required.now) c.args.self.now _ before (stanza_view c.args.stanza.now) c.postmark_of-mark.result c.args.is_first c.place_fault-place.result c.in_ok-inside.inside
-    first ds required so_far c.postmark_of-mark.ensures c.place_fault-place.ensures c.in_ok-inside.ensures.fault
-    (c.keep_lesser.ensures ∙ (λ i. lesser (c.in_ok-inside.ensures.first i) (c.or.ensures i)))
-    c.in_ok-inside.ensures.ids
-    (c.either-self.ensures ∙ (λ i. c.is_request.ensures i || c.in_ok-inside.ensures.requested i))
+pub returns-then-is_first : goal.returns-then-is_first
+returns-then-is_first g c = λ is_kept mode before first required so_far.
+    IsSoFar-first c.take_first.result mode (λ ss. g.K.Kept.IsKept is_kept ss c.args.kept.now) (λ ss. g.K.Kept.IsKept is_kept ss c.take_first.new.kept)
+    c.args.self.now c.take_first.new.self before (stanza_view c.args.stanza.now)
+    (sym c.if-is_first.true ∙ first) so_far
+    (c.take_first.ensures.known mode) c.take_first.ensures.declared c.take_first.ensures.first (c.take_first.ensures.kept is_kept)
 
-pub returns-clause-first : goal.returns-clause-first
-returns-clause-first g c = λ none.
-    none_before c.args.self.now.first (option_or c.place_fault-place.result c.in_ok-inside.inside)
-    (sym (c.keep_lesser.ensures ∙ (λ i. lesser (c.in_ok-inside.ensures.first i) (c.or.ensures i))) ∙ none)
+pub returns : goal.returns
+returns g c = λ is_kept mode before first required so_far.
+    IsSoFar-next c.take_other.result mode (λ ss. g.K.Kept.IsKept is_kept ss c.args.kept.now) (λ ss. g.K.Kept.IsKept is_kept ss c.take_other.new.kept)
+    c.args.self.now c.take_other.new.self before (stanza_view c.args.stanza.now)
+    (sym c.if-is_first.false ∙ first) so_far
+    (c.take_other.ensures.known mode before (sym c.if-is_first.false ∙ first) so_far.declared_are required so_far.known)
+    c.take_other.ensures.declarations c.take_other.ensures.first (c.take_other.ensures.kept is_kept before so_far.declared_are)

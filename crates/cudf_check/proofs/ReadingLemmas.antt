@@ -1,0 +1,86 @@
+-- The first fault of a document, by its bytes and by its text, and the report where none is left.
+use Rattle.std.proofs.Common.{◌≡◌, ℕ, Bool, true, false, List, Option, Some, None, Result, Ok, Err, IfOk, IfErr, if◌then◌else◌, refl, sym, ap, ◌∙◌, codes}
+use Rattle.std.specs.Str.{IsUtf8, is_utf8}
+use Rattle.std.proofs.lemmas.Str.{IsUtf8-from_is_utf8, is_utf8-from_IsUtf8}
+use Rattle.cudf_text.specs.declared.fault.Fault.{Fault}
+use Rattle.cudf_text.specs.Joined.{is_fail}
+use Rattle.cudf_text.specs.LineFaults.{utf8_fault}
+use Rattle.cudf_text.specs.Stanzas.{PlainText, plain_text}
+use Rattle.cudf_document.specs.declared.error.ReadError.{ReadError}
+use Rattle.cudf_document.specs.declared.error.ReadError.TheVariants as read_error
+use Rattle.cudf_document.specs.declared.mode.Mode.{Mode}
+use Rattle.cudf_document.specs.Faults.{least}
+use Rattle.cudf_document.specs.ProblemFaults.{problem_faults}
+use Rattle.cudf_document.specs.SolutionFaults.{solution_faults}
+use Rattle.cudf_document.specs.Promises.Faults.{IsFirstFault}
+use Rattle.cudf_document.specs.Universe.{PlainProblem, plain_problem}
+use Rattle.cudf_referee.specs.Proposals.{Proposal}
+use Rattle.cudf_check.specs.declared.lines.judged.Findings.{Findings}
+use Rattle.cudf_check.specs.declared.outcome.Outcome.TheVariants.{Fail}
+use Rattle.cudf_check.specs.Report.{alone, faulty_or, problem_fault, solution_fault, proposal_of, judged_report, pair_report}
+use Rattle.cudf_check.specs.Working.Chosen.{ReportsAlike}
+use Rattle.cudf_check.specs.Working.Findings.{found_text}
+use Rattle.cudf_check.specs.Working.Refusals.{IsFaultOf}
+
+-- ---- what a result says
+
+pub ok_map : {T E : Type 0} {P Q : T → Type 0} (result : Result T E) → ((x : T) → P x → Q x) → IfOk result P → IfOk result Q
+ok_map (Ok x) f h = f x h
+ok_map (Err e) f h = tt
+
+pub err_map : {T E : Type 0} {P Q : E → Type 0} (result : Result T E) → ((e : E) → P e → Q e) → IfErr result P → IfErr result Q
+err_map (Ok x) f h = tt
+err_map (Err e) f h = f e h
+
+-- ---- first faults
+
+pub not_utf8 : (bytes : List ℕ) → (IsUtf8 bytes → ⊥) → is_utf8 bytes ≡ false
+not_utf8 bytes other = by (is_utf8 bytes) refl
+  where
+    by : (b : Bool) → is_utf8 bytes ≡ b → is_utf8 bytes ≡ false
+    by true is = absurd (other (IsUtf8-from_is_utf8 bytes is))
+    by false is = is
+
+-- the first fault of a text
+pub first_of : (faults : List Fault) (fault : Option Fault) → least faults ≡ fault → (e : ReadError) → IsFirstFault faults e → IsFaultOf fault e
+first_of faults fault same (read_error.Fault f) first = sym same ∙ first
+first_of faults fault same (read_error.Memory e) first = tt
+
+module _ (mode : Mode) (bytes : List ℕ) where
+  problem_by : Bool → Option Fault
+  problem_by b = if b then least (problem_faults (plain_text bytes) mode) else Some (utf8_fault bytes)
+
+  pub problem_read : (text : PlainText) → IsUtf8 bytes → text ≡ plain_text bytes → least (problem_faults text mode) ≡ problem_fault mode bytes
+  unfolding problem_by
+  problem_read text utf8 is = ap (λ t. least (problem_faults t mode)) is ∙ ap problem_by (sym (is_utf8-from_IsUtf8 bytes utf8))
+
+  pub problem_unread : (f : Fault) → (IsUtf8 bytes → ⊥) → f ≡ utf8_fault bytes → problem_fault mode bytes ≡ Some f
+  unfolding problem_by
+  problem_unread f other is = ap problem_by (not_utf8 bytes other) ∙ ap Some (sym is)
+
+  solution_by : Bool → Bool → Option Fault
+  solution_by a b = if a then (if b then None else least (solution_faults (plain_text bytes) mode)) else Some (utf8_fault bytes)
+
+  pub solution_read : (text : PlainText) → IsUtf8 bytes → is_fail bytes ≡ false → text ≡ plain_text bytes → least (solution_faults text mode) ≡ solution_fault mode bytes
+  unfolding solution_by
+  solution_read text utf8 goes_on is = ap (λ t. least (solution_faults t mode)) is ∙ (λ k. solution_by (sym (is_utf8-from_IsUtf8 bytes utf8) k) (sym goes_on k))
+
+  pub solution_fails : IsUtf8 bytes → is_fail bytes ≡ true → solution_fault mode bytes ≡ None
+  unfolding solution_by
+  solution_fails utf8 fails = λ k. solution_by (is_utf8-from_IsUtf8 bytes utf8 k) (fails k)
+
+  pub solution_unread : (f : Fault) → (IsUtf8 bytes → ⊥) → f ≡ utf8_fault bytes → solution_fault mode bytes ≡ Some f
+  unfolding solution_by
+  solution_unread f other is = ap (λ a. solution_by a (is_fail bytes)) (not_utf8 bytes other) ∙ ap Some (sym is)
+
+-- ---- the report
+
+-- neither document has a fault, and the solution doesn't say FAIL
+pub pair_judged : (mode : Mode) (found : Findings) (problem solution : List ℕ) (thin : PlainProblem) (s : Proposal)
+    → problem_fault mode problem ≡ None → solution_fault mode solution ≡ None → is_fail solution ≡ false → is_utf8 solution ≡ true
+    → ReportsAlike solution thin (plain_problem (plain_text problem)) → s ≡ proposal_of thin (plain_text solution)
+    → judged_report (found_text found) s ≡ pair_report mode (found_text found) problem solution
+pair_judged mode found problem solution thin s none sound goes_on utf8 alike is =
+    ap (judged_report (found_text found)) is ∙ alike utf8 found
+    ∙ (λ k. faulty_or (codes "problem") (sym none k) (faulty_or (codes "solution") (sym sound k)
+    (if sym goes_on k then alone (codes "solution FAIL") Fail else judged_report (found_text found) (proposal_of (plain_problem (plain_text problem)) (plain_text solution)))))

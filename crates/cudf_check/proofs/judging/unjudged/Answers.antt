@@ -1,0 +1,18 @@
+use Rattle.std.proofs.Common.{if◌then◌else◌, ap, sym, subst}
+use Rattle.cudf_text.specs.Stanzas.{plain_text}
+use Rattle.cudf_check.specs.RankReport.{judgement_of}
+use Rattle.cudf_check.specs.Report.{proposal_of}
+use Rattle.cudf_check.specs.declared.ranking.Judgement.TheVariants.{SaysFail}
+use Rattle.cudf_check.specs.Working.Refusals.{IsRefused}
+use Rattle.cudf_check.proofs.judging.unjudged.Goals as goal
+
+pub returns-in-SaysFail-clause-judged : goal.returns-in-SaysFail-clause-judged
+returns-in-SaysFail-clause-judged c = λ mode problem bytes is.
+    let refused = subst (IsRefused mode bytes) c.in-SaysFail.is is in
+    record {
+      found = ap (λ b. if b then SaysFail else judgement_of (proposal_of problem (plain_text bytes))) (sym refused.1);
+      sound = refused.0;
+    }
+
+pub returns-in-Unread-clause-fault : goal.returns-in-Unread-clause-fault
+returns-in-Unread-clause-fault c = λ mode bytes is. subst (IsRefused mode bytes) c.in-Unread.is is

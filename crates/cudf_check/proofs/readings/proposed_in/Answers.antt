@@ -1,0 +1,37 @@
+use Rattle.std.proofs.Common.{◌≡◌, true, false, sym, ap, ◌∙◌}
+use Rattle.std.proofs.lemmas.Str.{is_utf8-from_IsUtf8}
+use Rattle.cudf_text.specs.Joined.{is_fail}
+use Rattle.cudf_text.specs.Stanzas.{plain_text}
+use Rattle.cudf_document.specs.Faults.{least}
+use Rattle.cudf_document.specs.SolutionFaults.{solution_faults}
+use Rattle.cudf_check.specs.Report.{solution_fault}
+use Rattle.cudf_check.proofs.ReadingLemmas.{first_of, solution_read, solution_fails, solution_unread}
+use Rattle.cudf_check.proofs.readings.proposed_in.Goals as goal
+
+pub returns-then-is_fail-clause-refused : goal.returns-then-is_fail-clause-refused
+returns-then-is_fail-clause-refused c =
+    let bytes = c.args.bytes.now in
+    let fails : is_fail bytes ≡ true = ap is_fail (sym c.in-Ok.ensures.utf8.1) ∙ sym c.is_fail.ensures ∙ c.if-is_fail.true in
+    (solution_fails c.args.mode bytes c.in-Ok.ensures.utf8.0 fails, fails)
+
+pub returns-in-Ok-solution_of-clause-sound : goal.returns-in-Ok-solution_of-clause-sound
+returns-in-Ok-solution_of-clause-sound c =
+    let bytes = c.args.bytes.now in
+    let goes_on : is_fail bytes ≡ false = ap is_fail (sym c.in-Ok.ensures.utf8.1) ∙ sym c.is_fail.ensures ∙ c.if-is_fail.false in
+    sym (solution_read c.args.mode bytes c.new.result c.in-Ok.ensures.utf8.0 goes_on (c.new.ensures ∙ ap plain_text c.in-Ok.ensures.utf8.1))
+    ∙ ap least c.in-Ok-solution_of.ensures.sound
+
+pub returns-in-Ok-solution_of-clause-utf8 : goal.returns-in-Ok-solution_of-clause-utf8
+returns-in-Ok-solution_of-clause-utf8 c = is_utf8-from_IsUtf8 c.args.bytes.now c.in-Ok.ensures.utf8.0
+
+pub returns-in-Err-solution_of-clause-refused : goal.returns-in-Err-solution_of-clause-refused
+returns-in-Err-solution_of-clause-refused c =
+    let bytes = c.args.bytes.now in
+    let text = c.new.result in
+    let goes_on : is_fail bytes ≡ false = ap is_fail (sym c.in-Ok.ensures.utf8.1) ∙ sym c.is_fail.ensures ∙ c.if-is_fail.false in
+    first_of (solution_faults text c.args.mode) (solution_fault c.args.mode bytes)
+    (solution_read c.args.mode bytes text c.in-Ok.ensures.utf8.0 goes_on (c.new.ensures ∙ ap plain_text c.in-Ok.ensures.utf8.1))
+    c.in-Err-solution_of.error c.in-Err-solution_of.ensures.fault
+
+pub returns-in-Err-clause-refused : goal.returns-in-Err-clause-refused
+returns-in-Err-clause-refused c = solution_unread c.args.mode c.args.bytes.now c.in-Err.fault c.in-Err.ensures.fault.0 c.in-Err.ensures.fault.1

@@ -1,0 +1,31 @@
+-- What was printed on a paper, and how much of it was written.
+use Rattle.std.specs.Prelude.{◌≡◌, ◌<◌, ℕ, Bool, true, false, List, ◌++◌}
+use Rattle.std.specs.Io.KnownBytes.{Appends}
+use Rattle.cudf_check.specs.Device.{SinkState}
+use Rattle.cudf_check.specs.Prefix.{AppendsPrefix}
+use Rattle.cudf_check.specs.declared.paper.Paper.{Paper}
+
+-- the sink has taken all of the text but what waits
+pub record IsTaken (old new : SinkState) (waits text : List ℕ) : Type 0 where
+  pub taken : List ℕ
+  pub whole : taken ++ waits ≡ text
+  pub appended : Appends old.contents new.contents taken
+  pub calm : old.failures ≡ new.failures
+
+-- a write failed, and the sink has taken a prefix of the text
+pub record IsTorn (old new : SinkState) (text : List ℕ) : Type 0 where
+  pub prefix : AppendsPrefix old.contents new.contents text
+  pub failed : old.failures < new.failures
+
+-- this text was printed since the sink was in the old state
+abbrev pub IsSaid : Bool → SinkState → SinkState → List ℕ → List ℕ → Type 0
+IsSaid false old new waits text = IsTaken old new waits text
+IsSaid true old new waits text = IsTorn old new text
+
+abbrev pub Holds : {W : Type 0} → (W → SinkState) → SinkState → Paper W → List ℕ → Type 0
+Holds state old paper text = IsSaid paper.has_failed old (state paper.out.now) paper.waiting.now text
+
+-- a text was printed behind whatever was printed before, for the same sink
+pub record Says {W : Type 0} (state : W → SinkState) (old new : Paper W) (text : List ℕ) : Type 0 where
+  pub same : new.out.ghost_name ≡ old.out.ghost_name
+  pub said : (start : SinkState) → (before : List ℕ) → Holds state start old before → Holds state start new (before ++ text)

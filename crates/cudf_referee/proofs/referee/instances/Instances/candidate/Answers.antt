@@ -1,0 +1,42 @@
+use Rattle.std.proofs.Common.{◌≡◌, ◌≤◌, ◌+◌, false, length, Some, ap, sym, ◌∙◌, arith}
+use Rattle.std.specs.Prelude.{slice_get}
+use Rattle.std.specs.FinSet as set
+use Rattle.std.proofs.lemmas.List.{length-map}
+use Rattle.std.proofs.lemmas.Option.{slice_get_within}
+use Rattle.cudf_value.specs.Promises.Views.{vpkg_view}
+use Rattle.cudf_document.specs.Promises.Views.{package_view}
+use Rattle.cudf_document.specs.Statuses.{is_initial}
+use Rattle.cudf_universe.specs.Promises.Prices.{own_cost}
+use Rattle.cudf_referee.specs.Promises.Walks.{Walking}
+use Rattle.cudf_referee.specs.Proposals.{holds_place}
+use Rattle.cudf_referee.specs.Working.Named.{has_kept_name}
+use Rattle.cudf_referee.proofs.GroundLemmas.{held-at, initial-at, own-at, flag-at, fits-same}
+use Rattle.cudf_referee.proofs.referee.instances.Instances.candidate.Goals as goal
+
+pub bounds-self-inside-index : goal.bounds-self-inside-index
+bounds-self-inside-index c =
+    omega (
+      arith,
+      slice_get_within _ c.args.index _ c.requires,
+      ap (λ (w : Walking). length w.judged.problem.packages) c.self.view_is,
+      ap length c.self.invariant.0.flags,
+      length-map c.self.inside.problem.now.packages (has_kept_name c.self.inside.now.status),
+    )
+
+pub returns-clause-fits : goal.returns-clause-fits
+returns-clause-fits c =
+    let i = c.self.inside in
+    let agrees = c.self.invariant.0 in
+    let problem = i.problem.now in
+    let p = package_view c.args.package.now in
+    let is = set.contains i.solution.now.status in
+    let here : slice_get problem.packages c.args.index ≡ Some p = ap (λ (w : Walking). slice_get w.judged.problem.packages c.args.index) c.self.view_is ∙ c.requires in
+    let below = slice_get_within problem.packages c.args.index p here in
+    let own : own_cost i.now.status (c.args.index + 1) ≤ length c.args.package.now.provides.items + 1 =
+    omega (arith, own-at is problem.packages c.args.index p here, ap (λ ps. own_cost ps (c.args.index + 1)) agrees.is, length-map c.args.package.now.provides.items vpkg_view) in
+    fits-same _ _ _ c.self.view_is (record {
+      was = ap (λ ps. holds_place ps (c.args.index + 1)) agrees.was ∙ held-at (is_initial problem) problem.packages c.args.index below ∙ initial-at problem c.args.index p here;
+      is = ap (λ ps. holds_place ps (c.args.index + 1)) agrees.is ∙ held-at is problem.packages c.args.index below ∙ sym c.holds.ensures;
+      named = flag-at (has_kept_name i.now.status) i.named.now problem.packages c.args.index p false agrees.flags here;
+      own = own;
+    })
