@@ -1,28 +1,38 @@
 -- Files in a row: the words that name them, the devices over them, and the bytes that these give.
-use Rattle.std.proofs.Common.{◌≡◌, ◌+◌, ◌<◌, ℕ, Bool, zero, suc, true, false, cond, List, [], ◌∷◌, ◌++◌, map, take, get_or, length, count_by, bytes_eq, nat_lt, codes, Option, Some, None, option_map, Result, Ok, Err, refl, sym, ap, ◌∙◌, subst, arith}
+use Rattle.std.proofs.Common.{◌≡◌, ◌+◌, ◌<◌, ℕ, Bool, zero, suc, true, false, cond, List, [], ◌∷◌, ◌++◌, map, take, get_or, Vec, Global, length, slice_get, slice_index_or, count_by, bytes_eq, nat_lt, codes, Option, Some, None, Result, Ok, Err, MatchResult, refl, sym, ap, ◌∙◌, subst, arith}
 use Rattle.std.proofs.lemmas.Grind.{common_steps}
 use Rattle.std.proofs.lemmas.List.{map-id}
 use Rattle.std.specs.List.{fold}
 use Rattle.cudf_document.proofs.NameLemmas.{same_bytes}
 use Rattle.cudf_check.specs.ManyRuns.{LeavesBehind, OfEach, changes}
-use Rattle.cudf_check.specs.Runs.{Change, change, ReadsAll}
-use Rattle.cudf_check.specs.RankRuns.{RanksRun}
+use Rattle.cudf_check.specs.Prefix.{AppendsPrefix}
+use Rattle.cudf_check.specs.RankReport.{rank_report}
+use Rattle.cudf_check.specs.Report.{Report, report}
+use Rattle.cudf_check.specs.Runs.{Change, change, ReadsAll, ReadsIfThere, ReadsInputs, Runs, reader_for}
+use Rattle.cudf_check.specs.RankRuns.{RanksRun, ReadsAllOf}
+use Rattle.cudf_check.specs.declared.job.Job.{Job}
+use Rattle.cudf_check.specs.declared.job.Job.TheVariants.{Lint, Check, Score}
+use Rattle.std.specs.Io.KnownBytes.{Appends}
+use Rattle.std.proofs.lemmas.Result.{IfOk-weaker}
 use Rattle.cudf_check.specs.Device.{SinkState, SourceState}
-use Rattle.cudf_check.specs.DeviceInside.{device_inner, source_state}
+use Rattle.cudf_check.specs.DeviceInside.{device_inner}
 use Rattle.cudf_check.specs.declared.device.Device.{Device}
 use Rattle.cudf_check.specs.declared.outcome.Outcome.{Outcome}
 use Rattle.cudf_check.specs.declared.outcome.RunError.{RunError}
 use Rattle.cudf_document.specs.declared.mode.Mode.{Mode}
 use Rattle.cudf_referee.specs.declared.aims.Aim.{Aim}
-use Rattle.cudf_program.specs.Command.{AreNamedBy, AreStandardTwice, IsNamedBy, is_standard}
-use Rattle.cudf_program.specs.Program.{AreOpened, Did, IsKnownAs, IsOpened, IsTask, MayBeOpened, Performed, Ran, Ranked, bytes_left, known_of, left_of}
+use Rattle.cudf_program.specs.Command.{AreGivenBy, AreNamedBy, IsNamedBy, Refuses, are_standard_twice, files_alone, is_standard}
+use Rattle.cudf_program.specs.Program.{AreOpened, Did, DidOrder, IsFailureOf, IsKnownAs, IsOfFile, IsPrepared, IsOpened, IsTask, OfReport, bytes_left, known_of, left_of}
 use Rattle.cudf_program.specs.declared.command.FileName.{FileName}
 use Rattle.cudf_program.specs.declared.command.Order.{Order}
-use Rattle.cudf_program.specs.declared.command.Order.TheVariants.{Run as RunOf, Rank as RankOf}
+use Rattle.cudf_program.specs.declared.command.Refusal.TheVariants.{Twice}
+use Rattle.cudf_program.specs.declared.command.Work.TheVariants.{Run as RunOf, Rank as RankOf}
+use Rattle.cudf_program.specs.Orders.{IsAskedFor}
+use Rattle.cudf_program.specs.declared.failure.Failure.{Failure}
+use Rattle.cudf_program.specs.declared.failure.Failure.TheVariants as reason
 use Rattle.cudf_program.specs.declared.file.Input.{Input}
 use Rattle.cudf_program.specs.declared.file.Input.TheVariants as input
 use Rattle.cudf_program.specs.declared.Task.{Task}
-use Rattle.cudf_program.specs.declared.Task.TheVariants as task
 use Rattle.cudf_program.specs.declared.command.FileName.TheVariants.{Path, Standard}
 
 -- ---- one more
@@ -74,12 +84,17 @@ named_twice : (words : List (List ℕ)) (files : List FileName) → AreNamedBy w
     → nat_lt 1 (count_by (λ word. bytes_eq word (codes "-")) words) ≡ true
 named_twice words files m twice = ap (nat_lt 1) (sym (same_count 0 words files m)) ∙ twice
 
-pub given_twice : (problem : Option (List ℕ)) (solutions : Option (List (List ℕ))) (word : List ℕ) (words : List (List ℕ)) (file : FileName) (files : List FileName)
-    → problem ≡ Some word → solutions ≡ Some words → IsNamedBy word file → AreNamedBy words files → nat_lt 1 (count_by is_standard (file ∷ files)) ≡ true
-    → AreStandardTwice problem solutions
-given_twice problem solutions word words file files problem_is solutions_are named names twice =
-    subst (λ p. AreStandardTwice p solutions) (sym problem_is) (subst (AreStandardTwice (Some word)) (sym solutions_are)
-    (named_twice (word ∷ words) (file ∷ files) (named, names) twice))
+-- the words of the solutions, where there are any, are refused where two of the files are standard input
+pub given_twice : (problem : Option (List ℕ)) (solutions : Option (List (List ℕ))) (word : List ℕ) (file : FileName) (files : List FileName)
+    → problem ≡ Some word → IsNamedBy word file → AreGivenBy solutions files → nat_lt 1 (count_by is_standard (file ∷ files)) ≡ true
+    → Refuses (files_alone problem solutions) Twice
+given_twice problem solutions word file files problem_is named names twice =
+    subst (λ p. Refuses (files_alone p solutions) Twice) (sym problem_is) ((None, tt), (None, tt), (None, tt), refl, go solutions files names twice)
+  where
+    go : (solutions : Option (List (List ℕ))) (files : List FileName) → AreGivenBy solutions files → nat_lt 1 (count_by is_standard (file ∷ files)) ≡ true
+        → are_standard_twice (Some word) solutions ≡ true
+    go None files none twice = named_twice (word ∷ []) (file ∷ []) (named, tt) (subst (λ fs. nat_lt 1 (count_by is_standard (file ∷ fs)) ≡ true) none twice)
+    go (Some words) files names twice = named_twice (word ∷ words) (file ∷ files) (named, names) twice
 
 -- ---- bytes
 
@@ -103,29 +118,94 @@ each_known state left is (old ∷ olds) (new ∷ news) [] same m = absurd m
 each_known state left is (old ∷ olds) (new ∷ news) (t ∷ texts) same m =
     (subst (λ known. IsKnownAs known t) (sym (is old)) (all_known (change state old new) t m.0), each_known state left is olds news texts (omega arith) m.1)
 
+-- ---- runs
+
+-- some bytes of which as much is known
+abbrev filling : Option (List ℕ) → List ℕ
+filling None = []
+filling (Some bytes) = bytes
+
+filled : (known : List (Option (List ℕ))) → OfEach IsKnownAs known (map filling known)
+filled [] = tt
+filled (None ∷ known) = (tt, filled known)
+filled (Some bytes ∷ known) = (refl, filled known)
+
+-- what is known of the solutions, of which a run has read the first
+abbrev pub knowns : Option (Change SourceState) → List (Option (List ℕ)) → List (Option (List ℕ))
+knowns None rest = []
+knowns (Some reader) rest = reader.before.remaining ∷ rest
+
+-- solutions of which this is known, with the same report
+abbrev HasOthers : Job → Mode → List ℕ → Option (List ℕ) → List (Option (List ℕ)) → Type 0
+HasOthers job mode first second known = (others : List (List ℕ)) × OfEach IsKnownAs known others × (report job mode first second ≡ report job mode first (slice_get others 0))
+
+others_of : (job : Job) (mode : Mode) (first : List ℕ) (solution : Option (Change SourceState)) (second : Option (List ℕ)) (rest : List (Option (List ℕ)))
+    → ReadsIfThere (reader_for job solution) second → HasOthers job mode first second (knowns solution rest)
+unfolding report
+others_of Lint mode first solution second rest h = (map filling (knowns solution rest), filled (knowns solution rest), refl)
+others_of (Check after limit) mode first None None rest h = ([], tt, refl)
+others_of (Check after limit) mode first None (Some bytes) rest h = absurd h
+others_of (Check after limit) mode first (Some reader) None rest h = absurd h
+others_of (Check after limit) mode first (Some reader) (Some bytes) rest h = (bytes ∷ map filling rest, (all_known reader bytes h, filled rest), refl)
+others_of (Score aims) mode first None None rest h = ([], tt, refl)
+others_of (Score aims) mode first None (Some bytes) rest h = absurd h
+others_of (Score aims) mode first (Some reader) None rest h = absurd h
+others_of (Score aims) mode first (Some reader) (Some bytes) rest h = (bytes ∷ map filling rest, (all_known reader bytes h, filled rest), refl)
+
+of_run : (P : Report → Type 0) (job : Job) (mode : Mode) (input : Change SourceState) (solution : Option (Change SourceState)) (rest : List (Option (List ℕ)))
+    (first : List ℕ) (second : Option (List ℕ)) → ReadsInputs job input solution first second → P (report job mode first second)
+    → OfReport (RunOf job) mode input.before.remaining (knowns solution rest) P
+of_run P job mode input solution rest first second read holds =
+    let o : HasOthers job mode first second (knowns solution rest) = others_of job mode first solution second rest read.second_read in
+    record { first = first; others = o.0; first_is = all_known input first read.first_read; others_are = o.1; holds = subst P o.2 holds }
+
+-- a run on a problem, and on the first solution where there is one
+pub did_run : (job : Job) (mode : Mode) (input : Change SourceState) (solution : Option (Change SourceState)) (rest : List (Option (List ℕ)))
+    (out : Change SinkState) (result : Result Outcome RunError) → Runs job mode input solution out result
+    → Did (RunOf job) mode input.before.remaining (knowns solution rest) out.before out.after result
+did_run job mode input solution rest out result runs = record {
+  done = IfOk-weaker result _ _ (λ outcome h. of_run (λ r. Appends out.before.contents out.after.contents r.text × (outcome ≡ r.outcome)) job mode input solution rest h.first h.second h.read (h.written, h.answered)) runs.done;
+  cut_short = λ failed. let h = runs.cut_short failed in of_run (λ r. AppendsPrefix out.before.contents out.after.contents r.text) job mode input solution rest h.first h.second h.read h.written;
+  untouched = runs.untouched;
+  write = runs.write;
+}
+
+first_item : {D : Type 0} (d : D) (olds : List D) → true ≡ nat_lt 0 (length olds) → d ≡ slice_index_or olds 0 d → (rest : List D) × (olds ≡ d ∷ rest)
+first_item d [] some is = absurd cc
+first_item d (old ∷ olds) some is = (olds, ap (λ first. first ∷ olds) (sym is))
+
+-- a run on the first of these devices
+pub did_first : {D : Type 0} (state : D → SourceState) (job : Job) (mode : Mode) (input : Change SourceState) (olds : List D) (old new : D)
+    (out : Change SinkState) (result : Result Outcome RunError) → true ≡ nat_lt 0 (length olds) → old ≡ slice_index_or olds 0 old → Runs job mode input (Some (change state old new)) out result
+    → Did (RunOf job) mode input.before.remaining (map (λ d. (state d).remaining) olds) out.before out.after result
+did_first state job mode input olds old new out result some is runs =
+    let more = first_item old olds some is in
+    subst (λ ds. Did (RunOf job) mode input.before.remaining (map (λ d. (state d).remaining) ds) out.before out.after result) (sym more.1)
+    (did_run job mode input (Some (change state old new)) (map (λ d. (state d).remaining) more.0) out result runs)
+
 -- ---- rankings
 
--- what a ranking of devices printed, by the bytes that the inputs under them still give
-pub ranked_by : {I : Type 0} (left : I → Option (List ℕ)) (aims items : List Aim) (mode : Mode) (old new : Device (Input I)) (olds news devices : List (Device (Input I)))
-    (out : Change SinkState) (result : Result Outcome RunError) → aims ≡ items → olds ≡ devices → length news ≡ length olds
-    → RanksRun aims mode (change (source_state (bytes_left left)) old new) (changes (source_state (bytes_left left)) olds news) out result
-    → Ranked items mode (left_of left old) (map (left_of left) devices) out.before.contents out.after.contents result
-ranked_by {I = I} left aims items mode old new olds news devices out result aims_are devices_are same ranks =
-    subst (λ list. Ranked list mode (left_of left old) (map (left_of left) devices) out.before.contents out.after.contents result) aims_are
-    (subst (λ ds. Ranked aims mode (left_of left old) (map (left_of left) ds) out.before.contents out.after.contents result) devices_are
-    (go result ranks))
-  where
-    go : (r : Result Outcome RunError) → RanksRun aims mode (change (source_state (bytes_left left)) old new) (changes (source_state (bytes_left left)) olds news) out r
-        → Ranked aims mode (left_of left old) (map (left_of left) olds) out.before.contents out.after.contents r
-    go (Ok outcome) h = record {
-      first = h.done.first;
-      others = h.done.others;
-      first_is = all_known (change (source_state (bytes_left left)) old new) h.done.first h.done.read.problem_read;
-      others_are = each_known (source_state (bytes_left left)) (left_of left) (λ d. refl) olds news h.done.others same h.done.read.solutions_read;
-      printed = h.done.written;
-      answered = h.done.answered;
-    }
-    go (Err error) h = h.untouched
+of_ranking : {D : Type 0} (P : Report → Type 0) (state : D → SourceState) (aims : Vec Aim Global) (mode : Mode) (problem : Change SourceState) (olds news : List D)
+    (first : List ℕ) (others : List (List ℕ)) → length news ≡ length olds → ReadsAllOf problem (changes state olds news) first others → P (rank_report aims.items mode first others)
+    → OfReport (RankOf aims) mode problem.before.remaining (map (λ d. (state d).remaining) olds) P
+of_ranking P state aims mode problem olds news first others same read holds = record {
+  first = first;
+  others = others;
+  first_is = all_known problem first read.problem_read;
+  others_are = each_known state (λ d. (state d).remaining) (λ d. refl) olds news others same read.solutions_read;
+  holds = holds;
+}
+
+-- a ranking, by the bytes that its inputs still give
+pub did_ranking : {D : Type 0} (state : D → SourceState) (aims : Vec Aim Global) (mode : Mode) (problem : Change SourceState) (olds news : List D)
+    (out : Change SinkState) (result : Result Outcome RunError) → length news ≡ length olds → RanksRun aims.items mode problem (changes state olds news) out result
+    → Did (RankOf aims) mode problem.before.remaining (map (λ d. (state d).remaining) olds) out.before out.after result
+did_ranking state aims mode problem olds news out result same ranks = record {
+  done = IfOk-weaker result _ _ (λ outcome h. of_ranking (λ r. Appends out.before.contents out.after.contents r.text × (outcome ≡ r.outcome)) state aims mode problem olds news h.first h.others same h.read (h.written, h.answered)) ranks.done;
+  cut_short = λ failed. let h = ranks.cut_short failed in of_ranking (λ r. AppendsPrefix out.before.contents out.after.contents r.text) state aims mode problem olds news h.first h.others same h.read h.written;
+  untouched = ranks.untouched;
+  write = ranks.write;
+}
 
 -- ---- what an order did
 
@@ -137,13 +217,6 @@ opened_known left standard (Path path) (input.Standard other) is = absurd is
 opened_known left standard Standard (input.File file) is = absurd is
 opened_known left standard Standard (input.Standard other) is = ap left is
 
-may_be_known : {I : Type 0} (left : I → Option (List ℕ)) (standard : I) (name : Option FileName) (opened : Option (Input I)) → MayBeOpened standard name opened
-    → option_map (bytes_left left) opened ≡ option_map (known_of (left standard)) name
-may_be_known left standard None None is = refl
-may_be_known left standard None (Some opened) is = absurd is
-may_be_known left standard (Some name) None is = absurd is
-may_be_known left standard (Some name) (Some opened) is = ap Some (opened_known left standard name opened is)
-
 all_opened_known : {I : Type 0} (left : I → Option (List ℕ)) (standard : I) (names : List FileName) (devices : List (Device (Input I))) → AreOpened standard names devices
     → map (left_of left) devices ≡ map (known_of (left standard)) names
 all_opened_known left standard [] [] are = refl
@@ -153,22 +226,24 @@ all_opened_known left standard (name ∷ names) (device ∷ devices) are =
     ap (λ first. first ∷ map (left_of left) devices) (opened_known left standard name (device_inner device) are.0)
     ∙ ap (λ others. known_of (left standard) name ∷ others) (all_opened_known left standard names devices are.1)
 
-pub did : {I : Type 0} (left : I → Option (List ℕ)) (standard : I) (order : Order) (opened : Task I) (before after : Option (List ℕ)) (answer : Result Outcome RunError)
-    → IsTask standard order opened → Performed left opened before after answer → Did order (left standard) before after answer
-did left standard (RunOf order) (task.Run run) before after answer is performed =
-    let problem = known_of (left standard) order.problem in
-    let solution = option_map (known_of (left standard)) order.solution in
-    subst (λ job. Ran job order.mode problem solution before after answer) is.job_is
-    (subst (λ mode. Ran run.job mode problem solution before after answer) is.mode_is
-    (subst (λ known. Ran run.job run.mode known solution before after answer) (opened_known left standard order.problem run.problem is.problem_is)
-    (subst (λ known. Ran run.job run.mode (bytes_left left run.problem) known before after answer) (may_be_known left standard order.solution run.solution is.solution_is) performed)))
-did left standard (RunOf order) (task.Rank ranking) before after answer is performed = absurd is
-did left standard (RankOf order) (task.Run run) before after answer is performed = absurd is
-did left standard (RankOf order) (task.Rank ranking) before after answer is performed =
+pub did : {I : Type 0} (left : I → Option (List ℕ)) (standard : I) (order : Order) (task : Task I) (before after : SinkState) (answer : Result Outcome RunError)
+    → IsTask standard order task → Did task.work task.mode (left_of left task.problem) (map (left_of left) task.solutions.items) before after answer
+    → DidOrder order (left standard) before after answer
+did left standard order task before after answer is performed =
     let problem = known_of (left standard) order.problem in
     let solutions = map (known_of (left standard)) order.solutions.items in
-    subst (λ aims. Ranked aims order.mode problem solutions before after answer) (ap (λ list. list.items) is.aims_are)
-    (subst (λ mode. Ranked ranking.aims.items mode problem solutions before after answer) is.mode_is
-    (subst (λ known. Ranked ranking.aims.items ranking.mode known solutions before after answer) (opened_known left standard order.problem (device_inner ranking.problem) is.problem_is)
-    (subst (λ known. Ranked ranking.aims.items ranking.mode (left_of left ranking.problem) known before after answer)
-    (all_opened_known left standard order.solutions.items ranking.solutions.items is.solutions_are) performed)))
+    subst (λ work. Did work order.mode problem solutions before after answer) is.work_is
+    (subst (λ mode. Did task.work mode problem solutions before after answer) is.mode_is
+    (subst (λ known. Did task.work task.mode known solutions before after answer) (opened_known left standard order.problem (device_inner task.problem) is.problem_is)
+    (subst (λ known. Did task.work task.mode (left_of left task.problem) known before after answer)
+    (all_opened_known left standard order.solutions.items task.solutions.items is.solutions_are) performed)))
+
+-- ---- what is prepared
+
+pub prepared : {I : Type 0} (words : List (List ℕ)) (standard : I) (order : Order) (r : Result (Task I) Failure) → IsAskedFor words order
+    → MatchResult r (IsTask standard order) IsOfFile → MatchResult r (IsPrepared words standard) (IsFailureOf words)
+prepared words standard order (Ok task) asked h = (order, asked, h)
+prepared words standard order (Err (reason.Words error)) asked h = absurd h
+prepared words standard order (Err (reason.Usage usage)) asked h = absurd h
+prepared words standard order (Err (reason.Open name error)) asked h = (order, asked)
+prepared words standard order (Err (reason.Run error)) asked h = (h, (order, asked))

@@ -1,14 +1,14 @@
 -- What the words of a command are, by the rows that a parse has of it.
 use Rattle.std.proofs.Common.{◌≡◌, ◌∙◌, ℕ, List, Option, Some, None, Result, Ok, Err, MatchResult, ap, subst, inr, codes, option_map, unwrap_or, false}
 use Rattle.clap.specs.declared.parser.matches.Found.{Found}
-use Rattle.clap.specs.Matches.{first_value}
+use Rattle.clap.specs.Matches.{first_value, matched_of, raw_values}
 use Rattle.clap.specs.Words.{Row, rows_of, first_of, all_of}
 use Rattle.clap.proofs.WalkLemmas.{first_value-rows, raw_values-rows}
 use Rattle.cudf_program.specs.declared.command.Order.{Order}
 use Rattle.cudf_program.specs.declared.command.Refusal.{Refusal}
-use Rattle.cudf_program.specs.Command.{Words, words_of, words_in, Asks, AsksOf, IsAskedBy, IsRefusedBy, has_list_apart}
+use Rattle.cudf_program.specs.Command.{Words, words_of, words_in, Asks, AsksOf, IsAskedBy, IsRefusedBy, arguments, has_list_apart}
 
-abbrev all_words : (problem solution : Option (List ℕ)) (solutions : Option (List (List ℕ))) (after limit criteria strict : Option (List ℕ)) → Words
+abbrev all_words : (problem : Option (List ℕ)) (solution solutions : Option (List (List ℕ))) (after limit criteria strict : Option (List ℕ)) → Words
 all_words problem solution solutions after limit criteria strict = record {
   problem = problem;
   solution = solution;
@@ -24,14 +24,17 @@ words-rows found =
     let old = λ (id : List ℕ). first_value found id in
     let new = λ (id : List ℕ). first_of id (rows_of found) in
     let same = first_value-rows found in
+    let each = raw_values-rows found in
+    let before : Option (List (List ℕ)) = option_map raw_values (matched_of found (codes "solution")) in
+    let one : Option (List (List ℕ)) = all_of (codes "solution") (rows_of found) in
     let several : Option (List (List ℕ)) = all_of (codes "solutions") (rows_of found) in
-    ap (λ (ws : Option (List (List ℕ))). all_words (old (codes "problem")) (old (codes "solution")) ws (old (codes "after")) (old (codes "limit")) (old (codes "criteria")) (old (codes "strict"))) (raw_values-rows found (codes "solutions"))
-    ∙ (ap (λ (w : Option (List ℕ)). all_words w (old (codes "solution")) several (old (codes "after")) (old (codes "limit")) (old (codes "criteria")) (old (codes "strict"))) (same (codes "problem"))
-    ∙ (ap (λ (w : Option (List ℕ)). all_words (new (codes "problem")) w several (old (codes "after")) (old (codes "limit")) (old (codes "criteria")) (old (codes "strict"))) (same (codes "solution"))
-    ∙ (ap (λ (w : Option (List ℕ)). all_words (new (codes "problem")) (new (codes "solution")) several w (old (codes "limit")) (old (codes "criteria")) (old (codes "strict"))) (same (codes "after"))
-    ∙ (ap (λ (w : Option (List ℕ)). all_words (new (codes "problem")) (new (codes "solution")) several (new (codes "after")) w (old (codes "criteria")) (old (codes "strict"))) (same (codes "limit"))
-    ∙ (ap (λ (w : Option (List ℕ)). all_words (new (codes "problem")) (new (codes "solution")) several (new (codes "after")) (new (codes "limit")) w (old (codes "strict"))) (same (codes "criteria"))
-    ∙ ap (λ (w : Option (List ℕ)). all_words (new (codes "problem")) (new (codes "solution")) several (new (codes "after")) (new (codes "limit")) (new (codes "criteria")) w) (same (codes "strict")))))))
+    ap (λ (ws : Option (List (List ℕ))). all_words (old (codes "problem")) before ws (old (codes "after")) (old (codes "limit")) (old (codes "criteria")) (old (codes "strict"))) (each (codes "solutions"))
+    ∙ (ap (λ (w : Option (List ℕ)). all_words w before several (old (codes "after")) (old (codes "limit")) (old (codes "criteria")) (old (codes "strict"))) (same (codes "problem"))
+    ∙ (ap (λ (ws : Option (List (List ℕ))). all_words (new (codes "problem")) ws several (old (codes "after")) (old (codes "limit")) (old (codes "criteria")) (old (codes "strict"))) (each (codes "solution"))
+    ∙ (ap (λ (w : Option (List ℕ)). all_words (new (codes "problem")) one several w (old (codes "limit")) (old (codes "criteria")) (old (codes "strict"))) (same (codes "after"))
+    ∙ (ap (λ (w : Option (List ℕ)). all_words (new (codes "problem")) one several (new (codes "after")) w (old (codes "criteria")) (old (codes "strict"))) (same (codes "limit"))
+    ∙ (ap (λ (w : Option (List ℕ)). all_words (new (codes "problem")) one several (new (codes "after")) (new (codes "limit")) w (old (codes "strict"))) (same (codes "criteria"))
+    ∙ ap (λ (w : Option (List ℕ)). all_words (new (codes "problem")) one several (new (codes "after")) (new (codes "limit")) (new (codes "criteria")) w) (same (codes "strict")))))))
 
 -- what is asked of the entries is asked of the name and the rows
 pub asked : {B : Type 0} (f : B → List ℕ × List Row) (sub : Option B) (name : List ℕ) (found : Found) (result : Result Order Refusal)
@@ -43,7 +46,7 @@ asked f (Some b) name found result is_name is_rows asks =
 asked f None name found result is_name is_rows asks = absurd cc
 
 -- what the command asks for or refuses, where no list stands apart
-pub by_words : (words : List (List ℕ)) (met : Option (List ℕ × List Row)) (result : Result Order Refusal) → has_list_apart words ≡ false → AsksOf met result
+pub by_words : (words : List (List ℕ)) (met : Option (List ℕ × List Row)) (result : Result Order Refusal) → has_list_apart (arguments words) ≡ false → AsksOf met result
     → MatchResult result (IsAskedBy words met) (IsRefusedBy words met)
 by_words words met (Ok order) together asks = record { together = together; asks = asks }
 by_words words met (Err refusal) together asks = inr (together, asks)

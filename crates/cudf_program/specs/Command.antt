@@ -1,5 +1,5 @@
 -- What the words of the command line ask for.
-use Rattle.std.specs.Prelude.{◌≡◌, ◌≢◌, ◌⊎◌, ◌&&◌, ◌||◌, if◌then◌else◌, nat_lt, bytes_eq, ℕ, Bool, true, false, List, [], ◌∷◌, count_by, codes, Option, Some, None, is_some, option_map, Result, Ok, Err, MatchResult}
+use Rattle.std.specs.Prelude.{◌≡◌, ◌≢◌, ◌⊎◌, ◌&&◌, ◌||◌, if◌then◌else◌, nat_lt, bytes_eq, ℕ, Bool, true, false, List, [], ◌∷◌, count_by, codes, drop, Option, Some, None, is_some, option_map, unwrap_or, Result, Ok, Err, MatchResult}
 use Rattle.std.specs.Option.{option_map_or}
 use Rattle.std.specs.Result.{IsErrAnd}
 use Rattle.clap.specs.Matches.{first_value, matched_of, raw_values}
@@ -16,16 +16,14 @@ use Rattle.cudf_referee.specs.declared.key.Key.{Key}
 use Rattle.cudf_document.specs.declared.mode.Mode.{Mode}
 use Rattle.cudf_document.specs.declared.mode.Mode.TheVariants.{Lenient, Strict}
 use Rattle.cudf_check.specs.ManyRuns.{OfEach}
-use Rattle.cudf_check.specs.declared.job.Job.{Job}
 use Rattle.cudf_check.specs.declared.job.Job.TheVariants.{Lint, Check, Score}
 use Rattle.cudf_program.specs.declared.command.FileName.{FileName}
 use Rattle.cudf_program.specs.declared.command.FileName.TheVariants.{Path, Standard}
 use Rattle.cudf_program.specs.declared.command.Order.{Order}
-use Rattle.cudf_program.specs.declared.command.Order.TheVariants.{Run, Rank}
-use Rattle.cudf_program.specs.declared.command.RankOrder.{RankOrder}
 use Rattle.cudf_program.specs.declared.command.Refusal.{Refusal}
 use Rattle.cudf_program.specs.declared.command.Refusal.TheVariants.{Missing, Twice, NoKey, NoNumber, NoList, Apart, Memory}
-use Rattle.cudf_program.specs.declared.command.RunOrder.{RunOrder}
+use Rattle.cudf_program.specs.declared.command.Work.{Work}
+use Rattle.cudf_program.specs.declared.command.Work.TheVariants.{Run, Rank}
 
 -- ---- files
 
@@ -39,92 +37,27 @@ abbrev pub IsGivenBy : Option (List ℕ) → FileName → Type 0
 IsGivenBy None file = ⊥
 IsGivenBy (Some word) file = IsNamedBy word file
 
--- the words name no file, or this one
-abbrev pub MayBeNamedBy : Option (List ℕ) → Option FileName → Type 0
-MayBeNamedBy None None = Unit {0}
-MayBeNamedBy None (Some file) = ⊥
-MayBeNamedBy (Some word) None = ⊥
-MayBeNamedBy (Some word) (Some file) = IsNamedBy word file
+-- each word names the file at its place
+abbrev pub AreNamedBy : List (List ℕ) → List FileName → Type 0
+AreNamedBy words files = OfEach IsNamedBy words files
+
+-- each word names the file at its place; without words there are no files
+abbrev pub AreGivenBy : Option (List (List ℕ)) → List FileName → Type 0
+AreGivenBy None files = files ≡ []
+AreGivenBy (Some words) files = AreNamedBy words files
 
 -- the file is standard input
 abbrev pub is_standard : FileName → Bool
 is_standard (Path path) = false
 is_standard Standard = true
 
--- a run reads standard input
-abbrev pub run_takes_standard : RunOrder → Bool
-run_takes_standard order = is_standard order.problem || option_map_or is_standard order.solution false
-
--- a run reads standard input for the problem and for the solution
-abbrev pub run_takes_standard_twice : RunOrder → Bool
-run_takes_standard_twice order = is_standard order.problem && option_map_or is_standard order.solution false
-
--- a ranking reads standard input, for the problem or for a solution
-abbrev pub rank_takes_standard : RankOrder → Bool
-rank_takes_standard order = is_standard order.problem || nat_lt 0 (count_by is_standard order.solutions.items)
-
--- a ranking reads standard input for two files or more
-abbrev pub rank_takes_standard_twice : RankOrder → Bool
-rank_takes_standard_twice order = nat_lt 1 (count_by is_standard (order.problem ∷ order.solutions.items))
-
+-- one of the files is standard input
 abbrev pub takes_standard : Order → Bool
-takes_standard (Run order) = run_takes_standard order
-takes_standard (Rank order) = rank_takes_standard order
+takes_standard order = is_standard order.problem || nat_lt 0 (count_by is_standard order.solutions.items)
 
+-- two of the files or more are standard input
 abbrev pub takes_standard_twice : Order → Bool
-takes_standard_twice (Run order) = run_takes_standard_twice order
-takes_standard_twice (Rank order) = rank_takes_standard_twice order
-
--- a job in a mode, with the files that these words name
-pub record IsOrder (job : Job) (mode : Mode) (problem solution : Option (List ℕ)) (order : RunOrder) : Type 0 where
-  pub job_is : order.job ≡ job
-  pub mode_is : order.mode ≡ mode
-  pub problem_is : IsGivenBy problem order.problem
-  pub solution_is : MayBeNamedBy solution order.solution
-  pub standard_once : run_takes_standard_twice order ≡ false
-
--- the first word is missing, or `-` stands for both files
-abbrev pub RefusesFiles : Option (List ℕ) → Option (List ℕ) → Refusal → Type 0
-RefusesFiles problem solution Missing = problem ≡ None
-RefusesFiles problem solution Twice = (problem ≡ Some (codes "-")) × (solution ≡ Some (codes "-"))
-RefusesFiles problem solution (NoKey word) = ⊥
-RefusesFiles problem solution (NoNumber word) = ⊥
-RefusesFiles problem solution (NoList word) = ⊥
-RefusesFiles problem solution Apart = ⊥
-RefusesFiles problem solution Memory = ⊥
-
--- each word names the file at its place
-abbrev pub AreNamedBy : List (List ℕ) → List FileName → Type 0
-AreNamedBy words files = OfEach IsNamedBy words files
-
--- there are words, and each names the file at its place
-abbrev pub AreGivenBy : Option (List (List ℕ)) → List FileName → Type 0
-AreGivenBy None files = ⊥
-AreGivenBy (Some words) files = AreNamedBy words files
-
--- a ranking by aims in a mode, of the files that these words name
-pub record AreOfRanking (aims : List Aim) (mode : Mode) (problem : Option (List ℕ)) (solutions : Option (List (List ℕ))) (order : RankOrder) : Type 0 where
-  pub aims_are : order.aims.items ≡ aims
-  pub mode_is : order.mode ≡ mode
-  pub problem_is : IsGivenBy problem order.problem
-  pub solutions_are : AreGivenBy solutions order.solutions.items
-  pub standard_once : rank_takes_standard_twice order ≡ false
-
--- these words are there, and `-` is two of them or more
-abbrev pub AreStandardTwice : Option (List ℕ) → Option (List (List ℕ)) → Type 0
-AreStandardTwice None solutions = ⊥
-AreStandardTwice (Some problem) None = ⊥
-AreStandardTwice (Some problem) (Some solutions) = nat_lt 1 (count_by (λ word. bytes_eq word (codes "-")) (problem ∷ solutions)) ≡ true
-
--- a word is missing, or `-` stands for two files, or there is no memory for their names
-abbrev pub RefusesRankedFiles : Option (List ℕ) → Option (List (List ℕ)) → Refusal → Type 0
-RefusesRankedFiles problem solutions Missing = (problem ≡ None) ⊎ (solutions ≡ None)
-RefusesRankedFiles problem solutions Twice = AreStandardTwice problem solutions
-RefusesRankedFiles problem solutions (NoKey word) = ⊥
-RefusesRankedFiles problem solutions (NoNumber word) = ⊥
-RefusesRankedFiles problem solutions (NoList word) = ⊥
-RefusesRankedFiles problem solutions Apart = ⊥
-RefusesRankedFiles problem solutions Memory = is_some solutions ≡ true
+takes_standard_twice order = nat_lt 1 (count_by is_standard (order.problem ∷ order.solutions.items))
 
 -- ---- pages
 
@@ -136,14 +69,9 @@ IsAfter (Some word) None = ⊥
 IsAfter (Some word) (Some key) = key_text (key_view key) ≡ word
 
 -- no key is printed as the word
-abbrev pub RefusesAfter : Option (List ℕ) → Refusal → Type 0
-RefusesAfter given Missing = ⊥
-RefusesAfter given Twice = ⊥
-RefusesAfter given (NoKey word) = (given ≡ Some word.now) × ((key : PlainKey) → IsWritable key → key_text key ≢ word.now)
-RefusesAfter given (NoNumber word) = ⊥
-RefusesAfter given (NoList word) = ⊥
-RefusesAfter given Apart = ⊥
-RefusesAfter given Memory = ⊥
+abbrev pub RefusesKey : Option (List ℕ) → Refusal → Type 0
+RefusesKey given (NoKey word) = (given ≡ Some word.now) × ((key : PlainKey) → IsWritable key → key_text key ≢ word.now)
+RefusesKey given refusal = ⊥
 
 -- there is no word, or a key is printed as it
 abbrev pub HasAfter : Option (List ℕ) → Type 0
@@ -158,13 +86,8 @@ IsLimit (Some word) (Some limit) = positive (trim word) ≡ Some limit
 
 -- the word says no positive number
 abbrev pub RefusesLimit : Option (List ℕ) → Refusal → Type 0
-RefusesLimit given Missing = ⊥
-RefusesLimit given Twice = ⊥
-RefusesLimit given (NoKey word) = ⊥
 RefusesLimit given (NoNumber word) = (given ≡ Some word.now) × (positive (trim word.now) ≡ None)
-RefusesLimit given (NoList word) = ⊥
-RefusesLimit given Apart = ⊥
-RefusesLimit given Memory = ⊥
+RefusesLimit given refusal = ⊥
 
 -- there is no word, or it says a positive number
 abbrev pub HasLimit : Option (List ℕ) → Type 0
@@ -181,19 +104,15 @@ IsList (Some word) (Some aims) = criterion word ≡ Some aims
 
 -- the word is no list, or there is no memory for its aims
 abbrev pub RefusesList : Option (List ℕ) → Refusal → Type 0
-RefusesList given Missing = ⊥
-RefusesList given Twice = ⊥
-RefusesList given (NoKey word) = ⊥
-RefusesList given (NoNumber word) = ⊥
 RefusesList given (NoList word) = (given ≡ Some word.now) × (criterion word.now ≡ None)
-RefusesList given Apart = ⊥
 RefusesList given Memory = is_some given ≡ true
+RefusesList given refusal = ⊥
 
 -- there is no word, or it is a list
 abbrev pub HasList : Option (List ℕ) → Type 0
 HasList given = (aims : Option (List Aim)) × IsList given aims
 
--- `--criteria` is a word without its list; behind `--` all words are files
+-- `--criteria` is one of the arguments, without its list; behind `--` all words are files
 abbrev pub has_list_apart : List (List ℕ) → Bool
 has_list_apart [] = false
 has_list_apart (word ∷ words) = if bytes_eq word (codes "--") then false else (bytes_eq word (codes "--criteria") || has_list_apart words)
@@ -210,10 +129,15 @@ mode_of flag = if is_given flag then Strict else Lenient
 
 -- ---- commands
 
+-- the status of words that are of the grammar and ask for nothing that is done: a usage fault, but for want of memory
+abbrev pub refusal_status : Refusal → ℕ
+refusal_status Memory = 6
+refusal_status _ = 4
+
 -- the words of a command, by what they stand for
 pub record Words : Type 0 where
   pub problem : Option (List ℕ)
-  pub solution : Option (List ℕ)
+  pub solution : Option (List (List ℕ))
   pub solutions : Option (List (List ℕ))
   pub after : Option (List ℕ)
   pub limit : Option (List ℕ)
@@ -223,7 +147,7 @@ pub record Words : Type 0 where
 abbrev pub words_of : Found → Words
 words_of found = record {
   problem = first_value found (codes "problem");
-  solution = first_value found (codes "solution");
+  solution = option_map raw_values (matched_of found (codes "solution"));
   solutions = option_map raw_values (matched_of found (codes "solutions"));
   after = first_value found (codes "after");
   limit = first_value found (codes "limit");
@@ -231,82 +155,107 @@ words_of found = record {
   strict = first_value found (codes "strict");
 }
 
--- the job is to check, and its page is that of these words
-abbrev pub IsPage : Option (List ℕ) → Option (List ℕ) → Job → Type 0
-IsPage after limit Lint = ⊥
-IsPage after limit (Check key number) = IsAfter after key × IsLimit limit number
-IsPage after limit (Score aims) = ⊥
+-- what a command takes of its words: its options, its files, and whether all that it needs is there
+pub record Taken : Type 0 where
+  pub after : Option (List ℕ)
+  pub limit : Option (List ℕ)
+  pub criteria : Option (List ℕ)
+  pub problem : Option (List ℕ)
+  pub solutions : Option (List (List ℕ))
+  pub is_whole : Bool
 
-pub record IsCheck (words : Words) (order : RunOrder) : Type 0 where
-  pub page_is : IsPage words.after words.limit order.job
-  pub files_are : IsOrder order.job (mode_of words.strict) words.problem words.solution order
+-- the files alone
+abbrev pub files_alone : Option (List ℕ) → Option (List (List ℕ)) → Taken
+files_alone problem solutions = record { after = None; limit = None; criteria = None; problem = problem; solutions = solutions; is_whole = is_some problem }
 
--- the words of a check, of which the key is judged first, then the limit, and the files last
-abbrev pub RefusesCheck : Words → Refusal → Type 0
-RefusesCheck words Missing = HasAfter words.after × (HasLimit words.limit × RefusesFiles words.problem words.solution Missing)
-RefusesCheck words Twice = HasAfter words.after × (HasLimit words.limit × RefusesFiles words.problem words.solution Twice)
-RefusesCheck words (NoKey word) = RefusesAfter words.after (NoKey word)
-RefusesCheck words (NoNumber word) = HasAfter words.after × RefusesLimit words.limit (NoNumber word)
-RefusesCheck words (NoList word) = ⊥
-RefusesCheck words Apart = ⊥
-RefusesCheck words Memory = ⊥
+abbrev pub lint_words : Words → Taken
+lint_words words = files_alone words.problem None
 
--- the job is to score, by the aims of this word
-abbrev pub IsScoring : Option (List ℕ) → Job → Type 0
-IsScoring criteria Lint = ⊥
-IsScoring criteria (Check key number) = ⊥
-IsScoring criteria (Score aims) = IsList criteria (option_map (λ v. v.items) aims)
+abbrev pub check_words : Words → Taken
+check_words words = record (files_alone words.problem words.solution) { after = words.after; limit = words.limit }
 
-pub record IsScore (words : Words) (order : RunOrder) : Type 0 where
-  pub list_is : IsScoring words.criteria order.job
-  pub files_are : IsOrder order.job (mode_of words.strict) words.problem words.solution order
+abbrev pub score_words : Words → Taken
+score_words words = record (files_alone words.problem words.solution) { criteria = words.criteria }
 
--- the words of a score, of which the list is judged first, and the files last
-abbrev pub RefusesScore : Words → Refusal → Type 0
-RefusesScore words Missing = HasList words.criteria × RefusesFiles words.problem words.solution Missing
-RefusesScore words Twice = HasList words.criteria × RefusesFiles words.problem words.solution Twice
-RefusesScore words (NoKey word) = ⊥
-RefusesScore words (NoNumber word) = ⊥
-RefusesScore words (NoList word) = RefusesList words.criteria (NoList word)
-RefusesScore words Apart = ⊥
-RefusesScore words Memory = RefusesList words.criteria Memory
+abbrev pub rank_words : Words → Taken
+rank_words words = record (files_alone words.problem words.solutions) {
+  criteria = words.criteria;
+  is_whole = is_some words.criteria && (is_some words.solutions && is_some words.problem);
+}
 
-pub record IsRanking (words : Words) (order : RankOrder) : Type 0 where
-  pub list_is : IsList words.criteria (Some order.aims.items)
-  pub files_are : AreOfRanking order.aims.items (mode_of words.strict) words.problem words.solutions order
+-- ---- what is refused
 
--- the words of a ranking, of which the list is judged first, and the files last
-abbrev pub RefusesRanking : Words → Refusal → Type 0
-RefusesRanking words Missing = (words.criteria ≡ None) ⊎ (HasList words.criteria × RefusesRankedFiles words.problem words.solutions Missing)
-RefusesRanking words Twice = HasList words.criteria × RefusesRankedFiles words.problem words.solutions Twice
-RefusesRanking words (NoKey word) = ⊥
-RefusesRanking words (NoNumber word) = ⊥
-RefusesRanking words (NoList word) = RefusesList words.criteria (NoList word)
-RefusesRanking words Apart = ⊥
-RefusesRanking words Memory = is_some words.criteria ≡ true
+-- the words of the files, the problem's first
+abbrev pub file_words : Option (List ℕ) → Option (List (List ℕ)) → List (List ℕ)
+file_words None solutions = unwrap_or solutions []
+file_words (Some problem) solutions = problem ∷ unwrap_or solutions []
 
--- the order is a run, of which this holds
-abbrev pub IsRun : (RunOrder → Type 0) → Order → Type 0
-IsRun P (Run order) = P order
-IsRun P (Rank order) = ⊥
+-- `-` is two of the files or more
+abbrev pub are_standard_twice : Option (List ℕ) → Option (List (List ℕ)) → Bool
+are_standard_twice problem solutions = nat_lt 1 (count_by (λ word. bytes_eq word (codes "-")) (file_words problem solutions))
 
--- the order is a ranking, of which this holds
-abbrev pub IsRank : (RankOrder → Type 0) → Order → Type 0
-IsRank P (Run order) = ⊥
-IsRank P (Rank order) = P order
+-- What is judged of the words of a command, in this order: the key, the limit, the list, whether all is there, and `-`. The first that is
+-- wrong is told. Memory can run out where a list or the names of files are kept.
+abbrev pub Refuses : Taken → Refusal → Type 0
+Refuses taken (NoKey word) = RefusesKey taken.after (NoKey word)
+Refuses taken (NoNumber word) = HasAfter taken.after × RefusesLimit taken.limit (NoNumber word)
+Refuses taken (NoList word) = HasAfter taken.after × HasLimit taken.limit × RefusesList taken.criteria (NoList word)
+Refuses taken Missing = HasAfter taken.after × HasLimit taken.limit × HasList taken.criteria × (taken.is_whole ≡ false)
+Refuses taken Twice = HasAfter taken.after × HasLimit taken.limit × HasList taken.criteria × (taken.is_whole ≡ true) × (are_standard_twice taken.problem taken.solutions ≡ true)
+Refuses taken Apart = ⊥
+Refuses taken Memory = is_some taken.criteria || is_some taken.solutions ≡ true
+
+-- ---- what is asked for
+
+-- some work in a mode, with the files that these words name
+pub record IsOrder (work : Work) (mode : Mode) (problem : Option (List ℕ)) (solutions : Option (List (List ℕ))) (order : Order) : Type 0 where
+  pub work_is : order.work ≡ work
+  pub mode_is : order.mode ≡ mode
+  pub problem_is : IsGivenBy problem order.problem
+  pub solutions_are : AreGivenBy solutions order.solutions.items
+  pub standard_once : takes_standard_twice order ≡ false
+
+-- the work of each command, by the words that it takes
+abbrev pub Lints : Taken → Work → Type 0
+Lints taken work = work ≡ Run Lint
+
+abbrev pub Checks : Taken → Work → Type 0
+Checks taken (Run Lint) = ⊥
+Checks taken (Run (Check key number)) = IsAfter taken.after key × IsLimit taken.limit number
+Checks taken (Run (Score aims)) = ⊥
+Checks taken (Rank aims) = ⊥
+
+abbrev pub Scores : Taken → Work → Type 0
+Scores taken (Run Lint) = ⊥
+Scores taken (Run (Check key number)) = ⊥
+Scores taken (Run (Score aims)) = IsList taken.criteria (option_map (λ v. v.items) aims)
+Scores taken (Rank aims) = ⊥
+
+abbrev pub Ranks : Taken → Work → Type 0
+Ranks taken (Run job) = ⊥
+Ranks taken (Rank aims) = IsList taken.criteria (Some aims.items)
+
+-- the order does this, in a mode and with the files that the words name
+pub record IsOrderOf (Does : Taken → Work → Type 0) (mode : Mode) (taken : Taken) (order : Order) : Type 0 where
+  pub does : Does taken order.work
+  pub files_are : IsOrder order.work mode taken.problem taken.solutions order
+
+-- what a command that does this answers, of the words that it takes
+abbrev pub AnswersBy : (Taken → Work → Type 0) → Mode → Taken → Result Order Refusal → Type 0
+AnswersBy Does mode taken result = MatchResult result (IsOrderOf Does mode taken) (Refuses taken)
 
 -- what the words of the command of this name ask for
 pub record Asks (name : List ℕ) (words : Words) (result : Result Order Refusal) : Type 0 where
-  pub lint : name ≡ codes "lint" → MatchResult result (IsRun (IsOrder Lint (mode_of words.strict) words.problem None)) (RefusesFiles words.problem None)
-  pub check : name ≡ codes "check" → MatchResult result (IsRun (IsCheck words)) (RefusesCheck words)
-  pub score : name ≡ codes "score" → MatchResult result (IsRun (IsScore words)) (RefusesScore words)
-  pub rank : name ≡ codes "rank" → MatchResult result (IsRank (IsRanking words)) (RefusesRanking words)
+  pub lint : name ≡ codes "lint" → AnswersBy Lints (mode_of words.strict) (lint_words words) result
+  pub check : name ≡ codes "check" → AnswersBy Checks (mode_of words.strict) (check_words words) result
+  pub score : name ≡ codes "score" → AnswersBy Scores (mode_of words.strict) (score_words words) result
+  pub rank : name ≡ codes "rank" → AnswersBy Ranks (mode_of words.strict) (rank_words words) result
 
 -- the same words, in the rows that a parse has of a command
 abbrev pub words_in : List Row → Words
 words_in rows = record {
   problem = first_of (codes "problem") rows;
-  solution = first_of (codes "solution") rows;
+  solution = all_of (codes "solution") rows;
   solutions = all_of (codes "solutions") rows;
   after = first_of (codes "after") rows;
   limit = first_of (codes "limit") rows;
@@ -319,11 +268,15 @@ abbrev pub AsksOf : Option (List ℕ × List Row) → Result Order Refusal → T
 AsksOf None result = IsErrAnd result (λ refusal. refusal ≡ Missing)
 AsksOf (Some met) result = Asks met.0 (words_in met.1) result
 
+-- the words behind the first one, which is the program's own name
+abbrev pub arguments : List (List ℕ) → List (List ℕ)
+arguments words = drop 1 words
+
 -- each list stands in the word of its `--criteria`, and the order is what the command asks for
 pub record IsAskedBy (words : List (List ℕ)) (met : Option (List ℕ × List Row)) (order : Order) : Type 0 where
-  pub together : has_list_apart words ≡ false
+  pub together : has_list_apart (arguments words) ≡ false
   pub asks : AsksOf met (Ok order)
 
 -- a list stands apart, or else what the command asks for is refused
 abbrev pub IsRefusedBy : List (List ℕ) → Option (List ℕ × List Row) → Refusal → Type 0
-IsRefusedBy words met refusal = ((refusal ≡ Apart) × (has_list_apart words ≡ true)) ⊎ ((has_list_apart words ≡ false) × AsksOf met (Err refusal))
+IsRefusedBy words met refusal = ((refusal ≡ Apart) × (has_list_apart (arguments words) ≡ true)) ⊎ ((has_list_apart (arguments words) ≡ false) × AsksOf met (Err refusal))

@@ -4,7 +4,7 @@ use Rattle.clap.specs.Faults.{fault_of}
 use Rattle.clap.specs.Kinds.{IsAmong}
 use Rattle.clap.specs.Simple.{subcommand_of}
 use Rattle.clap.specs.declared.error.kind.ErrorKind.{ErrorKind}
-use Rattle.cudf_program.specs.Command.{IsAskedBy, IsRefusedBy}
+use Rattle.cudf_program.specs.Command.{IsAskedBy, IsRefusedBy, refusal_status}
 use Rattle.cudf_program.specs.Grammar.{grammar}
 use Rattle.cudf_program.specs.Usage.{kind_status, usage_status}
 use Rattle.cudf_program.specs.declared.command.Order.{Order}
@@ -16,15 +16,16 @@ pub record IsAskedFor (words : List (List ℕ)) (order : Order) : Type 0 where
   pub fits : fault_of grammar words ≡ []
   pub asks : IsAskedBy words (subcommand_of grammar words) order
 
--- the words are of the grammar, and what they ask for is refused
-pub record IsRefused (words : List (List ℕ)) : Type 0 where
+-- the words are of the grammar, and what they ask for is refused, with the status of the refusal
+pub record IsRefused (words : List (List ℕ)) (usage : Usage) : Type 0 where
   pub fits : fault_of grammar words ≡ []
   pub refusal : Refusal
   pub refuses : IsRefusedBy words (subcommand_of grammar words) refusal
+  pub status_is : usage_status usage ≡ refusal_status refusal
 
 -- why the words ask for nothing that is done, by its exit status: memory ran out; a fault of the words against the grammar, help and the
 -- version among these; or they are of the grammar, and what they ask for is refused
 abbrev pub IsUnasked : List (List ℕ) → Usage → Type 0
 IsUnasked words usage = (usage_status usage ≡ 6)
     ⊎ (((kind : ErrorKind) × IsAmong kind (fault_of grammar words) × (usage_status usage ≡ kind_status kind))
-    ⊎ ((usage_status usage ≡ 4) × IsRefused words))
+    ⊎ IsRefused words usage)

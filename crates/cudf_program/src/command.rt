@@ -1,17 +1,18 @@
 //! What the words of the command line ask for.
-ghost use Rattle.std.specs.Prelude.{◌≡◌, None, IfOk, MatchResult, codes, map, option_map, string_bytes, false};
-ghost use Rattle.clap.specs.Matches.{first_value, found_of};
+ghost use Rattle.std.specs.Prelude.{◌≡◌, IfOk, MatchResult, drop, is_some, map, option_map, string_bytes, true, false};
+ghost use Rattle.clap.specs.Matches.{found_of};
 ghost use Rattle.clap.specs.Words.{subcommand_rows_of};
-ghost use Rattle.cudf_check.specs.declared.job.Job.TheVariants.{Lint};
-ghost use Rattle.cudf_program.specs.Command.{IsNamedBy, AreNamedBy, IsOrder, RefusesFiles, IsAfter, RefusesAfter, IsLimit, RefusesLimit, IsList, RefusesList, words_of, IsCheck, RefusesCheck, IsScore, RefusesScore, IsRanking, RefusesRanking, Asks, IsAskedBy, IsRefusedBy, has_list_apart, mode_of, takes_standard_twice};
+ghost use Rattle.cudf_program.specs.Command.{IsNamedBy, AreNamedBy, AreGivenBy, IsAfter, IsLimit, IsList, words_of, lint_words, check_words, score_words, rank_words, AnswersBy, Lints, Checks, Scores, Ranks, RefusesKey, RefusesLimit, RefusesList, Asks, IsAskedBy, IsRefusedBy, has_list_apart, mode_of, refusal_status, takes_standard_twice};
+ghost use Rattle.cudf_program.specs.declared.command.Refusal.TheVariants.{Memory};
+ghost use Rattle.cudf_program.specs.Usage.{usage_status};
 ghost use Rattle.cudf_program.specs.Orders.{IsAskedFor, IsUnasked};
 
 use crate::grammar::{
     AFTER, CHECK, CRITERIA, LIMIT, LINT, PROBLEM, RANK, SCORE, SOLUTION, SOLUTIONS, STRICT, program,
 };
 use crate::usage::Usage;
-use clap::ArgMatches;
 use clap::error::ErrorKind;
+use clap::{ArgMatches, Command};
 use cudf_check::{Aim, Job, Key, Mode};
 use cudf_referee::read_criterion;
 use cudf_value::read_posint;
@@ -40,37 +41,24 @@ impl FileName<'_> {
 
 /// What the words ask for.
 #[derive(Debug, PartialEq, Eq, Drop)]
-pub(crate) enum Order<'w> {
-    /// One run.
-    Run(RunOrder<'w>),
-    /// A ranking of several solutions.
-    Rank(RankOrder<'w>),
-}
-
-/// One run, as the words ask for it.
-#[derive(Debug, PartialEq, Eq, Drop)]
-pub(crate) struct RunOrder<'w> {
-    /// What to do.
-    pub job: Job,
+pub(crate) struct Order<'w> {
+    /// What to do with the files.
+    pub work: Work,
     /// How strictly to read the files.
     pub mode: Mode,
     /// The file of the problem, or of the problem and the solution behind it.
     pub problem: FileName<'w>,
-    /// The file of the solution, where it has one of its own.
-    pub solution: Option<FileName<'w>>,
+    /// The files of the solutions, where they have some of their own: one of a run at most.
+    pub solutions: Vec<FileName<'w>>,
 }
 
-/// A ranking, as the words ask for it.
+/// What to do with the files.
 #[derive(Debug, PartialEq, Eq, Drop)]
-pub(crate) struct RankOrder<'w> {
-    /// What the solutions are compared by.
-    pub aims: Vec<Aim>,
-    /// How strictly to read the files.
-    pub mode: Mode,
-    /// The file of the problem.
-    pub problem: FileName<'w>,
-    /// The files of the solutions.
-    pub solutions: Vec<FileName<'w>>,
+pub(crate) enum Work {
+    /// One run.
+    Run(Job),
+    /// A ranking of the solutions by these aims.
+    Rank(Vec<Aim>),
 }
 
 /// Why the words of a command ask for no run.
@@ -141,12 +129,23 @@ pub(crate) fn command<'w>(alloc: Global, words: &'w [String]) -> Result<Order<'w
     let matches = program.try_get_matches_from_mut(words)?;
     match asked_order(alloc, words, &matches) {
         Ok(order) => Ok(order),
-        Err(Refusal::Memory) => Err(Usage::Memory),
-        Err(refusal) => {
-            let text = format!(in alloc; "{refusal}")?;
-            Err(Usage::Mistake(program.error(refusal.kind(), &text)?))
-        }
+        Err(refusal) => Err(usage(alloc, &mut program, refusal)?),
     }
+}
+
+/// Why the words start no run, where a refusal says it.
+fn usage(
+    alloc: Global,
+    program: &mut Command<'_>,
+    refusal: Refusal<'_>,
+) -> Result<Usage, AllocError>
+    ensures { IfOk result (λ usage. usage_status usage ≡ refusal_status refusal.entry) }
+{
+    if let Refusal::Memory = refusal {
+        return Ok(Usage::Memory);
+    }
+    let text = format!(in alloc; "{refusal}")?;
+    Ok(Usage::Mistake(program.error(refusal.kind(), &text)?))
 }
 
 /// What the words ask for, of which a parse met these matches.
@@ -160,12 +159,22 @@ fn asked_order<'w>(
         (IsRefusedBy (map (λ word. string_bytes word) words.now) (subcommand_rows_of matches.now)) }
     ensures once { IfOk result (λ order. takes_standard_twice order ≡ false) }
 {
-    if has_list_apart(words) {
+    if has_list_apart(arguments(words)) {
         return Err(Refusal::Apart);
     }
     match matches.subcommand() {
         Some((name, found)) => order_of(alloc, name, found),
         None => Err(Refusal::Missing),
+    }
+}
+
+/// The words behind the program's own name.
+fn arguments(words: &[String]) -> &[String]
+    ensures { map (λ word. string_bytes word) result.now ≡ drop 1 (map (λ word. string_bytes word) words.now) }
+{
+    match words.split_first() {
+        Some((_, arguments)) => arguments,
+        None => words,
     }
 }
 
@@ -189,61 +198,66 @@ fn order_of<'w>(alloc: Global, name: &str, found: &ArgMatches<'w>) -> Result<Ord
     ensures once { IfOk result (λ order. takes_standard_twice order ≡ false) }
 {
     match name {
-        LINT => Ok(Order::Run(lint_order(found)?)),
-        CHECK => Ok(Order::Run(check_order(found)?)),
-        SCORE => Ok(Order::Run(score_order(alloc, found)?)),
-        RANK => Ok(Order::Rank(rank_order(alloc, found)?)),
+        LINT => lint_order(alloc, found),
+        CHECK => check_order(alloc, found),
+        SCORE => score_order(alloc, found),
+        RANK => rank_order(alloc, found),
         _ => Err(Refusal::Missing),
     }
 }
 
-fn lint_order<'w>(found: &ArgMatches<'w>) -> Result<RunOrder<'w>, Refusal<'w>>
-    ensures { MatchResult result (IsOrder Lint (mode_of (first_value (found_of found.now) (codes "strict"))) (first_value (found_of found.now) (codes "problem")) None)
-        (RefusesFiles (first_value (found_of found.now) (codes "problem")) None) }
+fn lint_order<'w>(alloc: Global, found: &ArgMatches<'w>) -> Result<Order<'w>, Refusal<'w>>
+    ensures { AnswersBy Lints (mode_of (words_of (found_of found.now)).strict) (lint_words (words_of (found_of found.now))) result }
 {
+    let work = Work::Run(Job::Lint);
     let mode = mode(found.get_str(STRICT));
-    RunOrder::new(Job::Lint, mode, found.get_str(PROBLEM), None)
+    Order::new(alloc, work, mode, found.get_str(PROBLEM), None)
 }
 
-fn check_order<'w>(found: &ArgMatches<'w>) -> Result<RunOrder<'w>, Refusal<'w>>
-    ensures { MatchResult result (IsCheck (words_of (found_of found.now))) (RefusesCheck (words_of (found_of found.now))) }
+fn check_order<'w>(alloc: Global, found: &ArgMatches<'w>) -> Result<Order<'w>, Refusal<'w>>
+    ensures { AnswersBy Checks (mode_of (words_of (found_of found.now)).strict) (check_words (words_of (found_of found.now))) result }
 {
     let after = read_after(found.get_str(AFTER))?;
     let limit = read_limit(found.get_str(LIMIT))?;
-    let job = Job::Check { after, limit };
+    let work = Work::Run(Job::Check { after, limit });
     let mode = mode(found.get_str(STRICT));
-    RunOrder::new(job, mode, found.get_str(PROBLEM), found.get_str(SOLUTION))
-}
-
-fn score_order<'w>(alloc: Global, found: &ArgMatches<'w>) -> Result<RunOrder<'w>, Refusal<'w>>
-    ensures { MatchResult result (IsScore (words_of (found_of found.now))) (RefusesScore (words_of (found_of found.now))) }
-{
-    let aims = read_list(alloc, found.get_str(CRITERIA))?;
-    let mode = mode(found.get_str(STRICT));
-    RunOrder::new(
-        Job::Score { aims },
+    Order::new(
+        alloc,
+        work,
         mode,
         found.get_str(PROBLEM),
-        found.get_str(SOLUTION),
+        found.get_strs(SOLUTION),
     )
 }
 
-fn rank_order<'w>(alloc: Global, found: &ArgMatches<'w>) -> Result<RankOrder<'w>, Refusal<'w>>
-    ensures { MatchResult result (IsRanking (words_of (found_of found.now))) (RefusesRanking (words_of (found_of found.now))) }
+fn score_order<'w>(alloc: Global, found: &ArgMatches<'w>) -> Result<Order<'w>, Refusal<'w>>
+    ensures { AnswersBy Scores (mode_of (words_of (found_of found.now)).strict) (score_words (words_of (found_of found.now))) result }
 {
-    match read_list(alloc, found.get_str(CRITERIA))? {
-        Some(aims) => {
-            let mode = mode(found.get_str(STRICT));
-            RankOrder::new(
-                alloc,
-                aims,
-                mode,
-                found.get_str(PROBLEM),
-                found.get_strs(SOLUTIONS),
-            )
-        }
-        None => Err(Refusal::Missing),
-    }
+    let aims = read_list(alloc, found.get_str(CRITERIA))?;
+    let work = Work::Run(Job::Score { aims });
+    let mode = mode(found.get_str(STRICT));
+    Order::new(
+        alloc,
+        work,
+        mode,
+        found.get_str(PROBLEM),
+        found.get_strs(SOLUTION),
+    )
+}
+
+fn rank_order<'w>(alloc: Global, found: &ArgMatches<'w>) -> Result<Order<'w>, Refusal<'w>>
+    ensures { AnswersBy Ranks (mode_of (words_of (found_of found.now)).strict) (rank_words (words_of (found_of found.now))) result }
+{
+    let aims = read_list(alloc, found.get_str(CRITERIA))?.ok_or(Refusal::Missing)?;
+    let solutions = found.get_strs(SOLUTIONS).ok_or(Refusal::Missing)?;
+    let mode = mode(found.get_str(STRICT));
+    Order::new(
+        alloc,
+        Work::Rank(aims),
+        mode,
+        found.get_str(PROBLEM),
+        Some(solutions),
+    )
 }
 
 /// How strictly to read, by the value of `--strict`.
@@ -258,7 +272,7 @@ fn mode(flag: Option<&str>) -> Mode
 
 /// The key of the word of `--after`.
 fn read_after(word: Option<&str>) -> Result<Option<Key>, Refusal<'_>>
-    ensures { MatchResult result (IsAfter (option_map (λ w. w.now) word.entry)) (RefusesAfter (option_map (λ w. w.now) word.entry)) }
+    ensures { MatchResult result (IsAfter (option_map (λ w. w.now) word.entry)) (RefusesKey (option_map (λ w. w.now) word.entry)) }
 {
     match word {
         Some(word) => match Key::parse(word) {
@@ -306,44 +320,27 @@ impl From<AllocError> for Refusal<'_> {
     }
 }
 
-impl Order<'_> {
-    ghost use Rattle.std.specs.Prelude.{◌≡◌};
-    ghost use Rattle.cudf_program.specs.Command.{takes_standard};
+impl<'w> Order<'w> {
+    ghost use Rattle.std.specs.Prelude.{◌≡◌, MatchResult, count_by, map, option_map};
+    ghost use Rattle.cudf_program.specs.Command.{is_standard, takes_standard, takes_standard_twice, files_alone, IsOrder, Refuses};
 
-    /// Whether one of the files is standard input.
-    pub(crate) fn takes_standard(&self) -> bool
-        ensures { result ≡ takes_standard self.now }
-    {
-        match self {
-            Order::Run(order) => order.takes_standard(),
-            Order::Rank(order) => order.has_standard(),
-        }
-    }
-}
-
-impl<'w> RunOrder<'w> {
-    ghost use Rattle.std.specs.Prelude.{◌≡◌, MatchResult, option_map};
-    ghost use Rattle.cudf_program.specs.Command.{run_takes_standard, run_takes_standard_twice, IsOrder, RefusesFiles};
-
-    /// A job in a mode on the files that these words name. The first word has to be there, and `-` can stand for one file only.
+    /// Some work in a mode, with the files that these words name. The first word has to be there, and `-` can stand for one file only.
     fn new(
-        job: Job,
+        alloc: Global,
+        work: Work,
         mode: Mode,
         problem: Option<&'w str>,
-        solution: Option<&'w str>,
-    ) -> Result<RunOrder<'w>, Refusal<'w>>
+        solutions: Option<&[&'w str]>,
+    ) -> Result<Order<'w>, Refusal<'w>>
         ensures { MatchResult result
-            (IsOrder job mode (option_map (λ w. w.now) problem.entry) (option_map (λ w. w.now) solution.entry))
-            (RefusesFiles (option_map (λ w. w.now) problem.entry) (option_map (λ w. w.now) solution.entry)) }
+            (IsOrder work mode (option_map (λ w. w.now) problem.entry) (option_map (λ ws. map (λ w. w.now) ws.now) solutions.entry))
+            (Refuses (files_alone (option_map (λ w. w.now) problem.entry) (option_map (λ ws. map (λ w. w.now) ws.now) solutions.entry))) }
     {
-        let order = RunOrder {
-            job,
+        let order = Order {
+            work,
             mode,
             problem: file_name(problem.ok_or(Refusal::Missing)?),
-            solution: match solution {
-                Some(word) => Some(file_name(word)),
-                None => None,
-            },
+            solutions: solution_files(alloc, solutions)?,
         };
         if order.takes_standard_twice() {
             Err(Refusal::Twice)
@@ -353,59 +350,15 @@ impl<'w> RunOrder<'w> {
     }
 
     /// Whether one of the files is standard input.
-    fn takes_standard(&self) -> bool
-        ensures { result ≡ run_takes_standard self.now }
-    {
-        self.problem.is_standard() || self.solution == Some(FileName::Standard)
-    }
-
-    /// Whether both files are standard input.
-    fn takes_standard_twice(&self) -> bool
-        ensures { result ≡ run_takes_standard_twice self.now }
-    {
-        self.problem.is_standard() && self.solution == Some(FileName::Standard)
-    }
-}
-
-impl<'w> RankOrder<'w> {
-    ghost use Rattle.std.specs.Prelude.{◌≡◌, MatchResult, count_by, map, option_map};
-    ghost use Rattle.cudf_program.specs.Command.{is_standard, rank_takes_standard, rank_takes_standard_twice, AreOfRanking, RefusesRankedFiles};
-
-    /// A ranking by these aims, of the files that these words name. They have to be there, and `-` can stand for one file only.
-    fn new(
-        alloc: Global,
-        aims: Vec<Aim>,
-        mode: Mode,
-        problem: Option<&'w str>,
-        solutions: Option<&[&'w str]>,
-    ) -> Result<RankOrder<'w>, Refusal<'w>>
-        ensures { MatchResult result
-            (AreOfRanking aims.items mode (option_map (λ w. w.now) problem.entry) (option_map (λ ws. map (λ w. w.now) ws.now) solutions.entry))
-            (RefusesRankedFiles (option_map (λ w. w.now) problem.entry) (option_map (λ ws. map (λ w. w.now) ws.now) solutions.entry)) }
-    {
-        let order = RankOrder {
-            aims,
-            mode,
-            problem: file_name(problem.ok_or(Refusal::Missing)?),
-            solutions: file_names(alloc, solutions.ok_or(Refusal::Missing)?)?,
-        };
-        if order.has_standard_twice() {
-            Err(Refusal::Twice)
-        } else {
-            Ok(order)
-        }
-    }
-
-    /// Whether one of the files is standard input.
-    fn has_standard(&self) -> bool
-        ensures { result ≡ rank_takes_standard self.now }
+    pub(crate) fn takes_standard(&self) -> bool
+        ensures { result ≡ takes_standard self.now }
     {
         self.problem.is_standard() || self.standard_solutions() > 0
     }
 
     /// Whether two of the files are standard input.
-    fn has_standard_twice(&self) -> bool
-        ensures { result ≡ rank_takes_standard_twice self.now }
+    fn takes_standard_twice(&self) -> bool
+        ensures { result ≡ takes_standard_twice self.now }
     {
         self.standard_solutions() > usize::from(!self.problem.is_standard())
     }
@@ -416,6 +369,21 @@ impl<'w> RankOrder<'w> {
     {
         let solutions = self.solutions.iter();
         solutions.filter(|name| name.is_standard()).count()
+    }
+}
+
+/// The files of the solutions that these words name.
+fn solution_files<'w>(
+    alloc: Global,
+    words: Option<&[&'w str]>,
+) -> Result<Vec<FileName<'w>>, Refusal<'w>>
+    ensures { MatchResult result
+        (λ files. AreGivenBy (option_map (λ ws. map (λ w. w.now) ws.now) words.entry) files.items)
+        (λ refusal. (refusal ≡ Memory) × (is_some words.entry ≡ true)) }
+{
+    match words {
+        Some(words) => Ok(file_names(alloc, words)?),
+        None => Ok(Vec::new(alloc)),
     }
 }
 

@@ -52,9 +52,14 @@ impl Failure<'_> {
                 errors,
                 "cudf_check: standard input can't be opened: {error}"
             ),
-            Failure::Run(error) => writeln!(errors, "cudf_check: {error}"),
+            Failure::Run(error) => tell(*error, errors),
         }
     }
+}
+
+/// Says why a run was broken off.
+pub(crate) fn tell<E: Write>(error: RunError, errors: &mut E) -> io::Result<()> {
+    writeln!(errors, "cudf_check: {error}")
 }
 
 impl<'w> Failure<'w> {

@@ -1,25 +1,24 @@
 //! The program `cudf_check`: from its words to what it prints and its exit status.
 #![tactic(auto)]
 
-ghost use Rattle.std.specs.Prelude.{◌≡◌, ◌≢◌, None, Some, IfOk, IfErr, MatchResult, map, option_map, string_bytes};
+ghost use Rattle.std.specs.Prelude.{◌≡◌, ◌≢◌, IfOk, IfErr, MatchResult, map, string_bytes};
 ghost use Rattle.std.specs.Vec.Iter.{into_iter_items};
 ghost use Rattle.cudf_program.specs.Failure.{IsStatusOf, answer_status, failure_status};
-ghost use Rattle.cudf_program.specs.Program.{IsPrepared, IsFailureOf, IsOfFile, IsOpened, IsRunTask, MayBeOpened, Performed, Ran, Responds, bytes_left};
+ghost use Rattle.cudf_program.specs.Program.{AreOpened, Did, IsPrepared, IsFailureOf, IsOfFile, IsOpened, IsTask, IsUnopened, Responds, left_of, sink_state};
+ghost use Rattle.cudf_program.specs.declared.command.Work.TheVariants.{Run};
 
 mod command;
 mod failure;
 mod file;
 mod grammar;
-mod ranking;
 #[cfg(test)]
 mod tests;
 mod usage;
 
-use command::{FileName, Order, RunOrder, command as order_of};
-use cudf_check::{Device, Job, Mode, Outcome, RunError, Sink, run};
-use failure::Failure;
+use command::{FileName, Order, Work, command as order_of};
+use cudf_check::{Device, Job, Mode, Outcome, RunError, Sink, rank, run};
+use failure::{Failure, tell};
 use file::{Input, open};
-use ranking::{RankTask, prepare_ranking, run_ranking};
 use std::alloc::{AllocError, Global};
 use std::env;
 use std::fs::File;
@@ -30,7 +29,7 @@ use std::rt::Env;
 fn main(rt: HostRuntime) -> ExitCode {
     let (mut output, mut errors) = (rt.stdout(), rt.stderr());
     let status = match words(&rt) {
-        Ok(words) => respond(&rt, &words, rt.stdin(), output, &mut errors).0,
+        Ok(words) => respond(&rt, &words, rt.stdin(), Device::new(output), &mut errors).0,
         Err(error) => fail(Failure::from_words(error), &mut output, &mut errors),
     };
     ExitCode::from(status)
@@ -60,55 +59,44 @@ fn respond<I: Read + Copy + Drop, O: Write + Drop, E: Write>(
     rt: &HostRuntime,
     words: &[String],
     standard: I,
-    mut output: O,
+    mut out: Device<O>,
     errors: &mut E,
-) -> (u8, O)
-    ensures { Responds (map (λ word. string_bytes word) words.now) (I.remaining standard) (O.contents output) (O.contents result.1) result.0 }
+) -> (u8, Device<O>)
+    ensures { Responds (map (λ word. string_bytes word) words.now) (I.remaining standard) (sink_state O.contents out) (sink_state O.contents result.1) result.0 }
 {
     match prepare(rt, words, standard) {
         Ok(task) => {
-            let (answer, mut output) = perform(rt, task, output);
-            let status = close(answer, &mut output, errors);
-            (status, output)
+            let answer = perform(rt.alloc(), task, &mut out);
+            (close(answer, errors), out)
         }
         Err(failure) => {
+            let mut output = out.into_inner();
             let status = fail(failure, &mut output, errors);
-            (status, output)
+            (status, Device::new(output))
         }
     }
 }
 
 /// The exit status of a run's answer. Where the run was broken off, it says why.
-fn close<O: Write, E: Write>(
-    answer: Result<Outcome, RunError>,
-    output: &mut O,
-    errors: &mut E,
-) -> u8
-    ensures status { result ≡ answer_status answer }
-    ensures quiet { output.new ≡ output.old }
+fn close<E: Write>(answer: Result<Outcome, RunError>, errors: &mut E) -> u8
+    ensures { result ≡ answer_status answer }
 {
     match answer {
         Ok(outcome) => outcome.status(),
-        Err(error) => fail(Failure::Run(error), output, errors),
+        Err(error) => {
+            let _told = tell(error, errors);
+            error.status()
+        }
     }
 }
 
 /// What the words ask for, on open files.
 #[derive(Drop)]
-enum Task<I> {
-    /// One run.
-    Run(RunTask<I>),
-    /// A ranking.
-    Rank(RankTask<I>),
-}
-
-/// A job on open files.
-#[derive(Drop)]
-struct RunTask<I> {
-    job: Job,
+struct Task<I> {
+    work: Work,
     mode: Mode,
-    problem: Input<I>,
-    solution: Option<Input<I>>,
+    problem: Device<Input<I>>,
+    solutions: Vec<Device<Input<I>>>,
 }
 
 /// Opens the files that the words name. Nothing is opened before the words are understood and, where
@@ -120,32 +108,49 @@ fn prepare<'w, I: Read + Copy + Drop>(
 ) -> Result<Task<I>, Failure<'w>>
     ensures { MatchResult result (IsPrepared (map (λ word. string_bytes word) words.entry.now) standard) (IsFailureOf (map (λ word. string_bytes word) words.entry.now)) }
 {
-    let order = order_of(rt.alloc(), words)?;
-    if order.takes_standard() {
-        expect_open(standard)?;
-    }
-    match order {
-        Order::Run(order) => Ok(Task::Run(prepare_run(rt, order, standard)?)),
-        Order::Rank(order) => Ok(Task::Rank(prepare_ranking(rt, order, standard)?)),
+    match order_of(rt.alloc(), words) {
+        Ok(order) => open_files(rt, order, standard),
+        Err(usage) => Err(Failure::Usage(usage)),
     }
 }
 
-/// Opens the files of a run, that of the problem first.
-fn prepare_run<'w, I: Copy + Drop>(
+/// Opens the files of an order, that of the problem first, and then those of the solutions in order.
+fn open_files<'w, I: Read + Copy + Drop>(
     rt: &HostRuntime,
-    order: RunOrder<'w>,
+    order: Order<'w>,
     standard: I,
-) -> Result<RunTask<I>, Failure<'w>>
-    ensures { MatchResult result (IsRunTask standard order.entry) IsOfFile }
+) -> Result<Task<I>, Failure<'w>>
+    ensures { MatchResult result (IsTask standard order.entry) IsOfFile }
 {
+    if order.takes_standard() {
+        expect_open(standard)?;
+    }
     let problem = open_named(rt, order.problem, standard)?;
-    let solution = open_solution(rt, order.solution, standard)?;
-    Ok(RunTask {
-        job: order.job,
+    let solutions = open_each(rt, &order.solutions, standard)?;
+    Ok(Task {
+        work: order.work,
         mode: order.mode,
-        problem,
-        solution,
+        problem: Device::new(problem),
+        solutions,
     })
+}
+
+/// Opens the files of these names, in order.
+fn open_each<'w, I: Copy + Drop>(
+    rt: &HostRuntime,
+    names: &[FileName<'w>],
+    standard: I,
+) -> Result<Vec<Device<Input<I>>>, Failure<'w>>
+    ensures { MatchResult result (λ devices. AreOpened standard names.now devices.items) IsOfFile }
+{
+    let mut devices = Vec::new(rt.alloc());
+    for &name in names {
+        let input = open_named(rt, name, standard)?;
+        if devices.push(Device::new(input)).is_err() {
+            return Err(Failure::Run(RunError::Memory));
+        }
+    }
+    Ok(devices)
 }
 
 /// Fails where standard input is closed: a file that is opened then would be read in its place.
@@ -159,12 +164,13 @@ fn expect_open<'w, I: Read + Drop>(mut standard: I) -> Result<(), Failure<'w>>
 }
 
 /// Opens a file that the words name.
-pub(crate) fn open_named<'w, I: Drop>(
+fn open_named<'w, I: Drop>(
     rt: &HostRuntime,
     name: FileName<'w>,
     standard: I,
 ) -> Result<Input<I>, Failure<'w>>
-    ensures { MatchResult result (IsOpened standard name.entry) IsOfFile }
+    ensures opened { MatchResult result (IsOpened standard name.entry) IsOfFile }
+    ensures named { IfErr result (IsUnopened name.entry) }
 {
     match open(rt, name, standard) {
         Ok(input) => Ok(input),
@@ -172,84 +178,41 @@ pub(crate) fn open_named<'w, I: Drop>(
     }
 }
 
-/// Opens the file of the solution, where the words name one.
-fn open_solution<'w, I: Drop>(
-    rt: &HostRuntime,
-    name: Option<FileName<'w>>,
-    standard: I,
-) -> Result<Option<Input<I>>, Failure<'w>>
-    ensures { MatchResult result (MayBeOpened standard name.entry) IsOfFile }
-{
-    match name {
-        Some(name) => Ok(Some(open_named(rt, name, standard)?)),
-        None => Ok(None),
-    }
-}
-
-/// Does it on open files, and gives standard output back.
-fn perform<I: Read + Drop, O: Write + Drop>(
-    rt: &HostRuntime,
+/// Does the work on open files.
+fn perform<I: Read + Drop, W: Sink>(
+    alloc: Global,
     task: Task<I>,
-    output: O,
-) -> (Result<Outcome, RunError>, O)
-    ensures { Performed I.remaining task (O.contents output) (O.contents result.1) result.0 }
-{
-    let mut out = Device::new(output);
-    let answer = match task {
-        Task::Run(task) => run_inputs(rt.alloc(), task, &mut out),
-        Task::Rank(task) => run_ranking(rt.alloc(), task, &mut out),
-    };
-    (answer, out.into_inner())
-}
-
-/// Runs on one file or on two.
-fn run_inputs<I: Read + Drop, W: Sink>(
-    alloc: Global,
-    task: RunTask<I>,
     out: &mut W,
 ) -> Result<Outcome, RunError>
-    ensures { Ran task.job task.mode (bytes_left I.remaining task.problem) (option_map (bytes_left I.remaining) task.solution) (W.state out.old).contents (W.state out.new).contents result }
+    ensures { Did task.work task.mode (left_of I.remaining task.problem) (map (left_of I.remaining) task.solutions.items) (W.state out.old) (W.state out.new) result }
 {
-    let RunTask {
-        job,
+    let Task {
+        work,
         mode,
-        problem,
-        solution,
+        mut problem,
+        mut solutions,
     } = task;
-    match solution {
-        Some(solution) => run_two(alloc, &job, mode, problem, solution, out),
-        None => run_one(alloc, &job, mode, problem, out),
+    match work {
+        Work::Run(job) => run_files(alloc, &job, mode, &mut problem, &mut solutions, out),
+        Work::Rank(aims) => rank(alloc, &aims, mode, &mut problem, &mut solutions, out),
     }
 }
 
-/// Runs on one file.
-fn run_one<I: Read + Drop, W: Sink>(
+/// Runs on the problem, and on the first of the solutions, where there is one.
+fn run_files<I: Read + Drop, W: Sink>(
     alloc: Global,
     job: &Job,
     mode: Mode,
-    problem: Input<I>,
+    problem: &mut Device<Input<I>>,
+    solutions: &mut [Device<Input<I>>],
     out: &mut W,
 ) -> Result<Outcome, RunError>
-    ensures { Ran job.now mode (bytes_left I.remaining problem) None (W.state out.old).contents (W.state out.new).contents result }
+    ensures { Did (Run job.now) mode (left_of I.remaining problem.old) (map (left_of I.remaining) solutions.old) (W.state out.old) (W.state out.new) result }
 {
-    let mut input = Device::new(problem);
-    run::<_, Device<File>, _>(alloc, job, mode, &mut input, None, out)
-}
-
-/// Runs on two files.
-fn run_two<I: Read + Drop, W: Sink>(
-    alloc: Global,
-    job: &Job,
-    mode: Mode,
-    problem: Input<I>,
-    solution: Input<I>,
-    out: &mut W,
-) -> Result<Outcome, RunError>
-    ensures { Ran job.now mode (bytes_left I.remaining problem) (Some (bytes_left I.remaining solution)) (W.state out.old).contents (W.state out.new).contents result }
-{
-    let mut input = Device::new(problem);
-    let mut proposed = Device::new(solution);
-    run(alloc, job, mode, &mut input, Some(&mut proposed), out)
+    match solutions.first_mut() {
+        Some(solution) => run(alloc, job, mode, problem, Some(solution), out),
+        None => run::<_, Device<File>, _>(alloc, job, mode, problem, None, out),
+    }
 }
 
 /// Prints what went wrong, and answers the exit status. Help that can't be printed is a write fault.

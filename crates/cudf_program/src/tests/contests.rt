@@ -1,5 +1,5 @@
 //! Lists of criteria, and the words of `rank`.
-use crate::command::{FileName, Order, RankOrder, command};
+use crate::command::{FileName, Order, Work, command};
 use crate::tests::words::{file, run_in, status_of, words};
 use cudf_check::{Aim, Count, Job, Mode, Sign};
 use std::alloc::{AllocError, Global};
@@ -51,7 +51,10 @@ fn asks_for_a_score_by_a_list(rt: HostRuntime) -> Result<(), Fail> {
         let job = Job::Score {
             aims: Some(aims(rt.alloc())?),
         };
-        assert!(rt; asked == run_in(mode, job, "p", Some("s")), "{line}");
+        assert!(rt;
+            asked == run_in(rt.alloc(), mode, job, "p", Some("s"))?,
+            "{line}"
+        );
     }
     Ok(())
 }
@@ -127,12 +130,12 @@ fn asks_for_a_ranking(rt: HostRuntime) -> Result<(), Fail> {
     for contest in CONTESTS {
         let words = words(&rt, contest.line)?;
         let asked = command(rt.alloc(), &words)?;
-        let expected = Order::Rank(RankOrder {
-            aims: aims(rt.alloc())?,
+        let expected = Order {
+            work: Work::Rank(aims(rt.alloc())?),
             mode: contest.mode,
             problem: file(contest.problem),
             solutions: files(rt.alloc(), contest.solutions)?,
-        });
+        };
         assert!(rt; asked == expected, "{}", contest.line);
     }
     Ok(())
@@ -146,10 +149,8 @@ fn asks_for_a_large_ranking(rt: HostRuntime) -> Result<(), Fail> {
         line.push_str(" s")?;
     }
     let words = words(&rt, &line)?;
-    match command(rt.alloc(), &words)? {
-        Order::Rank(order) => assert_eq!(rt; order.solutions.len(), 1000),
-        Order::Run(_) => return Err(Fail::new("a run")),
-    }
+    let order = command(rt.alloc(), &words)?;
+    assert_eq!(rt; order.solutions.len(), 1000);
     Ok(())
 }
 

@@ -6,7 +6,7 @@ use crate::tests::output::{UNMET, write_files};
 use crate::tests::words::words;
 use crate::usage::Usage;
 use crate::{fail, respond};
-use cudf_check::RunError;
+use cudf_check::{Device, RunError};
 use std::io::{self, ErrorKind, Read, Write};
 use std::test::Fail;
 
@@ -24,7 +24,9 @@ impl Read for Closed {
 fn answers(rt: &HostRuntime, line: &str, want: u8, report: &str, told: &str) -> Result<bool, Fail> {
     let words = words(rt, line)?;
     let mut errors = Vec::new(rt.alloc());
-    let (status, output) = respond(rt, &words, Closed, Vec::new(rt.alloc()), &mut errors);
+    let out = Device::new(Vec::new(rt.alloc()));
+    let (status, out) = respond(rt, &words, Closed, out, &mut errors);
+    let output = out.into_inner();
     Ok(
         status == want
             && output.as_slice() == report.as_bytes()
@@ -128,7 +130,7 @@ impl Write for Full {
 fn told_of_a_full_output(rt: &HostRuntime, line: &str) -> Result<(u8, Vec<u8>), Fail> {
     let words = words(rt, line)?;
     let mut errors = Vec::new(rt.alloc());
-    let (status, _output) = respond(rt, &words, Closed, Full, &mut errors);
+    let (status, _output) = respond(rt, &words, Closed, Device::new(Full), &mut errors);
     Ok((status, errors))
 }
 

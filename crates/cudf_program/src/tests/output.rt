@@ -1,6 +1,7 @@
 //! What the program prints, and its exit status, over files that the tests write.
 use crate::respond;
 use crate::tests::words::words;
+use cudf_check::Device;
 use std::fs;
 use std::test::Fail;
 
@@ -83,13 +84,14 @@ pub(super) fn fails(line: &'static str, status: u8, errors: &'static str) -> Cas
 fn passes(rt: &HostRuntime, case: &Case) -> Result<bool, Fail> {
     let words = words(rt, case.line)?;
     let mut errors = Vec::new(rt.alloc());
-    let (status, output) = respond(
+    let (status, out) = respond(
         rt,
         &words,
         case.standard.as_bytes(),
-        Vec::new(rt.alloc()),
+        Device::new(Vec::new(rt.alloc())),
         &mut errors,
     );
+    let output = out.into_inner();
     Ok(
         status == case.status
             && output.as_slice() == case.output.as_bytes()

@@ -1,6 +1,7 @@
 //! Words, the runs that they ask for, and the statuses of those that ask for none.
-use crate::command::{FileName, Order, RunOrder, command};
+use crate::command::{FileName, Order, Work, command};
 use cudf_check::{Job, Key, Mode};
+use std::alloc::{AllocError, Global};
 use std::test::Fail;
 
 /// The words behind the program's name, parted at spaces.
@@ -26,22 +27,32 @@ pub(super) fn file(word: &str) -> FileName<'_> {
 
 /// The run on these files, which are read in this mode.
 pub(super) fn run_in<'w>(
+    alloc: Global,
     mode: Mode,
     job: Job,
     problem: &'w str,
     solution: Option<&'w str>,
-) -> Order<'w> {
-    Order::Run(RunOrder {
-        job,
+) -> Result<Order<'w>, AllocError> {
+    let mut solutions = Vec::new(alloc);
+    if let Some(word) = solution {
+        solutions.push(file(word))?;
+    }
+    Ok(Order {
+        work: Work::Run(job),
         mode,
         problem: file(problem),
-        solution: solution.map(|word| file(word)),
+        solutions,
     })
 }
 
 /// The run on these files, which are read leniently.
-fn order<'w>(job: Job, problem: &'w str, solution: Option<&'w str>) -> Order<'w> {
-    run_in(Mode::Lenient, job, problem, solution)
+fn order<'w>(
+    alloc: Global,
+    job: Job,
+    problem: &'w str,
+    solution: Option<&'w str>,
+) -> Result<Order<'w>, AllocError> {
+    run_in(alloc, Mode::Lenient, job, problem, solution)
 }
 
 /// The command of a line, without a page and a list.
@@ -90,7 +101,7 @@ fn asks_for_a_run(rt: HostRuntime) -> Result<(), Fail> {
     for (line, asked, problem, solution) in lines {
         let words = words(&rt, line)?;
         let answer = command(rt.alloc(), &words)?;
-        let expected = order(job_of(asked), problem, solution);
+        let expected = order(rt.alloc(), job_of(asked), problem, solution)?;
         assert!(rt; answer == expected, "{line}");
     }
     Ok(())
@@ -126,7 +137,7 @@ fn asks_for_a_page(rt: HostRuntime) -> Result<(), Fail> {
     for (line, (after, limit)) in &lines {
         let words = words(&rt, line)?;
         let asked = command(rt.alloc(), &words)?;
-        let expected = order(page(*after, *limit), "p", Some("s"));
+        let expected = order(rt.alloc(), page(*after, *limit), "p", Some("s"))?;
         assert!(rt; asked == expected, "{line}");
     }
     Ok(())
@@ -148,16 +159,25 @@ fn asks_for_strictness(rt: HostRuntime) -> Result<(), Fail> {
     for (line, asked, problem, solution) in lines {
         let words = words(&rt, line)?;
         let answer = command(rt.alloc(), &words)?;
-        let expected = run_in(Mode::Strict, job_of(asked), problem, solution);
+        let expected = run_in(rt.alloc(), Mode::Strict, job_of(asked), problem, solution)?;
         assert!(rt; answer == expected, "{line}");
     }
     let words_of_page = words(&rt, "check p --limit 7 --strict s")?;
     let paged = command(rt.alloc(), &words_of_page)?;
-    assert!(rt; paged == run_in(Mode::Strict, page(None, Some(7)), "p", Some("s")));
+    assert!(rt;
+        paged
+            == run_in(
+                rt.alloc(),
+                Mode::Strict,
+                page(None, Some(7)),
+                "p",
+                Some("s")
+            )?
+    );
     // Behind `--` it is a file.
     let words = words(&rt, "check p -- --strict")?;
     let asked = command(rt.alloc(), &words)?;
-    assert!(rt; asked == order(page(None, None), "p", Some("--strict")));
+    assert!(rt; asked == order(rt.alloc(), page(None, None), "p", Some("--strict"))?);
     Ok(())
 }
 

@@ -1,4 +1,4 @@
-use Rattle.std.proofs.Common.{ℕ, List, Option, map, string_bytes, inr, refl, subst}
+use Rattle.std.proofs.Common.{ℕ, List, Option, map, string_bytes, inr, subst}
 use Rattle.clap.specs.Words.{Row, app_of}
 use Rattle.cudf_program.specs.Command.{IsAskedBy, IsRefusedBy}
 use Rattle.cudf_program.proofs.OrderLemmas.{fits-by-grammar, kind-by-grammar, met, told}
@@ -25,11 +25,11 @@ returns-clause-asks c =
     let words : List (List ℕ) = map string_bytes c.args.words.now in
     let of_grammar = c.in_ok-program.ensures.0 in
     inr (inr (
-      refl,
-      record {
-        fits = fits-by-grammar words (app_of c.in_ok-program.program) of_grammar c.in_ok-matches.ensures.kinds;
-        refusal = c.in-Err.refusal;
-        refuses = subst (λ (rows : Option (List ℕ × List Row)). IsRefusedBy words rows c.in-Err.refusal)
-            (met words (app_of c.in_ok-program.program) c.in_ok-matches.matches of_grammar c.in_ok-matches.ensures.ok.2) c.in-Err.ensures.asks;
-      },
+    record {
+      fits = fits-by-grammar words (app_of c.in_ok-program.program) of_grammar c.in_ok-matches.ensures.kinds;
+      refusal = c.in-Err.refusal;
+      refuses = subst (λ (rows : Option (List ℕ × List Row)). IsRefusedBy words rows c.in-Err.refusal)
+          (met words (app_of c.in_ok-program.program) c.in_ok-matches.matches of_grammar c.in_ok-matches.ensures.ok.2) c.in-Err.ensures.asks;
+      status_is = c.in_ok-usage-in-Err.ensures;
+    }
     ))
