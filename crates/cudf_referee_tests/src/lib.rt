@@ -1,11 +1,7 @@
-//! Tests of statuses, of the referee and of lists of aims over their public items, as an outside user calls them.
-//! Expected values come from the format's own rules, never from what the program printed.
+//! Tests of statuses over their public items, as an outside user calls them. Expected values come from the format's own
+//! rules, never from what the program printed. What the referee finds is shown by rows of `cudf_rows` and `cudf_tests`.
 #![tactic(auto)]
 
-#[cfg(test)]
-mod aims;
-#[cfg(test)]
-mod referees;
 #[cfg(test)]
 mod statuses;
 #[cfg(test)]

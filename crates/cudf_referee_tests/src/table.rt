@@ -1,6 +1,5 @@
 //! Tables: rows that are each right or wrong.
 use std::alloc::Global;
-use std::fmt::Display;
 use std::process::Abort;
 
 /// Asserts that each row is right, and names the first one that isn't by its number, from 1.
@@ -14,13 +13,5 @@ pub(crate) fn assert_rows<R, F: Fn(Global, &R) -> bool + Drop>(
 {
     for (before, row) in rows.iter().enumerate() {
         assert!(rt; is_right(alloc, row), "row {}", before as u128 + 1);
-    }
-}
-
-/// Whether the value is printed as this text.
-pub(crate) fn prints<T: Display>(alloc: Global, value: &T, want: &str) -> bool {
-    match value.to_string(alloc) {
-        Ok(text) => text.as_str() == want,
-        Err(_) => false,
     }
 }

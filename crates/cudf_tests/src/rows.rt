@@ -1,68 +1,97 @@
 //! Runs from documents to reports: what is printed, and how the run ends.
-mod aims;
-mod cases;
-mod contest;
+mod faults;
 mod fronts;
-mod joined;
-mod lints;
-mod made;
+mod large;
+mod lists;
 mod pages;
-mod rankings;
-mod scores;
-mod short;
 mod worked;
 
-use cudf_check::{Device, Job, Mode, Outcome, run};
-use std::alloc::Global;
+use cudf_check::{Aim, Device, Job, Key, Mode, Outcome, RunError, rank, run};
+use cudf_referee::read_criterion;
+use cudf_value::read_posint;
+use std::alloc::{AllocError, Global};
 
-/// A problem, a solution, the report, and the outcome.
-type Pair = (&'static [u8], &'static [u8], &'static [u8], Outcome);
+/// What the row shows, its job, a problem (or one input that holds both documents), the solutions, the report, and the
+/// outcome. A job is written as on the command line.
+type Row = (
+    &'static str,
+    &'static str,
+    &'static [u8],
+    &'static [&'static [u8]],
+    &'static [u8],
+    Outcome,
+);
 
-/// One input, the report, and the outcome.
-type Whole = (&'static [u8], &'static [u8], Outcome);
-
-const CHECK: Job = Job::Check {
-    after: None,
-    limit: None,
-};
-
-/// Whether the run of the job on two inputs writes this report and ends so.
-fn is_checked(alloc: Global, row: &Pair) -> bool {
-    is_checked_for(alloc, row.0, row)
+/// What stands in a job behind this beginning of a word.
+fn option<'a>(job: &'a str, name: &str) -> Option<&'a str> {
+    job.split(" ").find_map(|word| word.strip_prefix(name))
 }
 
-/// Whether it is so with these bytes in place of the row's problem.
-fn is_checked_for(alloc: Global, problem: &[u8], row: &Pair) -> bool {
-    let mut problem = Device::new(problem);
-    let mut solution = Device::new(row.1);
+fn mode_of(job: &str) -> Mode {
+    match option(job, "--strict") {
+        Some(_) => Mode::Strict,
+        None => Mode::Lenient,
+    }
+}
+
+fn job_of(job: &str, aims: Option<Vec<Aim>>) -> Job {
+    if job.starts_with("lint") {
+        return Job::Lint;
+    }
+    if job.starts_with("score") {
+        return Job::Score { aims };
+    }
+    Job::Check {
+        after: option(job, "--after=").and_then(Key::parse),
+        limit: option(job, "--limit=").and_then(read_posint),
+    }
+}
+
+/// Readers of these documents.
+fn devices<'a>(alloc: Global, documents: &[&'a [u8]]) -> Result<Vec<Device<&'a [u8]>>, AllocError> {
+    let mut devices = Vec::new(alloc);
+    for document in documents {
+        devices.push(Device::new(*document))?;
+    }
+    Ok(devices)
+}
+
+/// How the row's job ends. Its report goes to `out`.
+fn answer(
+    alloc: Global,
+    row: &Row,
+    out: &mut Device<Vec<u8>>,
+) -> Result<Result<Outcome, RunError>, AllocError> {
+    let mut problem = Device::new(row.2);
+    let mut solutions = devices(alloc, row.3)?;
+    let aims = match option(row.1, "--criteria=") {
+        Some(list) => read_criterion(alloc, list)?,
+        None => None,
+    };
+    let mode = mode_of(row.1);
+    Ok(match aims {
+        Some(aims) if row.1.starts_with("rank") => {
+            rank(alloc, &aims, mode, &mut problem, &mut solutions, out)
+        }
+        aims => {
+            let job = job_of(row.1, aims);
+            run(alloc, &job, mode, &mut problem, solutions.first_mut(), out)
+        }
+    })
+}
+
+/// Whether the row's job writes its report and ends so.
+fn is_right(alloc: Global, row: &Row) -> bool {
     let mut out = Device::new(Vec::new(alloc));
-    match run(
-        alloc,
-        &CHECK,
-        Mode::Lenient,
-        &mut problem,
-        Some(&mut solution),
-        &mut out,
-    ) {
-        Ok(outcome) => outcome == row.3 && out.into_inner().as_slice() == row.2,
+    match answer(alloc, row, &mut out) {
+        Ok(answer) => answer == Ok(row.5) && out.into_inner().as_slice() == row.4,
         Err(_) => false,
     }
 }
 
-fn is_checked_alone(alloc: Global, row: &Whole) -> bool {
-    is_answered(alloc, &CHECK, row)
-}
-
-fn is_linted(alloc: Global, row: &Whole) -> bool {
-    is_answered(alloc, &Job::Lint, row)
-}
-
-/// Whether the run of the job on one input writes this report and ends so.
-fn is_answered(alloc: Global, job: &Job, row: &Whole) -> bool {
-    let mut input = Device::new(row.0);
-    let mut out = Device::new(Vec::new(alloc));
-    match run::<_, Device<&[u8]>, _>(alloc, job, Mode::Lenient, &mut input, None, &mut out) {
-        Ok(outcome) => outcome == row.2 && out.into_inner().as_slice() == row.1,
-        Err(_) => false,
+#[test]
+fn rows(rt: HostRuntime) {
+    for row in worked::ROWS.iter().chain(&faults::ROWS).chain(&lists::ROWS) {
+        assert!(rt; is_right(rt.alloc(), row), "{}", row.0);
     }
 }

@@ -1,6 +1,6 @@
 //! The beginnings of an input that holds a problem and its solution, of each length: how a run ends on a file that was
 //! cut off, answered by hand from the rules of the format.
-use super::is_checked_alone;
+use super::is_right;
 use cudf_check::Outcome;
 use std::alloc::Global;
 
@@ -155,7 +155,9 @@ fn is_answered(alloc: Global, length: usize) -> bool {
         INPUT.get(..length),
         RANGES.iter().find(|range| length <= range.0),
     ) {
-        (Some(front), Some(range)) => is_checked_alone(alloc, &(front, range.1, range.2)),
+        (Some(front), Some(range)) => {
+            is_right(alloc, &("a front", "check", front, &[], range.1, range.2))
+        }
         _ => false,
     }
 }

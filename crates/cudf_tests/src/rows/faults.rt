@@ -1,83 +1,153 @@
-//! Problems alone, one for each kind of fault.
-use super::{Whole, is_linted};
-use crate::table::assert_rows;
+//! One fault of each kind.
+use super::Row;
 use cudf_check::Outcome;
 
-const PROBLEMS: [Whole; 15] = [
-    (b"request:\n", b"problem ok\n", Outcome::Yes),
+/// Kinds 1 to 13 of problems, but for E1; and what is a fault with `--strict` alone.
+pub(super) const ROWS: [Row; 18] = [
     (
+        "a line without colon",
+        "lint",
         b"request r\n",
+        &[],
         b"problem line 1: E2 not a property, continuation, comment or blank line\n",
         Outcome::Faulty,
     ),
     (
+        "a continuation of nothing",
+        "lint",
         b" x\nrequest:\n",
+        &[],
         b"problem line 1: E3 continuation of nothing\n",
         Outcome::Faulty,
     ),
     (
+        "a stanza without postmark",
+        "lint",
         b"version: 1\n\nrequest:\n",
+        &[],
         b"problem line 1: E4 stanza without postmark\n",
         Outcome::Faulty,
     ),
     (
+        "a late preamble",
+        "lint",
         b"package: a\nversion: 1\n\npreamble:\n\nrequest:\n",
+        &[],
         b"problem line 4: E5 preamble is not first\n",
         Outcome::Faulty,
     ),
     (
+        "a late package",
+        "lint",
         b"request:\n\npackage: a\nversion: 1\n",
+        &[],
         b"problem line 3: E6 stanza after the request\n",
         Outcome::Faulty,
     ),
     (
+        "a second version",
+        "lint",
         b"package: a\nversion: 1\nversion: 1\n\nrequest:\n",
+        &[],
         b"problem line 3: E7 property repeated\n",
         Outcome::Faulty,
     ),
     (
+        "a property of no name",
+        "lint",
         b"package: a\nversion: 1\nsize: 3\n\nrequest:\n",
+        &[],
         b"problem line 3: E8 property not declared\n",
         Outcome::Faulty,
     ),
     (
+        "version 0",
+        "lint",
         b"package: a\nversion: 0\n\nrequest:\n",
+        &[],
         b"problem line 2: E9 value is not of its type\n",
         Outcome::Faulty,
     ),
     (
+        "a reserved name",
+        "lint",
         b"preamble:\nproperty: version: int\n\nrequest:\n",
+        &[],
         b"problem line 2: E10 bad declaration\n",
         Outcome::Faulty,
     ),
     (
+        "declared twice",
+        "lint",
         b"preamble:\nproperty: a: int\nproperty: b: nat, a: int\n\nrequest:\n",
+        &[],
         b"problem line 3: E10 bad declaration\n",
         Outcome::Faulty,
     ),
     (
+        "a package twice",
+        "lint",
         b"package: a\nversion: 1\n\npackage: a\nversion: 01\n\nrequest:\n",
+        &[],
         b"problem line 5: E11 package repeated\n",
         Outcome::Faulty,
     ),
     (
+        "a package without version",
+        "lint",
         b"package: a\ninstalled: true\n\nrequest:\n",
+        &[],
         b"problem line 2: E12 no version\n",
         Outcome::Faulty,
     ),
     (
+        "a problem without request",
+        "lint",
         b"package: a\nversion: 1\n",
+        &[],
         b"problem line 2: E13 no request\n",
         Outcome::Faulty,
     ),
     (
-        b"preamble:\nproperty: recommends: vpkgformula = [true!], number: string = [\"\"],\n# between\n  colour: enum[red, green] = \"red\"\n\npackage: a\r\nversion: +01\nrecommends: b | c, d\nnumber: 1.0-2\ncolour: green\ninstalled: true\n\npackage: d\nversion: 1\n\nrequest: r",
+        "a declared property is absent",
+        "lint",
+        b"preamble:\nproperty: size: nat\n\npackage: a\nversion: 1\n\nrequest:\n",
+        &[],
         b"problem ok\n",
         Outcome::Yes,
     ),
+    (
+        "a declared property is missing",
+        "lint --strict",
+        b"preamble:\nproperty: size: nat\n\npackage: a\nversion: 1\n\nrequest:\n",
+        &[],
+        b"problem line 5: E14 declared property missing\n",
+        Outcome::Faulty,
+    ),
+    (
+        "E12 beside E14",
+        "lint --strict",
+        b"preamble:\nproperty: size: nat\n\npackage: a\n\nrequest:\n",
+        &[],
+        b"problem line 4: E12 no version\n",
+        Outcome::Faulty,
+    ),
+    (
+        "declared with defaults",
+        "lint --strict",
+        b"preamble:\nproperty: recommends: vpkgformula = [true!], number: string = [\"\"],\n# between\n  colour: enum[red, green] = \"red\"\n\npackage: a\r\nversion: +01\nrecommends: b | c, d\nnumber: 1.0-2\ncolour: green\ninstalled: true\n\npackage: d\nversion: 1\n\nrequest: r",
+        &[],
+        b"problem ok\n",
+        Outcome::Yes,
+    ),
+    (
+        "the second of three stanzas of a pair",
+        "check --strict",
+        b"package: car\nversion: 1\ninstalled: true\n\nrequest: r\nremove: car\n",
+        &[
+            b"package: ghost\nversion: 9\ninstalled: true\n\npackage: car\nversion: 1\ninstalled: true\n\npackage: ghost\nversion: 9\n\npackage: ghost\nversion: 9\ninstalled: true\n",
+        ],
+        b"solution line 10: E15 pair repeated\n",
+        Outcome::Faulty,
+    ),
 ];
-
-#[test]
-fn problems(rt: HostRuntime) {
-    assert_rows(&rt, rt.alloc(), &PROBLEMS, is_linted);
-}

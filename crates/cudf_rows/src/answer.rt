@@ -1,0 +1,75 @@
+//! What runs on the documents of a row write, and how they end.
+use crate::asked::{Asked, Task};
+use crate::document::Documents;
+use cudf_check::{Device, rank, run};
+use std::alloc::{AllocError, Global};
+
+/// The bytes of a long comment, more than eight times those of each solution.
+const COMMENT: usize = 2000;
+
+/// The exit status, and what was written.
+type Answer = (u8, Vec<u8>);
+
+/// The answer, and where a second run is asked for and answers otherwise, that too.
+pub(crate) fn answers(
+    alloc: Global,
+    asked: &Asked,
+    documents: &Documents,
+) -> Result<Answer, AllocError> {
+    let solutions = &documents.solutions;
+    let (status, mut report) = answer(alloc, asked, &documents.problem, solutions)?;
+    if asked.is_also_long {
+        let problem = with_comment(alloc, &documents.problem)?;
+        let (again, other) = answer(alloc, asked, &problem, solutions)?;
+        if again != status || other.as_slice() != report.as_slice() {
+            report.extend_from_slice(b"beside a long problem:\n")?;
+            report.extend_from_slice(&other)?;
+        }
+    }
+    Ok((status, report))
+}
+
+/// The problem with a comment behind its last line.
+fn with_comment(alloc: Global, problem: &[u8]) -> Result<Vec<u8>, AllocError> {
+    let dots = vec![in alloc; b'.'; COMMENT]?;
+    let mut bytes = Vec::from_slice(alloc, problem)?;
+    bytes.extend_from_slice(b"\n#")?;
+    bytes.extend_from_slice(&dots)?;
+    Ok(bytes)
+}
+
+/// The answer of one run.
+fn answer(
+    alloc: Global,
+    asked: &Asked,
+    problem: &[u8],
+    solutions: &[Vec<u8>],
+) -> Result<Answer, AllocError> {
+    let mut input = Device::new(problem);
+    let mut proposed = devices(alloc, solutions)?;
+    let mut out = Device::new(Vec::new(alloc));
+    let ended = match &asked.task {
+        Task::Run(job) => run(
+            alloc,
+            job,
+            asked.mode,
+            &mut input,
+            proposed.first_mut(),
+            &mut out,
+        ),
+        Task::Rank(aims) => rank(alloc, aims, asked.mode, &mut input, &mut proposed, &mut out),
+    };
+    let status = match ended {
+        Ok(outcome) => outcome.status(),
+        Err(error) => error.status(),
+    };
+    Ok((status, out.into_inner()))
+}
+
+fn devices(alloc: Global, solutions: &[Vec<u8>]) -> Result<Vec<Device<&[u8]>>, AllocError> {
+    let mut devices = Vec::new(alloc);
+    for solution in solutions {
+        devices.push(Device::new(solution.as_slice()))?;
+    }
+    Ok(devices)
+}
