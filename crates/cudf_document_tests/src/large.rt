@@ -1,6 +1,5 @@
 //! Values, lists and documents at the sizes at which a reader may take another way, and far beyond them: each is read,
 //! and memory is missed in none.
-use crate::table::assert_rows;
 use cudf_document::{
     Chosen, Mode, Problem, ReadError, Solution, first_fault, problem_for, problem_of, read_problem,
     read_solution, solution_of,
@@ -105,9 +104,22 @@ fn is_clause(alloc: Global, text: &str, count: u64) -> bool {
 const COUNTS: [u64; 8] = [1, 2, 63, 64, 65, 100, 1000, 5000];
 
 #[test]
-fn values(rt: HostRuntime) {
-    assert_rows(&rt, rt.alloc(), &JOINED, is_joined);
-    assert_rows(&rt, rt.alloc(), &COUNTS, has_entries);
+fn joined_values(rt: HostRuntime) {
+    for row in &JOINED {
+        assert!(rt;
+            is_joined(rt.alloc(), row),
+            "{} bytes, {} lines",
+            row.0,
+            row.1
+        );
+    }
+}
+
+#[test]
+fn entries(rt: HostRuntime) {
+    for count in &COUNTS {
+        assert!(rt; has_entries(rt.alloc(), count), "{count} entries");
+    }
 }
 
 /// How many packages a problem has, and what stands in each behind its name and version.
@@ -259,5 +271,12 @@ const PACKAGES: [Packages; 12] = [
 
 #[test]
 fn documents(rt: HostRuntime) {
-    assert_rows(&rt, rt.alloc(), &PACKAGES, is_read);
+    for row in &PACKAGES {
+        assert!(rt;
+            is_read(rt.alloc(), row),
+            "{} packages with {}",
+            row.0,
+            row.1
+        );
+    }
 }

@@ -1,5 +1,6 @@
-//! Tests over the public items of the crates up to `cudf_document`, as an outside user calls them. Expected
-//! values come from the format's own rules, never from what the program printed.
+//! Tests over the public items of the crates up to `cudf_document`, as an outside user calls them: vectors of the
+//! formats as tables, and what only code can test. All other rows are data of `cudf_vectors`. Expected values come from
+//! the format's own rules, never from what the program printed.
 #![tactic(auto)]
 
 #[cfg(test)]

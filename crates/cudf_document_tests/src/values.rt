@@ -1,7 +1,245 @@
-//! Values of each type: texts that are of it, texts that aren't, and what a text says.
+//! The vectors of values.
+use crate::table::{Listed, prints};
+use cudf_value::{
+    Declaration, Relop, ValueType, Vpkg, fits, is_ident, is_pkgname, laws, read_bool,
+    read_declarations, read_formula, read_int, read_nat, read_posint, read_veqpkg, read_veqpkglist,
+    read_vpkg, read_vpkglist,
+};
+use std::alloc::{AllocError, Global};
 
-mod declarations;
-mod lists;
-mod numbers;
-mod types;
-mod words;
+/// A text, and the `posint`, the `nat` and the `int` that it is.
+type NumberRow = (&'static str, Option<u64>, Option<u64>, Option<i64>);
+
+const NUMBERS: [NumberRow; 9] = [
+    ("+007", Some(7), Some(7), Some(7)),
+    ("0", None, Some(0), Some(0)),
+    ("-1", None, None, Some(-1)),
+    ("+", None, None, None),
+    ("", None, None, None),
+    ("18446744073709551616", None, None, None),
+    ("000", None, Some(0), Some(0)),
+    (
+        "-9223372036854775808",
+        None,
+        None,
+        Some(-9223372036854775808),
+    ),
+    (
+        "9223372036854775808",
+        Some(9223372036854775808),
+        Some(9223372036854775808),
+        None,
+    ),
+];
+
+fn is_number(row: &NumberRow) -> bool {
+    read_posint(row.0) == row.1 && read_nat(row.0) == row.2 && read_int(row.0) == row.3
+}
+
+/// A text, the truth value that it is, and whether it is an identifier and a package's name.
+type WordRow = (&'static str, Option<bool>, bool, bool);
+
+const WORDS: [WordRow; 12] = [
+    ("True", None, true, true),
+    ("true", Some(true), true, true),
+    ("was-installed", None, true, true),
+    ("a_1", None, true, true),
+    ("1a", None, false, true),
+    ("-a", None, false, true),
+    ("", None, false, false),
+    ("libc6:i386", None, false, true),
+    ("g++", None, false, true),
+    ("1", None, false, true),
+    ("a b", None, false, false),
+    ("a!", None, false, false),
+];
+
+fn is_word(row: &WordRow) -> bool {
+    read_bool(row.0) == row.1 && is_ident(row.0) == row.2 && is_pkgname(row.0) == row.3
+}
+
+#[test]
+fn numbers(rt: HostRuntime) {
+    for row in &NUMBERS {
+        assert!(rt; is_number(row), "{}", row.0);
+    }
+}
+
+#[test]
+fn words(rt: HostRuntime) {
+    for row in &WORDS {
+        assert!(rt; is_word(row), "{}", row.0);
+    }
+}
+
+/// A text, and what is printed of it where it is of the first type, and of the second.
+type Row = (&'static str, Option<&'static str>, Option<&'static str>);
+
+const VPKGS: [Row; 9] = [
+    ("a>=2", Some("a >= 2"), None),
+    ("a  >=  +02", Some("a >= 2"), None),
+    ("a = 0", None, None),
+    ("a 2", None, None),
+    ("= 2", None, None),
+    ("a => 2", None, None),
+    ("true!", None, None),
+    ("f = 2", Some("f = 2"), Some("f = 2")),
+    ("f != 2", Some("f != 2"), None),
+];
+
+fn is_vpkg(alloc: Global, row: &Row) -> bool {
+    prints_vpkg(alloc, read_vpkg(row.0), row.1) && prints_vpkg(alloc, read_veqpkg(row.0), row.2)
+}
+
+fn prints_vpkg(alloc: Global, vpkg: Option<Vpkg<'_>>, want: Option<&str>) -> bool {
+    match (vpkg, want) {
+        (Some(vpkg), Some(want)) => prints(alloc, &vpkg, want),
+        (None, None) => true,
+        _ => false,
+    }
+}
+
+#[test]
+fn vpkgs(rt: HostRuntime) {
+    for row in &VPKGS {
+        assert!(rt; is_vpkg(rt.alloc(), row), "{}", row.0);
+    }
+    laws::read_back("true", Some((Relop::Neq, 3)));
+}
+
+const LISTS: [Row; 7] = [
+    ("", Some(""), Some("")),
+    ("a, b >= 2", Some("a;b >= 2;"), None),
+    ("a,", None, None),
+    ("a,,b", None, None),
+    ("a | b", None, None),
+    ("f = 2, g", Some("f = 2;g;"), Some("f = 2;g;")),
+    ("f > 2", Some("f > 2;"), None),
+];
+
+fn is_list(alloc: Global, row: &Row) -> bool {
+    prints_list(alloc, read_vpkglist(alloc, row.0), row.1)
+        && prints_list(alloc, read_veqpkglist(alloc, row.0), row.2)
+}
+
+fn prints_list(
+    alloc: Global,
+    list: Result<Option<Vec<Vpkg<'_>>>, AllocError>,
+    want: Option<&str>,
+) -> bool {
+    match (list, want) {
+        (Ok(Some(list)), Some(want)) => prints(alloc, &Listed(&list), want),
+        (Ok(None), None) => true,
+        _ => false,
+    }
+}
+
+#[test]
+fn lists(rt: HostRuntime) {
+    for row in &LISTS {
+        assert!(rt; is_list(rt.alloc(), row), "{}", row.0);
+    }
+}
+
+const FORMULAS: [(&'static str, Option<&'static str>); 5] = [
+    ("a | b, true!", Some("a | b;true!;")),
+    ("", Some("")),
+    ("a || b", None),
+    ("true ! = 3", None),
+    ("a, ", None),
+];
+
+fn is_formula(alloc: Global, row: &(&str, Option<&str>)) -> bool {
+    match (read_formula(alloc, row.0), row.1) {
+        (Ok(Some(formula)), Some(want)) => prints(alloc, &Listed(&formula.clauses), want),
+        (Ok(None), None) => true,
+        _ => false,
+    }
+}
+
+#[test]
+fn formulas(rt: HostRuntime) {
+    for row in &FORMULAS {
+        assert!(rt; is_formula(rt.alloc(), row), "{}", row.0);
+    }
+}
+
+/// A text, and the name and the default of each of its declarations.
+type DeclarationsRow = (
+    &'static str,
+    Option<&'static [(&'static str, Option<&'static str>)]>,
+);
+
+const DECLARATIONS: [DeclarationsRow; 7] = [
+    (
+        "a: int, b: vpkglist = [x, y]",
+        Some(&[("a", None), ("b", Some("x, y"))]),
+    ),
+    (
+        "note: string = [\"a \\\"b\\\", c\"]",
+        Some(&[("note", Some("\"a \\\"b\\\", c\""))]),
+    ),
+    ("b: vpkglist = x, y", None),
+    ("a: int = []", None),
+    ("a: typedecl", None),
+    ("s: string = [\"\\n\"]", None),
+    ("e: enum[]", None),
+];
+
+fn declares(alloc: Global, row: &DeclarationsRow) -> bool {
+    match (read_declarations(alloc, row.0), row.1) {
+        (Ok(Some(read)), Some(want)) => are(&read, want),
+        (Ok(None), None) => true,
+        _ => false,
+    }
+}
+
+fn are(declarations: &[Declaration<'_>], want: &[(&str, Option<&str>)]) -> bool {
+    for (declaration, want) in declarations.iter().zip(want) {
+        if declaration.name != want.0 || declaration.default != want.1 {
+            return false;
+        }
+    }
+    declarations.len() == want.len()
+}
+
+#[test]
+fn declarations(rt: HostRuntime) {
+    for row in &DECLARATIONS {
+        assert!(rt; declares(rt.alloc(), row), "{}", row.0);
+    }
+}
+
+/// A text, and whether it is an enum of `red` and `green`, a `posint` and a `vpkglist`.
+type TypeRow = (&'static str, bool, bool, bool);
+
+const TYPES: [TypeRow; 5] = [
+    ("1", false, true, true),
+    ("green", true, false, true),
+    ("blue", false, false, true),
+    ("0", false, false, true),
+    ("a, b", false, false, true),
+];
+
+fn is_of_types(alloc: Global, row: &TypeRow) -> bool {
+    match ["red", "green"].to_vec(alloc) {
+        Ok(idents) => is_of(alloc, &ValueType::Choice(idents), row.0, row.1)
+            && is_of(alloc, &ValueType::Positive, row.0, row.2)
+            && is_of(alloc, &ValueType::List, row.0, row.3),
+        Err(_) => false,
+    }
+}
+
+fn is_of(alloc: Global, kind: &ValueType<'_>, text: &str, want: bool) -> bool {
+    match fits(alloc, kind, text) {
+        Ok(is_inside) => is_inside == want,
+        Err(_) => false,
+    }
+}
+
+#[test]
+fn types(rt: HostRuntime) {
+    for row in &TYPES {
+        assert!(rt; is_of_types(rt.alloc(), row), "{}", row.0);
+    }
+}

@@ -2,5 +2,3 @@
 
 mod index;
 mod large;
-mod made;
-mod scan;

@@ -1,0 +1,44 @@
+//! How answers are shown.
+use std::alloc::{AllocError, Global};
+use std::fmt;
+use std::fmt::Display;
+
+/// Values between brackets, with a comma between each two.
+#[derive(Clone, Copy)]
+pub(crate) struct Listed<'v, T>(pub(crate) &'v [T]);
+
+impl<T: Display> Display for Listed<'_, T> {
+    fn fmt<W: fmt::Write>(&self, f: &mut fmt::Formatter<W>) -> fmt::Result {
+        f.write_str("[")?;
+        for (before, value) in self.0.iter().enumerate() {
+            f.write_str(if before == 0 { "" } else { ", " })?;
+            write!(f, "{value}")?;
+        }
+        f.write_str("]")
+    }
+}
+
+/// The value, or what is said where there is none.
+pub(crate) fn shown_or<T: Display + Drop>(
+    alloc: Global,
+    value: Option<T>,
+    none: &str,
+) -> Result<String, AllocError> {
+    match value {
+        Some(value) => value.to_string(alloc),
+        None => String::from_str(alloc, none),
+    }
+}
+
+/// `yes` or `no`.
+pub(crate) fn yes_if(alloc: Global, is_so: bool) -> Result<String, AllocError> {
+    String::from_str(alloc, if is_so { "yes" } else { "no" })
+}
+
+/// What two ways answer: once where it is the same.
+pub(crate) fn agreed(alloc: Global, one: String, other: String) -> Result<String, AllocError> {
+    if one.as_str() == other.as_str() {
+        return Ok(one);
+    }
+    format!(in alloc; "{one}, or else {other}")
+}

@@ -1,0 +1,107 @@
+//! Calls about what the last problem's initial status gives and satisfies.
+use crate::documents::shown_status;
+use crate::shown::{agreed, yes_if};
+use cudf_document::{Mode, Problem, initial, problem_of};
+use cudf_text::{Room, stanzas};
+use cudf_universe::{GreatestNumbers, Index};
+use cudf_value::{read_formula, read_vpkg};
+use std::alloc::{AllocError, Global};
+use std::fmt;
+
+/// The answer to a call about the text and the status.
+pub(crate) fn answer(
+    alloc: Global,
+    call: &str,
+    text: &str,
+    problem: &[u8],
+) -> Result<String, AllocError> {
+    let mut room = Room::new(alloc);
+    match stanzas(alloc, problem, &mut room) {
+        Ok(stanzas) => match problem_of(alloc, stanzas, Mode::Lenient) {
+            Ok(problem) => answer_in(alloc, call, text, &problem),
+            Err(_) => String::from_str(alloc, "no problem"),
+        },
+        Err(_) => String::from_str(alloc, "no problem"),
+    }
+}
+
+fn answer_in(
+    alloc: Global,
+    call: &str,
+    text: &str,
+    problem: &Problem<'_>,
+) -> Result<String, AllocError> {
+    let status = initial(alloc, problem)?;
+    let index = Index::build(alloc, problem, &status)?;
+    match call {
+        "satisfied" => satisfied(alloc, &index, text),
+        "clause" => clause(alloc, &index, text),
+        "numbers" => numbers(
+            alloc,
+            &index,
+            text,
+            &GreatestNumbers::build(alloc, problem, &status)?,
+        ),
+        _ => shown_status(alloc, problem, &status),
+    }
+}
+
+/// Whether a status satisfies a vpkg, and the first place that meets it.
+#[derive(Clone, Copy)]
+struct Met(bool, Option<u64>);
+
+impl fmt::Display for Met {
+    fn fmt<W: fmt::Write>(&self, f: &mut fmt::Formatter<W>) -> fmt::Result {
+        f.write_str(if self.0 { "yes" } else { "no" })?;
+        match self.1 {
+            Some(place) => write!(f, " by {place}"),
+            None => Ok(()),
+        }
+    }
+}
+
+/// Whether the status satisfies the vpkg, and whether it does without the package of place 1.
+fn satisfied(alloc: Global, index: &Index<'_, '_>, text: &str) -> Result<String, AllocError> {
+    match read_vpkg(text) {
+        Some(vpkg) => {
+            let all = Met(index.satisfies(&vpkg), index.first_meeting(&vpkg, None));
+            let others = Met(
+                index.satisfies_without(&vpkg, 1),
+                index.first_meeting(&vpkg, Some(1)),
+            );
+            format!(in alloc; "{all}, without 1 {others}")
+        }
+        None => String::from_str(alloc, "no vpkg"),
+    }
+}
+
+/// Whether the status satisfies the formula's first clause.
+fn clause(alloc: Global, index: &Index<'_, '_>, text: &str) -> Result<String, AllocError> {
+    match read_formula(alloc, text)? {
+        Some(formula) => match formula.clauses.first() {
+            Some(clause) => yes_if(alloc, index.satisfies_clause(clause)),
+            None => String::from_str(alloc, "no clause"),
+        },
+        None => String::from_str(alloc, "no formula"),
+    }
+}
+
+/// The least and the greatest number of the name.
+fn numbers(
+    alloc: Global,
+    index: &Index<'_, '_>,
+    name: &str,
+    numbers: &GreatestNumbers<'_, '_>,
+) -> Result<String, AllocError> {
+    let least = index.least(name);
+    let of_index = ends(alloc, least, index.greatest(name))?;
+    agreed(alloc, of_index, ends(alloc, least, numbers.greatest(name))?)
+}
+
+fn ends(alloc: Global, least: Option<u64>, greatest: Option<u64>) -> Result<String, AllocError> {
+    match (least, greatest) {
+        (Some(least), Some(greatest)) => format!(in alloc; "{least} to {greatest}"),
+        (None, None) => String::from_str(alloc, "none"),
+        _ => String::from_str(alloc, "one end"),
+    }
+}
