@@ -30,6 +30,8 @@ DOCUMENTS = ("README.md", "examples/README.md", COMPETITION, DIFFERENCES)
 SHELLS = [name for name in ("sh", "dash", "bash") if shutil.which(name)]
 # the lines of a block, and its end
 BLOCK = r"((?:(?!```).*\n)*)```$"
+# how the scripts begin that let the solvers run
+XARGS, PARALLEL, ARRAY = "# xargs.sh", "# parallel.sh", "#!/bin/sh"
 # where a script goes into the page's own data
 OWN_DATA = "cd examples/competition\n"
 
@@ -131,11 +133,11 @@ def page(name):
         return file.read()
 
 
-def script(name):
-    """The script of docs/COMPETITION.md that begins with this name, for another folder than the page's own."""
-    found = re.findall(rf"^```sh\n(# {re.escape(name)}\b{BLOCK}", page(COMPETITION), re.MULTILINE)
-    assert len(found) == 1, name
-    return found[0][0].replace(OWN_DATA, "")
+def script(start, name=COMPETITION):
+    """The one script of a page that begins so, for another folder than the page's own."""
+    found = re.findall(rf"^```sh\n(?={re.escape(start)}){BLOCK}", page(name), re.MULTILINE)
+    assert len(found) == 1, start
+    return found[0].replace(OWN_DATA, "")
 
 
 def shown(trial):
@@ -155,15 +157,14 @@ def shown(trial):
 
 def by_pages(trial):
     """The walk by pages of examples/README.md: the pages without their last lines are the listing."""
-    walk = re.findall(rf"^```sh\n(page={BLOCK}", page("examples/README.md"), re.MULTILINE)
-    assert len(walk) == 1
+    walk = script("page=", "examples/README.md")
     with tempfile.TemporaryDirectory() as folder:
         for name, kind in (("P", "problem"), ("S", "answer")):
             os.symlink(os.path.join(ROOT, f"examples/rules.{kind}.cudf"), os.path.join(folder, name))
         whole = trial.run("cudf_check check P S", folder)[1].splitlines()
         for shell in SHELLS:
             for limit in (1, 5, 13, 1000):
-                told = trial.run(walk[0][0].replace("1000", str(limit)), folder, shell)[1].splitlines()
+                told = trial.run(walk.replace("1000", str(limit)), folder, shell)[1].splitlines()
                 pages = [line for line in told if not line.startswith(("more after", "solution"))]
                 trial.note(f"walk by pages of {limit}, {shell}", (pages, told[-1]), (whole[:-1], whole[-1]))
 
@@ -205,9 +206,9 @@ def odd_answers(trial):
     left = {f"answers/{solver}/{name}": ANSWERS[name][place] for name in PROBLEMS for place, solver in enumerate(SOLVERS)}
     with competition(PROBLEMS, **left) as folder:
         for shell in SHELLS:
-            trial.note(f"table.sh, {shell}", trial.run(script("table.sh"), folder, shell), (0, table(TABLE, WIDTH), ""))
-            trial.note(f"lint.sh, {shell}", trial.run(script("lint.sh"), folder, shell), (1, LINTED, ""))
-        status, output, errors = trial.run(script("judge.sh"), folder)
+            trial.note(f"table.sh, {shell}", trial.run(script("# table.sh"), folder, shell), (0, table(TABLE, WIDTH), ""))
+            trial.note(f"lint.sh, {shell}", trial.run(script("# lint.sh"), folder, shell), (1, LINTED, ""))
+        status, output, errors = trial.run(script("# judge.sh"), folder)
         is_told = re.fullmatch(r"cudf_check \d\S*\n[0-9a-f]{64}  \S*/cudf_check\n", output) is not None
         trial.note("judge.sh", (status, is_told or output, errors), (0, True, ""))
 
@@ -215,25 +216,25 @@ def odd_answers(trial):
 def solved(trial, by, shell):
     """Solvers that end in many ways: how each ended, what stands in the table, and that the raw answers are kept."""
     files = {f"solvers/{name}": text for name, (text, _, _) in RUNS.items()}
-    with competition({"cars.cudf": CARS}, **files, **{"run.sh": script("run.sh")}) as folder:
-        trial.run(script("jobs.sh"), folder, shell)
-        for place in range(1, len(RUNS) + 1) if by == "array" else [0]:
-            trial.run(array() if by == "array" else script(f"{by}.sh"), folder, shell, SLURM_ARRAY_TASK_ID=str(place))
+    with competition({"cars.cudf": CARS}, **files, **{"run.sh": script("# run.sh")}) as folder:
+        trial.run(script("# jobs.sh"), folder, shell)
+        for place in range(1, len(RUNS) + 1) if by == ARRAY else [0]:
+            trial.run(script(by), folder, shell, SLURM_ARRAY_TASK_ID=str(place))
         with open(os.path.join(folder, "ended"), encoding="ascii") as file:
             ended = sorted(file.read().splitlines())
         trial.note(f"ended, {by}, {shell}", ended, sorted(f"{name} cars.cudf {status}" for name, (_, status, _) in RUNS.items()))
         # `ls answers` has the solvers in the order of their names, and idle has a folder too
         rows = [("problem", *sorted(RUNS)), ("cars.cudf", *(RUNS[name][2] for name in sorted(RUNS)))]
-        trial.note(f"solved, {by}, {shell}", trial.run(script("table.sh"), folder, shell), (0, table(rows, 13), ""))
+        trial.note(f"solved, {by}, {shell}", trial.run(script("# table.sh"), folder, shell), (0, table(rows, 13), ""))
         kept = [name for name in ("deaf", "slow", "crashes") if leaves(os.path.join(folder, "raw", name, "cars.cudf"), OLD)]
         trial.note(f"kept, {by}, {shell}", kept, ["deaf", "slow", "crashes"])
-        if by == "parallel":
+        if by == PARALLEL:
             verdicts(trial, folder, shell)
 
 
 def verdicts(trial, folder, shell):
     """The column Exitval: each cell as a status; a file that isn't there is one that can't be opened."""
-    trial.run(script("verdicts.sh"), folder, shell)
+    trial.run(script("# verdicts.sh"), folder, shell)
     with open(os.path.join(folder, "verdicts"), encoding="ascii") as file:
         rows = [line.rstrip("\n").split("\t") for line in file]
     told = sorted((row[8].split("/")[2], row[6]) for row in rows[1:])
@@ -246,19 +247,12 @@ def leaves(place, text):
         return file.read() == text
 
 
-def array():
-    """The job of one task, as Slurm would start it."""
-    found = re.findall(rf"^```sh\n(#!/bin/sh\n#SBATCH {BLOCK}", page(COMPETITION), re.MULTILINE)
-    assert len(found) == 1
-    return found[0][0]
-
-
 def many_runs(trial):
     for shell in SHELLS:
-        solved(trial, "xargs", shell)
-    solved(trial, "array", "sh")
+        solved(trial, XARGS, shell)
+    solved(trial, ARRAY, "sh")
     if shutil.which("parallel"):
-        solved(trial, "parallel", "sh")
+        solved(trial, PARALLEL, "sh")
 
 
 def rows_of(text):
