@@ -9,11 +9,12 @@ usage: pages.py PROGRAM
 - The walk by pages of examples/README.md, on a listing of thirteen lines.
 - The examples in the tables of docs/DIFFERENCES.md, as far as they speak of this program.
 
-Scripts are run by sh, and by dash and bash where these are installed; GNU parallel is tried where it is installed. What
+Scripts are run by dash and bash where these are installed, else by sh; GNU parallel is tried where it is installed. What
 isn't as wanted is printed, and then how many there were. The status is 1 where one is wrong, and 2 where there is no
 program. For Linux; Python's standard library alone.
 """
 import contextlib
+import enum
 import os
 import re
 import shutil
@@ -27,7 +28,7 @@ ROOT = os.path.dirname(os.path.dirname(os.path.abspath(__file__)))
 COMPETITION = "docs/COMPETITION.md"
 DIFFERENCES = "docs/DIFFERENCES.md"
 DOCUMENTS = ("README.md", "examples/README.md", COMPETITION, DIFFERENCES)
-SHELLS = [name for name in ("sh", "dash", "bash") if shutil.which(name)]
+SHELLS = [name for name in ("dash", "bash") if shutil.which(name)] or ["sh"]
 # the lines of a block, and its end
 BLOCK = r"((?:(?!```).*\n)*)```$"
 # how the scripts begin that let the solvers run
@@ -52,7 +53,17 @@ QUIET = "package: car\nversion: 1\n\npackage: car\nversion: 2\n\nrequest: r\n"
 # an answer that ends within a line, and one that ends behind a stanza, where bus 1 would have been followed by a car
 CUT, CUT_BEHIND = "package: car\nversion: 1\ninst", packages(("bus", 1))
 BINARY = "\0\1\2\u0080 ELF"
-FOLDER, LONG, LOOSE, NOWHERE, NONE = object(), object(), object(), object(), None
+
+
+class Odd(enum.Enum):
+    """What a solver left that isn't a text."""
+
+    NOTHING = enum.auto()
+    FOLDER = enum.auto()
+    LONG = enum.auto()
+    UNREADABLE = enum.auto()
+    BROKEN_LINK = enum.auto()
+
 
 SOLVERS = ("ash", "ash-2", "ash.1", "mccs", "mccs-lpsolve", "the_solver_whose_name_has_41_letters_in_i")
 PROBLEMS = {
@@ -62,11 +73,11 @@ PROBLEMS = {
 # What each solver left for each problem, in the order of SOLVERS.
 ANSWERS = {
     "cars.cudf": (BOTH, OLD, NEW, NEW, "FAIL\n", BOTH),
-    "faulty.cudf": (OLD, OLD, NEW, "FAIL\n", CUT, NONE),
-    "nothing.cudf": (NONE, CUT, FOLDER, NONE, BINARY, LONG),
-    "odd.cudf": (FOLDER, "# time is over\nFAIL\nno answer\n", LOOSE, NEW, NOWHERE, CUT_BEHIND),
-    "quiet.cudf": ("", "# nothing\n", NONE, NEW, stanza("ghost"), "FAIL\n"),
-    "rand692b_with_a_name_of_forty-one_letters": (NONE, "", LONG, BINARY, CUT, OLD),
+    "faulty.cudf": (OLD, OLD, NEW, "FAIL\n", CUT, Odd.NOTHING),
+    "nothing.cudf": (Odd.NOTHING, CUT, Odd.FOLDER, Odd.NOTHING, BINARY, Odd.LONG),
+    "odd.cudf": (Odd.FOLDER, "# time is over\nFAIL\nno answer\n", Odd.UNREADABLE, NEW, Odd.BROKEN_LINK, CUT_BEHIND),
+    "quiet.cudf": ("", "# nothing\n", Odd.NOTHING, NEW, stanza("ghost"), "FAIL\n"),
+    "rand692b_with_a_name_of_forty-one_letters": (Odd.NOTHING, "", Odd.LONG, BINARY, CUT, OLD),
 }
 # Worked out by hand. By -removed,-changed the counts in `cars.cudf` are 0 2, 0 0, 0 1, 0 1, FAIL, 0 2: the two of 0 1 share
 # the second place, so that those of 0 2 share the fourth. A faulty problem has no ranking, whatever the answers are. In
@@ -110,15 +121,18 @@ class Trial:
         self.passed, self.failed = 0, 0
         os.symlink(os.path.abspath(path), os.path.join(folder, "cudf_check"))
         places = folder + os.pathsep + os.environ["PATH"]
-        self.surroundings = dict(os.environ, PATH=places, LC_ALL="C", grace="1", seconds="1")
+        self.surroundings = dict(os.environ, PATH=places, LC_ALL="C", grace="1", seconds="2")
 
-    def run(self, script, folder, shell="sh", **more):
+    def run(self, text, folder, shell="sh"):
         """The status and the texts on both outputs, of a script in a folder."""
-        ran = subprocess.run(
-            [shell, "-c", script], cwd=folder, env={**self.surroundings, **more}, stdin=subprocess.DEVNULL,
-            capture_output=True, timeout=LIMIT_SECONDS, check=False,
-        )
-        return ran.returncode, ran.stdout.decode(), ran.stderr.decode()
+        try:
+            ran = subprocess.run(
+                [shell, "-c", text], cwd=folder, env=self.surroundings, stdin=subprocess.DEVNULL, capture_output=True,
+                timeout=LIMIT_SECONDS, check=False,
+            )
+            return ran.returncode, ran.stdout.decode(), ran.stderr.decode()
+        except subprocess.TimeoutExpired:
+            return "no end", "", ""
 
     def note(self, name, given, wanted):
         if given == wanted:
@@ -171,20 +185,17 @@ def by_pages(trial):
 
 def leave(place, answer):
     """What a solver left at this place."""
-    if answer is NONE:
-        return
-    if answer is FOLDER:
+    if answer is Odd.FOLDER:
         os.mkdir(place)
-    elif answer is LOOSE:
+    elif answer is Odd.UNREADABLE:
         # a file that every user can open and that fails at its first read
         os.symlink("/proc/self/mem", place)
-    elif answer is NOWHERE:
+    elif answer is Odd.BROKEN_LINK:
         os.symlink("/nowhere", place)
-    else:
+    elif answer is not Odd.NOTHING:
         with open(place, "w", encoding="latin-1") as file:
-            file.write("" if answer is LONG else answer)
-        if answer is LONG:
-            os.truncate(place, TOO_LONG)
+            file.write("" if answer is Odd.LONG else answer)
+            file.truncate(TOO_LONG if answer is Odd.LONG else None)
 
 
 @contextlib.contextmanager
@@ -206,53 +217,56 @@ def odd_answers(trial):
     left = {f"answers/{solver}/{name}": ANSWERS[name][place] for name in PROBLEMS for place, solver in enumerate(SOLVERS)}
     with competition(PROBLEMS, **left) as folder:
         for shell in SHELLS:
-            trial.note(f"table.sh, {shell}", trial.run(script("# table.sh"), folder, shell), (0, table(TABLE, WIDTH), ""))
+            told = trial.run(script("# table.sh"), folder, shell)
+            trial.note(f"table.sh, {shell}", told, (0, table(TABLE, WIDTH), ""))
             trial.note(f"lint.sh, {shell}", trial.run(script("# lint.sh"), folder, shell), (1, LINTED, ""))
         status, output, errors = trial.run(script("# judge.sh"), folder)
         is_told = re.fullmatch(r"cudf_check \d\S*\n[0-9a-f]{64}  \S*/cudf_check\n", output) is not None
         trial.note("judge.sh", (status, is_told or output, errors), (0, True, ""))
 
 
-def solved(trial, by, shell):
-    """Solvers that end in many ways: how each ended, what stands in the table, and that the raw answers are kept."""
-    files = {f"solvers/{name}": text for name, (text, _, _) in RUNS.items()}
-    with competition({"cars.cudf": CARS}, **files, **{"run.sh": script("# run.sh")}) as folder:
+def solved(trial, name, runs, shell):
+    """Solvers that end in many ways: how each ended, what stands in the table, and that what they wrote is kept."""
+    files = {f"solvers/{solver}": text for solver, (text, _, _) in RUNS.items()}
+    scripts = {"run.sh": script("# run.sh"), "task.sh": script(ARRAY)}
+    # `ls` has the solvers in the order of their names
+    solvers = sorted(RUNS)
+    with competition({"cars.cudf": CARS}, **files, **scripts) as folder:
         trial.run(script("# jobs.sh"), folder, shell)
-        for place in range(1, len(RUNS) + 1) if by == ARRAY else [0]:
-            trial.run(script(by), folder, shell, SLURM_ARRAY_TASK_ID=str(place))
-        with open(os.path.join(folder, "ended"), encoding="ascii") as file:
-            ended = sorted(file.read().splitlines())
-        trial.note(f"ended, {by}, {shell}", ended, sorted(f"{name} cars.cudf {status}" for name, (_, status, _) in RUNS.items()))
-        # `ls answers` has the solvers in the order of their names, and idle has a folder too
-        rows = [("problem", *sorted(RUNS)), ("cars.cudf", *(RUNS[name][2] for name in sorted(RUNS)))]
-        trial.note(f"solved, {by}, {shell}", trial.run(script("# table.sh"), folder, shell), (0, table(rows, 13), ""))
-        kept = [name for name in ("deaf", "slow", "crashes") if leaves(os.path.join(folder, "raw", name, "cars.cudf"), OLD)]
-        trial.note(f"kept, {by}, {shell}", kept, ["deaf", "slow", "crashes"])
-        if by == PARALLEL:
+        trial.run(runs.replace("sh run.sh", f"{shell} run.sh"), folder, shell)
+        ended = sorted(text_of(folder, "ended").splitlines())
+        trial.note(f"ended, {name}, {shell}", ended, [f"{solver} cars.cudf {RUNS[solver][1]}" for solver in solvers])
+        rows = [("problem", *solvers), ("cars.cudf", *(RUNS[solver][2] for solver in solvers))]
+        trial.note(f"solved, {name}, {shell}", trial.run(script("# table.sh"), folder, shell), (0, table(rows, 13), ""))
+        kept = {solver: text_of(folder, f"raw/{solver}/cars.cudf") for solver in ("deaf", "slow", "crashes")}
+        trial.note(f"kept, {name}, {shell}", kept, dict.fromkeys(kept, OLD))
+        if name == PARALLEL:
             verdicts(trial, folder, shell)
 
 
 def verdicts(trial, folder, shell):
     """The column Exitval: each cell as a status; a file that isn't there is one that can't be opened."""
     trial.run(script("# verdicts.sh"), folder, shell)
-    with open(os.path.join(folder, "verdicts"), encoding="ascii") as file:
-        rows = [line.rstrip("\n").split("\t") for line in file]
+    rows = [line.split("\t") for line in text_of(folder, "verdicts").splitlines()]
     told = sorted((row[8].split("/")[2], row[6]) for row in rows[1:])
     statuses = {"FAIL": "3", "missing": "5"}
-    trial.note(f"verdicts, {shell}", told, sorted((name, statuses.get(cell, "0")) for name, (_, _, cell) in RUNS.items()))
+    wanted = [(name, statuses.get(RUNS[name][2], "0")) for name in sorted(RUNS)]
+    trial.note(f"verdicts, {shell}", told, wanted)
 
 
-def leaves(place, text):
-    with open(place, encoding="ascii") as file:
-        return file.read() == text
+def text_of(folder, place):
+    with open(os.path.join(folder, place), encoding="ascii") as file:
+        return file.read()
 
 
 def many_runs(trial):
+    """All runs by each of the page's ways; Slurm's tasks are started by hand, all at once."""
     for shell in SHELLS:
-        solved(trial, XARGS, shell)
-    solved(trial, ARRAY, "sh")
+        solved(trial, XARGS, script(XARGS), shell)
+    tasks = f"for n in $(seq {len(RUNS)}); do SLURM_ARRAY_TASK_ID=$n sh task.sh & done; wait"
+    solved(trial, ARRAY, tasks, "sh")
     if shutil.which("parallel"):
-        solved(trial, PARALLEL, "sh")
+        solved(trial, PARALLEL, script(PARALLEL), "sh")
 
 
 def rows_of(text):
