@@ -46,7 +46,7 @@ def packages(*pairs):
 
 
 OLD, NEW, BOTH = packages(("car", 1)), packages(("car", 2)), packages(("car", 2), ("bus", 1))
-# car 1 is installed and a car is wanted: OLD changes nothing, NEW changes one name, BOTH two, and the empty status is none
+# car 1 is installed and a car is wanted: OLD changes nothing, NEW one name, BOTH two, and the empty status is no solution
 CARS = f"{OLD}\npackage: car\nversion: 2\n\npackage: bus\nversion: 1\n\nrequest: r\ninstall: car\n"
 # nothing is installed and nothing is wanted: the empty status is the best answer
 QUIET = "package: car\nversion: 1\n\npackage: car\nversion: 2\n\nrequest: r\n"
@@ -67,27 +67,29 @@ class Odd(enum.Enum):
 
 SOLVERS = ("ash", "ash-2", "ash.1", "mccs", "mccs-lpsolve", "the_solver_whose_name_has_41_letters_in_i")
 PROBLEMS = {
-    "cars.cudf": CARS, "faulty.cudf": "package: car\n\nrequest: r\n", "nothing.cudf": CARS, "odd.cudf": CARS,
-    "quiet.cudf": QUIET, "rand692b_with_a_name_of_forty-one_letters": CARS,
+    "cars.cudf": CARS, "faulty.cudf": "package: car\n\nrequest: r\n", "none.cudf": CARS, "nothing.cudf": CARS,
+    "odd.cudf": CARS, "quiet.cudf": QUIET, "rand692b_with_a_name_of_forty-one_letters": CARS,
 }
 # What each solver left for each problem, in the order of SOLVERS.
 ANSWERS = {
     "cars.cudf": (BOTH, OLD, NEW, NEW, "FAIL\n", BOTH),
     "faulty.cudf": (OLD, OLD, NEW, "FAIL\n", CUT, Odd.NOTHING),
+    "none.cudf": ("", CUT_BEHIND, "# nothing\n", "FAIL\n", stanza("ghost"), "FAIL\n"),
     "nothing.cudf": (Odd.NOTHING, CUT, Odd.FOLDER, Odd.NOTHING, BINARY, Odd.LONG),
     "odd.cudf": (Odd.FOLDER, "# time is over\nFAIL\nno answer\n", Odd.UNREADABLE, NEW, Odd.BROKEN_LINK, CUT_BEHIND),
     "quiet.cudf": ("", "# nothing\n", Odd.NOTHING, NEW, stanza("ghost"), "FAIL\n"),
     "rand692b_with_a_name_of_forty-one_letters": (Odd.NOTHING, "", Odd.LONG, BINARY, CUT, OLD),
 }
-# Worked out by hand. By -removed,-changed the counts in `cars.cudf` are 0 2, 0 0, 0 1, 0 1, FAIL, 0 2: the two of 0 1 share
-# the second place, so that those of 0 2 share the fourth. A faulty problem has no ranking, whatever the answers are. In
-# `nothing.cudf` no file can be ranked. In `odd.cudf` one answer stands alone, and bus 1 alone is no car. In `quiet.cudf`
-# the first two change nothing and share the first place, the fourth changes one name and is third, and ghost 1 isn't in
-# the problem. In the last problem the empty status has no car.
+# Worked out by hand. By -removed,-changed the counts in `cars.cudf` are 0 2, 0 0, 0 1, 0 1, FAIL, 0 2: the two of 0 1
+# share the second place, so that those of 0 2 share the fourth. A faulty problem has no ranking, whatever the answers
+# are. In `none.cudf` no answer has a car, and in `nothing.cudf` no file can be ranked. In `odd.cudf` one answer stands
+# alone, and bus 1 is no car. In `quiet.cudf` the first two change nothing and share the first place, the fourth changes
+# one name and is third, and ghost 1 isn't in the problem. In the last problem the empty status has no car.
 TABLE = (
     ("problem", *SOLVERS),
     ("cars.cudf", "4", "1", "2", "2", "FAIL", "4"),
     ("faulty.cudf", "unranked", "unranked", "unranked", "unranked", "unranked", "unranked"),
+    ("none.cudf", "no", "no", "no", "FAIL", "no", "FAIL"),
     ("nothing.cudf", "missing", "faulty", "folder", "missing", "faulty", "long"),
     ("odd.cudf", "folder", "FAIL", "unread", "1", "missing", "no"),
     ("quiet.cudf", "1", "1", "missing", "3", "no", "FAIL"),
