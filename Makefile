@@ -1,12 +1,14 @@
 # make run: proves and builds the program, and checks the example of the README.
 # make test: the gate. make statement: the files on which the headline rests, compared with docs/PROOFS.md.
-# make install PREFIX=..: copies the executable and its man page.
+# make install PREFIX=..: copies the executable, its man page and the pages for users; make uninstall takes them away.
 
 PREFIX ?= /usr/local
 PROGRAM := bin/cudf_check
 BUILT := crates/cudf_program/out/cudf_program
 
-.PHONY: run test statement install toolchain
+PAGES := RULES FORMAT DIFFERENCES COMPETITION
+
+.PHONY: run test statement install uninstall toolchain
 
 # The example is no solution, so the program's status is 1.
 run: toolchain
@@ -23,10 +25,14 @@ statement:
 
 install:
 	@test -x $(PROGRAM) || { echo "$(PROGRAM) is not there: run make run first" >&2; exit 2; }
-	install -d $(DESTDIR)$(PREFIX)/bin
-	install -m 755 $(PROGRAM) $(DESTDIR)$(PREFIX)/bin/cudf_check
-	install -d $(DESTDIR)$(PREFIX)/share/man/man1
-	install -m 644 cudf_check.1 $(DESTDIR)$(PREFIX)/share/man/man1/cudf_check.1
+	install -D -m 755 $(PROGRAM) "$(DESTDIR)$(PREFIX)/bin/cudf_check"
+	install -D -m 644 cudf_check.1 "$(DESTDIR)$(PREFIX)/share/man/man1/cudf_check.1"
+	install -d "$(DESTDIR)$(PREFIX)/share/doc/cudf_check"
+	install -m 644 $(PAGES:%=docs/%.md) "$(DESTDIR)$(PREFIX)/share/doc/cudf_check"
+
+uninstall:
+	rm -f "$(DESTDIR)$(PREFIX)/bin/cudf_check" "$(DESTDIR)$(PREFIX)/share/man/man1/cudf_check.1"
+	rm -rf "$(DESTDIR)$(PREFIX)/share/doc/cudf_check"
 
 toolchain:
 	@command -v rt >/dev/null || { echo "rt is not on the PATH: install the Rattle toolchain, or add the folder of its command rt to PATH" >&2; exit 2; }

@@ -8,7 +8,6 @@ usage: outermost.py PROGRAM
 - Standard input that is a folder, and one that fails after its first bytes.
 - Empty words.
 - Lists of criteria and rankings: answers, refusals, and a thousand solutions in one command.
-- Each command that README.md, examples/README.md and docs/COMPETITION.md show, with what it prints.
 - The text of each error, to the byte. Of a usage fault found by the words' parser, and of the system's own part of a
   text, only what README.md, docs/FORMAT.md and the man page fix.
 
@@ -17,7 +16,6 @@ isn't as wanted is printed, and then how many there were. The status is 1 where 
 program. For Linux; Python's standard library alone.
 """
 import os
-import re
 import resource
 import socket
 import subprocess
@@ -64,10 +62,6 @@ NO_LISTS = (
     "-removed,+size", "-paranoid", "-New", "-NEW", "new", "-removed,new", "-", "+", "--new", "+-new", "-new+removed",
     "-new;+removed", "-new=1", "\u2212new",
 )
-ROOT = os.path.dirname(os.path.dirname(os.path.abspath(__file__)))
-DOCUMENTS = ("README.md", "examples/README.md", "docs/COMPETITION.md")
-# the lines of a block, and its end
-BLOCK = r"((?:(?!```).*\n)*)```$"
 
 
 def ranked(*standings):
@@ -398,24 +392,6 @@ def many_solutions(trial):
     trial.expect(words + names[:-1] + ["faulty"], 2, of_solution(1000, FAULTY_SOLUTION))
 
 
-def shown(trial):
-    """What the documents show: behind `$` commands, each with what it prints, and a script with the block below it."""
-    os.symlink(trial.path, "cudf_check")
-    surroundings = dict(os.environ, PATH=os.getcwd() + os.pathsep + os.environ["PATH"])
-    for name in DOCUMENTS:
-        with open(os.path.join(ROOT, name), encoding="utf-8") as file:
-            text = file.read()
-        scripts = re.findall(rf"^```sh\n{BLOCK}\n\n```\n{BLOCK}", text, re.MULTILINE)
-        for block in re.findall(rf"^```\n(?=\$ ){BLOCK}", text, re.MULTILINE):
-            lines = block.splitlines(keepends=True)
-            commands = "".join(line[2:] for line in lines if line.startswith("$ "))
-            scripts.append((commands, "".join(line for line in lines if not line.startswith("$ "))))
-        for script, wanted in scripts:
-            places = {"cwd": ROOT, "env": surroundings, "capture_output": True, "text": True}
-            ran = subprocess.run(["sh", "-c", script], timeout=LIMIT_SECONDS, check=False, **places)
-            trial.note(f"{name}: {script}", (0, ran.stdout, ran.stderr), 0, wanted, "")
-
-
 def texts(trial):
     """A text too long, a full device, a word that isn't UTF-8, and too little memory."""
     with open("long", "wb") as file:
@@ -449,7 +425,7 @@ def texts(trial):
 
 ROWS = (
     statuses, helps, scores_by_lists, rankings, faults_in_rankings, first_refusals, refused_lists, refused_rankings, unopened,
-    too_many_files, closed_input, standard_input, empty_words, many_solutions, shown, texts,
+    too_many_files, closed_input, standard_input, empty_words, many_solutions, texts,
 )
 
 
