@@ -8,6 +8,7 @@ are the files that docs/PROOFS.md lists, those that only say which others there 
 Status 0: the map says what the files say; 1: it doesn't, and the lines that differ are printed. Python's standard library
 alone.
 """
+import re
 import sys
 
 from statement import CRATES, PROOFS, order_of_crates, title_of
@@ -18,11 +19,11 @@ BEGIN, END = "<!-- map: written by tools/map.py -->\n", "<!-- end of map -->"
 
 def files_of(crate):
     """The files of definitions and lemmas of a crate, those of definitions first."""
-    listed = PROOFS.read_text(encoding="utf-8")
+    listed = re.findall(r"^\| `(\S+)` \|", PROOFS.read_text(encoding="utf-8"), re.M)
     for folder in ("specs", "specs/Promises", "specs/Working", "proofs"):
         for path in sorted((CRATES / crate / folder).glob("*.antt")):
             is_list = path.stem == "Lib" or path.with_suffix("").is_dir()
-            if not is_list and f"`{path.relative_to(CRATES)}`" not in listed:
+            if not is_list and str(path.relative_to(CRATES)) not in listed:
                 yield folder, path
 
 
