@@ -1,18 +1,20 @@
 #!/usr/bin/env python3
 """Writes the tables of docs/FIGURES.md anew from what the gate and the trials printed.
 
-usage: figures.py FOLDER
+usage: figures.py FOLDER COMMIT
 
-The files of FOLDER, each of which may be missing; then its table stays as it is:
+COMMIT is that of the sources that were measured. The files of FOLDER, each of which may be missing; then its table stays
+as it is, with the commit that it is of:
 
-    gate           what `time .ci/run` printed, both outputs
-    run            what `time make run` printed, both outputs
+    run            what `benches/minutes.py make run` printed
+    gate           what `benches/minutes.py .ci/run` printed
     instructions   what instructions.py printed
     times-*        what measure.py printed, a file for each sitting
     trials         a line for each trial: its command, a tab, and the last line that it printed
 
-Each table stands in the page between `<!-- figures: NAME -->` and `<!-- end of figures -->`, where NAME is crates, gate,
-instructions, times or trials. Python's standard library alone.
+In place of minutes.py `time` will do, both outputs in one file: then the minutes by crate are missing. Each table stands
+in the page between `<!-- figures: NAME -->` and `<!-- end of figures -->`, where NAME is gate, crates, instructions, times
+or trials, and its first cell names the commit. Python's standard library alone.
 """
 import re
 import sys
@@ -24,6 +26,16 @@ BLOCK = "<!-- figures: {} -->\n", "<!-- end of figures -->"
 PROVED = re.compile(r"^== (\w+)(?:: its tests)?\n(?:(?!^== ).*\n)*?logic=proved (?:tests=\d+ )?functions=(\d+)", re.M)
 TESTED = re.compile(r"^test result: ok\. (\d+) passed.*\nrt: (\w+): its tests passed", re.M)
 TOOK = re.compile(r"^real\s+(\S+)\s+user\s+(\d+)m([\d.]+)s\s+sys\s+(\d+)m([\d.]+)s", re.M)
+MINUTES = re.compile(r"^minutes (\w+): proofs ([\d.]+), tests ([\d.]+), wrong bodies ([\d.]+)", re.M)
+# what the parts of the gate print last
+TOLD = re.compile(r"^(?:\d+ passed, \d+ failed|\d+ rows, \d+ wrong|at most \d+ MB a check).*", re.M)
+# of the shapes that measure.py makes those that the page shows
+SHOWN = (
+    "distribution, 156000", "distribution, 624000", "distribution, all installed, 134000", "half installed, 200000",
+    "five faults a package, 100000", "one name, descending, 100000", "met by the last entry, 100000",
+    "the same by each operator, 40000", "lists on many lines, 100000", "unknown stanzas, 1000000",
+    "a comment, other letters, 100",
+)
 
 
 def table(head, rows):
@@ -35,8 +47,15 @@ def edits(crate):
     return len(list((ROOT / "crates" / crate / "wrong-bodies").glob("*.edit")))
 
 
-def crates(gate):
-    """Functions (of a crate of tests those of its tests) and tests by crate, and the wrong bodies that stand in the tree."""
+def minutes(text):
+    """The minutes of each crate's proofs, tests and wrong bodies, where minutes.py told them."""
+    return {crate: list(map(float, told)) for crate, *told in MINUTES.findall(text)}
+
+
+def crates(files):
+    """Functions (of a crate of tests those of its tests) and tests by crate, the wrong bodies that stand in the tree, and
+    the minutes of the two commands."""
+    gate = files["gate"]
     proved = {}
     for crate, functions in PROVED.findall(gate):
         proved.setdefault(crate, functions)
@@ -44,19 +63,30 @@ def crates(gate):
             proved[crate] = functions
     tested = {crate: tests for tests, crate in TESTED.findall(gate)}
     names = [line.partition(":")[0].split()[0] for line in (ROOT / "crates.txt").read_text().splitlines() if line[:1].isalpha()]
-    rows = [[name, proved.get(name, ""), tested.get(name, ""), edits(name) or ""] for name in names]
-    return table(["Crate", "Functions proved", "Tests", "Wrong bodies"], rows)
+    of_run, of_gate = minutes(files.get("run", "")), minutes(gate)
+    head = ["Crate", "Functions proved", "Tests", "Wrong bodies"]
+    head += ["`make run`, min"] * bool(of_run) + ["Gate, min: proofs", "tests", "wrong bodies"] * bool(of_gate)
+    rows = []
+    for name in names:
+        row = [name, proved.get(name, ""), tested.get(name, ""), edits(name) or ""]
+        row += [f"{sum(of_run[name]):.1f}" if name in of_run else ""] * bool(of_run)
+        row += [f"{it:.1f}" if it else "" for it in of_gate.get(name, [0, 0, 0])] * bool(of_gate)
+        rows.append(row)
+    return table(head, rows)
 
 
 def took(text):
     real, *spent = TOOK.findall(text)[-1]
-    minutes, seconds, more, rest = map(float, spent)
-    return re.sub(r"\.\d+s", "s", real), f"{minutes + more + (seconds + rest) / 60:.1f} min"
+    whole, seconds, more, rest = map(float, spent)
+    return re.sub(r"\.\d+s", "s", real), f"{whole + more + (seconds + rest) / 60:.1f} min"
 
 
 def gate(files):
-    rows = [[f"`{name}`", *took(files[file])] for file, name in (("run", "make run"), ("gate", ".ci/run")) if file in files]
-    return table(["Command", "Time", "Processor time"], rows)
+    commands = [(name, files[file]) for file, name in (("run", "make run"), ("gate", ".ci/run")) if file in files]
+    text = table(["Command", "Time", "Processor time"], [[f"`{name}`", *took(told)] for name, told in commands])
+    if told := TOLD.findall(files.get("gate", "")):
+        text += f"\nThe gate printed: {'; '.join(f'`{it}`' for it in told)}.\n"
+    return text
 
 
 def sitting(text):
@@ -73,11 +103,11 @@ def sitting(text):
 
 
 def times(sittings):
-    """A row for each input, with both jobs: of a distribution each size, of any other shape the whole one."""
+    """A row for each input that is shown, with both jobs."""
     inputs = {}
     for name in sittings[0]:
         shape, _, job = name.rpartition(": ")
-        if name.startswith("distribution") or sittings[0][name]["doubled"] != "-":
+        if shape in SHOWN:
             inputs.setdefault(shape, []).append(job)
     rows = []
     for shape, jobs in inputs.items():
@@ -98,12 +128,13 @@ def trials(text):
     return table(["Trial", "What it printed last"], [[f"`{command}`", told] for command, told in rows])
 
 
-def main(folder):
+def main(folder, commit):
     files = {it.name: it.read_text(encoding="utf-8") for it in Path(folder).iterdir() if it.is_file()}
     blocks = {}
-    if "gate" in files:
-        blocks["crates"] = crates(files["gate"])
+    if "gate" in files or "run" in files:
         blocks["gate"] = gate(files)
+    if "gate" in files:
+        blocks["crates"] = crates(files)
     if "instructions" in files:
         blocks["instructions"] = files["instructions"]
     if seen := [sitting(files[it]) for it in sorted(files) if it.startswith("times-")]:
@@ -116,11 +147,11 @@ def main(folder):
         before, found, rest = page.partition(begin)
         if not found:
             sys.exit(f"docs/FIGURES.md has no line '{begin.strip()}'")
-        page = before + begin + text + BLOCK[1] + rest.partition(BLOCK[1])[2]
+        page = before + begin + text.replace(" |", f", of {commit} |", 1) + BLOCK[1] + rest.partition(BLOCK[1])[2]
     PAGE.write_text(page, encoding="utf-8")
 
 
 if __name__ == "__main__":
-    if len(sys.argv) != 2:
+    if len(sys.argv) != 3:
         sys.exit(__doc__)
-    main(sys.argv[1])
+    main(*sys.argv[1:])
