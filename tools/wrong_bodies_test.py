@@ -3,8 +3,9 @@
 
     wrong_bodies_test.py [--behind-ci]
 
-Planted are a changed comment, an equal body beside a refused callee, an edit that doesn't compile, and one whose old
-text isn't there. A wrong body beside them must be refused.
+Planted are a changed comment, an equal body beside a refused callee, an edit that doesn't compile, one whose old text isn't
+there, and an equal body that takes away a step which a written answer names. A wrong body beside them must be refused, also
+where it takes away such a step.
 """
 import subprocess
 import sys
@@ -27,6 +28,16 @@ PLANTS = {
     "equal_caller": (
         "file: src/blanks.rt\nold: bytes.iter().all(|byte| is_blank(*byte))\nnew: bytes.iter().all(|one| is_blank(*one))\n",
         "missed: NOT REFUSED",
+    ),
+    "equal_without_a_step": (
+        "file: src/cursor.rt\nold: keep_properties(alloc, &self.others, &mut self.texts, properties)?;\n"
+        "new: let others = self.others.as_slice(); keep_properties(alloc, others, &mut self.texts, properties)?;\n",
+        "says little: ",
+    ),
+    "wrong_without_a_step": (
+        "file: src/cursor.rt\nold: keep_properties(alloc, &self.others, &mut self.texts, properties)?;\n"
+        "new: let others = self.others.as_slice(); self.place = place; keep_properties(alloc, others, &mut self.texts, properties)?;\n",
+        "refused: ",
     ),
     "no_type": (
         "file: src/blanks.rt\nold: let mut n = bytes.len();\nnew: let mut n = true;\n",
