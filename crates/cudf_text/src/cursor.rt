@@ -103,7 +103,7 @@ impl<'t> Stanzas<'t> {
         ensures kept { IfErr result (λ _. self.new ≡ self.old) }
     {
         let (next, place) = read_stanza(alloc, self.place, properties, &mut self.others)?;
-        keep_properties(alloc, &self.others, &mut self.texts, properties)?;
+        keep_properties(alloc, &mut self.others, &mut self.texts, properties)?;
         self.place = place;
         Ok(next)
     }

@@ -34,21 +34,21 @@ fn lend_properties<'t, 'a>(
     Ok(())
 }
 
-/// Puts the same properties behind these; a value that is a text of its own goes into the room.
+/// Moves the properties behind these; a value that is a text of its own goes into the room.
 pub(crate) fn keep_properties<'t>(
     alloc: Global,
-    properties: &[Property<'t>],
+    properties: &mut Vec<Property<'t>>,
     texts: &mut Texts<'t>,
     kept: &mut Vec<PropertyRef<'t>>,
 ) -> Result<(), AllocError>
     ensures { OnOk result (map property_view kept.new.items
-        ≡ map property_view kept.old.items ++ map own_property_view properties.now) }
+        ≡ map property_view kept.old.items ++ map own_property_view properties.old.items) }
 {
-    for property in properties {
+    for Property { line, name, value } in properties.drain(..) {
         kept.push(PropertyRef {
-            line: property.line,
-            name: property.name,
-            value: texts.keep(alloc, &property.value)?,
+            line,
+            name,
+            value: texts.keep(alloc, value)?,
         })?;
     }
     Ok(())

@@ -50,12 +50,12 @@ impl<'t> Texts<'t> {
 
     /// The value, which is put into the room if it is a text of its own.
     #[inline(always)]
-    pub(crate) fn keep(&mut self, alloc: Global, value: &CowStr<'t>) -> Result<&'t str, AllocError>
-        ensures { IfOk result (λ kept. kept.now ≡ cow_str_bytes value.now) }
+    pub(crate) fn keep(&mut self, alloc: Global, value: CowStr<'t>) -> Result<&'t str, AllocError>
+        ensures { IfOk result (λ kept. kept.now ≡ cow_str_bytes value.entry) }
     {
         match value {
-            CowStr::Borrowed(text) => Ok(*text),
-            CowStr::Owned(text) => self.put(alloc, String::from_str(alloc, text.as_str())?),
+            CowStr::Borrowed(text) => Ok(text),
+            CowStr::Owned(text) => self.put(alloc, text),
         }
     }
 
