@@ -1,10 +1,11 @@
 -- Readers in a row, read one after another.
 use Rattle.std.proofs.Common.{◌≡◌, ◌↔◌, inl, inr, ℕ, zero, suc, ◌+◌, ◌<◌, ◌≤◌, List, [], ◌∷◌, ◌++◌, length, get_or, set, take, drop, Result, Ok, Err, IsErr, IsErrAnd, IsErrOf, refl, sym, ap, ◌∙◌, subst, arith}
+use Rattle.std.specs.List.{All}
 use Rattle.cudf_check.specs.declared.outcome.RunError.{RunError}
 use Rattle.cudf_check.specs.declared.outcome.RunError.TheVariants.{Read, TooLong, Write, Memory}
 use Rattle.cudf_check.specs.Device.{SourceState}
 use Rattle.cudf_check.specs.ManyRuns.{changes, OfOne, OfEach, LeavesBehind}
-use Rattle.cudf_check.specs.Runs.{Change, change, ReadsAll, IsUnfinished, IsTooLong, IsStopped}
+use Rattle.cudf_check.specs.Runs.{Change, change, ReadsAll, IsUnfinished, IsTooLong, IsStopped, IsWithinTurns}
 use Rattle.cudf_check.specs.Working.InTurn.{ReadsInTurn}
 use Rattle.cudf_check.proofs.CommonLemmas.{same_error}
 
@@ -13,6 +14,7 @@ pub record WasRead (reader : Change SourceState) (bytes : List ℕ) : Type 0 whe
   pub all : ReadsAll reader bytes
   pub finished : IsUnfinished reader → ⊥
   pub short : IsTooLong reader → ⊥
+  pub turns : IsWithinTurns reader
 
 -- what holds of no reader that was read, nor of one that wasn't called
 pub record IsFailure {D : Type 0} (state : D → SourceState) (Q : Change SourceState → Type 0) : Type 0 where
@@ -37,6 +39,33 @@ too_long_fails state = record {
   where
     still : (s : SourceState) → IsTooLong (record { before = s; after = s }) → ⊥
     still s h = let below : s.given + 268435456 < s.given = h in omega arith
+
+-- the reader had more calls than an input may take
+abbrev pub IsBeyondTurns : Change SourceState → Type 0
+IsBeyondTurns reader = reader.before.calls + 536870912 < reader.after.calls
+
+pub never_both : (reader : Change SourceState) → IsWithinTurns reader → IsBeyondTurns reader → ⊥
+never_both reader within beyond =
+    let most : reader.after.calls ≤ reader.before.calls + 536870912 = within in
+    let more : reader.before.calls + 536870912 < reader.after.calls = beyond in
+    omega arith
+
+pub beyond_turns_fails : {D : Type 0} (state : D → SourceState) → IsFailure state IsBeyondTurns
+beyond_turns_fails state = record {
+  not_read = λ reader bytes w h. never_both reader w.turns h;
+  not_still = λ x h. still (state x) h;
+}
+  where
+    still : (s : SourceState) → IsBeyondTurns (record { before = s; after = s }) → ⊥
+    still s h = let more : s.calls + 536870912 < s.calls = h in omega arith
+
+-- where none had more calls, each is within its turns
+pub each_within : (readers : List (Change SourceState)) → (OfOne IsBeyondTurns readers → ⊥) → All IsWithinTurns readers
+each_within [] none k d below = absurd (omega arith)
+each_within (r ∷ readers) none zero d below =
+    let most : r.before.calls + 536870912 < r.after.calls → ⊥ = λ h. none (inl h) in
+    omega arith
+each_within (r ∷ readers) none (suc k) d below = each_within readers (λ h. none (inr h)) k d (omega arith)
 
 -- the first readers were read, and the others are as they were lent
 pub record ReadSoFar {D : Type 0} (state : D → SourceState) (olds news : List D) (n : ℕ) (texts : List (List ℕ)) : Type 0 where
@@ -150,6 +179,7 @@ read_to_the_end state n olds news texts v end m =
       all = all_read (changes state olds news) (texts v) all;
       too_long = (λ e. absurd (cc e), λ h. absurd (none_stopped state IsTooLong (too_long_fails state) n olds news (texts v) m.texts_are m.rest h));
       read = (λ e. absurd (cc e), λ h. absurd (none_stopped state IsUnfinished (unfinished_fails state) n olds news (texts v) m.texts_are m.rest h));
+      turns = each_within _ (none_stopped state IsBeyondTurns (beyond_turns_fails state) n olds news (texts v) m.texts_are m.rest);
       behind = nothing_left state n olds news (texts v) m.texts_are m.rest m.same_length;
       no_write = λ e. absurd (cc e);
     }
@@ -167,6 +197,7 @@ no_room_left state n olds news read texts m = record {
   all = tt;
   too_long = (λ e. absurd (cc e), λ h. absurd (none_stopped state IsTooLong (too_long_fails state) n olds news read m.texts_are m.rest h));
   read = (λ e. absurd (cc e), λ h. absurd (none_stopped state IsUnfinished (unfinished_fails state) n olds news read m.texts_are m.rest h));
+  turns = each_within _ (none_stopped state IsBeyondTurns (beyond_turns_fails state) n olds news read m.texts_are m.rest);
   behind = nothing_left state n olds news read m.texts_are m.rest m.same_length;
   no_write = λ e. absurd (cc e);
 }
@@ -212,17 +243,20 @@ left_behind state (suc n) (old ∷ olds) (new ∷ news) (t ∷ texts) x below sa
 pub stopped : {D T U : Type 0} (state : D → SourceState) (n : ℕ) (olds news : List D) (read : List (List ℕ)) (x d : D) (texts : T → List (List ℕ)) (reading : Result U RunError) (e : RunError) (result : Result T RunError)
     → n < length news → ReadSoFar state olds news n read → reading ≡ Err e
     → (IsErrOf reading TooLong ↔ IsTooLong (change state (get_or news n d) x)) → (IsErrOf reading Read ↔ IsUnfinished (change state (get_or news n d) x))
-    → (reading ≡ Err Write → ⊥) → IsErr result × IsErrAnd result (λ y. y ≡ e) → ReadsInTurn state olds (set news n x) texts result
-stopped state n olds news read x d texts reading e (Ok v) below m is too_long unread no_write same = absurd same.1
-stopped state n olds news read x d texts reading e (Err y) below m is too_long unfinished no_write same =
+    → IsWithinTurns (change state (get_or news n d) x) → (reading ≡ Err Write → ⊥) → IsErr result × IsErrAnd result (λ y. y ≡ e)
+    → ReadsInTurn state olds (set news n x) texts result
+stopped state n olds news read x d texts reading e (Ok v) below m is too_long unfinished within no_write same = absurd same.1
+stopped state n olds news read x d texts reading e (Err y) below m is too_long unfinished within no_write same =
     let below_old : n < length olds = omega (arith, m.same_length) in
     let too_long_one = one_of state IsTooLong (too_long_fails state) n olds news read x d below_old m.same_length m.texts_are m.rest in
     let unfinished_one = one_of state IsUnfinished (unfinished_fails state) n olds news read x d below_old m.same_length m.texts_are m.rest in
+    let beyond_one = one_of state IsBeyondTurns (beyond_turns_fails state) n olds news read x d below_old m.same_length m.texts_are m.rest in
     let error : y ≡ e = same.1 in
     record {
       all = tt;
       too_long = (λ h. too_long_one.1 (too_long.0 (is ∙ ap Err (sym error ∙ same_error h))), λ h. ap Err (error ∙ same_error (sym is ∙ too_long.1 (too_long_one.0 h))));
       read = (λ h. unfinished_one.1 (unfinished.0 (is ∙ ap Err (sym error ∙ same_error h))), λ h. ap Err (error ∙ same_error (sym is ∙ unfinished.1 (unfinished_one.0 h))));
+      turns = each_within _ (λ h. never_both (change state (get_or news n d) x) within (beyond_one.0 h));
       behind = left_behind state n olds news read x below_old m.same_length m.texts_are m.rest;
       no_write = λ h. no_write (is ∙ ap Err (sym error ∙ same_error h));
     }

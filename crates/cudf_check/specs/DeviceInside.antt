@@ -1,10 +1,10 @@
--- What a device is made of, and what it tells of the reader under it.
+-- What a device is made of, and what it tells of the reader or writer under it.
 use Rattle.std.specs.Prelude.{◌≡◌, ℕ, List, Option, Result, Ok, Err}
 use Rattle.std.specs.declared.io.Error.{Error}
 use Rattle.std.specs.declared.io.ErrorKind.{ErrorKind}
 use Rattle.std.specs.declared.io.ErrorKind.TheVariants as error_kinds
 use Rattle.std.specs.IoError.{error_kind}
-use Rattle.cudf_check.specs.Device.{SourceState}
+use Rattle.cudf_check.specs.Device.{SourceState, SinkState}
 use Rattle.cudf_check.specs.declared.device.Device.{Device}
 use Rattle.cudf_check.specs.declared.device.Trouble.{Trouble}
 use Rattle.cudf_check.specs.declared.device.Trouble.TheVariants.{Interrupted, Failed}
@@ -30,6 +30,10 @@ source_state remaining d = record {
   given = d.given;
 }
 
+-- what contracts see of a device over a writer that has taken these bytes
+abbrev pub sink_state : {T : Type 0} → (T → Option (List ℕ)) → Device T → SinkState
+sink_state contents d = record { contents = contents d.inner; failures = d.failures }
+
 -- an error of a std reader or writer, by its kind
 abbrev pub trouble_of : ErrorKind → Trouble
 trouble_of error_kinds.Interrupted = Interrupted
@@ -43,3 +47,7 @@ device_answer (Err error) = Err (trouble_of (error_kind error))
 -- a call of the reader gave an answer, and it is told as a source answers it
 abbrev pub IsTold : {T : Type 0} → (T → Result ℕ Error → List ℕ → T → Type 0) → T → Result ℕ Trouble → List ℕ → T → Type 0
 IsTold gives before told bytes after = (answer : Result ℕ Error) × gives before answer bytes after × (told ≡ device_answer answer)
+
+-- a call of the writer was given all of the bytes, and its answer is told as a sink answers it
+abbrev pub IsHandedDown : {T : Type 0} → (T → List ℕ → Result ℕ Error → T → Type 0) → T → List ℕ → Result ℕ Trouble → T → Type 0
+IsHandedDown takes before bytes told after = (answer : Result ℕ Error) × takes before bytes answer after × (told ≡ device_answer answer)

@@ -39,7 +39,7 @@ pub record RanksRun (aims : List Aim) (mode : Mode) (problem : Change SourceStat
   pub cut_short : IsErrOf result Write → IsRankCutShort aims mode problem solutions out
   -- any other error: nothing was written
   pub untouched : IfErr result (λ e. e ≢ Write → Keeps out.before.contents out.after.contents)
-  -- `Read` exactly where a reader failed or didn't end within its turns
+  -- `Read` exactly where a read failed or a reader didn't end within its turns
   pub read : IsErrOf result Read ↔ (IsUnfinished problem ⊎ OfOne IsUnfinished solutions)
   -- `TooLong` exactly where a reader gave too many bytes
   pub too_long : IsErrOf result TooLong ↔ (IsTooLong problem ⊎ OfOne IsTooLong solutions)

@@ -50,7 +50,7 @@ pub record ReadsAll (reader : Change SourceState) (bytes : List ℕ) : Type 0 wh
   pub ended : reader.after.ends ≡ reader.before.ends + 1
   pub counted : reader.after.given ≡ reader.before.given + length bytes
 
--- a read failed, or the last turn neither ended the input nor made it too long
+-- a read failed, or the reader had as many calls as an input may take, and none of them ended it or made it too long
 abbrev pub IsUnfinished : Change SourceState → Type 0
 IsUnfinished reader = (reader.before.failures < reader.after.failures)
     ⊎ ((reader.after.calls ≡ reader.before.calls + most_turns)
@@ -60,6 +60,10 @@ IsUnfinished reader = (reader.before.failures < reader.after.failures)
 -- the reader gave too many bytes
 abbrev pub IsTooLong : Change SourceState → Type 0
 IsTooLong reader = reader.before.given + most_bytes < reader.after.given
+
+-- the reader had no more calls than an input may take
+abbrev pub IsWithinTurns : Change SourceState → Type 0
+IsWithinTurns reader = reader.after.calls ≤ reader.before.calls + most_turns
 
 -- the reader hasn't told its end, as where memory ran out before it
 abbrev pub IsUnended : Change SourceState → Type 0
@@ -122,7 +126,7 @@ pub record Runs (job : Job) (mode : Mode) (input : Change SourceState) (solution
   pub cut_short : IsErrOf result Write → IsCutShort job mode input solution out
   -- any other error: nothing was written
   pub untouched : IfErr result (λ e. e ≢ Write → Keeps out.before.contents out.after.contents)
-  -- `Read` exactly where a reader failed or didn't end within its turns
+  -- `Read` exactly where a read failed or a reader didn't end within its turns
   pub read : IsErrOf result Read ↔ (IsUnfinished input ⊎ OfReader IsUnfinished solution)
   -- `TooLong` exactly where a reader gave too many bytes
   pub too_long : IsErrOf result TooLong ↔ (IsTooLong input ⊎ OfReader IsTooLong solution)

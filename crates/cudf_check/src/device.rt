@@ -1,7 +1,7 @@
 //! What a run reads from and writes to. Contracts see of each device one state: its bytes, where it tells them, and
 //! always the counts of its calls.
 ghost use Rattle.std.specs.Prelude.{◌≡◌, ℕ, List, Option, Result, ◌+◌, ◌<◌, ◌≤◌, length, IfOk};
-ghost use Rattle.std.specs.Io.{ReadsAtMost};
+ghost use Rattle.std.specs.Io.{ReadsAtMost, WritesAtMost};
 ghost use Rattle.std.specs.Io.KnownBytes.{ReadConsumes, WriteAppends};
 ghost use Rattle.std.specs.declared.io.Error.{Error};
 ghost use Rattle.cudf_check.specs.Device.{SourceState, SinkState, failed_reads, ended_reads, bytes_given, failed_writes};
@@ -24,8 +24,8 @@ pub trait Source {
     /// The bytes that it will still give, where it tells them, and the counts of its calls and bytes.
     ghost state: { Self → SourceState };
 
-    /// Writes the next bytes to the front of `buffer` and answers how many. 0 bytes are the end of
-    /// the input. After a `Trouble` no byte was given.
+    /// Writes the next bytes to the front of `buffer`, which has room for one at least, and answers how many: at most
+    /// as many as the buffer has room for. 0 bytes are the end of the input. After a `Trouble` no byte was given.
     fn read(&mut self, buffer: &mut [u8]) -> Result<usize, Trouble>
         requires { 0 < length buffer.old }
 
@@ -44,7 +44,8 @@ pub trait Sink {
     /// The bytes that it has taken, where it tells them, and the count of its failed calls.
     ghost state: { Self → SinkState };
 
-    /// Takes bytes from the front of `bytes` and answers how many. After a `Trouble` none was taken.
+    /// Takes bytes from the front of `bytes`, which are one at least, and answers how many: at most as many as there
+    /// are. A run takes an answer of 0 for a failed call. After a `Trouble` none was taken.
     fn write(&mut self, bytes: &[u8]) -> Result<usize, Trouble>
         requires { 0 < length bytes.now }
 
@@ -56,11 +57,16 @@ pub trait Sink {
 /// A reader or a writer of std, as a `Source` or a `Sink`. It tells its bytes where the reader or
 /// writer does, as one over memory, and a file doesn't.
 #[derive(Drop)]
+#[derive_where(Debug; T)]
 pub struct Device<T> {
     inner: T,
+    #[derive_where(skip(Debug))]
     calls: Steps,
+    #[derive_where(skip(Debug))]
     failures: Steps,
+    #[derive_where(skip(Debug))]
     ends: Steps,
+    #[derive_where(skip(Debug))]
     given: Steps,
 }
 
@@ -111,6 +117,9 @@ fn answer_of(answer: io::Result<usize>) -> Result<usize, Trouble>
 
 /// A reader of std, as a device calls it. Contracts see which answers a call may have given, so that
 /// a device can't answer in the reader's place.
+///
+/// That `read_once` itself hands on what std's `read` answered is read off its line: the contract of
+/// std says nothing of an error.
 pub trait Reader {
     /// The bytes that it will still give, where it tells them.
     ghost remaining: { Self → Option (List ℕ) };
@@ -163,11 +172,46 @@ impl<R: Reader> Source for Device<R> {
     }
 }
 
-impl<W: Write> Sink for Device<W> {
-    ghost state = { λ d. record { contents = W.contents d.inner; failures = d.failures } };
+/// A writer of std, as a device calls it. Contracts see which bytes a call was given and which answers it may have
+/// given, so that a device hands all of its bytes down in one call, and tells that call's answer.
+pub trait Writer {
+    /// The bytes that it has taken, where it tells them.
+    ghost contents: { Self → Option (List ℕ) };
 
-    fn write(&mut self, bytes: &[u8]) -> Result<usize, Trouble> {
-        let answer = answer_of(self.inner.write(bytes));
+    /// A call that finds the writer so and is given these bytes may answer this, and leave the writer so.
+    ghost takes: { Self → List ℕ → Result ℕ Error → Self → Type 0 };
+
+    /// One call of the writer's `write`.
+    fn write_once(&mut self, bytes: &[u8]) -> io::Result<usize>
+        ensures bound { WritesAtMost result bytes.now }
+        ensures bytes { WriteAppends (contents self.old) (contents self.new) result bytes.now }
+        ensures takes { takes self.old bytes.now result self.new };
+}
+
+impl<W: Write> Writer for W {
+    ghost contents = { W.contents };
+
+    ghost takes = { λ before bytes answer after. WriteAppends (W.contents before) (W.contents after) answer bytes };
+
+    fn write_once(&mut self, bytes: &[u8]) -> io::Result<usize> {
+        self.write(bytes)
+    }
+}
+
+impl<W: Writer> Sink for Device<W> {
+    ghost use Rattle.cudf_check.specs.DeviceInside.{device_inner, sink_state, IsHandedDown};
+
+    ghost state = { sink_state W.contents };
+
+    fn write(&mut self, bytes: &[u8]) -> Result<usize, Trouble>
+        // One call of the writer was given all of the bytes, and what it answered is told.
+        ensures told { IsHandedDown W.takes (device_inner self.old) bytes.now result (device_inner self.new) }
+
+        ensures bound { IfOk result (λ n. n ≤ length bytes.now) }
+        ensures bytes { WriteAppends (sink_state W.contents self.old).contents (sink_state W.contents self.new).contents result bytes.now }
+        ensures failed { (sink_state W.contents self.new).failures ≡ (sink_state W.contents self.old).failures + failed_writes result }
+    {
+        let answer = answer_of(self.inner.write_once(bytes));
         match answer {
             Ok(n) if n > 0 => {}
             _ => self.failures.tick(),

@@ -1,7 +1,6 @@
 //! Reads an input to its end, within limits on its bytes and on the calls that it takes.
-ghost use Rattle.std.specs.Prelude.{◌≡◌, ◌≢◌, ◌+◌, ◌≤◌, ◌↔◌, IfOk, IfErr, IfSome, IsErrOf};
-ghost use Rattle.cudf_check.specs.Limits.{most_turns};
-ghost use Rattle.cudf_check.specs.Runs.{change, ReadsAll, IsUnfinished, IsTooLong};
+ghost use Rattle.std.specs.Prelude.{◌≡◌, ◌≢◌, ◌↔◌, IfOk, IfErr, IfSome, IsErrOf};
+ghost use Rattle.cudf_check.specs.Runs.{change, ReadsAll, IsUnfinished, IsTooLong, IsWithinTurns};
 
 use crate::device::{Source, Trouble};
 use crate::outcome::RunError;
@@ -22,10 +21,10 @@ pub(crate) fn read_all<R: Source>(alloc: Global, source: &mut R) -> Result<Vec<u
     // Exactly where the source gave too many bytes.
     ensures too_long { IsErrOf result RunError.TooLong ↔ IsTooLong (change R.state source.old source.new) }
 
-    // Exactly where a read failed, or the last turn neither ended the input nor made it too long.
+    // Exactly where a read failed, or the last of the turns neither ended the input nor made it too long.
     ensures read { IsErrOf result RunError.Read ↔ IsUnfinished (change R.state source.old source.new) }
 
-    ensures turns { (R.state source.new).calls ≤ (R.state source.old).calls + most_turns }
+    ensures turns { IsWithinTurns (change R.state source.old source.new) }
     ensures no_write { result ≢ Err RunError.Write }
 {
     let mut bytes = Vec::new(alloc);

@@ -2,9 +2,10 @@
 use cudf_referee::{Aim, Key};
 
 /// One run's task.
-#[derive(Debug, PartialEq, Eq, Drop)]
+#[derive(Clone, Debug, PartialEq, Eq, Drop)]
 pub enum Job {
-    /// Say whether the input is a problem without fault. No solution is read.
+    /// Say whether the input is a problem without fault. The whole input is the problem, also what stands behind its
+    /// request, and no solution is read.
     Lint,
     /// Judge the solution and list the violated instances: those whose keys come behind `after`, where
     /// it is given, and at most `limit` of them, which is at least 1. The verdict is of all instances.

@@ -2,10 +2,11 @@
 //! reports each rule that a solution breaks, `rank` compares several solutions of one problem.
 #![tactic(auto)]
 
-ghost use Rattle.std.specs.Prelude.{◌≡◌, None, Some};
+ghost use Rattle.std.specs.Prelude.{◌≡◌, None, Some, IfSome};
+ghost use Rattle.std.specs.List.{All};
 ghost use Rattle.cudf_check.specs.ManyRuns.{changes, LeavesBehind};
 ghost use Rattle.cudf_check.specs.RankRuns.{RanksRun};
-ghost use Rattle.cudf_check.specs.Runs.{change, change_of_lent, lent, returned, IsStopped, Runs, SkipsSolution};
+ghost use Rattle.cudf_check.specs.Runs.{change, change_of_lent, lent, returned, IsStopped, IsWithinTurns, Runs, SkipsSolution};
 
 mod buffer;
 mod device;
@@ -24,7 +25,7 @@ mod readings;
 mod report;
 
 pub use cudf_document::Mode;
-pub use cudf_referee::{Aim, Count, Key, Sign};
+pub use cudf_referee::{Aim, Count, Criteria, Key, Sign, compare, read_criterion};
 pub use device::{Device, Sink, Source, Trouble};
 use input::read_all;
 use inputs::read_each;
@@ -34,13 +35,17 @@ use rank_report::{Contest, answer_ranking};
 use report::{Task, answer_job};
 use std::alloc::Global;
 
-/// Reads `input` to its end, and then `solution`, where it is given and the job judges one; reads both
-/// documents in this mode, answers the job and writes its report to `out`. `None` as the solution means that the input holds both.
+/// Reads `input` to its end, and then `solution`, where it is given and the job judges one; reads the documents in this
+/// mode, answers the job and writes its report to `out`.
+///
+/// Without a `solution` a job that judges one takes both documents from `input`: the problem goes through the first
+/// blank line behind the line that begins with `request:`, and the rest is the solution. For `Lint` the whole `input` is
+/// the problem.
 ///
 /// # Errors
 ///
 /// - `Read`: a read failed, or turn 536870912 of a reader neither ended its input nor made it too
-///   long. A turn is one call of `read`; an interrupted one is tried again.
+///   long. A turn is one call of `read`; an interrupted one is tried again. No reader has more turns.
 /// - `TooLong`: a reader gave more than 268435456 bytes (256 MiB).
 /// - `Write`: a call of `write` answered a trouble or took no byte. What was taken before is a
 ///   prefix of the report.
@@ -59,6 +64,10 @@ pub fn run<R: Source, S: Source, W: Sink>(
         (change_of_lent S.state (lent solution.entry) (returned solution.exit))
         (change W.state out.old out.new) result }
 
+    // No reader is called more often than an input may take.
+    ensures turns { IsWithinTurns (change R.state input.old input.new) }
+    ensures solution_turns { IfSome (change_of_lent S.state (lent solution.entry) (returned solution.exit)) IsWithinTurns }
+
     // Where the solution isn't read, it is returned as it was lent.
     ensures unread { SkipsSolution job.now (change R.state input.old input.new) → returned solution.exit ≡ lent solution.entry }
 {
@@ -69,14 +78,15 @@ pub fn run<R: Source, S: Source, W: Sink>(
     }
 }
 
-/// Reads `problem` to its end, and then each of the `solutions` in order; reads the documents in this mode, judges and ranks them by the `aims`, and writes
-/// their ranking to `out`. Own.
+/// Reads `problem` to its end, and then each of the `solutions` in order; reads the documents in this mode, judges and
+/// ranks the solutions by the `aims`, and writes their ranking to `out`. Own.
 ///
 /// The ranking has a line for each solution, the best first: its rank from 1, its place among the solutions from 1, and
 /// what was found of it, as `2 solution 5 yes -changed 1 -touched 1`, `4 solution 3 no` or `5 solution 1 FAIL`. Solutions
 /// come first, the better one by [`compare`](cudf_referee::compare) before the other; then those that are none; then those
-/// that say FAIL. Where these tie, the order is that of their places. The outcome is `Yes` where one is a solution, or else
-/// `No` where one doesn't say FAIL, or else `Fail`.
+/// that say FAIL. Where these tie, the order is that of their places: without `aims` these alone decide between two
+/// solutions. The outcome is `Yes` where one is a solution, or else `No` where one doesn't say FAIL, or else `Fail`. Without
+/// `solutions` the ranking is empty, and the outcome `Fail`.
 ///
 /// Where a document is faulty, a single line says so, and the outcome is `Faulty`: the problem's first fault, as
 /// `problem line 3: E9 value is not of its type`; or else the first fault of the first solution that has one, as
@@ -85,7 +95,7 @@ pub fn run<R: Source, S: Source, W: Sink>(
 /// # Errors
 ///
 /// - `Read`: a read failed, or turn 536870912 of a reader neither ended its input nor made it too
-///   long. A turn is one call of `read`; an interrupted one is tried again.
+///   long. A turn is one call of `read`; an interrupted one is tried again. No reader has more turns.
 /// - `TooLong`: a reader gave more than 268435456 bytes (256 MiB).
 /// - `Write`: a call of `write` answered a trouble or took no byte. What was taken before is a
 ///   prefix of the report.
@@ -104,6 +114,10 @@ pub fn rank<R: Source, S: Source, W: Sink>(
     ensures ranks { RanksRun aims.now mode (change R.state problem.old problem.new) (changes S.state solutions.old solutions.new)
         (change W.state out.old out.new) result }
 
+    // No reader is called more often than an input may take.
+    ensures turns { IsWithinTurns (change R.state problem.old problem.new) }
+    ensures solutions_turns { All IsWithinTurns (changes S.state solutions.old solutions.new) }
+
     // Where the problem's reading ended in an error, the solutions are as they were lent; where a solution's did, those
     // behind it.
     ensures unread { IsStopped (change R.state problem.old problem.new) → solutions.new ≡ solutions.old }
@@ -120,7 +134,8 @@ fn run_one<R: Source, W: Sink>(
     input: &mut R,
     out: &mut W,
 ) -> Result<Outcome, RunError>
-    ensures { Runs task.entry.job.now task.entry.mode (change R.state input.old input.new) None (change W.state out.old out.new) result }
+    ensures runs { Runs task.entry.job.now task.entry.mode (change R.state input.old input.new) None (change W.state out.old out.new) result }
+    ensures turns { IsWithinTurns (change R.state input.old input.new) }
 {
     let bytes = read_all(task.alloc, input)?;
     answer_job(task, &bytes, None, out)
@@ -135,6 +150,8 @@ fn run_two<R: Source, S: Source, W: Sink>(
 ) -> Result<Outcome, RunError>
     ensures runs { Runs task.entry.job.now task.entry.mode (change R.state input.old input.new) (Some (change S.state solution.old solution.new))
         (change W.state out.old out.new) result }
+    ensures turns { IsWithinTurns (change R.state input.old input.new) }
+    ensures solution_turns { IsWithinTurns (change S.state solution.old solution.new) }
     ensures unread { SkipsSolution task.entry.job.now (change R.state input.old input.new) → solution.new ≡ solution.old }
 {
     let first = read_all(task.alloc, input)?;

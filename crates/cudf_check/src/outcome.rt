@@ -3,32 +3,32 @@ ghost use Rattle.std.specs.Prelude.{◌≡◌};
 
 use thiserror::Error;
 
-/// What the report of a whole input says.
+/// What the report of whole inputs says.
 #[derive(Clone, Copy, Debug, PartialEq, Eq)]
 pub enum Outcome {
-    /// The proposed status is a solution, or nothing is wrong with the problem.
+    /// The proposed status is a solution, or the problem has no fault; of a ranking, at least one is a solution.
     Yes,
-    /// The proposed status isn't a solution.
+    /// The proposed status isn't a solution; of a ranking, none is, and not all say FAIL.
     No,
     /// A document is faulty.
     Faulty,
-    /// The solution says that there is none.
+    /// The solution says that there is none; of a ranking, each says so, or there is none to rank.
     Fail,
 }
 
 /// Why there is no whole report.
 #[derive(Clone, Copy, Debug, PartialEq, Eq, Error)]
 pub enum RunError {
-    /// A read failed, or a reader didn't end within its turns. Nothing was written.
+    /// A read failed, or a reader didn't end within 536870912 calls. Nothing was written.
     #[error("an input could not be read to its end; check that it is a file that can be read, and run again")]
     Read,
     /// An input has more than 268435456 bytes. Nothing was written.
     #[error("an input is longer than 268435456 bytes; give a shorter one")]
     TooLong,
-    /// A write failed. What was written before is a prefix of the report.
+    /// A write failed, was interrupted, or took no byte. What was written before is a prefix of the report.
     #[error("the report could not be written to its end; make room for the output, and run again")]
     Write,
-    /// Memory ran out. Nothing was written.
+    /// Memory ran out: a growth was refused. Nothing was written.
     #[error("there is not enough memory for this input; free some, and run again")]
     Memory,
 }
@@ -52,7 +52,7 @@ impl Outcome {
 impl RunError {
     ghost use Rattle.cudf_check.specs.Outcome.{error_status};
 
-    /// The exit status: 6 for `Memory`, and else 5.
+    /// The exit status: 5 for `Read`, `TooLong` and `Write`, 6 for `Memory`.
     pub fn status(self) -> u8
         ensures { result ≡ error_status self }
     {

@@ -1,4 +1,4 @@
-use Rattle.cudf_check.proofs.InputsLemmas.{behind_still}
+use Rattle.cudf_check.proofs.InputsLemmas.{IsBeyondTurns, behind_still, beyond_turns_fails, each_within, none_still}
 use Rattle.cudf_check.proofs.RankLemmas.{problem_stopped}
 use Rattle.cudf_check.proofs.rank.Goals as goal
 
@@ -9,3 +9,7 @@ returns-in_err-first-clause-ranks g c =
 
 pub returns-in_err-first-clause-behind : goal.returns-in_err-first-clause-behind
 returns-in_err-first-clause-behind g c = behind_still g.S.Source.state _
+
+pub returns-in_err-first-clause-solutions_turns : goal.returns-in_err-first-clause-solutions_turns
+returns-in_err-first-clause-solutions_turns g c =
+    each_within _ (none_still g.S.Source.state IsBeyondTurns (beyond_turns_fails g.S.Source.state) _)

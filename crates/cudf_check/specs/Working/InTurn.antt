@@ -1,8 +1,9 @@
 -- What is answered of readers that are read one after another.
 use Rattle.std.specs.Prelude.{◌≢◌, ◌↔◌, ℕ, List, Result, Err, IfOk, IsErrOf}
+use Rattle.std.specs.List.{All}
 use Rattle.cudf_check.specs.Device.{SourceState}
 use Rattle.cudf_check.specs.ManyRuns.{changes, OfOne, OfEach, LeavesBehind}
-use Rattle.cudf_check.specs.Runs.{change, ReadsAll, IsUnfinished, IsTooLong, IsStopped}
+use Rattle.cudf_check.specs.Runs.{change, ReadsAll, IsUnfinished, IsTooLong, IsStopped, IsWithinTurns}
 use Rattle.cudf_check.specs.declared.outcome.RunError.{RunError}
 use Rattle.cudf_check.specs.declared.outcome.RunError.TheVariants.{Read, TooLong, Write}
 
@@ -11,5 +12,6 @@ pub record ReadsInTurn {D T : Type 0} (state : D → SourceState) (olds news : L
   pub all : IfOk result (λ v. OfEach ReadsAll (changes state olds news) (texts v))
   pub too_long : IsErrOf result TooLong ↔ OfOne IsTooLong (changes state olds news)
   pub read : IsErrOf result Read ↔ OfOne IsUnfinished (changes state olds news)
+  pub turns : All IsWithinTurns (changes state olds news)
   pub behind : LeavesBehind (λ old new. IsStopped (change state old new)) olds news
   pub no_write : result ≢ Err Write
