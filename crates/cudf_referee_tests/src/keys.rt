@@ -1,0 +1,61 @@
+//! Texts that are keys, in their order, and texts that aren't.
+use crate::table::assert_rows;
+use cudf_referee::Key;
+use std::alloc::Global;
+
+/// Keys, each before the next one.
+const KEYS: [&str; 13] = [
+    "p1.depends.1",
+    "p1.conflicts.1",
+    "p1.keep.1",
+    "p2.keep.9",
+    "p10.depends.1",
+    "r.install.1",
+    "r.install.2",
+    "r.remove.1",
+    "r.upgrade.1.unsatisfied",
+    "r.upgrade.1.many",
+    "r.upgrade.1.lower",
+    "r.upgrade.2.unsatisfied",
+    "s.unknown.18446744073709551615",
+];
+
+const NO_KEYS: [&str; 10] = [
+    "",
+    "p0.keep.1",
+    "p01.keep.1",
+    "p1.depends.01",
+    "P1.keep.1",
+    " r.install.1",
+    "r.install.1.many",
+    "r.upgrade.1",
+    "s.unknown.0",
+    "s.unknown.18446744073709551616",
+];
+
+/// Whether the key of this number comes before the next one.
+fn is_before_next(number: usize) -> bool {
+    match (KEYS.get(number), KEYS.get(number.saturating_add(1))) {
+        (Some(text), Some(next)) => Key::parse(text) < Key::parse(next),
+        _ => true,
+    }
+}
+
+fn is_no_key(_: Global, text: &&str) -> bool {
+    Key::parse(text).is_none()
+}
+
+#[test]
+fn keys(rt: HostRuntime) {
+    for (number, text) in KEYS.iter().enumerate() {
+        assert!(rt;
+            Key::parse(text).is_some() && is_before_next(number),
+            "{text}"
+        );
+    }
+}
+
+#[test]
+fn texts_that_are_no_keys(rt: HostRuntime) {
+    assert_rows(&rt, rt.alloc(), &NO_KEYS, is_no_key);
+}
