@@ -126,9 +126,7 @@ def wrong_words(program):
 def table_cells(path, heading):
     """The first cell of each line of the tables below a heading."""
     below = re.search(rf"^#+ {re.escape(heading)}\n(.*?)(?=^#|\Z)", rows.read(path), re.MULTILINE | re.DOTALL)
-    if below is None:
-        return None
-    for block in re.findall(r"^\|.*\n\|[-| ]+\n((?:\|.*\n?)+)", below[1], re.MULTILINE):
+    for block in re.findall(r"^\|.*\n\|[-| ]+\n((?:\|.*\n?)+)", below[1] if below else "", re.MULTILINE):
         for line in block.splitlines():
             yield line.split(" | ")[0].removeprefix("| ")
 
@@ -175,7 +173,7 @@ def main(words):
         "rows": stored, "of tests": tested, "keys": NO_KEYS + ASCENDING, "lists": [*NO_LISTS, *LISTS],
         "words": NOT_UNDERSTOOD if program else (),
     }
-    print(", ".join(f"{name} {len(rows)}" for name, rows in told.items()) + f", wrong {len(wrong)}")
+    print(", ".join(f"{name} {len(found)}" for name, found in told.items()) + f", wrong {len(wrong)}")
     if program:
         print(program.told())
     return 1 if wrong else 0

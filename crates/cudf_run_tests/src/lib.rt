@@ -8,5 +8,3 @@ mod large;
 mod memory;
 #[cfg(test)]
 mod runs;
-#[cfg(test)]
-mod table;

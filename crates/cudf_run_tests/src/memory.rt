@@ -10,7 +10,7 @@ mod runs;
 use std::process::Abort;
 
 /// Where a growth was refused.
-#[derive(Clone, Copy, Debug, PartialEq, Eq)]
+#[derive(Clone, Copy)]
 enum Refused {
     /// In what the call needs.
     Before,
@@ -29,9 +29,11 @@ fn made<T, E: Drop>(made: Result<T, E>) -> Result<T, Refused> {
     }
 }
 
-/// Asserts that the call gave the right answer, and says which other one it gave.
-fn expect(rt: &impl Abort, answer: Answer) {
-    assert!(rt; answer != Err(Refused::Before), "refused before the call");
-    assert!(rt; answer != Err(Refused::Here), "refused in the call");
-    assert!(rt; answer == Ok(true), "wrong");
+/// Asserts that the call of this name gave the right answer, and says which other one it gave.
+fn expect(rt: &impl Abort, name: &str, answer: Answer) {
+    match answer {
+        Ok(is_right) => assert!(rt; is_right, "{name}: wrong"),
+        Err(Refused::Before) => assert!(rt; false, "{name}: refused before the call"),
+        Err(Refused::Here) => assert!(rt; false, "{name}: refused in the call"),
+    }
 }

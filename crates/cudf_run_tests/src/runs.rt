@@ -5,7 +5,6 @@ mod either;
 mod rankings;
 mod readers;
 
-use crate::table::assert_rows;
 use cudf_check::{Job, Mode, Outcome, RunError, run};
 use devices::{FOREVER, Giver, Refusal, Taker};
 use std::alloc::Global;
@@ -72,32 +71,33 @@ const FAILING: [(usize, bool, u32); 4] = [
     (1, true, RESTLESS_CALLS),
 ];
 
-/// Whether the run is broken off at each call that fails, and not where the first one behind the end would.
-fn fails_at_each_call(alloc: Global, row: &(usize, bool, u32)) -> bool {
-    (1..=row.2).all(|call| {
-        let mut input = failing_at(row, call);
-        answers(alloc, &mut input, Err(RunError::Read), b"") && input.turn == call
-    }) && answers(
-        alloc,
-        &mut failing_at(row, row.2.saturating_add(1)),
-        Ok(Outcome::No),
-        REPORT,
-    )
-}
-
-fn failing_at(row: &(usize, bool, u32), call: u32) -> Giver<'static> {
+/// Whether the run is broken off where this call fails, and not where it is the first one behind the end.
+fn fails_at(alloc: Global, row: &(usize, bool, u32), call: u32) -> bool {
     let mut input = Giver::new(JOINED);
     input.per_call = row.0;
     input.is_restless = row.1;
     input.failing_call = call;
-    input
+    if call > row.2 {
+        return answers(alloc, &mut input, Ok(Outcome::No), REPORT);
+    }
+    answers(alloc, &mut input, Err(RunError::Read), b"") && input.turn == call
 }
 
 #[test]
 fn reads(rt: HostRuntime) {
-    assert_rows(&rt, rt.alloc(), &READS, reads_to_the_end);
+    for row in &READS {
+        assert!(rt; reads_to_the_end(rt.alloc(), row), "{} bytes a call", row.0);
+    }
     assert!(rt; reads_a_restless_input(rt.alloc()));
-    assert_rows(&rt, rt.alloc(), &FAILING, fails_at_each_call);
+    for row in &FAILING {
+        for call in 1..row.2.saturating_add(2) {
+            assert!(rt;
+                fails_at(rt.alloc(), row, call),
+                "call {call} of {} bytes",
+                row.0
+            );
+        }
+    }
 }
 
 #[test]
@@ -154,28 +154,22 @@ const WRITES: [(usize, Refusal); 9] = [
     (1, Refusal::NoByte),
 ];
 
-/// Whether the sink is left with as much of the report as it takes, for each number of bytes; where it takes them all
-/// the run ends well.
-fn leaves_each_prefix(alloc: Global, row: &(usize, Refusal)) -> bool {
-    (0..REPORT.len()).all(|room| leaves_prefix(alloc, row, room, Err(RunError::Write)))
-        && leaves_prefix(alloc, row, REPORT.len(), Ok(Outcome::No))
-}
-
-fn leaves_prefix(
-    alloc: Global,
-    row: &(usize, Refusal),
-    room: usize,
-    want: Result<Outcome, RunError>,
-) -> bool {
+/// Whether the sink is left with as much of the report as it takes.
+fn leaves_prefix(alloc: Global, row: &(usize, Refusal), room: usize) -> bool {
     let mut out = Taker::new(Vec::new(alloc), row.0, room, row.1);
     let mut input = Giver::new(JOINED);
     let answer = run::<_, Giver<'_>, _>(alloc, &CHECK, Mode::Lenient, &mut input, None, &mut out);
+    let want = if room < REPORT.len() {
+        Err(RunError::Write)
+    } else {
+        Ok(Outcome::No)
+    };
     answer == want && out.taken.len() == room && REPORT.starts_with(&out.taken)
 }
 
 /// Whether the report is written whole in calls of this many bytes.
-fn is_written_in_calls(alloc: Global, per_call: &usize) -> bool {
-    let mut out = Taker::new(Vec::new(alloc), *per_call, 55, Refusal::Failed);
+fn is_written_in_calls(alloc: Global, per_call: usize) -> bool {
+    let mut out = Taker::new(Vec::new(alloc), per_call, 55, Refusal::Failed);
     let mut input = Giver::new(JOINED);
     let answer = run::<_, Giver<'_>, _>(alloc, &CHECK, Mode::Lenient, &mut input, None, &mut out);
     answer == Ok(Outcome::No) && out.taken.as_slice() == REPORT
@@ -184,14 +178,27 @@ fn is_written_in_calls(alloc: Global, per_call: &usize) -> bool {
 #[test]
 fn writes(rt: HostRuntime) {
     assert_eq!(rt; REPORT.len(), 55);
-    assert_rows(&rt, rt.alloc(), &WRITES, leaves_each_prefix);
-    assert_rows(&rt, rt.alloc(), &[1, 2, 54, 55, 1000], is_written_in_calls);
+    for row in &WRITES {
+        for room in 0..=REPORT.len() {
+            assert!(rt;
+                leaves_prefix(rt.alloc(), row, room),
+                "room for {room} bytes"
+            );
+        }
+    }
+    for per_call in [1usize, 2, 54, 55, 1000] {
+        assert!(rt;
+            is_written_in_calls(rt.alloc(), per_call),
+            "{per_call} bytes a call"
+        );
+    }
 }
 
 /// The problem and the solution of a run of two inputs, which calls of them fail, how the run ends,
 /// and how often each is called.
-#[derive(Clone, Copy)]
+#[derive(Drop)]
 struct Order {
+    job: Job,
     problem: &'static [u8],
     problem_fails: u32,
     solution: &'static [u8],
@@ -200,9 +207,10 @@ struct Order {
     turns: (u32, u32),
 }
 
-const ORDERS: [Order; 6] = [
+const ORDERS: [Order; 7] = [
     // The solution is read also where the problem is faulty.
     Order {
+        job: CHECK,
         problem: b"junk\n",
         problem_fails: 0,
         solution: b"FAIL\n",
@@ -211,6 +219,7 @@ const ORDERS: [Order; 6] = [
         turns: (2, 2),
     },
     Order {
+        job: CHECK,
         problem: b"junk\n",
         problem_fails: 0,
         solution: b"FAIL\n",
@@ -220,6 +229,7 @@ const ORDERS: [Order; 6] = [
     },
     // It isn't read where the first input failed.
     Order {
+        job: CHECK,
         problem: b"request:\n",
         problem_fails: 1,
         solution: b"",
@@ -228,6 +238,7 @@ const ORDERS: [Order; 6] = [
         turns: (1, 0),
     },
     Order {
+        job: CHECK,
         problem: b"request:\n",
         problem_fails: 1,
         solution: b"",
@@ -236,6 +247,7 @@ const ORDERS: [Order; 6] = [
         turns: (1, 0),
     },
     Order {
+        job: CHECK,
         problem: b"request:\n",
         problem_fails: 2,
         solution: b"",
@@ -244,12 +256,23 @@ const ORDERS: [Order; 6] = [
         turns: (2, 0),
     },
     Order {
+        job: CHECK,
         problem: b"request:\n",
         problem_fails: 0,
         solution: b"",
         solution_fails: 2,
         answer: Ok(Outcome::Yes),
         turns: (2, 1),
+    },
+    // It isn't read where none is judged.
+    Order {
+        job: Job::Lint,
+        problem: b"request:\n",
+        problem_fails: 0,
+        solution: b"",
+        solution_fails: 1,
+        answer: Ok(Outcome::Yes),
+        turns: (2, 0),
     },
 ];
 
@@ -261,7 +284,7 @@ fn keeps_the_order(alloc: Global, row: &Order) -> bool {
     let mut out = ample(alloc);
     let answer = run(
         alloc,
-        &CHECK,
+        &row.job,
         Mode::Lenient,
         &mut problem,
         Some(&mut solution),
@@ -274,7 +297,9 @@ fn keeps_the_order(alloc: Global, row: &Order) -> bool {
 
 #[test]
 fn two_inputs(rt: HostRuntime) {
-    assert_rows(&rt, rt.alloc(), &ORDERS, keeps_the_order);
+    for (before, row) in ORDERS.iter().enumerate() {
+        assert!(rt; keeps_the_order(rt.alloc(), row), "order {before}");
+    }
 }
 
 #[test]
@@ -294,46 +319,4 @@ fn reads_no_solution_behind_too_long_a_problem(rt: HostRuntime) {
     );
     assert!(rt; answer == Err(RunError::TooLong));
     assert_eq!(rt; (solution.turn, out.taken.len()), (0, 0));
-}
-
-#[test]
-fn lints_without_a_solution(rt: HostRuntime) {
-    let mut problem = Giver::new(b"request:\n");
-    let mut solution = Giver::new(b"");
-    solution.failing_call = 1;
-    let mut out = ample(rt.alloc());
-    let answer = run(
-        rt.alloc(),
-        &Job::Lint,
-        Mode::Lenient,
-        &mut problem,
-        Some(&mut solution),
-        &mut out,
-    );
-    assert!(rt; answer == Ok(Outcome::Yes));
-    assert_eq!(rt; (problem.turn, solution.turn), (2, 0));
-}
-
-/// The exit statuses of the answers.
-const STATUSES: [(Result<Outcome, RunError>, u8); 8] = [
-    (Ok(Outcome::Yes), 0),
-    (Ok(Outcome::No), 1),
-    (Ok(Outcome::Faulty), 2),
-    (Ok(Outcome::Fail), 3),
-    (Err(RunError::Read), 5),
-    (Err(RunError::TooLong), 5),
-    (Err(RunError::Write), 5),
-    (Err(RunError::Memory), 6),
-];
-
-fn has_status(_: Global, row: &(Result<Outcome, RunError>, u8)) -> bool {
-    match row.0 {
-        Ok(outcome) => outcome.status() == row.1,
-        Err(error) => error.status() == row.1,
-    }
-}
-
-#[test]
-fn statuses(rt: HostRuntime) {
-    assert_rows(&rt, rt.alloc(), &STATUSES, has_status);
 }

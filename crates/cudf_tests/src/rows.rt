@@ -24,7 +24,12 @@ type Row = (
 
 /// What stands in a job behind this beginning of a word.
 fn option<'a>(job: &'a str, name: &str) -> Option<&'a str> {
-    job.split(" ").find_map(|word| word.strip_prefix(name))
+    for word in job.split(" ") {
+        if let Some(value) = word.strip_prefix(name) {
+            return Some(value);
+        }
+    }
+    None
 }
 
 fn mode_of(job: &str) -> Mode {
@@ -32,6 +37,14 @@ fn mode_of(job: &str) -> Mode {
         Some(_) => Mode::Strict,
         None => Mode::Lenient,
     }
+}
+
+fn after_of(job: &str) -> Option<Key> {
+    Key::parse(option(job, "--after=")?)
+}
+
+fn limit_of(job: &str) -> Option<u64> {
+    read_posint(option(job, "--limit=")?)
 }
 
 fn job_of(job: &str, aims: Option<Vec<Aim>>) -> Job {
@@ -42,8 +55,8 @@ fn job_of(job: &str, aims: Option<Vec<Aim>>) -> Job {
         return Job::Score { aims };
     }
     Job::Check {
-        after: option(job, "--after=").and_then(Key::parse),
-        limit: option(job, "--limit=").and_then(read_posint),
+        after: after_of(job),
+        limit: limit_of(job),
     }
 }
 

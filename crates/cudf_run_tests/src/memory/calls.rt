@@ -34,21 +34,24 @@ fn reads_text(alloc: Global) -> Answer {
 
 fn reads_vpkglist(alloc: Global) -> Answer {
     match read_vpkglist(alloc, ENTRIES) {
-        Ok(list) => Ok(list.is_some_and(|list| list.len() == 11)),
+        Ok(Some(list)) => Ok(list.len() == 11),
+        Ok(None) => Ok(false),
         Err(_) => Err(Refused::Here),
     }
 }
 
 fn reads_veqpkglist(alloc: Global) -> Answer {
     match read_veqpkglist(alloc, ENTRIES) {
-        Ok(list) => Ok(list.is_some_and(|list| list.len() == 11)),
+        Ok(Some(list)) => Ok(list.len() == 11),
+        Ok(None) => Ok(false),
         Err(_) => Err(Refused::Here),
     }
 }
 
 fn reads_formula(alloc: Global) -> Answer {
     match read_formula(alloc, "a | b | c | d | e, f > 2, true!, g, h, i | j") {
-        Ok(formula) => Ok(formula.is_some_and(|formula| formula.clauses.len() == 6)),
+        Ok(Some(formula)) => Ok(formula.clauses.len() == 6),
+        Ok(None) => Ok(false),
         Err(_) => Err(Refused::Here),
     }
 }
@@ -58,7 +61,8 @@ fn reads_declarations(alloc: Global) -> Answer {
         alloc,
         "a: int, b: vpkglist = [x, y], c: enum[red, green] = [red]",
     ) {
-        Ok(declared) => Ok(declared.is_some_and(|declared| declared.len() == 3)),
+        Ok(Some(declared)) => Ok(declared.len() == 3),
+        Ok(None) => Ok(false),
         Err(_) => Err(Refused::Here),
     }
 }
@@ -75,7 +79,8 @@ fn reads_criterion(alloc: Global) -> Answer {
         alloc,
         "-removed,-notuptodate,-unsat_recommends,-new,+touched,-changed,+new,-new,+new",
     ) {
-        Ok(aims) => Ok(aims.is_some_and(|aims| aims.len() == 9)),
+        Ok(Some(aims)) => Ok(aims.len() == 9),
+        Ok(None) => Ok(false),
         Err(_) => Err(Refused::Here),
     }
 }
@@ -126,10 +131,19 @@ fn reads_chosen(alloc: Global) -> Answer {
         &chosen,
         Mode::Lenient,
     ) {
-        Ok(problem) => Ok(problem.packages().iter().all(|p| p.conflicts.len() == 2)),
+        Ok(problem) => Ok(conflicts(&problem) == 4),
         Err(ReadError::Memory(_)) => Err(Refused::Here),
         Err(ReadError::Fault(_)) => Ok(false),
     }
+}
+
+/// How many entries of `conflicts` the problem's packages have.
+fn conflicts(problem: &Problem<'_>) -> usize {
+    let mut count = 0usize;
+    for package in problem.packages() {
+        count = count.saturating_add(package.conflicts.len());
+    }
+    count
 }
 
 fn finds_no_fault(alloc: Global) -> Answer {
@@ -160,9 +174,16 @@ fn builds_index(alloc: Global) -> Answer {
     match Index::build(alloc, &problem, &status) {
         Ok(index) => Ok(
             (index.least("g"), index.greatest("g")) == (Some(1), Some(2))
-                && read_vpkg("e = 7").is_some_and(|vpkg| index.satisfies(&vpkg)),
+                && satisfies(&index, "e = 7"),
         ),
         Err(_) => Err(Refused::Here),
+    }
+}
+
+fn satisfies(index: &Index<'_, '_>, text: &str) -> bool {
+    match read_vpkg(text) {
+        Some(vpkg) => index.satisfies(&vpkg),
+        None => false,
     }
 }
 
@@ -211,161 +232,91 @@ fn reads_proposed_stanzas(alloc: Global) -> Answer {
     }
 }
 
-/// Asks the referee of the problem and the solution.
-fn judges<F: Fn(&Referee<'_, '_>) -> bool + Drop>(alloc: Global, is_right: F) -> Answer
-    requires { F.IsAlwaysCallable is_right }
-{
+/// Makes the referee of the problem and the solution, and asks all that is asked of one, which takes no memory more.
+fn judges(alloc: Global) -> Answer {
     let text = made(read(alloc, PROBLEM))?;
     let problem = made(read_problem(alloc, &text, Mode::Lenient))?;
     let proposed = made(read(alloc, SOLUTION))?;
-    judges_proposed(alloc, &problem, &proposed, is_right)
+    judges_proposed(alloc, &problem, &proposed)
 }
 
-fn judges_proposed<F: Fn(&Referee<'_, '_>) -> bool + Drop>(
-    alloc: Global,
-    problem: &Problem<'_>,
-    proposed: &Text<'_>,
-    is_right: F,
-) -> Answer
-    requires { F.IsAlwaysCallable is_right }
-{
+fn judges_proposed(alloc: Global, problem: &Problem<'_>, proposed: &Text<'_>) -> Answer {
     if is_fail(proposed.source) {
         return Ok(false);
     }
     match read_solution(alloc, proposed, problem, Mode::Lenient) {
         Ok(solution) => match Referee::new(alloc, problem, &solution) {
-            Ok(referee) => Ok(is_right(&referee)),
+            Ok(referee) => Ok(answers(&referee) && !referee.is_solution()),
             Err(_) => Err(Refused::Here),
         },
         Err(_) => Err(Refused::Before),
     }
 }
 
-/// All that is asked of a referee: its listing from the start and behind a key, who meets its first instance, the
-/// verdict and the counts.
+/// Whether its listing from the start and behind a key, who meets its first instance, and its counts are right.
 fn answers(referee: &Referee<'_, '_>) -> bool {
-    let meets = referee
-        .instances()
-        .next()
-        .map(|first| referee.met_by(&first));
-    let is_listed = referee.instances().take(9).count() == 5 && meets == Some(Some(2));
-    is_listed && !referee.is_solution() && is_continued(referee) && is_counted(referee)
-}
-
-fn is_continued(referee: &Referee<'_, '_>) -> bool {
-    Key::parse("p1.conflicts.2").is_some_and(|key| referee.after(key).take(9).count() == 3)
-}
-
-fn is_counted(referee: &Referee<'_, '_>) -> bool {
+    let meets = match referee.instances().next() {
+        Some(first) => referee.met_by(&first),
+        None => None,
+    };
+    let behind = match Key::parse("p1.conflicts.2") {
+        Some(key) => referee.after(key).take(9).count(),
+        None => 0,
+    };
     let criteria = referee.criteria();
-    criteria.paranoid() == [0, 1] && criteria.trendy() == [0, 0, 0, 0]
+    meets == Some(2)
+        && (referee.instances().take(9).count(), behind) == (5, 3)
+        && criteria.paranoid() == [0, 1]
+        && criteria.trendy() == [0, 0, 0, 0]
 }
 
 #[test]
-fn text(rt: HostRuntime) {
-    expect(&rt, reads_text(rt.alloc()));
+fn values(rt: HostRuntime) {
+    let alloc = rt.alloc();
+    expect(&rt, "read_vpkglist", reads_vpkglist(alloc));
+    expect(&rt, "read_veqpkglist", reads_veqpkglist(alloc));
+    expect(&rt, "read_formula", reads_formula(alloc));
+    expect(&rt, "read_declarations", reads_declarations(alloc));
+    expect(&rt, "fits", fits_list(alloc));
+    expect(&rt, "read_criterion", reads_criterion(alloc));
 }
 
-#[test]
-fn vpkglist(rt: HostRuntime) {
-    expect(&rt, reads_vpkglist(rt.alloc()));
-}
+/// Values on several lines are joined.
+const ON_LINES: &[u8] = b"package: a\nversion: 1\ndepends: b,\n c\n\nrequest: r\ninstall: a,\n b\n";
 
 #[test]
-fn veqpkglist(rt: HostRuntime) {
-    expect(&rt, reads_veqpkglist(rt.alloc()));
+fn documents(rt: HostRuntime) {
+    let alloc = rt.alloc();
+    expect(&rt, "read", reads_text(alloc));
+    expect(&rt, "read_problem", reads_problem(alloc));
+    expect(&rt, "problem_of", reads_stanzas(alloc, PROBLEM, 2));
+    expect(
+        &rt,
+        "problem_of joined values",
+        reads_stanzas(alloc, ON_LINES, 1),
+    );
+    expect(&rt, "first_fault", finds_no_fault(alloc));
+    expect(&rt, "Chosen::of", chooses(alloc));
+    expect(&rt, "problem_for", reads_chosen(alloc));
 }
 
+/// In strict mode the solution's pairs are kept, of which none is repeated.
 #[test]
-fn formula(rt: HostRuntime) {
-    expect(&rt, reads_formula(rt.alloc()));
-}
-
-#[test]
-fn declarations(rt: HostRuntime) {
-    expect(&rt, reads_declarations(rt.alloc()));
-}
-
-#[test]
-fn type_of_a_list(rt: HostRuntime) {
-    expect(&rt, fits_list(rt.alloc()));
-}
-
-#[test]
-fn criterion(rt: HostRuntime) {
-    expect(&rt, reads_criterion(rt.alloc()));
-}
-
-#[test]
-fn problem(rt: HostRuntime) {
-    expect(&rt, reads_problem(rt.alloc()));
-}
-
-#[test]
-fn problem_of_stanzas(rt: HostRuntime) {
-    expect(&rt, reads_stanzas(rt.alloc(), PROBLEM, 2));
-}
-
-/// Values of it stand on several lines, so that they are joined.
-#[test]
-fn problem_of_joined_stanzas(rt: HostRuntime) {
-    let problem = b"package: a\nversion: 1\ndepends: b,\n c\n\nrequest: r\ninstall: a,\n b\n";
-    expect(&rt, reads_stanzas(rt.alloc(), problem, 1));
-}
-
-#[test]
-fn chosen(rt: HostRuntime) {
-    expect(&rt, chooses(rt.alloc()));
-}
-
-#[test]
-fn problem_for_chosen(rt: HostRuntime) {
-    expect(&rt, reads_chosen(rt.alloc()));
-}
-
-#[test]
-fn fault(rt: HostRuntime) {
-    expect(&rt, finds_no_fault(rt.alloc()));
-}
-
-#[test]
-fn initial_status(rt: HostRuntime) {
-    expect(&rt, finds_initial(rt.alloc()));
-}
-
-#[test]
-fn index(rt: HostRuntime) {
-    expect(&rt, builds_index(rt.alloc()));
-}
-
-#[test]
-fn greatest_numbers(rt: HostRuntime) {
-    expect(&rt, builds_greatest_numbers(rt.alloc()));
-}
-
-#[test]
-fn solution(rt: HostRuntime) {
-    expect(&rt, reads_solution(rt.alloc(), Mode::Lenient));
-}
-
-/// Its pairs are kept, of which none is repeated.
-#[test]
-fn strict_solution(rt: HostRuntime) {
-    expect(&rt, reads_solution(rt.alloc(), Mode::Strict));
-}
-
-#[test]
-fn solution_of_stanzas(rt: HostRuntime) {
-    expect(&rt, reads_proposed_stanzas(rt.alloc()));
-}
-
-/// The referee alone, and then all that is asked of one, which takes no memory more.
-#[test]
-fn referee(rt: HostRuntime) {
-    expect(&rt, judges(rt.alloc(), |referee| !referee.is_solution()));
-}
-
-#[test]
-fn referee_that_is_asked(rt: HostRuntime) {
-    expect(&rt, judges(rt.alloc(), |referee| answers(referee)));
+fn solutions(rt: HostRuntime) {
+    let alloc = rt.alloc();
+    expect(&rt, "initial", finds_initial(alloc));
+    expect(&rt, "read_solution", reads_solution(alloc, Mode::Lenient));
+    expect(
+        &rt,
+        "read_solution strictly",
+        reads_solution(alloc, Mode::Strict),
+    );
+    expect(&rt, "solution_of", reads_proposed_stanzas(alloc));
+    expect(&rt, "Index::build", builds_index(alloc));
+    expect(
+        &rt,
+        "GreatestNumbers::build",
+        builds_greatest_numbers(alloc),
+    );
+    expect(&rt, "Referee::new", judges(alloc));
 }

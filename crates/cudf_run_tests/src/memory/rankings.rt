@@ -9,6 +9,7 @@ const ROOM: usize = 1000;
 /// A problem, its solutions, the report, and the outcome.
 #[derive(Clone, Copy)]
 struct Ranking {
+    name: &'static str,
     problem: &'static [u8],
     solutions: &'static [&'static [u8]],
     report: &'static [u8],
@@ -29,6 +30,7 @@ const AIMS: &[Aim] = &[
 const CAR1: &[u8] = b"package: car\nversion: 1\ninstalled: true\n";
 
 const FIVE: Ranking = Ranking {
+    name: "five solutions",
     problem: b"package: car\nversion: 1\ninstalled: true\n\npackage: car\nversion: 2\n\npackage: bus\nversion: 1\n\nrequest: r\n",
     solutions: &[
         b"FAIL",
@@ -42,6 +44,7 @@ const FIVE: Ranking = Ranking {
 };
 
 const FAULTY: Ranking = Ranking {
+    name: "a faulty solution",
     solutions: &[CAR1, b"package: a\n", b"\xff"],
     report: b"solution 2 line 1: E12 no version\n",
     outcome: Outcome::Faulty,
@@ -49,6 +52,7 @@ const FAULTY: Ranking = Ranking {
 };
 
 const FAULTY_PROBLEM: Ranking = Ranking {
+    name: "a faulty problem",
     problem: b"package: a\n",
     solutions: &[b"FAIL", b"package: a\n"],
     report: b"problem line 1: E12 no version\n",
@@ -90,16 +94,8 @@ fn tell(answer: Result<Outcome, RunError>, written: &[u8], row: &Ranking) -> Ans
 }
 
 #[test]
-fn five(rt: HostRuntime) {
-    expect(&rt, ranks(rt.alloc(), &FIVE));
-}
-
-#[test]
-fn faulty(rt: HostRuntime) {
-    expect(&rt, ranks(rt.alloc(), &FAULTY));
-}
-
-#[test]
-fn faulty_problem(rt: HostRuntime) {
-    expect(&rt, ranks(rt.alloc(), &FAULTY_PROBLEM));
+fn rankings(rt: HostRuntime) {
+    for row in [FIVE, FAULTY, FAULTY_PROBLEM] {
+        expect(&rt, row.name, ranks(rt.alloc(), &row));
+    }
 }

@@ -14,6 +14,7 @@ const ROOM: usize = 1000;
 /// A job in a mode, its inputs, the report, and the outcome.
 #[derive(Drop)]
 struct Run {
+    name: &'static str,
     job: Job,
     mode: Mode,
     input: &'static [u8],
@@ -22,57 +23,87 @@ struct Run {
     outcome: Outcome,
 }
 
-const JOINED: Run = Run {
-    job: CHECK,
-    mode: Mode::Lenient,
-    input: b"package: car\nversion: 1\ndepends: wheel > 2\ninstalled: true\n\npackage: wheel\nversion: 2\ninstalled: true\n\nrequest: r\n\npackage: car\nversion: 1\ninstalled: true\n",
-    solution: None,
-    report: b"p1.depends.1 car 1 line 1: needs wheel > 2\nsolution no\n",
-    outcome: Outcome::No,
-};
+/// Declares `recommends`, and is linted and scored.
+const RECOMMENDS: &[u8] =
+    b"preamble:\nproperty: recommends: vpkgformula = [true!], number: string = [\"\"],\n# between\n  colour: enum[red, green] = \"red\"\n\npackage: a\r\nversion: +01\nrecommends: b | c, d\nnumber: 1.0-2\ncolour: green\ninstalled: true\n\npackage: d\nversion: 1\n\nrequest: r";
 
-const CONFLICTS: Run = Run {
-    job: CHECK,
-    mode: Mode::Lenient,
-    input: b"package: g\nversion: 1\nprovides: e, g = 1\nconflicts: e, g\n\npackage: g\nversion: 2\nprovides: e, g = 1\nconflicts: e, g\n\nrequest: r\n",
-    solution: Some(
-        b"package: g\nversion: 1\ninstalled: true\n\npackage: g\nversion: 2\ninstalled: true\n",
-    ),
-    report: b"p1.conflicts.1 g 1 line 1: conflicts with e, met by g 2\np1.conflicts.2 g 1 line 1: conflicts with g, met by g 2\np2.conflicts.1 g 2 line 6: conflicts with e, met by g 1\np2.conflicts.2 g 2 line 6: conflicts with g, met by g 1\nsolution no\n",
-    outcome: Outcome::No,
-};
+/// Each package has what is declared without a default.
+const SIZED: &[u8] =
+    b"preamble:\nproperty: size: nat, colour: string\n\npackage: a\nversion: 1\nsize: 2\ncolour: red\n\npackage: b\nversion: 1\ncolour: blue\nsize: 3\n\nrequest: r\n";
 
-const GHOSTS: Run = Run {
-    job: CHECK,
-    mode: Mode::Lenient,
-    input: b"package: car\nversion: 1\ninstalled: true\n\nrequest: r\nremove: car\n",
-    solution: Some(
-        b"package: ghost\nversion: 9\ninstalled: true\n\npackage: car\nversion: 1\ninstalled: true\n\npackage: ghost\nversion: 9\n\npackage: ghost\nversion: 9\ninstalled: true\n",
-    ),
-    report: b"r.remove.1 line 5: must remove car, met by car 1\ns.unknown.1 ghost 9 line 1: not in the universe\ns.unknown.4 ghost 9 line 12: not in the universe\nsolution no\n",
-    outcome: Outcome::No,
-};
-
-const RECOMMENDS: Run = Run {
-    job: Job::Score { aims: None },
-    mode: Mode::Lenient,
-    input: b"preamble:\nproperty: recommends: vpkgformula = [true!], number: string = [\"\"],\n# between\n  colour: enum[red, green] = \"red\"\n\npackage: a\r\nversion: +01\nrecommends: b | c, d\nnumber: 1.0-2\ncolour: green\ninstalled: true\n\npackage: d\nversion: 1\n\nrequest: r",
-    solution: Some(b"package: a\nversion: 1\ninstalled: true\n"),
-    report: b"removed 0\nnew 0\nchanged 0\nnotuptodate 0\nunsat_recommends 2\nparanoid 0 0\ntrendy 0 0 2 0\nsolution yes\n",
-    outcome: Outcome::Yes,
-};
-
-/// Each package has what is declared without a default, and each pair of the solution stands once.
-const STRICT: Run = Run {
-    job: CHECK,
-    mode: Mode::Strict,
-    input: b"preamble:\nproperty: size: nat, colour: string\n\npackage: a\nversion: 1\nsize: 2\ncolour: red\n\npackage: b\nversion: 1\ncolour: blue\nsize: 3\n\nrequest: r\n",
-    solution: Some(
-        b"package: a\nversion: 1\ninstalled: true\n\npackage: b\nversion: 1\n\npackage: a\nversion: 2\n",
-    ),
-    report: b"solution yes\n",
-    outcome: Outcome::Yes,
-};
+const RUNS: [Run; 7] = [
+    Run {
+        name: "one input",
+        job: CHECK,
+        mode: Mode::Lenient,
+        input: b"package: car\nversion: 1\ndepends: wheel > 2\ninstalled: true\n\npackage: wheel\nversion: 2\ninstalled: true\n\nrequest: r\n\npackage: car\nversion: 1\ninstalled: true\n",
+        solution: None,
+        report: b"p1.depends.1 car 1 line 1: needs wheel > 2\nsolution no\n",
+        outcome: Outcome::No,
+    },
+    Run {
+        name: "conflicts",
+        job: CHECK,
+        mode: Mode::Lenient,
+        input: b"package: g\nversion: 1\nprovides: e, g = 1\nconflicts: e, g\n\npackage: g\nversion: 2\nprovides: e, g = 1\nconflicts: e, g\n\nrequest: r\n",
+        solution: Some(
+            b"package: g\nversion: 1\ninstalled: true\n\npackage: g\nversion: 2\ninstalled: true\n",
+        ),
+        report: b"p1.conflicts.1 g 1 line 1: conflicts with e, met by g 2\np1.conflicts.2 g 1 line 1: conflicts with g, met by g 2\np2.conflicts.1 g 2 line 6: conflicts with e, met by g 1\np2.conflicts.2 g 2 line 6: conflicts with g, met by g 1\nsolution no\n",
+        outcome: Outcome::No,
+    },
+    Run {
+        name: "unknown stanzas",
+        job: CHECK,
+        mode: Mode::Lenient,
+        input: b"package: car\nversion: 1\ninstalled: true\n\nrequest: r\nremove: car\n",
+        solution: Some(
+            b"package: ghost\nversion: 9\ninstalled: true\n\npackage: car\nversion: 1\ninstalled: true\n\npackage: ghost\nversion: 9\n\npackage: ghost\nversion: 9\ninstalled: true\n",
+        ),
+        report: b"r.remove.1 line 5: must remove car, met by car 1\ns.unknown.1 ghost 9 line 1: not in the universe\ns.unknown.4 ghost 9 line 12: not in the universe\nsolution no\n",
+        outcome: Outcome::No,
+    },
+    Run {
+        name: "a score",
+        job: Job::Score { aims: None },
+        mode: Mode::Lenient,
+        input: RECOMMENDS,
+        solution: Some(b"package: a\nversion: 1\ninstalled: true\n"),
+        report: b"removed 0\nnew 0\nchanged 0\nnotuptodate 0\nunsat_recommends 2\nparanoid 0 0\ntrendy 0 0 2 0\nsolution yes\n",
+        outcome: Outcome::Yes,
+    },
+    Run {
+        name: "a lint",
+        job: Job::Lint,
+        mode: Mode::Lenient,
+        input: RECOMMENDS,
+        solution: None,
+        report: b"problem ok\n",
+        outcome: Outcome::Yes,
+    },
+    Run {
+        name: "a strict check",
+        job: CHECK,
+        mode: Mode::Strict,
+        input: SIZED,
+        solution: Some(
+            b"package: a\nversion: 1\ninstalled: true\n\npackage: b\nversion: 1\n\npackage: a\nversion: 2\n",
+        ),
+        report: b"solution yes\n",
+        outcome: Outcome::Yes,
+    },
+    Run {
+        name: "a repeated pair",
+        job: CHECK,
+        mode: Mode::Strict,
+        input: SIZED,
+        solution: Some(
+            b"package: a\nversion: 1\ninstalled: true\n\npackage: b\nversion: 1\n\npackage: a\nversion: 01\n",
+        ),
+        report: b"solution line 9: E15 pair repeated\n",
+        outcome: Outcome::Faulty,
+    },
+];
 
 fn runs(alloc: Global, row: &Run) -> Answer {
     let mut input = Device::new(row.input);
@@ -103,50 +134,8 @@ fn tell(answer: Result<Outcome, RunError>, written: &[u8], row: &Run) -> Answer 
 }
 
 #[test]
-fn joined(rt: HostRuntime) {
-    expect(&rt, runs(rt.alloc(), &JOINED));
-}
-
-#[test]
-fn conflicts(rt: HostRuntime) {
-    expect(&rt, runs(rt.alloc(), &CONFLICTS));
-}
-
-#[test]
-fn ghosts(rt: HostRuntime) {
-    expect(&rt, runs(rt.alloc(), &GHOSTS));
-}
-
-#[test]
-fn recommends(rt: HostRuntime) {
-    expect(&rt, runs(rt.alloc(), &RECOMMENDS));
-}
-
-#[test]
-fn recommends_without_fault(rt: HostRuntime) {
-    let row = Run {
-        job: Job::Lint,
-        solution: None,
-        report: b"problem ok\n",
-        ..RECOMMENDS
-    };
-    expect(&rt, runs(rt.alloc(), &row));
-}
-
-#[test]
-fn strict(rt: HostRuntime) {
-    expect(&rt, runs(rt.alloc(), &STRICT));
-}
-
-#[test]
-fn repeated_pair(rt: HostRuntime) {
-    let row = Run {
-        solution: Some(
-            b"package: a\nversion: 1\ninstalled: true\n\npackage: b\nversion: 1\n\npackage: a\nversion: 01\n",
-        ),
-        report: b"solution line 9: E15 pair repeated\n",
-        outcome: Outcome::Faulty,
-        ..STRICT
-    };
-    expect(&rt, runs(rt.alloc(), &row));
+fn all_runs(rt: HostRuntime) {
+    for row in &RUNS {
+        expect(&rt, row.name, runs(rt.alloc(), row));
+    }
 }

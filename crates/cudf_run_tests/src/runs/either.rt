@@ -57,9 +57,18 @@ fn stops_at_the_solution(alloc: Global, call: u32) -> bool {
 
 #[test]
 fn either_fails(rt: HostRuntime) {
-    let alloc = rt.alloc();
-    assert!(rt; (1..=CALLS.0).all(|call| stops_at_the_problem(alloc, call)));
-    assert!(rt; (1..=CALLS.1).all(|call| stops_at_the_solution(alloc, call)));
+    for call in 1..=CALLS.0 {
+        assert!(rt;
+            stops_at_the_problem(rt.alloc(), call),
+            "call {call} of the problem"
+        );
+    }
+    for call in 1..=CALLS.1 {
+        assert!(rt;
+            stops_at_the_solution(rt.alloc(), call),
+            "call {call} of the solution"
+        );
+    }
 }
 
 #[test]

@@ -1,7 +1,6 @@
 //! Rankings on devices of which one fails, never ends, or gives or takes too much.
 use super::devices::{FOREVER, Giver, Refusal, Taker};
 use super::{BYTES, TURNS, WRITES, ample};
-use crate::table::assert_rows;
 use cudf_check::{Aim, Count, Mode, Outcome, RunError, Sign, rank};
 use std::alloc::{AllocError, Global};
 use std::cmp::Ordering;
@@ -125,31 +124,12 @@ fn is_broken_off(alloc: Global, patient: Patient) -> bool {
         && are_called(&solutions, patient)
 }
 
-fn fails_at_each_call(alloc: Global, row: &(usize, u32)) -> bool {
-    (1..=row.1).all(|call| {
-        let patient = Patient {
-            place: row.0,
-            illness: Illness::Fails(call),
-            answer: RunError::Read,
-        };
-        is_broken_off(alloc, patient)
-    })
-}
-
-fn gives_up(alloc: Global, place: usize) -> bool {
+/// Whether the reader at this place is told so.
+fn is_told(alloc: Global, place: usize, illness: Illness, answer: RunError) -> bool {
     let patient = Patient {
         place,
-        illness: Illness::IsEndless,
-        answer: RunError::Read,
-    };
-    is_broken_off(alloc, patient)
-}
-
-fn refuses_one_byte_too_many(alloc: Global, row: &(usize, u32)) -> bool {
-    let patient = Patient {
-        place: row.0,
-        illness: Illness::IsTooLong,
-        answer: RunError::TooLong,
+        illness,
+        answer,
     };
     is_broken_off(alloc, patient)
 }
@@ -161,71 +141,72 @@ const NOBODY: Patient = Patient {
     answer: RunError::Read,
 };
 
-/// Whether the answer is so, and as much of the report is written as the sink has room for.
-fn is_written(alloc: Global, out: &mut Taker, want: Result<Outcome, RunError>) -> bool {
+/// Whether the sink is left with as much of the report as it takes.
+fn leaves_prefix(alloc: Global, row: &(usize, Refusal), room: usize) -> bool {
     let Ok(mut solutions) = givers(alloc, NOBODY) else {
         return false;
     };
     let mut problem = giver(PROBLEM, 0, NOBODY);
+    let mut out = Taker::new(Vec::new(alloc), row.0, room, row.1);
     let answer = rank(
         alloc,
         AIMS,
         Mode::Lenient,
         &mut problem,
         &mut solutions,
-        out,
+        &mut out,
     );
-    answer == want
-}
-
-fn leaves_prefix(
-    alloc: Global,
-    row: &(usize, Refusal),
-    room: usize,
-    want: Result<Outcome, RunError>,
-) -> bool {
-    let mut out = Taker::new(Vec::new(alloc), row.0, room, row.1);
-    is_written(alloc, &mut out, want) && out.taken.len() == room && REPORT.starts_with(&out.taken)
-}
-
-/// Whether the sink is left with as much of the report as it takes, for each number of bytes.
-fn leaves_each_prefix(alloc: Global, row: &(usize, Refusal)) -> bool {
-    (0..REPORT.len()).all(|room| leaves_prefix(alloc, row, room, Err(RunError::Write)))
-        && leaves_prefix(alloc, row, REPORT.len(), Ok(Outcome::Yes))
+    let want = if room < REPORT.len() {
+        Err(RunError::Write)
+    } else {
+        Ok(Outcome::Yes)
+    };
+    answer == want && out.taken.len() == room && REPORT.starts_with(&out.taken)
 }
 
 #[test]
 fn each_reader_fails(rt: HostRuntime) {
-    assert_rows(&rt, rt.alloc(), &READERS, fails_at_each_call);
+    for row in &READERS {
+        for call in 1..=row.1 {
+            let illness = Illness::Fails(call);
+            assert!(rt;
+                is_told(rt.alloc(), row.0, illness, RunError::Read),
+                "call {call} of reader {}",
+                row.0
+            );
+        }
+        assert!(rt;
+            is_told(rt.alloc(), row.0, Illness::IsTooLong, RunError::TooLong),
+            "reader {}",
+            row.0
+        );
+    }
 }
 
 #[test]
 fn the_problem_is_endless(rt: HostRuntime) {
-    assert!(rt; gives_up(rt.alloc(), 0));
+    assert!(rt; is_told(rt.alloc(), 0, Illness::IsEndless, RunError::Read));
 }
 
 #[test]
-fn the_first_solution_is_endless(rt: HostRuntime) {
-    assert!(rt; gives_up(rt.alloc(), 1));
-}
-
-#[test]
-fn the_second_solution_is_endless(rt: HostRuntime) {
-    assert!(rt; gives_up(rt.alloc(), 2));
-}
-
-#[test]
-fn the_last_solution_is_endless(rt: HostRuntime) {
-    assert!(rt; gives_up(rt.alloc(), 3));
-}
-
-#[test]
-fn each_reader_is_too_long(rt: HostRuntime) {
-    assert_rows(&rt, rt.alloc(), &READERS, refuses_one_byte_too_many);
+fn a_solution_is_endless(rt: HostRuntime) {
+    for place in 1..=3usize {
+        assert!(rt;
+            is_told(rt.alloc(), place, Illness::IsEndless, RunError::Read),
+            "{place}"
+        );
+    }
 }
 
 #[test]
 fn each_write_fails(rt: HostRuntime) {
     assert_eq!(rt; REPORT.len(), 74);
-    assert_rows(&rt, rt.alloc(), &WRITES, leaves_each_prefix);
+    for row in &WRITES {
+        for room in 0..=REPORT.len() {
+            assert!(rt;
+                leaves_prefix(rt.alloc(), row, room),
+                "room for {room} bytes"
+            );
+        }
+    }
 }
