@@ -104,6 +104,11 @@ fn vpkgs(rt: HostRuntime) {
     for row in &VPKGS {
         assert!(rt; is_vpkg(rt.alloc(), row), "{}", row.0);
     }
+}
+
+#[test]
+fn printing(rt: HostRuntime) {
+    assert!(rt; is_pkgname("true"));
     laws::read_back("true", Some((Relop::Neq, 3)));
 }
 

@@ -1,6 +1,6 @@
 //! Calls that read documents. Where several calls promise the same, each of them is made.
-use crate::shown::{Listed, agreed, shown_or};
-use crate::texts::ShownFault;
+use crate::shown::{agreed, push_list};
+use crate::texts::shown_fault;
 use cudf_document::{
     Chosen, Keep, Mode, Package, Problem, ReadError, Request, Solution, Status, Unknown,
     first_fault, problem_for, problem_of, read_problem, read_solution, solution_of,
@@ -8,20 +8,22 @@ use cudf_document::{
 use cudf_text::{Fault, Room, TextError, cut_joined, is_fail, read, stanzas};
 use cudf_value::Formula;
 use std::alloc::{AllocError, Global};
-use std::fmt;
 use std::fmt::Display;
 
 /// The first fault of a problem: where it is only judged, where all of it is kept, and where the least of it is.
 pub(crate) fn fault(alloc: Global, bytes: &[u8], mode: Mode) -> Result<String, AllocError> {
-    let judged = shown_fault(alloc, judged_fault(alloc, bytes, mode)?)?;
-    let read = shown_fault(alloc, read_fault(alloc, bytes, mode)?)?;
-    let thin = shown_fault(alloc, thin_fault(alloc, bytes, mode)?)?;
+    let judged = fault_or_none(alloc, judged_fault(alloc, bytes, mode)?)?;
+    let read = fault_or_none(alloc, read_fault(alloc, bytes, mode)?)?;
+    let thin = fault_or_none(alloc, thin_fault(alloc, bytes, mode)?)?;
     let kept = agreed(alloc, read, thin)?;
     agreed(alloc, judged, kept)
 }
 
-fn shown_fault(alloc: Global, fault: Option<Fault>) -> Result<String, AllocError> {
-    shown_or(alloc, fault.map(ShownFault), "no fault")
+fn fault_or_none(alloc: Global, fault: Option<Fault>) -> Result<String, AllocError> {
+    match fault {
+        Some(fault) => shown_fault(alloc, fault),
+        None => String::from_str(alloc, "no fault"),
+    }
 }
 
 /// The first fault, with no problem made.
@@ -60,89 +62,73 @@ fn fault_of(problem: Result<Problem<'_>, ReadError>) -> Result<Option<Fault>, Al
     }
 }
 
-/// A name and the values behind it, where there are some.
-#[derive(Clone, Copy)]
-struct Named<'v, T>(&'static str, &'v [T]);
-
-impl<T: Display> Display for Named<'_, T> {
-    fn fmt<W: fmt::Write>(&self, f: &mut fmt::Formatter<W>) -> fmt::Result {
-        if self.1.is_empty() {
-            return Ok(());
-        }
-        write!(f, " {} {}", self.0, Listed(self.1))
+/// Adds a name and the values behind it, where there are some.
+fn push_named<T: Display>(out: &mut String, name: &str, values: &[T]) -> Result<(), AllocError> {
+    if values.is_empty() {
+        return Ok(());
     }
+    write!(out, " {name} ")?;
+    push_list(out, values)
 }
 
-/// A package as `LINE NAME VERSION`, then what isn't the default.
-#[derive(Clone, Copy)]
-struct ShownPackage<'p, 't>(&'p Package<'t>);
-
-impl Display for ShownPackage<'_, '_> {
-    fn fmt<W: fmt::Write>(&self, f: &mut fmt::Formatter<W>) -> fmt::Result {
-        let package = self.0;
-        write!(f, "{} {} {}", package.line, package.name, package.version)?;
-        write!(f, "{}", Named("depends", &package.depends.clauses))?;
-        write!(f, "{}", Named("conflicts", &package.conflicts))?;
-        write!(f, "{}", Named("provides", &package.provides))?;
-        f.write_str(if package.installed { " installed" } else { "" })?;
-        f.write_str(kept(package.keep))
-    }
-}
-
-fn kept(keep: Keep) -> &'static str {
-    match keep {
+/// Adds a package as `LINE NAME VERSION`, then what isn't the default.
+fn push_package(out: &mut String, package: &Package<'_>) -> Result<(), AllocError> {
+    write!(out, "{} {} {}", package.line, package.name, package.version)?;
+    push_named(out, "depends", &package.depends.clauses)?;
+    push_named(out, "conflicts", &package.conflicts)?;
+    push_named(out, "provides", &package.provides)?;
+    out.push_str(if package.installed { " installed" } else { "" })?;
+    out.push_str(match package.keep {
         Keep::Version => " keep version",
         Keep::Package => " keep package",
         Keep::Feature => " keep feature",
         Keep::Nothing => "",
+    })?;
+    push_formula(out, " says recommends ", package.recommends.as_ref())
+}
+
+/// Adds a formula, if there is one.
+fn push_formula(
+    out: &mut String,
+    name: &str,
+    formula: Option<&Formula<'_>>,
+) -> Result<(), AllocError> {
+    match formula {
+        Some(formula) => {
+            out.push_str(name)?;
+            push_list(out, &formula.clauses)
+        }
+        None => Ok(()),
     }
 }
 
-/// What the package says that it recommends, and then what it recommends.
-#[derive(Clone, Copy)]
-struct Recommended<'f, 't>(Option<&'f Formula<'t>>, Option<&'f Formula<'t>>);
-
-impl Display for Recommended<'_, '_> {
-    fn fmt<W: fmt::Write>(&self, f: &mut fmt::Formatter<W>) -> fmt::Result {
-        if let Some(own) = self.0 {
-            write!(f, " says recommends {}", Listed(&own.clauses))?;
-        }
-        match self.1 {
-            Some(formula) => write!(f, " recommends {}", Listed(&formula.clauses)),
-            None => Ok(()),
-        }
+/// What the package of this place recommends, where there is one.
+fn recommends_at<'p, 't>(problem: &'p Problem<'t>, place: u64) -> Option<&'p Formula<'t>> {
+    if place == 0 || place > problem.packages().len() as u64 {
+        return None;
     }
+    problem.recommends(place)
 }
 
-/// A request as its line and its lists that aren't empty.
-#[derive(Clone, Copy)]
-struct ShownRequest<'p, 't>(&'p Request<'t>);
-
-impl Display for ShownRequest<'_, '_> {
-    fn fmt<W: fmt::Write>(&self, f: &mut fmt::Formatter<W>) -> fmt::Result {
-        write!(f, "{} request", self.0.line)?;
-        write!(f, "{}", Named("install", &self.0.install))?;
-        write!(f, "{}", Named("remove", &self.0.remove))?;
-        write!(f, "{}", Named("upgrade", &self.0.upgrade))
-    }
+/// Adds a request as its line and its lists that aren't empty.
+fn push_request(out: &mut String, request: &Request<'_>) -> Result<(), AllocError> {
+    write!(out, "{} request", request.line)?;
+    push_named(out, "install", &request.install)?;
+    push_named(out, "remove", &request.remove)?;
+    push_named(out, "upgrade", &request.upgrade)
 }
 
 /// A problem as its packages and its request, with a semicolon between each two.
-#[derive(Clone, Copy)]
-struct ShownProblem<'p, 't>(&'p Problem<'t>);
-
-impl Display for ShownProblem<'_, '_> {
-    fn fmt<W: fmt::Write>(&self, f: &mut fmt::Formatter<W>) -> fmt::Result {
-        let packages = self.0.packages();
-        for (before, package) in packages.iter().enumerate() {
-            let recommended = Recommended(
-                package.recommends.as_ref(),
-                self.0.recommends(before as u64 + 1),
-            );
-            write!(f, "{}{recommended}; ", ShownPackage(package))?;
-        }
-        write!(f, "{}", ShownRequest(self.0.request()))
+fn told_problem(alloc: Global, problem: &Problem<'_>) -> Result<String, AllocError> {
+    let mut shown = String::new(alloc);
+    for (before, package) in problem.packages().iter().enumerate() {
+        let place = (before as u64).saturating_add(1);
+        push_package(&mut shown, package)?;
+        push_formula(&mut shown, " recommends ", recommends_at(problem, place))?;
+        shown.push_str("; ")?;
     }
+    push_request(&mut shown, problem.request())?;
+    Ok(shown)
 }
 
 fn shown_problem(
@@ -150,8 +136,8 @@ fn shown_problem(
     problem: Result<Problem<'_>, ReadError>,
 ) -> Result<String, AllocError> {
     match problem {
-        Ok(problem) => ShownProblem(&problem).to_string(alloc),
-        Err(ReadError::Fault(fault)) => ShownFault(fault).to_string(alloc),
+        Ok(problem) => told_problem(alloc, &problem),
+        Err(ReadError::Fault(fault)) => shown_fault(alloc, fault),
         Err(ReadError::Memory(error)) => Err(error),
     }
 }
@@ -166,7 +152,7 @@ fn walked_problem(alloc: Global, bytes: &[u8]) -> Result<String, AllocError> {
     let mut room = Room::new(alloc);
     match stanzas(alloc, bytes, &mut room) {
         Ok(stanzas) => shown_problem(alloc, problem_of(alloc, stanzas, Mode::Lenient)),
-        Err(fault) => ShownFault(fault).to_string(alloc),
+        Err(fault) => shown_fault(alloc, fault),
     }
 }
 
@@ -182,8 +168,11 @@ pub(crate) fn thin(alloc: Global, bytes: &[u8]) -> Result<String, AllocError> {
     let (problem, solution) = cut_joined(bytes);
     let mut room = Room::new(alloc);
     match stanzas(alloc, solution, &mut room) {
-        Ok(stanzas) => thin_problem(alloc, problem, &Chosen::of(alloc, stanzas)?),
-        Err(fault) => ShownFault(fault).to_string(alloc),
+        Ok(stanzas) => {
+            let chosen = Chosen::of(alloc, stanzas)?;
+            thin_problem(alloc, problem, &chosen)
+        }
+        Err(fault) => shown_fault(alloc, fault),
     }
 }
 
@@ -191,11 +180,11 @@ fn thin_problem(alloc: Global, bytes: &[u8], chosen: &Chosen<'_>) -> Result<Stri
     let mut room = Room::new(alloc);
     match stanzas(alloc, bytes, &mut room) {
         Ok(stanzas) => { shown_problem(alloc, problem_for(alloc, stanzas, chosen, Mode::Lenient)) }
-        Err(fault) => ShownFault(fault).to_string(alloc),
+        Err(fault) => shown_fault(alloc, fault),
     }
 }
 
-/// A status of a problem as the places of its packages.
+/// The places of a status of the problem.
 pub(crate) fn shown_status(
     alloc: Global,
     problem: &Problem<'_>,
@@ -208,19 +197,32 @@ pub(crate) fn shown_status(
             places.push(place)?;
         }
     }
-    Listed(&places).to_string(alloc)
+    let mut shown = String::new(alloc);
+    push_list(&mut shown, &places)?;
+    Ok(shown)
 }
 
-/// An unknown stanza as `NUMBER line LINE: NAME VERSION`.
-#[derive(Clone, Copy)]
-struct ShownUnknown<'t>(Unknown<'t>);
+/// Adds an unknown stanza as `NUMBER line LINE: NAME VERSION`.
+fn push_unknown(out: &mut String, unknown: &Unknown<'_>) -> Result<(), AllocError> {
+    write!(out, "{} line {}: ", unknown.stanza, unknown.line)?;
+    write!(out, "{} {}", unknown.name, unknown.version)?;
+    Ok(())
+}
 
-impl Display for ShownUnknown<'_> {
-    fn fmt<W: fmt::Write>(&self, f: &mut fmt::Formatter<W>) -> fmt::Result {
-        let unknown = self.0;
-        write!(f, "{} line {}: ", unknown.stanza, unknown.line)?;
-        write!(f, "{} {}", unknown.name, unknown.version)
+/// What a solution of the problem installs, and its unknown stanzas.
+fn told_solution(
+    alloc: Global,
+    problem: &Problem<'_>,
+    solution: &Solution<'_>,
+) -> Result<String, AllocError> {
+    let status = shown_status(alloc, problem, &solution.status)?;
+    let mut shown = format!(in alloc; "installs {status}, unknown [")?;
+    for (before, unknown) in solution.unknown.iter().enumerate() {
+        shown.push_str(if before == 0 { "" } else { ", " })?;
+        push_unknown(&mut shown, unknown)?;
     }
+    shown.push_str("]")?;
+    Ok(shown)
 }
 
 fn shown_solution(
@@ -229,15 +231,8 @@ fn shown_solution(
     solution: Result<Solution<'_>, ReadError>,
 ) -> Result<String, AllocError> {
     match solution {
-        Ok(solution) => {
-            let status = shown_status(alloc, problem, &solution.status)?;
-            let mut unknown = Vec::new(alloc);
-            for stanza in &solution.unknown {
-                unknown.push(ShownUnknown(*stanza))?;
-            }
-            format!(in alloc; "installs {status}, unknown {}", Listed(&unknown))
-        }
-        Err(ReadError::Fault(fault)) => ShownFault(fault).to_string(alloc),
+        Ok(solution) => told_solution(alloc, problem, &solution),
+        Err(ReadError::Fault(fault)) => shown_fault(alloc, fault),
         Err(ReadError::Memory(error)) => Err(error),
     }
 }
@@ -280,7 +275,7 @@ fn walked_solution(
         Ok(stanzas) => {
             shown_solution(alloc, problem, solution_of(alloc, stanzas, problem, mode))
         }
-        Err(fault) => ShownFault(fault).to_string(alloc),
+        Err(fault) => shown_fault(alloc, fault),
     }
 }
 

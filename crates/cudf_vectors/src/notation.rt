@@ -1,6 +1,5 @@
 //! How bytes are written on one line: `¶` is LF, and `{HH}` is the byte of this number in hexadecimal digits.
 use std::alloc::{AllocError, Global};
-use std::fmt;
 
 /// The bytes that the text stands for.
 pub(crate) fn bytes_of(alloc: Global, text: &str) -> Result<Vec<u8>, AllocError> {
@@ -19,19 +18,14 @@ pub(crate) fn bytes_of(alloc: Global, text: &str) -> Result<Vec<u8>, AllocError>
     Ok(bytes)
 }
 
-/// Bytes as they are written on one line.
-#[derive(Clone, Copy)]
-pub(crate) struct Written<'b>(pub(crate) &'b [u8]);
-
-impl fmt::Display for Written<'_> {
-    fn fmt<W: fmt::Write>(&self, f: &mut fmt::Formatter<W>) -> fmt::Result {
-        for byte in self.0 {
-            match *byte {
-                b'\n' => f.write_str("¶")?,
-                b'{' | 0..=31 | 127..=255 => write!(f, "{{{byte:02x}}}")?,
-                byte => write!(f, "{}", byte as char)?,
-            }
+/// Adds bytes as they are written on one line.
+pub(crate) fn push_written(out: &mut String, bytes: &[u8]) -> Result<(), AllocError> {
+    for byte in bytes {
+        match *byte {
+            b'\n' => out.push_str("¶")?,
+            b'{' | 0..=31 | 127..=255 => write!(out, "{{{byte:02x}}}")?,
+            byte => out.push(byte as char)?,
         }
-        Ok(())
     }
+    Ok(())
 }

@@ -1,21 +1,16 @@
 //! How answers are shown.
 use std::alloc::{AllocError, Global};
-use std::fmt;
 use std::fmt::Display;
 
-/// Values between brackets, with a comma between each two.
-#[derive(Clone, Copy)]
-pub(crate) struct Listed<'v, T>(pub(crate) &'v [T]);
-
-impl<T: Display> Display for Listed<'_, T> {
-    fn fmt<W: fmt::Write>(&self, f: &mut fmt::Formatter<W>) -> fmt::Result {
-        f.write_str("[")?;
-        for (before, value) in self.0.iter().enumerate() {
-            f.write_str(if before == 0 { "" } else { ", " })?;
-            write!(f, "{value}")?;
-        }
-        f.write_str("]")
+/// Adds values between brackets, with a comma between each two.
+pub(crate) fn push_list<T: Display>(out: &mut String, values: &[T]) -> Result<(), AllocError> {
+    out.push_str("[")?;
+    for (before, value) in values.iter().enumerate() {
+        out.push_str(if before == 0 { "" } else { ", " })?;
+        write!(out, "{value}")?;
     }
+    out.push_str("]")?;
+    Ok(())
 }
 
 /// The value, or what is said where there is none.

@@ -6,7 +6,6 @@ use cudf_text::{Room, stanzas};
 use cudf_universe::{GreatestNumbers, Index};
 use cudf_value::{read_formula, read_vpkg};
 use std::alloc::{AllocError, Global};
-use std::fmt;
 
 /// The answer to a call about the text and the status.
 pub(crate) fn answer(
@@ -46,33 +45,36 @@ fn answer_in(
     }
 }
 
-/// Whether a status satisfies a vpkg, and the first place that meets it.
-#[derive(Clone, Copy)]
-struct Met(bool, Option<u64>);
-
-impl fmt::Display for Met {
-    fn fmt<W: fmt::Write>(&self, f: &mut fmt::Formatter<W>) -> fmt::Result {
-        f.write_str(if self.0 { "yes" } else { "no" })?;
-        match self.1 {
-            Some(place) => write!(f, " by {place}"),
-            None => Ok(()),
-        }
+/// Adds whether a status satisfies a vpkg, and the first place that meets it.
+fn push_met(out: &mut String, is_satisfied: bool, first: Option<u64>) -> Result<(), AllocError> {
+    out.push_str(if is_satisfied { "yes" } else { "no" })?;
+    if let Some(place) = first {
+        write!(out, " by {place}")?;
     }
+    Ok(())
 }
 
 /// Whether the status satisfies the vpkg, and whether it does without the package of place 1.
 fn satisfied(alloc: Global, index: &Index<'_, '_>, text: &str) -> Result<String, AllocError> {
+    let mut shown = String::new(alloc);
     match read_vpkg(text) {
         Some(vpkg) => {
-            let all = Met(index.satisfies(&vpkg), index.first_meeting(&vpkg, None));
-            let others = Met(
-                index.satisfies_without(&vpkg, 1),
+            push_met(
+                &mut shown,
+                index.satisfies(&vpkg),
+                index.first_meeting(&vpkg, None),
+            )?;
+            shown.push_str(", without 1 ")?;
+            let is_satisfied = index.satisfies_without(&vpkg, 1);
+            push_met(
+                &mut shown,
+                is_satisfied,
                 index.first_meeting(&vpkg, Some(1)),
-            );
-            format!(in alloc; "{all}, without 1 {others}")
+            )?;
         }
-        None => String::from_str(alloc, "no vpkg"),
+        None => shown.push_str("no vpkg")?,
     }
+    Ok(shown)
 }
 
 /// Whether the status satisfies the formula's first clause.

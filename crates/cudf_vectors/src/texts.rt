@@ -1,15 +1,19 @@
 //! Calls about the text of documents.
-use crate::notation::Written;
+use crate::notation::push_written;
 use crate::shown::yes_if;
 use cudf_text::{Fault, Property, Stanza, Text, cut_joined, is_fail, read};
 use std::alloc::{AllocError, Global};
 use std::borrow::CowStr;
-use std::fmt;
 
 /// The problem and the solution of one input, each between angle brackets.
 pub(crate) fn joined(alloc: Global, bytes: &[u8]) -> Result<String, AllocError> {
     let (problem, solution) = cut_joined(bytes);
-    format!(in alloc; "<{}><{}>", Written(problem), Written(solution))
+    let mut shown = String::from_str(alloc, "<")?;
+    push_written(&mut shown, problem)?;
+    shown.push_str("><")?;
+    push_written(&mut shown, solution)?;
+    shown.push_str(">")?;
+    Ok(shown)
 }
 
 /// Whether the text says FAIL.
@@ -17,66 +21,48 @@ pub(crate) fn fail(alloc: Global, text: &str) -> Result<String, AllocError> {
     yes_if(alloc, is_fail(text))
 }
 
-/// A property as `LINE NAME <VALUE>`, with `joined` behind a value that is no part of the source.
-#[derive(Clone, Copy)]
-struct ShownProperty<'s, 'a>(&'s Property<'a>);
-
-impl fmt::Display for ShownProperty<'_, '_> {
-    fn fmt<W: fmt::Write>(&self, f: &mut fmt::Formatter<W>) -> fmt::Result {
-        let value = Written(self.0.value.as_str().as_bytes());
-        write!(f, "{} {} <{value}>", self.0.line, self.0.name)?;
-        match self.0.value {
-            CowStr::Borrowed(_) => Ok(()),
-            CowStr::Owned(_) => f.write_str(" joined"),
-        }
-    }
+/// Adds a property as `LINE NAME <VALUE>`, with `joined` behind a value that is no part of the source.
+fn push_property(out: &mut String, property: &Property<'_>) -> Result<(), AllocError> {
+    write!(out, ", {} {} <", property.line, property.name)?;
+    push_written(out, property.value.as_str().as_bytes())?;
+    out.push_str(match property.value {
+        CowStr::Borrowed(_) => ">",
+        CowStr::Owned(_) => "> joined",
+    })?;
+    Ok(())
 }
 
-/// A stanza as `[FIRST to LAST, PROPERTY, ..]`.
-#[derive(Clone, Copy)]
-struct ShownStanza<'s, 'a>(&'s Stanza<'a>);
-
-impl fmt::Display for ShownStanza<'_, '_> {
-    fn fmt<W: fmt::Write>(&self, f: &mut fmt::Formatter<W>) -> fmt::Result {
-        write!(f, "[{} to {}", self.0.line, self.0.last)?;
-        for property in &self.0.properties {
-            write!(f, ", {}", ShownProperty(property))?;
-        }
-        f.write_str("]")
+/// Adds a stanza as ` [FIRST to LAST, PROPERTY, ..]`.
+fn push_stanza(out: &mut String, stanza: &Stanza<'_>) -> Result<(), AllocError> {
+    write!(out, " [{} to {}", stanza.line, stanza.last)?;
+    for property in &stanza.properties {
+        push_property(out, property)?;
     }
+    out.push_str("]")?;
+    Ok(())
 }
 
 /// A text as the number of its lines, its stanzas and its faulty line.
-#[derive(Clone, Copy)]
-struct ShownText<'s, 'a>(&'s Text<'a>);
-
-impl fmt::Display for ShownText<'_, '_> {
-    fn fmt<W: fmt::Write>(&self, f: &mut fmt::Formatter<W>) -> fmt::Result {
-        write!(f, "{} lines", self.0.lines)?;
-        for stanza in &self.0.stanzas {
-            write!(f, " {}", ShownStanza(stanza))?;
-        }
-        match self.0.fault {
-            Some(fault) => write!(f, " {}", ShownFault(fault)),
-            None => Ok(()),
-        }
+fn shown_text(alloc: Global, text: &Text<'_>) -> Result<String, AllocError> {
+    let mut shown = format!(in alloc; "{} lines", text.lines)?;
+    for stanza in &text.stanzas {
+        push_stanza(&mut shown, stanza)?;
     }
-}
-
-/// A fault as it is reported.
-#[derive(Clone, Copy)]
-pub(crate) struct ShownFault(pub(crate) Fault);
-
-impl fmt::Display for ShownFault {
-    fn fmt<W: fmt::Write>(&self, f: &mut fmt::Formatter<W>) -> fmt::Result {
-        write!(f, "line {}: {}", self.0.line, self.0.kind.text())
+    if let Some(fault) = text.fault {
+        write!(&mut shown, " line {}: {}", fault.line, fault.kind.text())?;
     }
+    Ok(shown)
 }
 
 /// What is read of these bytes.
 pub(crate) fn text(alloc: Global, bytes: &[u8]) -> Result<String, AllocError> {
     match read(alloc, bytes) {
-        Ok(text) => ShownText(&text).to_string(alloc),
+        Ok(text) => shown_text(alloc, &text),
         Err(error) => error.to_string(alloc),
     }
+}
+
+/// A fault as it is reported.
+pub(crate) fn shown_fault(alloc: Global, fault: Fault) -> Result<String, AllocError> {
+    format!(in alloc; "line {}: {}", fault.line, fault.kind.text())
 }

@@ -1,5 +1,5 @@
 //! Calls that read values, keys and lists of criteria.
-use crate::shown::{Listed, agreed, shown_or, yes_if};
+use crate::shown::{agreed, push_list, shown_or, yes_if};
 use cudf_referee::{Aim, Key, read_criterion};
 use cudf_value::{
     Declaration, ValueType, Vpkg, fits, is_formula, is_ident, is_of_type, is_pkgname,
@@ -7,7 +7,6 @@ use cudf_value::{
     read_nat, read_posint, read_veqpkg, read_veqpkglist, read_vpkg, read_vpkglist,
 };
 use std::alloc::{AllocError, Global};
-use std::fmt;
 
 /// The answer where a text isn't of the type.
 const OTHER: &str = "not of the type";
@@ -33,103 +32,92 @@ pub(crate) fn answer(alloc: Global, call: &str, text: &str) -> Result<String, Al
     }
 }
 
-/// The list, where it is one by both ways.
+/// A list as it was read.
 fn list(alloc: Global, list: Option<Vec<Vpkg<'_>>>, is_list: bool) -> Result<String, AllocError> {
     let is_read = list.is_some();
-    let shown = match list {
-        Some(entries) => Listed(&entries).to_string(alloc)?,
-        None => String::from_str(alloc, OTHER)?,
-    };
-    with_test(alloc, shown, is_read, is_list)
+    let mut shown = String::new(alloc);
+    match list {
+        Some(entries) => push_list(&mut shown, &entries)?,
+        None => shown.push_str(OTHER)?,
+    }
+    with_test(shown, is_read, is_list)
 }
 
 /// What was read, and behind it the test where this tells otherwise.
-fn with_test(
-    alloc: Global,
-    shown: String,
-    is_read: bool,
-    is_of_type: bool,
-) -> Result<String, AllocError> {
-    if is_read == is_of_type {
-        return Ok(shown);
+fn with_test(shown: String, is_read: bool, is_of_type: bool) -> Result<String, AllocError> {
+    let mut shown = shown;
+    if is_read != is_of_type {
+        write!(&mut shown, ", or else {is_of_type}")?;
     }
-    format!(in alloc; "{shown}, or else {is_of_type}")
+    Ok(shown)
 }
 
 fn formula(alloc: Global, text: &str) -> Result<String, AllocError> {
+    let mut shown = String::new(alloc);
     match read_formula(alloc, text)? {
         Some(formula) => {
-            let shown = Listed(&formula.clauses).to_string(alloc)?;
-            with_test(alloc, shown, true, is_formula(text))
+            push_list(&mut shown, &formula.clauses)?;
+            with_test(shown, true, is_formula(text))
         }
-        None => with_test(
-            alloc,
-            String::from_str(alloc, OTHER)?,
-            false,
-            is_formula(text),
-        ),
+        None => {
+            shown.push_str(OTHER)?;
+            with_test(shown, false, is_formula(text))
+        }
     }
 }
 
-/// A type as it is written in a declaration.
-#[derive(Clone, Copy)]
-struct ShownType<'d, 't>(&'d ValueType<'t>);
-
-impl fmt::Display for ShownType<'_, '_> {
-    fn fmt<W: fmt::Write>(&self, f: &mut fmt::Formatter<W>) -> fmt::Result {
-        f.write_str(match self.0 {
-            ValueType::Positive => "posint",
-            ValueType::Natural => "nat",
-            ValueType::Signed => "int",
-            ValueType::Truth => "bool",
-            ValueType::Words => "string",
-            ValueType::Name => "pkgname",
-            ValueType::Ident => "ident",
-            ValueType::Choice(idents) => return write!(f, "enum{}", Listed(idents)),
-            ValueType::Versioned => "vpkg",
-            ValueType::Exact => "veqpkg",
-            ValueType::Formula => "vpkgformula",
-            ValueType::List => "vpkglist",
-            ValueType::ExactList => "veqpkglist",
-        })
+/// Adds a type as it is written in a declaration.
+fn push_type(out: &mut String, kind: &ValueType<'_>) -> Result<(), AllocError> {
+    out.push_str(match kind {
+        ValueType::Positive => "posint",
+        ValueType::Natural => "nat",
+        ValueType::Signed => "int",
+        ValueType::Truth => "bool",
+        ValueType::Words => "string",
+        ValueType::Name => "pkgname",
+        ValueType::Ident => "ident",
+        ValueType::Choice(_) => "enum",
+        ValueType::Versioned => "vpkg",
+        ValueType::Exact => "veqpkg",
+        ValueType::Formula => "vpkgformula",
+        ValueType::List => "vpkglist",
+        ValueType::ExactList => "veqpkglist",
+    })?;
+    match kind {
+        ValueType::Choice(idents) => push_list(out, idents),
+        _ => Ok(()),
     }
 }
 
-/// A declaration as `NAME: TYPE`, with ` = <DEFAULT>` behind it where there is one.
-#[derive(Clone, Copy)]
-struct Shown<'d, 't>(&'d Declaration<'t>);
-
-impl fmt::Display for Shown<'_, '_> {
-    fn fmt<W: fmt::Write>(&self, f: &mut fmt::Formatter<W>) -> fmt::Result {
-        let kind = ShownType(&self.0.kind);
-        write!(f, "{}: {kind}", self.0.name)?;
-        match self.0.default {
-            Some(default) => write!(f, " = <{default}>"),
-            None => Ok(()),
-        }
+/// Adds a declaration as `NAME: TYPE`, with ` = <DEFAULT>` behind it where there is one.
+fn push_declaration(out: &mut String, declaration: &Declaration<'_>) -> Result<(), AllocError> {
+    write!(out, "{}: ", declaration.name)?;
+    push_type(out, &declaration.kind)?;
+    if let Some(default) = declaration.default {
+        write!(out, " = <{default}>")?;
     }
+    Ok(())
 }
 
 /// Declarations between brackets, with a semicolon between each two.
-#[derive(Clone, Copy)]
-struct Declared<'d, 't>(&'d [Declaration<'t>]);
-
-impl fmt::Display for Declared<'_, '_> {
-    fn fmt<W: fmt::Write>(&self, f: &mut fmt::Formatter<W>) -> fmt::Result {
-        f.write_str("[")?;
-        for (before, declaration) in self.0.iter().enumerate() {
-            f.write_str(if before == 0 { "" } else { "; " })?;
-            write!(f, "{}", Shown(declaration))?;
-        }
-        f.write_str("]")
+fn declarations(alloc: Global, text: &str) -> Result<String, AllocError> {
+    match read_declarations(alloc, text)? {
+        Some(declarations) => shown_declarations(alloc, &declarations),
+        None => String::from_str(alloc, "bad declaration"),
     }
 }
 
-fn declarations(alloc: Global, text: &str) -> Result<String, AllocError> {
-    match read_declarations(alloc, text)? {
-        Some(declarations) => Declared(&declarations).to_string(alloc),
-        None => String::from_str(alloc, "bad declaration"),
+fn shown_declarations(
+    alloc: Global,
+    declarations: &[Declaration<'_>],
+) -> Result<String, AllocError> {
+    let mut shown = String::from_str(alloc, "[")?;
+    for (before, declaration) in declarations.iter().enumerate() {
+        shown.push_str(if before == 0 { "" } else { "; " })?;
+        push_declaration(&mut shown, declaration)?;
     }
+    shown.push_str("]")?;
+    Ok(shown)
 }
 
 /// Whether a text is of a type, where the type, a space and the text are given.
@@ -165,26 +153,20 @@ pub(crate) fn key(alloc: Global, text: &str) -> Result<String, AllocError> {
     shown_or(alloc, Key::parse(text), "not a key")
 }
 
-/// An aim as it is written in a list.
-#[derive(Clone, Copy)]
-struct ShownAim(Aim);
-
-impl fmt::Display for ShownAim {
-    fn fmt<W: fmt::Write>(&self, f: &mut fmt::Formatter<W>) -> fmt::Result {
-        write!(f, "{}{}", self.0.sign.text(), self.0.count.text())
-    }
-}
-
 /// The aims of a list.
 pub(crate) fn criterion(alloc: Global, text: &str) -> Result<String, AllocError> {
     match read_criterion(alloc, text)? {
-        Some(aims) => {
-            let mut shown = Vec::new(alloc);
-            for aim in &aims {
-                shown.push(ShownAim(*aim))?;
-            }
-            Listed(&shown).to_string(alloc)
-        }
+        Some(aims) => shown_aims(alloc, &aims),
         None => String::from_str(alloc, "not a list"),
     }
+}
+
+fn shown_aims(alloc: Global, aims: &[Aim]) -> Result<String, AllocError> {
+    let mut shown = String::from_str(alloc, "[")?;
+    for (before, aim) in aims.iter().enumerate() {
+        shown.push_str(if before == 0 { "" } else { ", " })?;
+        write!(&mut shown, "{}{}", aim.sign.text(), aim.count.text())?;
+    }
+    shown.push_str("]")?;
+    Ok(shown)
 }
