@@ -1,9 +1,9 @@
 //! Answers of an index, worked out by hand.
 use crate::table::assert_rows;
 use cudf_text::read;
-use cudf_universe::{GreatestNumbers, Index, Mode, Problem, initial, laws, read_problem};
+use cudf_universe::{Index, Mode, Problem, initial, laws, read_problem};
 use cudf_value::{read_formula, read_vpkg};
-use std::alloc::{AllocError, Global};
+use std::alloc::Global;
 
 /// One package gives `f` alone, without a number, and another nothing.
 const UNVERSIONED: &str =
@@ -226,39 +226,6 @@ const ENDS: [EndsRow<'static>; 15] = [
 #[test]
 fn ends(rt: HostRuntime) {
     assert_rows(&rt, rt.alloc(), &ENDS, has_ends);
-}
-
-/// The greatest number of the name among the packages that are installed, found without an index.
-fn greatest_in(
-    alloc: Global,
-    problem: &Problem<'_>,
-    name: &str,
-) -> Result<Option<u64>, AllocError> {
-    let status = initial(alloc, problem)?;
-    let numbers = GreatestNumbers::build(alloc, problem, &status)?;
-    Ok(numbers.greatest(name))
-}
-
-fn has_greatest_in(alloc: Global, problem: &Problem<'_>, row: &EndsRow<'_>) -> bool {
-    match greatest_in(alloc, problem, row.1) {
-        Ok(greatest) => greatest == row.3,
-        Err(_) => false,
-    }
-}
-
-fn has_greatest(alloc: Global, row: &EndsRow<'_>) -> bool {
-    match read(alloc, row.0.as_bytes()) {
-        Ok(text) => match read_problem(alloc, &text, Mode::Lenient) {
-            Ok(problem) => has_greatest_in(alloc, &problem, row),
-            Err(_) => false,
-        },
-        Err(_) => false,
-    }
-}
-
-#[test]
-fn greatest_numbers(rt: HostRuntime) {
-    assert_rows(&rt, rt.alloc(), &ENDS, has_greatest);
 }
 
 /// A problem, a formula of one clause, and whether the status satisfies it.

@@ -3,8 +3,8 @@ use super::{Answer, Refused, expect, made};
 use cudf_referee::{Key, Referee, read_criterion};
 use cudf_text::{Room, Text, TextError, is_fail, read, stanzas};
 use cudf_universe::{
-    Chosen, GreatestNumbers, Index, Mode, Problem, ReadError, first_fault, initial, problem_for,
-    problem_of, read_problem, read_solution, solution_of,
+    Chosen, Index, Mode, Problem, ReadError, first_fault, initial, problem_for, problem_of,
+    read_problem, read_solution, solution_of,
 };
 use cudf_value::{
     ValueType, fits, read_declarations, read_formula, read_veqpkglist, read_vpkg, read_vpkglist,
@@ -14,9 +14,9 @@ use std::alloc::Global;
 /// A text with continuations.
 const TEXT: &[u8] = b"package: a\ndepends:\n# c\n  b,\n\tc\n\nrequest: r\ninstall: a,\n b\n";
 
-/// Two packages that conflict by their names and by what they give.
+/// Two packages that conflict by their names and by what they give, of which one name is to be upgraded.
 const PROBLEM: &[u8] =
-    b"preamble:\nproperty: colour: enum[red, green] = [red], size: nat\n\npackage: g\nversion: 1\nprovides: e, g = 1\nconflicts: e, g\ncolour: green\n\npackage: g\nversion: 2\nprovides: e, g = 1\nconflicts: e, g\ninstalled: true\n\nrequest: r\n";
+    b"preamble:\nproperty: colour: enum[red, green] = [red], size: nat\n\npackage: g\nversion: 1\nprovides: e, g = 1\nconflicts: e, g\ncolour: green\n\npackage: g\nversion: 2\nprovides: e, g = 1\nconflicts: e, g\ninstalled: true\n\nrequest: r\nupgrade: e\n";
 
 /// Both of them, and one that the problem doesn't have.
 const SOLUTION: &[u8] =
@@ -162,16 +162,6 @@ fn builds_index(alloc: Global) -> Answer {
             (index.least("g"), index.greatest("g")) == (Some(1), Some(2))
                 && read_vpkg("e = 7").is_some_and(|vpkg| index.satisfies(&vpkg)),
         ),
-        Err(_) => Err(Refused::Here),
-    }
-}
-
-fn builds_greatest_numbers(alloc: Global) -> Answer {
-    let text = made(read(alloc, PROBLEM))?;
-    let problem = made(read_problem(alloc, &text, Mode::Lenient))?;
-    let status = made(initial(alloc, &problem))?;
-    match GreatestNumbers::build(alloc, &problem, &status) {
-        Ok(numbers) => Ok((numbers.greatest("g"), numbers.greatest("e")) == (Some(2), None)),
         Err(_) => Err(Refused::Here),
     }
 }
@@ -336,11 +326,6 @@ fn initial_status(rt: HostRuntime) {
 #[test]
 fn index(rt: HostRuntime) {
     expect(&rt, builds_index(rt.alloc()));
-}
-
-#[test]
-fn greatest_numbers(rt: HostRuntime) {
-    expect(&rt, builds_greatest_numbers(rt.alloc()));
 }
 
 #[test]
