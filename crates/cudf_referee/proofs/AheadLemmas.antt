@@ -41,12 +41,6 @@ use Rattle.cudf_referee.proofs.ListLemmas.{and_left, and_right, filter-map, all_
 use Rattle.cudf_referee.proofs.PositionLemmas.{stop_ranks, lt_less, is_after-ranks}
 use Rattle.cudf_referee.proofs.SiteNumberLemmas.{candidate-sites, count-entries, count-upgrades}
 
--- ---- what is kept of a list
-
-filter-if : {A : Type 0} (test : A → Bool) (b : Bool) (xs : List A) → filter test (cond b xs []) ≡ cond b (filter test xs) []
-filter-if test true xs = refl
-filter-if test false xs = refl
-
 -- ---- what comes after ranks
 
 abbrev pub ranks_after : {A : Type 0} → List ℕ → (A → List ℕ) → A → Bool

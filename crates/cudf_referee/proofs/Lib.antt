@@ -2,6 +2,7 @@ pub mod AheadLemmas
 pub mod AimLemmas
 pub mod AscentLemmas
 pub mod EntryLemmas
+pub mod BeforeLemmas
 pub mod CursorLemmas
 pub mod Examples
 pub mod GroundLemmas

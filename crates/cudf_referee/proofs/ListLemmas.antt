@@ -26,17 +26,9 @@ pub and_right : (a b : Bool) → (a && b) ≡ true → b ≡ true
 and_right true b h = h
 and_right false b h = absurd (cc h)
 
--- the middle two change places
-pub and_swap : (a b c d : Bool) → ((a && b) && (c && d)) ≡ ((a && c) && (b && d))
-and_swap a b c d = grind (arith, common_steps)
-
 pub not_not : (a : Bool) → not (not a) ≡ a
 not_not true = refl
 not_not false = refl
-
-pub false_from_not : (a : Bool) → not a ≡ true → a ≡ false
-false_from_not true h = sym h
-false_from_not false h = refl
 
 -- ---- what is kept of a list
 

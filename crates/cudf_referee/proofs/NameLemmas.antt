@@ -39,9 +39,6 @@ other_way a b e = false_from_ne_true (bytes_eq b a) (λ h. true≢false (sym (te
 any_filtered : (x y : Name) (zs : List Name) → bytes_eq x y ≡ false → list_any (bytes_eq x) (filter (λ o. not (bytes_eq y o)) zs) ≡ list_any (bytes_eq x) zs
 any_filtered x y zs other = any-filter_same (bytes_eq x) (λ o. not (bytes_eq y o)) true (λ k e. ap not (ap (bytes_eq y) (sym (same_text x k e)) ∙ other_way x y other)) zs
 
-none_filtered : (x : Name) (zs : List Name) → list_any (bytes_eq x) (filter (λ o. not (bytes_eq x o)) zs) ≡ false
-none_filtered x zs = any-filter_same (bytes_eq x) (λ o. not (bytes_eq x o)) false (λ k e. ap not e) zs
-
 -- one name more
 pub once_push : (xs : List Name) (x : Name) → each_once (xs ++ x ∷ []) ≡ insert_key bytes_eq (each_once xs) x
 once_push [] x = refl

@@ -12,7 +12,7 @@ use Rattle.cudf_universe.specs.Satisfaction.{Placed}
 use Rattle.cudf_referee.specs.Instances.{PlainInstance}
 use Rattle.cudf_referee.specs.Keys.{PlainKey}
 use Rattle.cudf_referee.specs.Proposals.{Proposal, holds_place}
-use Rattle.cudf_referee.specs.Violations.{has_package, violated_depends, violated_conflicts, violated_keep, package_instances, violated_entry, violated_upgrade, request_instances, unknown_instance, listing, rest}
+use Rattle.cudf_referee.specs.Violations.{has_package, violated_depends, violated_conflicts, violated_keep, package_instances, violated_entry, violated_upgrade, request_instances, unknown_instance, listing}
 use Rattle.cudf_referee.specs.Promises.Sites.{Site, conjunct, conflicts_entry, kept_version, kept_package, kept_feature, install_entry, remove_entry, upgrade_entry, unknown_stanza, Stop, at_site, package_end, site_key, needed_sites, kept_sites, package_sites, upgrade_sites, request_sites, sites, package_stops, walk, PlainPosition, at_start, at_key, at_end, precedes, is_after, is_ahead}
 use Rattle.cudf_referee.specs.Promises.Pages.{left_at}
 use Rattle.cudf_referee.specs.Working.Judged.{instance_at, is_violated, judged, given_at, all_given}
@@ -128,17 +128,6 @@ later_case true true test g x i is xs gives same below = (λ j. cond (same j) (i
 later_case true false test g x i is xs gives same below = λ j. cond (same j) (i ∷ below j) (below j)
 later_case false true test g x i is xs gives same below = below ∙ ap (λ o. cons_option o (filter_map g xs)) (sym gives)
 later_case false false test g x i is xs gives same below = below
-
--- the later ones of what sites give are what the later sites give
-later_sites : (s : Proposal) (key : PlainKey) (xs : List Site)
-    → filter (λ i. precedes key i.key) (filter_map (judged s) xs) ≡ filter_map (judged s) (filter (λ x. precedes key (site_key x)) xs)
-later_sites s key [] = refl
-later_sites s key (x ∷ xs) = later_case (is_violated s x) (precedes key (site_key x)) (λ i. precedes key i.key) (judged s) x (instance_at s x)
-    (filter_map (judged s) xs) (filter (λ y. precedes key (site_key y)) xs) refl (ap (precedes key) (key_at s x)) (later_sites s key xs)
-
--- what is left after a key is what is violated of the sites of greater keys, whether or not a site has the key
-pub rest-sites : (key : PlainKey) (s : Proposal) → rest key s ≡ filter_map (judged s) (filter (λ site. precedes key (site_key site)) (sites s))
-rest-sites key s = ap (filter (λ i. precedes key i.key)) (listing-sites s) ∙ later_sites s key (sites s)
 
 later_end : {A B : Type 0} (after : Bool) (g : A → Option B) (x : A) (xs : List A) → g x ≡ None → filter_map g xs ≡ filter_map g (cond after (x ∷ xs) xs)
 later_end true g x xs h = ap (λ o. cons_option o (filter_map g xs)) (sym h)

@@ -1,8 +1,8 @@
 -- The places of a package and of the request by their numbers.
-use Rattle.std.proofs.Common.{◌≡◌, ℕ, zero, suc, ◌+◌, ◌-◌, ◌*◌, ◌/◌, ◌%◌, ◌<◌, ◌≤◌, Bool, true, false, List, [], ◌∷◌, ◌++◌, length, map, get_or, cond, Some, refl, ap, sym, ◌∙◌, arith}
+use Rattle.std.proofs.Common.{◌≡◌, ℕ, zero, suc, ◌+◌, ◌-◌, ◌*◌, ◌/◌, ◌%◌, ◌<◌, ◌≤◌, Bool, true, false, List, [], ◌∷◌, ◌++◌, length, map, get_or, cond, Option, Some, refl, ap, sym, ◌∙◌, arith}
 use Rattle.std.specs.Prelude.{slice_get, option_map}
 use Rattle.std.specs.List.{flat_map, enumerate_from}
-use Rattle.std.proofs.lemmas.Option.{slice_get-map, slice_get-get_or}
+use Rattle.std.proofs.lemmas.Option.{slice_get-map, slice_get-get_or, slice_get_within}
 use Rattle.std.proofs.lemmas.List.{length-map, length-append}
 use Rattle.std.proofs.lemmas.List.FromFn.{length-enumerate_from, get_or-enumerate_from}
 use Rattle.std.proofs.Math.ListN.{get_or-map}
@@ -11,15 +11,18 @@ use Rattle.cudf_value.specs.declared.vpkg.Vpkg.{Vpkg}
 use Rattle.cudf_value.specs.Vpkgs.{PlainVpkg}
 use Rattle.cudf_value.specs.Promises.Views.{clause_view, vpkg_view}
 use Rattle.cudf_document.specs.declared.request.Request.{Request}
+use Rattle.cudf_document.specs.Universe.{PlainRequest}
 use Rattle.cudf_document.specs.Promises.Views.{request_view}
 use Rattle.cudf_document.specs.declared.package.Keep.{Keep}
 use Rattle.cudf_document.specs.declared.package.Keep.TheVariants.{Feature}
 use Rattle.cudf_referee.specs.declared.key.Aspect.{Aspect}
 use Rattle.cudf_referee.specs.declared.key.Aspect.TheVariants.{Unsatisfied, Many, Lower}
 use Rattle.cudf_referee.specs.declared.sites.candidate.Candidate.{Candidate}
+use Rattle.cudf_referee.specs.declared.sites.RequestSite.{RequestSite}
+use Rattle.cudf_referee.specs.declared.sites.RequestSite.TheVariants.{Install, Remove, Upgrade}
 use Rattle.cudf_referee.specs.Proposals.{Proposal}
 use Rattle.cudf_referee.specs.Promises.Sites.{Site, conjunct, conflicts_entry, kept_feature, install_entry, remove_entry, upgrade_entry, kept_sites, upgrade_sites, request_sites, package_sites}
-use Rattle.cudf_referee.specs.Working.SiteNumbers.{placed_view, Fits, clauses_of, conflicts_of, kept_of, candidate_sites, aspect_at}
+use Rattle.cudf_referee.specs.Working.SiteNumbers.{placed_view, Fits, clauses_of, conflicts_of, kept_of, candidate_sites, StandsIn, IsWithin, aspect_at}
 use Rattle.cudf_referee.proofs.VpkgItems.{no_vpkg}
 
 -- ---- one of several lists
@@ -177,6 +180,19 @@ upgrade-by m (suc q) r i (x ∷ vs) d same below inside =
     ap (slice_get (flat_map upgrade_sites (enumerate_from m (map vpkg_view (x ∷ vs))))) {x = i} {y = suc (suc (suc (3 * q + r)))} (omega arith)
     ∙ upgrade-by (m + 1) q r (3 * q + r) vs d refl below (omega arith)
     ∙ ap (λ n. Some (upgrade_entry n (vpkg_view (get_or vs q d)) (aspect_at r))) {x = m + 1 + q} {y = m + suc q} (omega arith)
+
+-- an entry stands where its number says
+pub entry-is : (ys zs : List Vpkg) (i : ℕ) → zs ≡ ys → i < length zs → slice_get (map vpkg_view ys) (i + 1 - 1) ≡ Some (vpkg_view (get_or zs i no_vpkg))
+entry-is ys zs i same below =
+    ap (slice_get (map vpkg_view ys)) {x = i + 1 - 1} {y = i} (omega arith) ∙ slice_get-map vpkg_view ys i
+    ∙ ap (option_map vpkg_view) (ap (λ xs. slice_get xs i) (sym same) ∙ slice_get-get_or zs i no_vpkg below)
+
+-- of which so many numbers are kept
+pub within-entries : (r : PlainRequest) (f : PlainVpkg → Option ℕ) (kept : List (Option ℕ)) (site : RequestSite) → kept ≡ map f r.upgrade → StandsIn r site → IsWithin (length kept) site
+within-entries r f kept (Install n v) same stands = tt
+within-entries r f kept (Remove n v) same stands = tt
+within-entries r f kept (Upgrade n v aspect) same stands =
+    (stands.0, omega (arith, stands.0, slice_get_within r.upgrade (n - 1) (vpkg_view v.now) stands.1, ap length same, length-map r.upgrade f))
 
 module _ (request : Request) where
   abbrev wanted : List Site

@@ -1,3 +1,4 @@
+pub mod Before
 pub mod Judged
 pub mod KeyTexts
 pub mod Named

@@ -6,6 +6,7 @@ ghost use Rattle.cudf_referee.specs.Violations.{package_place};
 ghost use Rattle.cudf_referee.specs.Working.Named.{has_kept_name};
 ghost use Rattle.cudf_referee.specs.Promises.Walks.{left};
 
+mod before;
 mod instances;
 mod numbered;
 
@@ -13,10 +14,11 @@ use crate::counting::count;
 use crate::criteria::Criteria;
 use crate::instance::{Instance, What};
 use crate::key::{Key, Part};
+use before::greatest_before;
 use cudf_document::{Keep, Package, Problem, Solution, initial};
-use cudf_universe::{GreatestNumbers, Index};
+use cudf_universe::Index;
 pub use instances::Instances;
-use numbered::number;
+use numbered::keys_can_be_written;
 use std::alloc::{AllocError, Global};
 use std::marker::Model;
 
@@ -26,7 +28,8 @@ pub struct Referee<'p, 't> {
     problem: &'p Problem<'t>,
     solution: &'p Solution<'t>,
     now: Index<'p, 't>,
-    before: GreatestNumbers<'p, 't>,
+    /// For each entry of `upgrade`, the greatest number that the initial status gives of its name.
+    before: Vec<Option<u64>>,
     /// For each package, whether its name is to be kept, and the proposed status has one of it.
     named: Vec<bool>,
     verdict: bool,
@@ -45,13 +48,13 @@ impl<'p, 't> Model for Referee<'p, 't> {
 
     ghost Value = { Proposal };
 
-    ghost view = { λ r. put_forward r.problem.now r.before r.now (map unknown_view r.solution.now.unknown.items) };
+    ghost view = { λ r. put_forward r.problem.now r.now (map unknown_view r.solution.now.unknown.items) };
 
     ghost invariant = { λ r.
-        Agrees r.problem.now (set.contains r.solution.now.status) r.before r.now r.named.items (map unknown_view r.solution.now.unknown.items)
-        × (r.verdict ≡ is_solution (put_forward r.problem.now r.before r.now (map unknown_view r.solution.now.unknown.items)))
-        × (r.criteria ≡ counts (put_forward r.problem.now r.before r.now (map unknown_view r.solution.now.unknown.items)))
-        × IsNumbered (put_forward r.problem.now r.before r.now (map unknown_view r.solution.now.unknown.items)) };
+        Agrees r.problem.now (set.contains r.solution.now.status) r.before.items r.now r.named.items (map unknown_view r.solution.now.unknown.items)
+        × (r.verdict ≡ is_solution (put_forward r.problem.now r.now (map unknown_view r.solution.now.unknown.items)))
+        × (r.criteria ≡ counts (put_forward r.problem.now r.now (map unknown_view r.solution.now.unknown.items)))
+        × IsNumbered (put_forward r.problem.now r.now (map unknown_view r.solution.now.unknown.items)) };
 }
 
 /// For each package of the universe, whether its name is to be kept, and the status has a package of it.
@@ -129,9 +132,9 @@ impl<'p, 't> Referee<'p, 't> {
         ensures { IfOk result (λ r. r ≡ proposal problem.now (is_initial problem.now) (set.contains solution.now.status)
             (map unknown_view solution.now.unknown.items)) }
     {
-        number(problem, solution);
+        keys_can_be_written(problem, solution);
         let was_installed = initial(alloc, problem)?;
-        let before = GreatestNumbers::build(alloc, problem, &was_installed)?;
+        let before = greatest_before(alloc, problem, &was_installed)?;
         let now = Index::build(alloc, problem, &solution.status)?;
         let named = named_in(alloc, problem, &now)?;
         let criteria = count(alloc, problem, &was_installed, &solution.status, &now)?;

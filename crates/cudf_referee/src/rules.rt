@@ -1,14 +1,16 @@
 //! Whether a rule is violated at a place: one arm a rule.
-ghost use Rattle.std.specs.Prelude.{◌≡◌, ◌≤◌, ◌+◌};
+ghost use Rattle.std.specs.Prelude.{◌≡◌, ◌≤◌, ◌<◌, ◌+◌, ◌-◌, ℕ, List, Some, length, map, slice_get};
+ghost use Rattle.cudf_universe.specs.Promises.Members.{IsGreatest};
 ghost use Rattle.cudf_universe.specs.Satisfaction.{numbers_of};
 ghost use Rattle.cudf_referee.specs.Proposals.{Proposal};
 ghost use Rattle.cudf_referee.specs.Violations.{are_many, are_lower};
+ghost use Rattle.cudf_referee.specs.Working.Before.{greatest_before};
 ghost use Rattle.cudf_referee.specs.Working.Searches.{IsJudged};
-ghost use Rattle.cudf_referee.specs.Working.SiteNumbers.{placed_view, Fits, package_site_view, request_site_view, StandsAt};
+ghost use Rattle.cudf_referee.specs.Working.SiteNumbers.{placed_view, Fits, package_site_view, request_site_view, StandsAt, StandsIn, IsWithin};
 
 use crate::key::Aspect;
 use crate::sites::{Candidate, PackageSite, RequestSite};
-use cudf_universe::{Metered, MeteredNumbers};
+use cudf_universe::{Metered, Steps};
 
 /// Whether the rule is violated at a place of a package.
 pub(crate) fn is_violated(
@@ -33,24 +35,40 @@ pub(crate) fn is_violated(
     }
 }
 
-/// Whether the rule is violated at a place of the request.
+/// Whether the rule is violated at a place of the request. `before` has, for each entry of `upgrade`, the
+/// greatest number of its name before.
 pub(crate) fn is_requested_violated(
     now: &mut Metered<'_, '_, '_>,
-    before: &mut MeteredNumbers<'_, '_, '_>,
+    before: &[Option<u64>],
     site: RequestSite<'_, '_>,
+    steps: &mut Steps,
 ) -> bool
-    ensures judged { (s : Proposal) → s.proposed ≡ now.old.status → s.initial ≡ before.old.status
-        → IsJudged s (request_site_view site.entry) result (now.old.steps + before.old.steps) (now.new.steps + before.new.steps) }
-    ensures now { now.new.status ≡ now.old.status }
-    ensures before { before.new.status ≡ before.old.status }
+    requires { IsWithin (length before.now) site }
+    ensures judged { (s : Proposal) → s.proposed ≡ now.old.status → before.now ≡ map (greatest_before s.initial) s.problem.request.upgrade
+        → StandsIn s.problem.request site.entry
+        → IsJudged s (request_site_view site.entry) result (now.old.steps + steps.old) (now.new.steps + steps.new) }
+    ensures status { now.new.status ≡ now.old.status }
 {
     match site {
         RequestSite::Install(_, vpkg) => !now.satisfies_counted(vpkg),
         RequestSite::Remove(_, vpkg) => now.satisfies_counted(vpkg),
         RequestSite::Upgrade(_, vpkg, Aspect::Unsatisfied) => !now.satisfies_counted(vpkg),
         RequestSite::Upgrade(_, vpkg, Aspect::Many) => has_many(now, vpkg.name),
-        RequestSite::Upgrade(_, vpkg, Aspect::Lower) => has_lower(now, before, vpkg.name),
+        RequestSite::Upgrade(number, vpkg, Aspect::Lower) => {
+            let greatest = number_before(before, number, steps);
+            has_lower(now, greatest, vpkg.name)
+        }
     }
+}
+
+/// The number that is kept of an entry, for one step.
+fn number_before(before: &[Option<u64>], number: u64, steps: &mut Steps) -> Option<u64>
+    requires { (0 < number) × (number ≤ length before.now) }
+    ensures number { slice_get before.now (number - 1) ≡ Some result }
+    ensures price { steps.new ≡ steps.old + 1 }
+{
+    steps.tick();
+    before[number as usize - 1]
 }
 
 /// Whether the status gives two different numbers of the name.
@@ -66,19 +84,14 @@ fn has_many(now: &mut Metered<'_, '_, '_>, name: &str) -> bool
     }
 }
 
-/// Whether the status gives a number of the name below one that was given before.
-fn has_lower(
-    now: &mut Metered<'_, '_, '_>,
-    before: &mut MeteredNumbers<'_, '_, '_>,
-    name: &str,
-) -> bool
-    ensures answer { result ≡ are_lower (numbers_of name.now before.old.status) (numbers_of name.now now.old.status) }
-    ensures now { now.new.status ≡ now.old.status }
-    ensures before { before.new.status ≡ before.old.status }
-    ensures price { now.new.steps + before.new.steps ≤ now.old.steps + before.old.steps + 4 }
-    ensures grows { now.old.steps + before.old.steps + 2 ≤ now.new.steps + before.new.steps }
+/// Whether the status gives a number of the name below the greatest one before.
+fn has_lower(now: &mut Metered<'_, '_, '_>, greatest: Option<u64>, name: &str) -> bool
+    ensures answer { (before : List ℕ) → IsGreatest before greatest → result ≡ are_lower before (numbers_of name.now now.old.status) }
+    ensures status { now.new.status ≡ now.old.status }
+    ensures price { now.new.steps ≤ now.old.steps + 2 }
+    ensures grows { now.old.steps + 1 ≤ now.new.steps }
 {
-    match (now.least_counted(name), before.greatest_counted(name)) {
+    match (now.least_counted(name), greatest) {
         (Some(least), Some(greatest)) => least < greatest,
         _ => false,
     }

@@ -11,6 +11,5 @@ pub mod TreeLemmas
 pub mod PriceLemmas
 pub mod ShareLemmas
 pub mod SearchedLemmas
-pub mod GreatestLemmas
 mod SatisfactionExamples
 mod PriceExamples

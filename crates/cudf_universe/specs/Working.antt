@@ -5,5 +5,4 @@ pub mod Gathering
 pub mod FirstPlaces
 pub mod Trees
 pub mod TreeFalls
-pub mod Greatest
 pub mod Shares

@@ -2,7 +2,6 @@
 //! from `cudf_document`.
 #![tactic(auto)]
 
-mod greatest;
 mod index;
 pub mod laws;
 mod steps;
@@ -11,7 +10,6 @@ pub use cudf_document::{
     Chosen, Keep, Mode, Package, Problem, ReadError, Request, Solution, Status, Unknown,
     first_fault, initial, problem_for, problem_of, read_problem, read_solution, solution_of,
 };
-pub use greatest::{GreatestNumbers, MeteredNumbers};
 pub use index::Index;
 pub use index::metered::Metered;
 pub use steps::Steps;

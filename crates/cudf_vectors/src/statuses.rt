@@ -1,9 +1,9 @@
 //! Calls about what the last problem's initial status gives and satisfies.
 use crate::documents::shown_status;
-use crate::shown::{agreed, yes_if};
+use crate::shown::yes_if;
 use cudf_document::{Mode, Problem, initial, problem_of};
 use cudf_text::{Room, stanzas};
-use cudf_universe::{GreatestNumbers, Index};
+use cudf_universe::Index;
 use cudf_value::{read_formula, read_vpkg};
 use std::alloc::{AllocError, Global};
 
@@ -35,12 +35,7 @@ fn answer_in(
     match call {
         "satisfied" => satisfied(alloc, &index, text),
         "clause" => clause(alloc, &index, text),
-        "numbers" => numbers(
-            alloc,
-            &index,
-            text,
-            &GreatestNumbers::build(alloc, problem, &status)?,
-        ),
+        "numbers" => ends(alloc, index.least(text), index.greatest(text)),
         _ => shown_status(alloc, problem, &status),
     }
 }
@@ -88,18 +83,7 @@ fn clause(alloc: Global, index: &Index<'_, '_>, text: &str) -> Result<String, Al
     }
 }
 
-/// The least and the greatest number of the name.
-fn numbers(
-    alloc: Global,
-    index: &Index<'_, '_>,
-    name: &str,
-    numbers: &GreatestNumbers<'_, '_>,
-) -> Result<String, AllocError> {
-    let least = index.least(name);
-    let of_index = ends(alloc, least, index.greatest(name))?;
-    agreed(alloc, of_index, ends(alloc, least, numbers.greatest(name))?)
-}
-
+/// The least and the greatest number of a name.
 fn ends(alloc: Global, least: Option<u64>, greatest: Option<u64>) -> Result<String, AllocError> {
     match (least, greatest) {
         (Some(least), Some(greatest)) => format!(in alloc; "{least} to {greatest}"),

@@ -1,6 +1,5 @@
 -- What contracts see of instances, wherever they lie in memory: own.
-use Rattle.std.specs.Prelude.{List, map, option_map, Vec}
-use Rattle.std.specs.declared.alloc.Global.{Global}
+use Rattle.std.specs.Prelude.{option_map}
 use Rattle.cudf_value.specs.Promises.Views.{vpkg_view, clause_view}
 use Rattle.cudf_referee.specs.declared.instance.Instance.{Instance}
 use Rattle.cudf_referee.specs.declared.instance.What.{What}
@@ -26,6 +25,3 @@ instance_view i = record {
   subject = option_map (λ s. (s.0.now, s.1)) i.subject;
   what = what_view i.what;
 }
-
-abbrev pub instances_view : Vec Instance Global → List PlainInstance
-instances_view instances = map instance_view instances.items

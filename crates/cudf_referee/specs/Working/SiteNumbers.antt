@@ -1,11 +1,12 @@
 -- Places as the code numbers them, and how many of them a key has passed.
-use Rattle.std.specs.Prelude.{◌≡◌, ◌≤◌, ℕ, ◌+◌, ◌*◌, ◌-◌, ◌<◌, ◌==◌, nat_lt, min, List, [], ◌++◌, length, map, if◌then◌else◌}
+use Rattle.std.specs.Prelude.{◌≡◌, ◌≤◌, ℕ, ◌+◌, ◌*◌, ◌-◌, ◌<◌, ◌==◌, nat_lt, min, List, [], ◌++◌, Some, length, map, slice_get, if◌then◌else◌}
 use Rattle.std.specs.List.{enumerate_from}
 use Rattle.cudf_value.specs.declared.formula.Clause.{Clause}
 use Rattle.cudf_value.specs.declared.vpkg.Vpkg.{Vpkg}
 use Rattle.cudf_value.specs.Promises.Views.{clause_view, vpkg_view}
 use Rattle.cudf_document.specs.declared.package.Keep.TheVariants.{Package}
 use Rattle.cudf_document.specs.Promises.Views.{package_view}
+use Rattle.cudf_document.specs.Universe.{PlainRequest}
 use Rattle.cudf_universe.specs.Promises.Prices.{own_cost}
 use Rattle.cudf_universe.specs.Satisfaction.{Placed}
 use Rattle.cudf_referee.specs.declared.key.Rule.{Rule}
@@ -73,10 +74,17 @@ StandsAt c KeptVersion = Unit {0}
 StandsAt c KeptPackage = c.package.now.keep ≡ Package
 StandsAt c (KeptFeature n v) = 0 < n
 
-abbrev pub IsNumberedSite : RequestSite → Type 0
-IsNumberedSite (Install n v) = 0 < n
-IsNumberedSite (Remove n v) = 0 < n
-IsNumberedSite (Upgrade n v aspect) = 0 < n
+-- entries are numbered from 1, and one of `upgrade` stands where its number says
+abbrev pub StandsIn : PlainRequest → RequestSite → Type 0
+StandsIn r (Install n v) = 0 < n
+StandsIn r (Remove n v) = 0 < n
+StandsIn r (Upgrade n v aspect) = (0 < n) × (slice_get r.upgrade (n - 1) ≡ Some (vpkg_view v.now))
+
+-- there are so many entries of `upgrade`
+abbrev pub IsWithin : ℕ → RequestSite → Type 0
+IsWithin count (Install n v) = Unit {0}
+IsWithin count (Remove n v) = Unit {0}
+IsWithin count (Upgrade n v aspect) = (0 < n) × (n ≤ count)
 
 -- ---- how many places a key of the same part has passed
 

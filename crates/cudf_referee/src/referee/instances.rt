@@ -17,7 +17,7 @@ use crate::sites::{
     requested_site,
 };
 use cudf_document::{Package, Problem, Solution};
-use cudf_universe::{GreatestNumbers, Index, Metered, MeteredNumbers, Steps};
+use cudf_universe::{Index, Metered, Steps};
 use std::marker::Model;
 
 /// The walk over the violated instances, in key order. It holds none of them: each call of `next`
@@ -29,8 +29,9 @@ pub struct Instances<'r, 'p, 't> {
     problem: &'p Problem<'t>,
     solution: &'p Solution<'t>,
     now: Metered<'r, 'p, 't>,
-    before: MeteredNumbers<'r, 'p, 't>,
-    /// For each package, whether the proposed status has one of its name.
+    /// For each entry of `upgrade`, the greatest number of its name before.
+    before: &'r [Option<u64>],
+    /// For each package, whether its name is to be kept, and the proposed status has one of it.
     named: &'r [bool],
     position: Position,
     /// The place of the first unknown stanza ahead.
@@ -50,13 +51,13 @@ impl<'r, 'p, 't> Model for Instances<'r, 'p, 't> {
     ghost Value = { Walking };
 
     ghost view = { λ i. record {
-      judged = put_forward i.problem.now i.before.status i.now.status (map unknown_view i.solution.now.unknown.items);
+      judged = put_forward i.problem.now i.now.status (map unknown_view i.solution.now.unknown.items);
       position = position_view i.position;
-      steps = i.now.steps + i.before.steps + i.steps;
+      steps = i.now.steps + i.steps;
     } };
 
     ghost invariant = { λ i.
-        Agrees i.problem.now (set.contains i.solution.now.status) i.before.status i.now.status i.named.now (map unknown_view i.solution.now.unknown.items)
+        Agrees i.problem.now (set.contains i.solution.now.status) i.before.now i.now.status i.named.now (map unknown_view i.solution.now.unknown.items)
         × IsFitting (position_view i.position)
         × BeginsAt (position_view i.position) (map unknown_view i.solution.now.unknown.items) i.unknown };
 }
@@ -67,12 +68,12 @@ impl<'r, 'p, 't> Instances<'r, 'p, 't> {
         problem: &'p Problem<'t>,
         solution: &'p Solution<'t>,
         now: &'r Index<'p, 't>,
-        before: &'r GreatestNumbers<'p, 't>,
+        before: &'r [Option<u64>],
         named: &'r [bool],
     ) -> Self
         requires { Agrees problem.now (set.contains solution.now.status) before.now now.now named.now (map unknown_view solution.now.unknown.items) }
         ensures { result ≡ record {
-          judged = put_forward problem.now before.now now.now (map unknown_view solution.now.unknown.items);
+          judged = put_forward problem.now now.now (map unknown_view solution.now.unknown.items);
           position = at_start;
           steps = 0;
         } }
@@ -81,7 +82,7 @@ impl<'r, 'p, 't> Instances<'r, 'p, 't> {
             problem,
             solution,
             now: now.metered(),
-            before: before.metered(),
+            before,
             named,
             position: Position::Start,
             unknown: 0,
@@ -141,7 +142,7 @@ impl<'r, 'p, 't> Instances<'r, 'p, 't> {
     ghost use Rattle.cudf_referee.specs.Working.Judged.{instance_at};
     ghost use Rattle.cudf_referee.specs.Working.Places.{ahead};
     ghost use Rattle.cudf_referee.specs.Working.Searches.{Searches, package_rest, packages_rest, request_rest, unknown_rest, stops_from};
-    ghost use Rattle.cudf_referee.specs.Working.SiteNumbers.{placed_view, Fits, package_site_view, request_site_view, StandsAt};
+    ghost use Rattle.cudf_referee.specs.Working.SiteNumbers.{placed_view, Fits, package_site_view, request_site_view, StandsAt, StandsIn};
 
     /// The package behind this many others, as it is judged.
     fn candidate(&self, index: usize, package: &'p Package<'t>) -> Candidate<'p, 't>
@@ -172,11 +173,12 @@ impl<'r, 'p, 't> Instances<'r, 'p, 't> {
 
     /// Judges a place of the request.
     fn judge_requested(&mut self, site: RequestSite<'p, 't>) -> bool
+        requires { StandsIn self.old.judged.problem.request site }
         ensures { let place = request_site_view site.entry in
             Searches self.old (at_site place ∷ []) (if result then Some (instance_at self.old.judged place) else None) self.new }
     {
         self.steps.tick();
-        is_requested_violated(&mut self.now, &mut self.before, site)
+        is_requested_violated(&mut self.now, self.before, site, &mut self.steps)
     }
 
     /// Goes by the end of a package.

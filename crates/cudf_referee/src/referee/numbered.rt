@@ -23,10 +23,10 @@ fn number_stanzas(unknown: &[Unknown<'_>])
 }
 
 /// The places in the lists of a problem and a solution are numbers of a `u64`, since each list lies in memory.
-pub(super) fn number(problem: &Problem<'_>, solution: &Solution<'_>)
+pub(super) fn keys_can_be_written(problem: &Problem<'_>, solution: &Solution<'_>)
     requires { IsTrue (ascend_above 0 (map unknown_view solution.now.unknown.items)) }
-    ensures { (initial proposed : List Placed) → length problem.now.packages < 2 ^ 64
-        → IsNumbered (put_forward problem.now initial proposed (map unknown_view solution.now.unknown.items)) }
+    ensures { (proposed : List Placed) → length problem.now.packages < 2 ^ 64
+        → IsNumbered (put_forward problem.now proposed (map unknown_view solution.now.unknown.items)) }
 {
     let _packages = problem.packages();
     let _request = problem.request();

@@ -7,7 +7,7 @@ ghost use Rattle.cudf_referee.specs.Proposals.{Proposal};
 ghost use Rattle.cudf_referee.specs.Promises.Sites.{request_sites, precedes, site_key};
 ghost use Rattle.cudf_referee.specs.Promises.Views.{instance_view};
 ghost use Rattle.cudf_referee.specs.Working.Judged.{instance_at};
-ghost use Rattle.cudf_referee.specs.Working.SiteNumbers.{passed_upgrade, aspect_at, request_site_view, IsNumberedSite};
+ghost use Rattle.cudf_referee.specs.Working.SiteNumbers.{passed_upgrade, aspect_at, request_site_view, StandsIn};
 
 use crate::instance::{Instance, What};
 use crate::key::{Aspect, Key, Rule};
@@ -56,7 +56,7 @@ fn passed_upgrade(key: Key, count: usize) -> usize
 pub(crate) fn requested_site<'p, 't>(request: &'p Request<'t>, index: usize) -> RequestSite<'p, 't>
     requires { index < length (request_sites (request_view request.now)) }
     ensures site { slice_get (request_sites (request_view request.now)) index ≡ Some (request_site_view result) }
-    ensures numbered { IsNumberedSite result }
+    ensures stands { StandsIn (request_view request.now) result }
 {
     let install = request.install.as_slice();
     if index < install.len() {
@@ -92,7 +92,7 @@ pub(crate) fn requested_instance<'p, 't>(
     request: &Request<'t>,
     site: RequestSite<'p, 't>,
 ) -> Instance<'p, 't>
-    requires { IsNumberedSite site }
+    requires { StandsIn (request_view request.now) site }
     ensures { (s : Proposal) → s.problem.request ≡ request_view request.now → instance_view result ≡ instance_at s (request_site_view site.entry) }
 {
     match site {

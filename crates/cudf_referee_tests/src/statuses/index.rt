@@ -1,8 +1,6 @@
 //! The vectors of an index: of what is installed in a problem, and of what a solution proposes.
 use cudf_text::{Text, is_fail, read};
-use cudf_universe::{
-    GreatestNumbers, Index, Mode, Problem, Status, initial, laws, read_problem, read_solution,
-};
+use cudf_universe::{Index, Mode, Problem, initial, laws, read_problem, read_solution};
 use cudf_value::{Relop, Vpkg, read_formula};
 use std::alloc::Global;
 
@@ -23,16 +21,8 @@ fn is_giving(index: &Index<'_, '_>) -> bool {
         && !index.satisfies_without(&all, 1)
         && index.first_meeting(&all, None) == Some(1)
         && index.first_meeting(&all, Some(1)).is_none()
-        && index.least("f").is_none()
+        && (index.least("f"), index.greatest("f")) == (None, None)
         && (index.least("user"), index.greatest("user")) == (Some(1), Some(1))
-}
-
-/// The greatest numbers that are found without an index.
-fn has_greatest(alloc: Global, problem: &Problem<'_>, status: &Status) -> bool {
-    match GreatestNumbers::build(alloc, problem, status) {
-        Ok(numbers) => numbers.greatest("f").is_none() && numbers.greatest("user") == Some(1),
-        Err(_) => false,
-    }
 }
 
 /// Whether the first of two clauses is satisfied, and the second isn't.
@@ -49,11 +39,7 @@ fn tells_apart(alloc: Global, index: &Index<'_, '_>) -> bool {
 fn is_kept(alloc: Global, problem: &Problem<'_>) -> bool {
     match initial(alloc, problem) {
         Ok(status) => match Index::build(alloc, problem, &status) {
-            Ok(index) => {
-                is_giving(&index)
-                    && tells_apart(alloc, &index)
-                    && has_greatest(alloc, problem, &status)
-            }
+            Ok(index) => is_giving(&index) && tells_apart(alloc, &index),
             Err(_) => false,
         },
         Err(_) => false,

@@ -2,7 +2,7 @@
 //! none.
 use cudf_referee::Referee;
 use cudf_text::{Text, is_fail, read};
-use cudf_universe::{GreatestNumbers, Index, Mode, Problem, initial, read_problem, read_solution};
+use cudf_universe::{Index, Mode, Problem, initial, read_problem, read_solution};
 use std::alloc::{AllocError, Global};
 
 /// How many versions of `p` there are, from 1 on; how many of `f`, from 1 on, each of them provides; whether they are
@@ -41,11 +41,7 @@ fn is_kept(alloc: Global, row: &Row) -> bool {
 
 fn is_kept_of(alloc: Global, text: &Text<'_>, row: &Row) -> bool {
     match read_problem(alloc, text, Mode::Lenient) {
-        Ok(problem) => {
-            is_indexed(alloc, &problem, row)
-                && is_numbered(alloc, &problem, row)
-                && is_judged(alloc, &problem, text)
-        }
+        Ok(problem) => is_indexed(alloc, &problem, row) && is_judged(alloc, &problem, text),
         Err(_) => false,
     }
 }
@@ -54,16 +50,6 @@ fn is_indexed(alloc: Global, problem: &Problem<'_>, row: &Row) -> bool {
     match initial(alloc, problem) {
         Ok(status) => match Index::build(alloc, problem, &status) {
             Ok(index) => (index.greatest("p"), index.greatest("f")) == (row.3, row.4),
-            Err(_) => false,
-        },
-        Err(_) => false,
-    }
-}
-
-fn is_numbered(alloc: Global, problem: &Problem<'_>, row: &Row) -> bool {
-    match initial(alloc, problem) {
-        Ok(status) => match GreatestNumbers::build(alloc, problem, &status) {
-            Ok(numbers) => (numbers.greatest("p"), numbers.greatest("f")) == (row.3, row.4),
             Err(_) => false,
         },
         Err(_) => false,

@@ -3,7 +3,7 @@ use super::{Answer, Refused, expect, made};
 use cudf_referee::{Key, Referee, read_criterion};
 use cudf_text::{Room, Text, TextError, is_fail, read, stanzas};
 use cudf_universe::{
-    Chosen, GreatestNumbers, Index, Mode, Problem, ReadError, first_fault, initial, problem_for,
+    Chosen, Index, Mode, Problem, ReadError, first_fault, initial, problem_for,
     problem_of, read_problem, read_solution, solution_of,
 };
 use cudf_value::{
@@ -187,16 +187,6 @@ fn satisfies(index: &Index<'_, '_>, text: &str) -> bool {
     }
 }
 
-fn builds_greatest_numbers(alloc: Global) -> Answer {
-    let text = made(read(alloc, PROBLEM))?;
-    let problem = made(read_problem(alloc, &text, Mode::Lenient))?;
-    let status = made(initial(alloc, &problem))?;
-    match GreatestNumbers::build(alloc, &problem, &status) {
-        Ok(numbers) => Ok((numbers.greatest("g"), numbers.greatest("e")) == (Some(2), None)),
-        Err(_) => Err(Refused::Here),
-    }
-}
-
 fn reads_solution(alloc: Global, mode: Mode) -> Answer {
     let text = made(read(alloc, PROBLEM))?;
     let problem = made(read_problem(alloc, &text, Mode::Lenient))?;
@@ -313,10 +303,5 @@ fn solutions(rt: HostRuntime) {
     );
     expect(&rt, "solution_of", reads_proposed_stanzas(alloc));
     expect(&rt, "Index::build", builds_index(alloc));
-    expect(
-        &rt,
-        "GreatestNumbers::build",
-        builds_greatest_numbers(alloc),
-    );
     expect(&rt, "Referee::new", judges(alloc));
 }

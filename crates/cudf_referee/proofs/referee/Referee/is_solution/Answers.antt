@@ -16,8 +16,7 @@ returns-clause-empty c =
     let problem = r.problem.now in
     let unknown = map unknown_view r.solution.now.unknown.items in
     let is = set.contains r.solution.now.status in
-    let agrees = c.self.invariant.0 in
-    let same : put_forward problem r.before r.now unknown ≡ proposal problem (is_initial problem) is unknown = λ i. put_forward problem (agrees.was i) (agrees.is i) unknown in
+    let same : put_forward problem r.now unknown ≡ proposal problem (is_initial problem) is unknown = ap (λ now. put_forward problem now unknown) c.self.invariant.0.is in
     c.self.invariant.1 ∙ ap is_solution same ∙ solution_is_empty problem (is_initial problem) is unknown
     ∙ ap (λ s. is_empty (listing s)) (sym same ∙ c.self.view_is)
 

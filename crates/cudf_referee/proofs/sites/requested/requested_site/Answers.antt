@@ -1,5 +1,5 @@
 use Rattle.std.proofs.Common.{arith}
-use Rattle.cudf_referee.proofs.SiteNumberLemmas.{install-at, remove-at, upgrade-below, upgrade-at}
+use Rattle.cudf_referee.proofs.SiteNumberLemmas.{install-at, remove-at, upgrade-below, upgrade-at, entry-is}
 use Rattle.cudf_referee.proofs.sites.requested.requested_site.Goals as goal
 
 pub returns-then-index-install-clause-site : goal.returns-then-index-install-clause-site
@@ -20,3 +20,10 @@ bounds-as_slice-entry c =
 pub returns-clause-site : goal.returns-clause-site
 returns-clause-site c =
     upgrade-at c.args.request.now c.as_slice-install.result.now c.as_slice-remove.result.now c.as_slice.result.now c.args.index _ c.as_slice-install.ensures.value c.as_slice-remove.ensures.value c.as_slice.ensures.value c.if-index-install.false c.if-index-remove.false c.requires c.aspect_at-aspect.ensures
+
+pub returns-clause-stands : goal.returns-clause-stands
+returns-clause-stands c = (
+  omega arith,
+  entry-is c.args.request.now.upgrade.items c.as_slice.result.now _ c.as_slice.ensures.value
+      (upgrade-below c.args.request.now c.as_slice-install.result.now c.as_slice-remove.result.now c.as_slice.result.now c.args.index c.as_slice-install.ensures.value c.as_slice-remove.ensures.value c.as_slice.ensures.value c.if-index-install.false c.if-index-remove.false c.requires),
+)

@@ -35,7 +35,7 @@ returns-clause-fits c =
     let own : own_cost i.now.status (c.args.index + 1) ≤ length c.args.package.now.provides.items + 1 =
     omega (arith, own-at is problem.packages c.args.index p here, ap (λ ps. own_cost ps (c.args.index + 1)) agrees.is, length-map c.args.package.now.provides.items vpkg_view) in
     fits-same _ _ _ c.self.view_is (record {
-      was = ap (λ ps. holds_place ps (c.args.index + 1)) agrees.was ∙ held-at (is_initial problem) problem.packages c.args.index below ∙ initial-at problem c.args.index p here;
+      was = held-at (is_initial problem) problem.packages c.args.index below ∙ initial-at problem c.args.index p here;
       is = ap (λ ps. holds_place ps (c.args.index + 1)) agrees.is ∙ held-at is problem.packages c.args.index below ∙ sym c.holds.ensures;
       named = flag-at (has_kept_name i.now.status) i.named.now problem.packages c.args.index p false agrees.flags here;
       own = own;

@@ -1,13 +1,21 @@
-use Rattle.std.proofs.Common.{length, map, refl, ap, sym, ◌∙◌, arith}
+use Rattle.std.proofs.Common.{length, map, refl, ap, sym, ◌∙◌, subst, arith}
 use Rattle.std.specs.Prelude.{slice_get}
+use Rattle.cudf_document.specs.Universe.{PlainRequest}
 use Rattle.cudf_referee.specs.Promises.Sites.{request_sites, at_site}
 use Rattle.cudf_referee.specs.Promises.Walks.{Walking}
 use Rattle.cudf_referee.specs.Proposals.{Proposal}
+use Rattle.cudf_referee.specs.Working.SiteNumbers.{StandsIn}
 use Rattle.cudf_referee.proofs.SearchLemmas.{goes-start, goes-end, sites-more, sites-found, sites-end}
 use Rattle.cudf_referee.proofs.referee.instances.Instances.search_request.Goals as goal
 
 pub loop-index-init : goal.loop-index-init
 loop-index-init c = goes-start _ _
+
+pub judge_requested-requires : goal.judge_requested-requires
+judge_requested-requires c =
+    subst (λ (r : PlainRequest). StandsIn r c.requested_site-site.result)
+    (c.request-request.ensures ∙ ap (λ (w : Walking). w.judged.problem.request) c.self.view_is ∙ ap (λ (s : Proposal). s.problem.request) (sym c.loop-index.invariant.judged))
+    c.requested_site-site.ensures.stands
 
 pub returns-then-judge_requested : goal.returns-then-judge_requested
 returns-then-judge_requested c =

@@ -23,8 +23,8 @@ returns-in-Some c =
     searches-same _ _ _ (λ s. unknown_rest s c.args.first) _ c.self.view_is (record {
       judged = refl;
       position = refl;
-      finds = unknown-found (put_forward i.problem.now i.before.status i.now.status us) c.args.first (unknown_view c.in-Some.stanza.now) _
-          (i.now.steps + i.before.steps + i.steps) (i.now.steps + i.before.steps + c.tick.new.self)
+      finds = unknown-found (put_forward i.problem.now i.now.status us) c.args.first (unknown_view c.in-Some.stanza.now) _
+          (i.now.steps + i.steps) (i.now.steps + c.tick.new.self)
           (ap (λ xs. slice_get (map unknown_view xs) c.args.first) (sym c.deref.ensures.value)
           ∙ seen-item unknown_view c.deref.result.now c.args.first c.in-Some.stanza.now (item-some c.deref.result.now c.args.first c.in-Some.stanza c.in-Some.ensures.lookup))
           c.of_unknown.ensures (omega (arith, c.tick.ensures));

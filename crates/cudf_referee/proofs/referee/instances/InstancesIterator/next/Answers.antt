@@ -18,7 +18,7 @@ invariant_of-self c =
     let unknown = map unknown_view i.solution.now.unknown.items in
     let found = option_map instance_view c.search-found.result in
     let there = c.position_behind-self-inside.ensures.position in
-    let begins = place-moves (put_forward i.problem.now i.before.status i.now.status unknown) (position_view i.position) i.unknown found c.self.invariant.0.ascends c.self.invariant.1 c.self.invariant.2
+    let begins = place-moves (put_forward i.problem.now i.now.status unknown) (position_view i.position) i.unknown found c.self.invariant.0.ascends c.self.invariant.1 c.self.invariant.2
     (given-there _ _ _ found c.search-found.ensures c.self.view_is) in (
       c.self.invariant.0,
       subst IsFitting (sym there) c.position_behind-self-inside.ensures.fits,

@@ -1,10 +1,10 @@
--- The greatest number of each name, as it is gathered (own).
+-- The greatest number that the initial status gives of a name, as it is gathered.
 use Rattle.std.specs.Prelude.{ℕ, max, List, [], ◌∷◌, bytes_eq, filter_map, Option, Some, None, if◌then◌else◌}
 use Rattle.indexmap.specs.IndexMap.{get_by}
 use Rattle.cudf_value.specs.Vpkgs.{PlainVpkg}
 use Rattle.cudf_document.specs.Ids.{Id}
-use Rattle.cudf_universe.specs.Satisfaction.{entry_pair}
-use Rattle.cudf_universe.specs.declared.greatest.NumberedNames.{NumberedNames}
+use Rattle.cudf_universe.specs.Satisfaction.{Placed, entry_pair, gives}
+use Rattle.cudf_referee.specs.declared.referee.before.NumberedNames.{NumberedNames}
 
 -- the number that is kept of a name
 abbrev pub kept_greatest : List ℕ → NumberedNames → Option ℕ
@@ -23,3 +23,7 @@ with_pairs f (pair ∷ pairs) greatest = with_pairs f pairs (if bytes_eq pair.0 
 -- the same, with the entries of a package's `provides`
 abbrev pub with_entries : List ℕ → List PlainVpkg → Option ℕ → Option ℕ
 with_entries f entries greatest = with_pairs f (filter_map entry_pair entries) greatest
+
+-- the greatest number that a status gives of an entry's name
+abbrev pub greatest_before : List Placed → PlainVpkg → Option ℕ
+greatest_before status v = with_pairs v.name (gives status) None

@@ -4,10 +4,10 @@ use Rattle.cudf_value.specs.declared.relop.Relop.{Relop}
 use Rattle.cudf_value.specs.declared.vpkg.Vpkg.{Vpkg}
 use Rattle.cudf_value.specs.Promises.Views.{vpkg_view}
 use Rattle.cudf_universe.specs.Satisfaction.{entry_pair}
-use Rattle.cudf_universe.specs.Working.Greatest.{kept_greatest}
-use Rattle.cudf_universe.proofs.GreatestLemmas.{pairs_none, pairs_one, entries-more}
-use Rattle.cudf_universe.proofs.greatest.NumberedNames.add_entries.Goals as goal
-use Rattle.cudf_universe.proofs.greatest.NumberedNames.add_entries.Goals.{in-Some+in_ok-add, in_default}
+use Rattle.cudf_referee.specs.Working.Before.{kept_greatest}
+use Rattle.cudf_referee.proofs.BeforeLemmas.{pairs_none, pairs_one, entries-more}
+use Rattle.cudf_referee.proofs.referee.before.NumberedNames.add_entries.Goals as goal
+use Rattle.cudf_referee.proofs.referee.before.NumberedNames.add_entries.Goals.{in-Some+in_ok-add, in_default}
 
 -- what stands past the end of a list
 abbrev past : Vpkg

@@ -1,17 +1,19 @@
--- The greatest number of each name, as it is gathered.
+-- The greatest number of a name, as it is gathered.
 use Rattle.std.proofs.Common.{◌≡◌, ℕ, ◌+◌, ◌<◌, ◌≤◌, Bool, true, false, cond, List, [], ◌∷◌, ◌++◌, length, get_or, take, map, Option, Some, None, refl, sym, ap, ◌∙◌, subst, arith, nat_lt, bytes_eq, max, append_assoc, length-append}
 use Rattle.std.proofs.Math.Nat.{max-eq_left, max-eq_right}
-use Rattle.std.specs.Prelude.{filter, filter_map, option_to_list, Contains}
+use Rattle.std.specs.Prelude.{filter, filter_map, option_map, option_to_list, slice_get, Contains}
+use Rattle.std.proofs.lemmas.Option.{slice_get-map}
 use Rattle.std.proofs.lemmas.Bool.{true≢false, ltb-true, ltb-false}
 use Rattle.std.proofs.lemmas.List.{append-nil, flat_map_more, map_push, take_more}
 use Rattle.std.proofs.lemmas.List.Elements.{All-push, Contains-push, Contains-append_left}
 use Rattle.cudf_value.specs.declared.vpkg.Vpkg.{Vpkg}
 use Rattle.cudf_value.specs.Promises.Views.{vpkg_view}
+use Rattle.cudf_value.specs.Vpkgs.{PlainVpkg}
 use Rattle.cudf_document.specs.Universe.{PlainPackage}
 use Rattle.cudf_document.specs.Ids.{Id}
 use Rattle.cudf_universe.specs.Satisfaction.{Placed, entry_pair, members, gives, numbers_of, package_pairs}
 use Rattle.cudf_universe.specs.Promises.Members.{IsGreatest}
-use Rattle.cudf_universe.specs.Working.Greatest.{with_number, with_pairs, with_entries}
+use Rattle.cudf_referee.specs.Working.Before.{with_number, with_pairs, with_entries, greatest_before}
 use Rattle.cudf_universe.proofs.MemberLemmas.{members_kept, members_left_out}
 use Rattle.cudf_universe.proofs.GatheringLemmas.{filter_map_push}
 
@@ -96,3 +98,15 @@ module _ {A : Type 0} (view : A → PlainPackage) (f : List ℕ) (holds : ℕ �
   pub greatest_left_out : (old : Option ℕ) → holds (i + 1) ≡ false → old ≡ with_pairs f (gives (members holds (map view (take i xs)))) None
       → old ≡ with_pairs f (gives (members holds (map view (take (i + 1) xs)))) None
   greatest_left_out old e before = before ∙ ap (λ ms. with_pairs f (gives ms) None) (sym (members_left_out view holds xs i d inside e))
+
+-- what is kept of an entry of `upgrade` is the greatest of its name
+pub greatest-at : (status : List Placed) (upgrade : List PlainVpkg) (before : List (Option ℕ)) (i : ℕ) (v : PlainVpkg) (greatest : Option ℕ) → before ≡ map (greatest_before status) upgrade
+    → slice_get upgrade i ≡ Some v → slice_get before i ≡ Some greatest → IsGreatest (numbers_of v.name status) greatest
+greatest-at status upgrade before i v greatest same is kept =
+    subst (IsGreatest (numbers_of v.name status)) kept_is (greatest_of_status v.name status)
+  where
+    there : slice_get before i ≡ Some (greatest_before status v)
+    there = ap (λ xs. slice_get xs i) same ∙ slice_get-map (greatest_before status) upgrade i ∙ ap (option_map (greatest_before status)) is
+
+    kept_is : greatest_before status v ≡ greatest
+    kept_is = cc (sym there ∙ kept)

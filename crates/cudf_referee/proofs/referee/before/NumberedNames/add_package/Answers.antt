@@ -3,9 +3,9 @@ use Rattle.std.specs.Prelude.{filter_map}
 use Rattle.cudf_value.specs.Promises.Views.{vpkg_view}
 use Rattle.cudf_document.specs.Promises.Views.{package_view}
 use Rattle.cudf_universe.specs.Satisfaction.{entry_pair}
-use Rattle.cudf_universe.specs.Working.Greatest.{kept_greatest, with_entries}
-use Rattle.cudf_universe.proofs.GreatestLemmas.{pairs_first}
-use Rattle.cudf_universe.proofs.greatest.NumberedNames.add_package.Goals as goal
+use Rattle.cudf_referee.specs.Working.Before.{kept_greatest, with_entries}
+use Rattle.cudf_referee.proofs.BeforeLemmas.{pairs_first}
+use Rattle.cudf_referee.proofs.referee.before.NumberedNames.add_package.Goals as goal
 
 pub returns : goal.returns
 returns c = λ f.

@@ -12,7 +12,7 @@ use Rattle.cudf_value.specs.Promises.Views.{clause_view, vpkg_view}
 use Rattle.cudf_universe.specs.Satisfaction.{Placed}
 use Rattle.cudf_referee.specs.Working.Walkers.{put_forward}
 use Rattle.cudf_referee.specs.Working.Numbered.{IsListed, IsNumbered}
-use Rattle.cudf_referee.proofs.referee.numbered.number.Goals as goal
+use Rattle.cudf_referee.proofs.referee.numbered.keys_can_be_written.Goals as goal
 
 -- a list made of one that lies in memory
 short : (made items len cap : ℕ) → made ≡ items → len ≡ items → len ≤ cap → cap < 2 ^ 63 → made < 2 ^ 64
@@ -27,8 +27,8 @@ listed p = record {
 
 numbered : (problem : PlainProblem) (unknown : List PlainUnknown) (packages : List Package) (request : Request)
     → map package_view packages ≡ problem.packages → request_view request ≡ problem.request
-    → All (λ u. u.stanza < 2 ^ 64) unknown → (initial proposed : List Placed) → length problem.packages < 2 ^ 64 → IsNumbered (put_forward problem initial proposed unknown)
-numbered problem unknown packages request all asked stanzas initial proposed counted = record {
+    → All (λ u. u.stanza < 2 ^ 64) unknown → (proposed : List Placed) → length problem.packages < 2 ^ 64 → IsNumbered (put_forward problem proposed unknown)
+numbered problem unknown packages request all asked stanzas proposed counted = record {
   packages = counted;
   each = subst (λ (ps : List PlainPackage). All IsListed ps) all (All-map IsListed package_view packages (λ k d inside. listed (slice_index_or packages k d)));
   install = omega (arith, ap (λ (r : PlainRequest). length r.install) asked, short _ _ _ _ (length-map request.install.items vpkg_view) request.install.ok.0 request.install.ok.1 request.install.small);

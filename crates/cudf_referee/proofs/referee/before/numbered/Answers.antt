@@ -1,13 +1,12 @@
-use Rattle.std.proofs.Common.{None, ap, sym, subst, ◌∙◌, map}
+use Rattle.std.proofs.Common.{None, ap, sym, ◌∙◌, map}
 use Rattle.std.proofs.lemmas.List.{take_all}
 use Rattle.std.specs.FinSet as set
 use Rattle.cudf_document.specs.Promises.Views.{package_view}
-use Rattle.cudf_universe.specs.Satisfaction.{members, gives, numbers_of, package_pairs}
-use Rattle.cudf_universe.specs.Promises.Members.{IsGreatest}
-use Rattle.cudf_universe.specs.Working.Greatest.{kept_greatest, with_pairs}
-use Rattle.cudf_universe.proofs.GreatestLemmas.{pairs_none, greatest_of_status, greatest_kept, greatest_left_out}
-use Rattle.cudf_universe.proofs.greatest.numbered.Goals as goal
-use Rattle.cudf_universe.proofs.greatest.numbered.Goals.{then-holds+in_ok-add_package, else-holds}
+use Rattle.cudf_universe.specs.Satisfaction.{members, gives, package_pairs}
+use Rattle.cudf_referee.specs.Working.Before.{kept_greatest, with_pairs}
+use Rattle.cudf_referee.proofs.BeforeLemmas.{pairs_none, greatest_kept, greatest_left_out}
+use Rattle.cudf_referee.proofs.referee.before.numbered.Goals as goal
+use Rattle.cudf_referee.proofs.referee.before.numbered.Goals.{then-holds+in_ok-add_package, else-holds}
 
 pub loop-before-init : goal.loop-before-init
 loop-before-init c = λ f. c.new-kept.ensures f ∙ sym (pairs_none f None)
@@ -31,8 +30,5 @@ loop-before-preserved c = λ f.
 
 pub returns : goal.returns
 returns c = λ f.
-    let holds = set.contains c.args.status.now in
     let all = ap (map package_view) (take_all c.loop-before.before c.packages-package-items.result.now c.loop-before-test.false) ∙ c.packages-package-items.ensures.packages in
-    subst (IsGreatest (numbers_of f (members holds c.args.problem.now.packages)))
-    (sym (c.loop-before.invariant f ∙ ap (λ packages. with_pairs f (gives (members holds packages)) None) all))
-    (greatest_of_status f (members holds c.args.problem.now.packages))
+    c.loop-before.invariant f ∙ ap (λ packages. with_pairs f (gives (members (set.contains c.args.status.now) packages)) None) all

@@ -1,0 +1,104 @@
+//! The numbers that the initial status gives of the names that are to be upgraded.
+ghost use Rattle.std.specs.Prelude.{◌≡◌, List, ℕ, None, map, bytes_eq, IfOk, OnOk, if◌then◌else◌};
+ghost use Rattle.std.specs.FinSet as set;
+ghost use Rattle.cudf_value.specs.Promises.Views.{vpkg_view};
+ghost use Rattle.cudf_document.specs.Promises.Views.{package_view};
+ghost use Rattle.cudf_universe.specs.Satisfaction.{members, gives, package_pairs};
+ghost use Rattle.cudf_referee.specs.Working.Before.{kept_greatest, with_number, with_pairs, with_entries, greatest_before};
+
+use cudf_document::{Package, Problem, Status};
+use cudf_value::Vpkg;
+use indexmap::IndexMap;
+use std::alloc::{AllocError, Global};
+
+/// Names with the greatest number of each, as a version or by a versioned feature; features without
+/// a number don't count (own).
+#[derive(Drop)]
+struct NumberedNames<'t> {
+    greatest: IndexMap<&'t str, u64>,
+}
+
+impl<'t> NumberedNames<'t> {
+    fn new(alloc: Global) -> Self
+        ensures { (f : List ℕ) → kept_greatest f result ≡ None }
+    {
+        NumberedNames {
+            greatest: IndexMap::new(alloc),
+        }
+    }
+
+    /// Adds a number of the name.
+    fn add(&mut self, name: &'t str, number: u64) -> Result<(), AllocError>
+        ensures { OnOk result ((f : List ℕ) → kept_greatest f self.new
+            ≡ (if bytes_eq name.now f then with_number (kept_greatest f self.old) number else kept_greatest f self.old)) }
+    {
+        let greatest = self.greatest.entry(name)?.or_insert(number);
+        *greatest = (*greatest).max(number);
+        Ok(())
+    }
+
+    /// Adds all numbers that the package gives.
+    fn add_package(&mut self, package: &Package<'t>) -> Result<(), AllocError>
+        ensures { OnOk result ((f : List ℕ) → kept_greatest f self.new ≡ with_pairs f (package_pairs (package_view «package».now)) (kept_greatest f self.old)) }
+    {
+        self.add(package.name, package.version)?;
+        self.add_entries(&package.provides)?;
+        Ok(())
+    }
+
+    fn add_entries(&mut self, entries: &[Vpkg<'t>]) -> Result<(), AllocError>
+        ensures { OnOk result ((f : List ℕ) → kept_greatest f self.new ≡ with_entries f (map vpkg_view entries.now) (kept_greatest f self.old)) }
+    {
+        for entry in entries {
+            if let Some((_, number)) = entry.bound {
+                self.add(entry.name, number)?;
+            }
+        }
+        Ok(())
+    }
+
+    /// The greatest number of the name.
+    fn find(&self, name: &str) -> Option<u64>
+        ensures { result ≡ kept_greatest name.now self.now }
+    {
+        self.greatest.get(name).copied()
+    }
+}
+
+/// The numbers of all names that the status gives.
+fn numbered<'t>(
+    alloc: Global,
+    problem: &Problem<'t>,
+    status: &Status,
+) -> Result<NumberedNames<'t>, AllocError>
+    ensures { IfOk result (λ kept. (f : List ℕ) → kept_greatest f kept ≡ with_pairs f (gives (members (set.contains status.now) problem.now.packages)) None) }
+{
+    let mut kept = NumberedNames::new(alloc);
+    for (before, package) in problem.packages().iter().enumerate() {
+        if status.holds(before as u64 + 1) {
+            kept.add_package(package)?;
+        }
+    }
+    Ok(kept)
+}
+
+/// For each entry of `upgrade`, the greatest number that the status gives of its name. `None` where
+/// it gives none.
+pub(super) fn greatest_before(
+    alloc: Global,
+    problem: &Problem<'_>,
+    status: &Status,
+) -> Result<Vec<Option<u64>>, AllocError>
+    ensures { IfOk result (λ before. before.items ≡ map (greatest_before (members (set.contains status.now) problem.now.packages)) problem.now.request.upgrade) }
+{
+    let upgrade = problem.request().upgrade.as_slice();
+    let mut before = Vec::with_capacity(alloc, upgrade.len())?;
+    if upgrade.is_empty() {
+        return Ok(before);
+    }
+    let names = numbered(alloc, problem, status)?;
+    for entry in upgrade {
+        before.push(names.find(entry.name))?;
+    }
+    Ok(before)
+}
