@@ -3,8 +3,8 @@ use super::{Answer, Refused, expect, made};
 use cudf_referee::{Key, Referee, read_criterion};
 use cudf_text::{Room, Text, TextError, is_fail, read, stanzas};
 use cudf_universe::{
-    Chosen, Index, Mode, Problem, ReadError, first_fault, initial, problem_for,
-    problem_of, read_problem, read_solution, solution_of,
+    Chosen, Index, Mode, Problem, ReadError, first_fault, initial, problem_for, problem_of,
+    read_problem, read_solution, solution_of,
 };
 use cudf_value::{
     ValueType, fits, read_declarations, read_formula, read_veqpkglist, read_vpkg, read_vpkglist,
