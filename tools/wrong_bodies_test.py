@@ -30,13 +30,13 @@ PLANTS = {
         "missed: NOT REFUSED",
     ),
     "equal_without_a_step": (
-        "file: src/cursor.rt\nold: keep_properties(alloc, &self.others, &mut self.texts, properties)?;\n"
-        "new: let others = self.others.as_slice(); keep_properties(alloc, others, &mut self.texts, properties)?;\n",
+        "file: src/cursor.rt\nold: let (next, place) = read_stanza(alloc, self.place, properties, &mut self.others)?;\n"
+        "new: let (told, place) = read_stanza(alloc, self.place, properties, &mut self.others)?; let next = told;\n",
         "says little: ",
     ),
     "wrong_without_a_step": (
-        "file: src/cursor.rt\nold: keep_properties(alloc, &self.others, &mut self.texts, properties)?;\n"
-        "new: let others = self.others.as_slice(); self.place = place; keep_properties(alloc, others, &mut self.texts, properties)?;\n",
+        "file: src/cursor.rt\nold: let (next, place) = read_stanza(alloc, self.place, properties, &mut self.others)?;\n"
+        "new: let (told, place) = read_stanza(alloc, self.place, properties, &mut self.others)?; let next = told; self.place = place;\n",
         "refused: ",
     ),
     "no_type": (
