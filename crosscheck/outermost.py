@@ -8,8 +8,9 @@ usage: outermost.py PROGRAM
 - Standard input that is a folder, and one that fails after its first bytes.
 - Empty words, names of files with blanks, and a program that is started as `--`, `--criteria` or another name.
 - Lists of criteria and rankings: answers, refusals, and a thousand solutions in one command.
-- The text of each error, to the byte. Of a usage fault found by the words' parser, and of the system's own part of a
-  text, only what README.md, docs/FORMAT.md and the man page fix, and the usage of the command behind it.
+- Each command that README.md, examples/README.md and docs/COMPETITION.md show, with what it prints.
+- The text of each error, to the byte. Of a usage fault found by the words' parser, only what README.md, docs/FORMAT.md
+  and the man page fix, and the usage of the command behind it.
 
 What is wanted comes from README.md, docs/FORMAT.md and docs/DECISIONS.md, and the texts from the man page. Each row that
 isn't as wanted is printed, and then how many there were. The status is 1 where one is wrong, and 2 where there is no
@@ -510,7 +511,7 @@ def texts(trial):
 
 ROWS = (
     statuses, helps, scores_by_lists, rankings, faults_in_rankings, first_refusals, refused_lists, refused_rankings, unopened,
-    too_many_files, names_with_blanks, other_names, closed_input, standard_input, empty_words, many_solutions, texts,
+    too_many_files, names_with_blanks, other_names, closed_input, standard_input, empty_words, many_solutions, shown, texts,
 )
 
 

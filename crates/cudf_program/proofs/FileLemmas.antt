@@ -1,5 +1,5 @@
 -- Files in a row: the words that name them, the devices over them, and the bytes that these give.
-use Rattle.std.proofs.Common.{◌≡◌, ◌+◌, ◌<◌, ℕ, Bool, zero, suc, true, false, cond, List, [], ◌∷◌, ◌++◌, map, take, get_or, Vec, Global, length, slice_get, slice_index_or, count_by, bytes_eq, nat_lt, codes, Option, Some, None, Result, Ok, Err, MatchResult, inl, refl, sym, ap, ◌∙◌, subst, arith}
+use Rattle.std.proofs.Common.{◌≡◌, ◌+◌, ◌<◌, ◌≤◌, ℕ, Bool, zero, suc, true, false, cond, List, [], ◌∷◌, ◌++◌, map, take, get_or, Vec, Global, length, slice_get, slice_index_or, count_by, bytes_eq, nat_lt, codes, Option, Some, None, Result, Ok, Err, MatchResult, inl, refl, sym, ap, ◌∙◌, subst, arith}
 use Rattle.std.proofs.lemmas.Grind.{common_steps}
 use Rattle.std.proofs.lemmas.List.{map-id}
 use Rattle.std.specs.List.{fold}
@@ -12,7 +12,7 @@ use Rattle.cudf_check.specs.Runs.{Change, change, ReadsAll, ReadsIfThere, ReadsI
 use Rattle.cudf_check.specs.RankRuns.{RanksRun, ReadsAllOf}
 use Rattle.cudf_check.specs.declared.job.Job.{Job}
 use Rattle.cudf_check.specs.declared.job.Job.TheVariants.{Lint, Check, Score}
-use Rattle.std.specs.Io.KnownBytes.{Appends}
+use Rattle.std.specs.Io.KnownBytes.{Appends, Consumes, Keeps}
 use Rattle.std.proofs.lemmas.Result.{IfOk-weaker}
 use Rattle.cudf_check.specs.Device.{SinkState, SourceState}
 use Rattle.cudf_check.specs.DeviceInside.{device_inner}
@@ -119,6 +119,12 @@ each_known state left is (old ∷ olds) (new ∷ news) [] same m = absurd m
 each_known state left is (old ∷ olds) (new ∷ news) (t ∷ texts) same m =
     (subst (λ known. IsKnownAs known t) (sym (is old)) (all_known (change state old new) t m.0), each_known state left is olds news texts (omega arith) m.1)
 
+-- a read that gave no byte leaves what is known as it was
+pub kept : (old new : Option (List ℕ)) (bytes : List ℕ) → bytes ≡ [] → Consumes old new bytes → Keeps old new
+kept None new bytes none h = tt
+kept (Some xs) None bytes none h = absurd h
+kept (Some xs) (Some ys) bytes none h = sym (h ∙ ap (λ front. front ++ ys) none)
+
 -- ---- runs
 
 -- some bytes of which as much is known
@@ -175,14 +181,24 @@ first_item : {D : Type 0} (d : D) (olds : List D) → true ≡ nat_lt 0 (length 
 first_item d [] some is = absurd cc
 first_item d (old ∷ olds) some is = (olds, ap (λ first. first ∷ olds) (sym is))
 
--- a run on the first of these devices
-pub did_first : {D : Type 0} (state : D → SourceState) (job : Job) (mode : Mode) (input : Change SourceState) (olds : List D) (old new : D)
-    (out : Change SinkState) (result : Result Outcome RunError) → true ≡ nat_lt 0 (length olds) → old ≡ slice_index_or olds 0 old → Runs job mode input (Some (change state old new)) out result
+-- a run where there is no device of a solution
+pub did_alone : {D : Type 0} (state : D → SourceState) (job : Job) (mode : Mode) (input : Change SourceState) (olds : List D)
+    (out : Change SinkState) (result : Result Outcome RunError) → length olds ≤ 0 → Runs job mode input None out result
     → Did (RunOf job) mode input.before.remaining (map (λ d. (state d).remaining) olds) out.before out.after result
-did_first state job mode input olds old new out result some is runs =
+did_alone state job mode input [] out result none runs = did_run job mode input None [] out result runs
+did_alone state job mode input (old ∷ olds) out result none runs = absurd (omega arith)
+
+-- a run on the first of these devices
+pub did_first : {D : Type 0} (state : D → SourceState) (job : Job) (mode : Mode) (input : Change SourceState) (olds : List D) (old : D) (reader : Change SourceState)
+    (out : Change SinkState) (result : Result Outcome RunError) → true ≡ nat_lt 0 (length olds) → old ≡ slice_index_or olds 0 old → reader.before ≡ state old
+    → Runs job mode input (Some reader) out result
+    → Did (RunOf job) mode input.before.remaining (map (λ d. (state d).remaining) olds) out.before out.after result
+did_first state job mode input olds old reader out result some is first runs =
     let more = first_item old olds some is in
+    let rest = map (λ d. (state d).remaining) more.0 in
     subst (λ ds. Did (RunOf job) mode input.before.remaining (map (λ d. (state d).remaining) ds) out.before out.after result) (sym more.1)
-    (did_run job mode input (Some (change state old new)) (map (λ d. (state d).remaining) more.0) out result runs)
+    (subst (λ (s : SourceState). Did (RunOf job) mode input.before.remaining (s.remaining ∷ rest) out.before out.after result) first
+    (did_run job mode input (Some reader) rest out result runs))
 
 -- ---- rankings
 

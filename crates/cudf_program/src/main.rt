@@ -2,6 +2,7 @@
 #![tactic(auto)]
 
 ghost use Rattle.std.specs.Prelude.{◌≡◌, ◌≢◌, IfOk, IfErr, MatchResult, map, string_bytes};
+ghost use Rattle.std.specs.Io.KnownBytes.{Keeps};
 ghost use Rattle.std.specs.Vec.Iter.{into_iter_items};
 ghost use Rattle.cudf_program.specs.Failure.{IsStatusOf, failure_status};
 ghost use Rattle.cudf_program.specs.Program.{AreOpened, Did, Finishes, IsPrepared, IsFailureOf, IsOfFile, IsOpened, IsTask, IsUnopened, Responds, left_of};
@@ -165,7 +166,7 @@ fn open_each<'w, I: Copy + Drop>(
 /// Fails where standard input is closed: a file that is opened then would be read in its place.
 fn expect_open<'w, I: Read>(standard: &mut I) -> Result<(), Failure<'w>>
     ensures failed { IfErr result IsOfFile }
-    ensures untouched { I.remaining standard.new ≡ I.remaining standard.old }
+    ensures untouched { Keeps (I.remaining standard.old) (I.remaining standard.new) }
 {
     match standard.read(&mut []) {
         Ok(_) => Ok(()),

@@ -14,7 +14,7 @@ returns-in-Rank g c =
     let mode = c.args.order.now.mode in
     let out = change g.W.Sink.state c.args.out.now c.rank.new.out in
     subst (λ work. Did work mode (left_of left c.args.problem.now) (map (left_of left) c.args.solutions.now) out.before out.after c.rank.result) (sym c.in-Rank.is)
-    (did_ranking state c.in-Rank.aims.now mode (change state c.args.problem.now c.rank.new.problem) c.args.solutions.now c.rank.new.solutions out c.rank.result
+    (did_ranking state c.in-Rank.aims mode (change state c.args.problem.now c.rank.new.problem) c.args.solutions.now c.rank.new.solutions out c.rank.result
     (same_length (λ old new. IsStopped (change state old new)) c.args.solutions.now c.rank.new.solutions c.rank.ensures.behind)
     (subst (λ aims. RanksRun aims mode (change state c.args.problem.now c.rank.new.problem) (changes state c.args.solutions.now c.rank.new.solutions) out c.rank.result)
     c.deref.ensures.value c.rank.ensures.ranks))

@@ -4,28 +4,28 @@ use Rattle.cudf_program.specs.Command.{IsAskedBy, IsRefusedBy}
 use Rattle.cudf_program.proofs.OrderLemmas.{fits-by-grammar, kind-by-grammar, met, unparsed}
 use Rattle.cudf_program.proofs.command.command.Goals as goal
 
-pub returns-in-Err-clause-asks : goal.returns-in-Err-clause-asks
-returns-in-Err-clause-asks c =
+pub returns-clause-asks : goal.returns-clause-asks
+returns-clause-asks c =
     let words : List (List ℕ) = map string_bytes c.args.words.now in
-    unparsed words c.in-Err.error c.in_ok-unparsed.field-0 c.in_ok-unparsed.ensures
+    unparsed words c.in-Err.error c.in_ok-unparsed-in-Err.field-0 c.in_ok-unparsed-in-Err.ensures
     (kind-by-grammar words (app_of c.in_ok-program.program) c.in-Err.error c.in_ok-program.ensures.0 c.in-Err.ensures.kinds)
+
+pub returns-in-Ok-asked_order-clause-asks : goal.returns-in-Ok-asked_order-clause-asks
+returns-in-Ok-asked_order-clause-asks c =
+    let words : List (List ℕ) = map string_bytes c.args.words.now in
+    let of_grammar = c.in_ok-program.ensures.0 in
+    record {
+      fits = fits-by-grammar words (app_of c.in_ok-program.program) of_grammar c.in-Ok.ensures.kinds;
+      asks = subst (λ (rows : Option (List ℕ × List Row)). IsAskedBy words rows c.in-Ok-asked_order.order)
+          (met words (app_of c.in_ok-program.program) c.in-Ok.matches of_grammar c.in-Ok.ensures.ok.2) c.in-Ok-asked_order.ensures.asks;
+    }
 
 pub returns-in-Ok-in-Ok-clause-asks : goal.returns-in-Ok-in-Ok-clause-asks
 returns-in-Ok-in-Ok-clause-asks c =
     let words : List (List ℕ) = map string_bytes c.args.words.now in
     let of_grammar = c.in_ok-program.ensures.0 in
-    record {
-      fits = fits-by-grammar words (app_of c.in_ok-program.program) of_grammar c.in-Ok.ensures.kinds;
-      asks = subst (λ (rows : Option (List ℕ × List Row)). IsAskedBy words rows c.in-Ok-in-Ok.order)
-          (met words (app_of c.in_ok-program.program) c.in-Ok.matches of_grammar c.in-Ok.ensures.ok.2) c.in-Ok-in-Ok.ensures.asks;
-    }
-
-pub returns-in-Ok-in-Err-clause-asks : goal.returns-in-Ok-in-Err-clause-asks
-returns-in-Ok-in-Err-clause-asks c =
-    let words : List (List ℕ) = map string_bytes c.args.words.now in
-    let of_grammar = c.in_ok-program.ensures.0 in
     inl (record {
       fits = fits-by-grammar words (app_of c.in_ok-program.program) of_grammar c.in-Ok.ensures.kinds;
-      refuses = subst (λ (rows : Option (List ℕ × List Row)). IsRefusedBy words rows c.in-Ok-in-Err.refusal)
-          (met words (app_of c.in_ok-program.program) c.in-Ok.matches of_grammar c.in-Ok.ensures.ok.2) c.in-Ok-in-Err.ensures.asks;
+      refuses = subst (λ (rows : Option (List ℕ × List Row)). IsRefusedBy words rows c.in-Err-asked_order.refusal)
+          (met words (app_of c.in_ok-program.program) c.in-Ok.matches of_grammar c.in-Ok.ensures.ok.2) c.in-Err-asked_order.ensures.asks;
     })
