@@ -20,8 +20,8 @@ returns-in-Ok-asked_order-clause-asks c =
           (met words (app_of c.in_ok-program.program) c.in-Ok.matches of_grammar c.in-Ok.ensures.ok.2) c.in-Ok-asked_order.ensures.asks;
     }
 
-pub returns-in-Ok-in-Ok-clause-asks : goal.returns-in-Ok-in-Ok-clause-asks
-returns-in-Ok-in-Ok-clause-asks c =
+pub returns-in-Ok-clause-asks : goal.returns-in-Ok-clause-asks
+returns-in-Ok-clause-asks c =
     let words : List (List ℕ) = map string_bytes c.args.words.now in
     let of_grammar = c.in_ok-program.ensures.0 in
     inl (record {
