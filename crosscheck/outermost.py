@@ -511,7 +511,7 @@ def texts(trial):
 
 ROWS = (
     statuses, helps, scores_by_lists, rankings, faults_in_rankings, first_refusals, refused_lists, refused_rankings, unopened,
-    too_many_files, names_with_blanks, other_names, closed_input, standard_input, empty_words, many_solutions, shown, texts,
+    too_many_files, names_with_blanks, other_names, closed_input, standard_input, empty_words, many_solutions, texts,
 )
 
 
