@@ -8,7 +8,6 @@ usage: outermost.py PROGRAM
 - Standard input that is a folder, and one that fails after its first bytes.
 - Empty words, names of files with blanks, and a program that is started as `--`, `--criteria` or another name.
 - Lists of criteria and rankings: answers, refusals, and a thousand solutions in one command.
-- Each command that README.md, examples/README.md and docs/COMPETITION.md show, with what it prints.
 - The text of each error, to the byte. Of a usage fault found by the words' parser, only what README.md, docs/FORMAT.md
   and the man page fix, and the usage of the command behind it.
 
