@@ -6,11 +6,11 @@ usage: outermost.py PROGRAM
 - Each status from 0 to 6.
 - Which refusal comes first where two things are wrong.
 - Standard input that is a folder, and one that fails after its first bytes.
-- Empty words.
+- Empty words, names of files with blanks, and a program that is started as `--`, `--criteria` or another name.
 - Lists of criteria and rankings: answers, refusals, and a thousand solutions in one command.
 - Each command that README.md, examples/README.md and docs/COMPETITION.md show, with what it prints.
-- The text of each error, to the byte. Of a usage fault found by the words' parser, and of the system's own part of a
-  text, only what README.md, docs/FORMAT.md and the man page fix.
+- The text of each error, to the byte. Of a usage fault found by the words' parser, only what README.md, docs/FORMAT.md
+  and the man page fix, and the usage of the command behind it.
 
 What is wanted comes from README.md, docs/FORMAT.md and docs/DECISIONS.md, and the texts from the man page. Each row that
 isn't as wanted is printed, and then how many there were. The status is 1 where one is wrong, and 2 where there is no
@@ -43,21 +43,32 @@ NO_VERSION = "solution line 1: E12 no version\n"
 SCORED = "removed 1\nnew 1\nchanged 2\nnotuptodate 0\nunsat_recommends 0\nparanoid 1 2\ntrendy 1 0 0 1\nsolution yes\n"
 LISTED = "-removed 1\n+new 1\n-changed 2\n+notuptodate 0\n-unsat_recommends 0\n+touched 2\nsolution yes\n"
 
-UNREAD = "cudf_check: an input could not be read to its end; check that it is a file that can be read, and run again\n"
-LONG = "cudf_check: an input is longer than 268435456 bytes; give a shorter one\n"
-UNWRITTEN = "cudf_check: the report could not be written to its end; make room for the output, and run again\n"
+UNWRITTEN = (
+    "cudf_check: the report could not be written to its end: the disk is full, or what reads it ended, as head does; "
+    "check --limit gives a shorter report\n"
+)
 NO_ROOM = "cudf_check: there is not enough memory for this input; free some, and run again\n"
+NO_ROOM_FOR_WORDS = "cudf_check: there is not enough memory; free some, and run again\n"
 CLOSED = "cudf_check: standard input can't be opened: Bad file descriptor (os error 9)\n"
 NOT_UTF8 = ("cudf_check: the words can't be read: ", "; give them as UTF-8\n")
 TWICE = "- can stand for one file only"
 NO_KEY = "invalid value '{}' for '--after <KEY>': a key is written as in a report, as p1.depends.2"
 NO_NUMBER = "invalid value '{}' for '--limit <N>': it is no number from 1 to 18446744073709551615"
-APART = "equal sign is needed when assigning values to '--criteria=<LIST>'"
-NO_LIST = "invalid value '{}' for '--criteria=<LIST>': a list is written without blanks, as -removed,+new"
+APART = "equal sign is needed when assigning values to '--criteria=<LIST>': the list is written after it, as --criteria=-removed"
+NO_LIST = (
+    "invalid value '{}' for '--criteria=<LIST>': a list is written without blanks, as -removed,+new, of removed, new, "
+    "changed, notuptodate, unsat_recommends and touched, each behind - or +"
+)
+USAGES = {
+    "": "cudf_check <COMMAND>", "lint": "cudf_check lint [OPTIONS] <P>", "check": "cudf_check check [OPTIONS] <P> [S]",
+    "score": "cudf_check score [OPTIONS] <P> [S]",
+    "rank": "cudf_check rank [OPTIONS] --criteria <LIST> <P> <S>...",
+}
 
 FILES = {
     "p": PROBLEM, "good": GOOD, "bad": BAD, "fail": "FAIL\n", "faulty": "?\n", "empty": "", "both": PROBLEM + "\n" + BAD,
     "sized": SIZED, "twice": GOOD + "\n" + GOOD, "cut": "package: a\n", "--criteria": GOOD,
+    " p": PROBLEM, "p ": "?\n", " p ": "", " ": BAD, "b\tad\n": BAD,
 }
 NO_LISTS = (
     "", "- new", " -new", "-new ", "-new, +removed", "-new\t", "-new,,+removed", ",-new", "-new,", ",", "-size",
@@ -88,6 +99,23 @@ def missing(name):
     return f"cudf_check: {name} can't be opened: No such file or directory (os error 2); check the name, and run again\n"
 
 
+def unread(name, reason="Is a directory (os error 21)"):
+    return (
+        f"cudf_check: {name} could not be read to its end: {reason}; check that it is a file that can be read, and run again\n"
+    )
+
+
+def long(name):
+    return f"cudf_check: {name} is longer than 268435456 bytes; give a shorter one\n"
+
+
+def usage_of(words):
+    """What stands behind the reason of a usage fault: the usage of the command, and where its help is."""
+    command = words[0] if words and words[0] in USAGES else ""
+    help_words = " ".join(["cudf_check"] + [command] * bool(command) + ["--help"])
+    return f"\n\nUsage: {USAGES[command]}\n\nFor more information, try '{help_words}'.\n"
+
+
 class Trial:
     """Runs the program in a folder with the files, counts the rows, and prints the wrong ones."""
 
@@ -108,7 +136,7 @@ class Trial:
     def note(self, name, given, status, output, errors):
         """`errors` is the whole text, or parts that stand in it in this order, the first at its start."""
         self.rows += 1
-        is_told = given[2] == errors if isinstance(errors, str) else in_order(given[2], errors)
+        is_told = in_order(given[2], errors) if isinstance(errors, (list, tuple)) else given[2] == errors
         if given[:2] != (status, output) or not is_told:
             self.wrong += 1
             print(f"{name}: {given}, wanted {(status, output, errors)}", flush=True)
@@ -135,7 +163,7 @@ def statuses(trial):
         ("check faulty bad", 2, FAULTY), ("check p faulty", 2, FAULTY_SOLUTION), ("check p fail", 3, "solution FAIL\n"),
         ("score p fail", 3, "solution FAIL\n"), ("check faulty fail", 2, FAULTY), ("lint empty", 2, NO_REQUEST),
         ("check p bad --limit 1", 1, UNMET), ("check p bad --after p1.depends.1", 1, "solution no\n"),
-        ("--limit=1 check p bad", 4, ""), ("check --limit=1 p bad", 1, UNMET), ("--version", 0, "cudf_check 0.1.0\n"),
+        ("--limit=1 check p bad", 4, ""), ("check --limit=1 p bad", 1, UNMET), ("--version", 0, "cudf_check 1.0.0\n"),
         ("lint sized", 0, "problem ok\n"), ("lint sized --strict", 2, MISSING), ("lint --strict p", 0, "problem ok\n"),
         ("check p twice", 0, ANSWERED), ("check --strict p twice", 2, REPEATED), ("score p --strict twice", 2, REPEATED),
         ("check sized twice --strict", 2, MISSING), ("check p bad --limit 1 --strict", 1, UNMET),
@@ -146,14 +174,18 @@ def statuses(trial):
 
 
 def helps(trial):
-    """A part of each help."""
+    """A part of each help, and its end."""
+    end = "A line of a report begins with a key, as p1.depends.2: the second clause of depends of the first package of the problem.\n"
     for words, part in (
         ("--help", "Checks solutions"), ("-h", "Checks solutions"), ("help", "Checks solutions"), ("--help", " rank "),
         ("score --help", "--criteria"), ("rank --help", "--criteria"), ("rank -h", "--criteria"),
-        ("help rank", "--criteria"), ("rank p good --help", "--criteria"),
+        ("help rank", "--criteria"), ("rank p good --help", "--criteria"), ("--help", "\n  3  the answer says FAIL"),
+        ("lint --help", "\n  6  there isn't enough memory\n"), ("check --help", "\nFAIL alone in the file of an answer "),
+        ("score --help", "\nExit status:\n"), ("rank --help", "\nExit status:\n"),
     ):
         status, output, errors = trial.run(words.split())
-        trial.note(words, (status, part in output or output, errors), 0, True, "")
+        is_told = part in output and output.endswith(end)
+        trial.note(words, (status, is_told or output, errors), 0, True, "")
 
 
 def scores_by_lists(trial):
@@ -221,6 +253,15 @@ def faults_in_rankings(trial):
         trial.expect(words, 2, output)
 
 
+def refuse(trial, words, text):
+    """A usage fault: the reason begins so, and the usage of its own command stands behind it, at the very end."""
+    words = words.split() if isinstance(words, str) else words
+    status, output, errors = trial.run(words)
+    end = usage_of(words)
+    told = errors.endswith(end) and errors.startswith("error: " + text) and (not text or errors == f"error: {text}{end}")
+    trial.note(words, (status, output, told or errors), 4, "", True)
+
+
 def first_refusals(trial):
     """Usage before opening, the key before the limit, and both before the files."""
     rows = [
@@ -234,15 +275,14 @@ def first_refusals(trial):
         ("check p --strict=true", ""), ("lint --strict", ""),
     ]
     for words, text in rows:
-        trial.expect(words, 4, "", ["error: " + text])
+        refuse(trial, words, text)
 
 
 def refused_lists(trial):
     """Blanks, empty pieces, unknown names, capital letters, and aims without a sign or with too many."""
     for text in NO_LISTS:
-        told = ["error: " + NO_LIST.format(text)]
-        trial.expect(["score", "p", f"--criteria={text}"], 4, "", told)
-        trial.expect(["rank", f"--criteria={text}", "p", "good"], 4, "", told)
+        refuse(trial, ["score", "p", f"--criteria={text}"], NO_LIST.format(text))
+        refuse(trial, ["rank", f"--criteria={text}", "p", "good"], NO_LIST.format(text))
 
 
 def refused_rankings(trial):
@@ -259,21 +299,23 @@ def refused_rankings(trial):
         ("rank p good --criteria +new", APART), ("rank p --criteria +new good", APART), ("rank --criteria +new p good", APART),
         ("rank --criteria +size none other", APART), ("rank - - --criteria +new", APART),
         ("rank --criteria new -- p good", APART),
-        ("score --criteria=", ""), ("score p --criteria", ""), ("score p --criteria -new", ""),
-        ("rank p good --criteria", ""), ("rank p good --criteria -new", ""),
-        ("rank --criteria -new p good", ""), ("rank --criteria p good", ""), ("rank --criteria -- p good", ""),
+        ("score --criteria=", ""), ("score p --criteria", APART), ("score p --criteria -new", APART),
+        ("rank p good --criteria", APART), ("rank p good --criteria -new", APART),
+        ("rank --criteria -new p good", APART), ("rank --criteria p good", APART), ("rank --criteria -- p good", APART),
         ("score p --criteria=-new --criteria=-new", ""), ("rank --criteria=-new --criteria=-new p good", ""),
-        ("rank --criteria=-new p good --criteria=+new", ""), ("rank --criteria=-new p good --criteria +new", ""),
+        ("rank --criteria=-new p good --criteria=+new", ""), ("rank --criteria=-new p good --criteria +new", APART),
         ("rank p good", ""), ("rank p good --strict", ""), ("rank p good -- --criteria=-new", ""),
         ("rank -- --criteria=-new p good", ""), ("rank", ""), ("rank --criteria=-new", ""), ("rank --criteria=-new p", ""),
         ("rank p --criteria=-new", ""), ("rank --criteria=-new -", ""), ("rank --criteria=-new -- p", ""),
         ("rank --strict --criteria=-new p good --strict", ""), ("rank --criteria=-new p good --limit 1", ""),
         ("rank --criteria=-new p good --after r.install.1", ""),
         ("rank --criteria=-new p good --strict=true", ""), ("--criteria=-new rank p good", ""), ("lint p --criteria=-new", ""),
-        ("check p --criteria=-new", ""), ("judge p --criteria=-new", ""),
+        ("check p --criteria=-new", ""), ("check p --criteria -new", ""), ("lint p --criteria", ""),
+        ("rank --criteria -removed,-changed p good", APART), ("score p good --criteria -removed", APART),
+        ("rank --criteria --strict p good", APART), ("judge p --criteria=-new", ""),
     ]
     for words, text in rows:
-        trial.expect(words, 4, "", ["error: " + text])
+        refuse(trial, words, text)
 
 
 def unopened(trial):
@@ -293,9 +335,41 @@ def unopened(trial):
 
 def too_many_files(trial):
     """More files than may be open: the first that is too many is told."""
-    told = ["cudf_check: good can't be opened: Too many open files (os error 24); check the name, and run again\n"]
+    told = "cudf_check: good can't be opened: Too many open files (os error 24)\n"
     words = ["rank", "--criteria=-new", "p"] + ["good"] * 20
     trial.expect(words, 5, "", told, before=lambda: resource.setrlimit(resource.RLIMIT_NOFILE, (20, 20)))
+
+
+def names_with_blanks(trial):
+    """A file's name is the whole word, with its blanks."""
+    for words, status, output in (
+        (["lint", " p"], 0, "problem ok\n"), (["lint", "p "], 2, FAULTY), (["lint", " p "], 2, NO_REQUEST),
+        (["check", "p", " "], 1, UNMET), (["check", " p", "b\tad\n"], 1, UNMET), (["check", " p", " p "], 0, ANSWERED),
+        (["rank", "--criteria=-removed", "p", " ", "good", "fail"], 0, RANKED),
+    ):
+        trial.expect(words, status, output)
+    for words, name in (
+        (["lint", "p  "], "p  "), (["check", "p", "good "], "good "), (["check", "p", " -"], " -"), (["lint", "--", "- "], "- "),
+        (["rank", "--criteria=-new", "p", "good", "\tbad"], "\tbad"),
+    ):
+        trial.expect(words, 5, "", missing(name))
+
+
+def other_names(trial):
+    """What the program is started as is no word of its command line."""
+    for name in ("--", "--criteria", "", "-", "lint"):
+        for words, status, output, errors in (
+            (["lint", "p"], 0, "problem ok\n", ""), (["check", "p", "bad"], 1, UNMET, ""),
+            (["score", "p", "good", "--criteria", "+new"], 4, "", "error: " + APART + usage_of(["score"])),
+            (["rank", "--criteria", "+new", "p", "good"], 4, "", "error: " + APART + usage_of(["rank"])),
+            (["score", "--criteria=-new", "p", "good"], 0, "-new 1\nsolution yes\n", ""), (["rank", "p"], 4, "", ["error: "]),
+        ):
+            places = {"stdin": subprocess.DEVNULL, "capture_output": True}
+            ran = subprocess.run(
+                [name] + words, executable=trial.path, timeout=LIMIT_SECONDS, check=False, **places
+            )
+            given = (ran.returncode, ran.stdout.decode(), ran.stderr.decode())
+            trial.note([name] + words, given, status, output, errors)
 
 
 def closed_input(trial):
@@ -325,8 +399,10 @@ def standard_input(trial):
     for words in (
         "lint .", "check .", "check . bad", "check p .", "check faulty .", "score p .", "rank --criteria=-new . good",
         "rank --criteria=-new p good . fail", "rank --criteria=-new faulty .", "rank --criteria=-new p faulty .",
+        "rank --criteria=-new p good fail bad empty good . bad",
     ):
-        trial.expect(words, 5, "", UNREAD)
+        trial.expect(words, 5, "", unread("."))
+    trial.expect("check p /proc/self/mem", 5, "", unread("/proc/self/mem", "Input/output error (os error 5)"))
     for words, data, status, output in (
         ("check -", FILES["both"], 1, UNMET), ("lint -", "?\n", 2, FAULTY), ("check p -", "FAIL\n", 3, "solution FAIL\n"),
         ("rank --criteria=-removed - bad good fail", PROBLEM, 0, RANKED), ("lint - --strict", SIZED, 2, MISSING),
@@ -345,7 +421,8 @@ def standard_input(trial):
         ("rank --criteria=-new p - faulty", "FAIL\n"),
     ):
         with failing(front) as source:
-            trial.expect(words, 5, "", UNREAD, stdin=source)
+            told = unread("standard input", "Connection reset by peer (os error 104)")
+            trial.expect(words, 5, "", told, stdin=source)
 
 
 def held(data):
@@ -423,16 +500,24 @@ def texts(trial):
     for words in (
         "lint long", "check long", "check p long", "check long missing-not", "score long p", "rank --criteria=-new long good",
         "rank --criteria=-new p good long", "rank --criteria=-new p faulty long",
+        "rank --criteria=-new p good fail bad empty good long bad",
     ):
         if words.endswith("missing-not"):
             trial.expect(words, 5, "", missing("missing-not"))
         else:
-            trial.expect(words, 5, "", LONG)
+            trial.expect(words, 5, "", long("long"))
     with open("long", "rb") as file:
-        trial.expect("check p -", 5, "", LONG, stdin=file)
+        trial.expect("check p -", 5, "", long("standard input"), stdin=file)
     for words in ("check p bad", "lint p", "score p bad", "score p bad --criteria=-new", "rank --criteria=-new p bad fail"):
         with open("/dev/full", "wb") as full:
             trial.expect(words, 5, "", UNWRITTEN, stdout=full)
+    for words in ("--help", "--version", "help rank"):
+        with open("/dev/full", "wb") as full:
+            trial.expect(words, 5, "", "", stdout=full)
+    reader, writer = os.pipe()
+    os.close(reader)
+    trial.expect("check p bad", 5, "", UNWRITTEN, stdout=writer)
+    os.close(writer)
     for words in (
         [b"lint", b"\xff"], [b"\xff"], [b"check", b"p", b"--after", b"\xff"], [b"rank", b"--criteria=\xff", b"p", b"good"],
     ):
@@ -447,9 +532,21 @@ def texts(trial):
         trial.expect(words, 6, "", NO_ROOM, before=lambda: resource.setrlimit(resource.RLIMIT_AS, (limit, limit)))
 
 
+def little_memory(trial):
+    """Too little memory for the words: what is enough for two of them, and as many that they need some ten megabytes."""
+    def limited(size):
+        return lambda: resource.setrlimit(resource.RLIMIT_AS, (size, size))
+
+    sizes = range(2 * MEGABYTE, 200 * MEGABYTE, MEGABYTE)
+    least = next(size for size in sizes if trial.run(["--version"], before=limited(size))[0] == 0)
+    words = ["rank", "--criteria=-new", "p"] + ["good"] * 100_000
+    trial.expect(words, 6, "", NO_ROOM_FOR_WORDS, before=limited(least + 3 * MEGABYTE))
+    trial.expect(words[:4], 0, ranked("1 yes -new 1"), before=limited(least + 3 * MEGABYTE))
+
+
 ROWS = (
     statuses, helps, scores_by_lists, rankings, faults_in_rankings, first_refusals, refused_lists, refused_rankings, unopened,
-    too_many_files, closed_input, standard_input, empty_words, many_solutions, shown, texts,
+    too_many_files, names_with_blanks, other_names, closed_input, standard_input, empty_words, many_solutions, little_memory, shown, texts,
 )
 
 

@@ -1,5 +1,5 @@
 -- Files in a row: the words that name them, the devices over them, and the bytes that these give.
-use Rattle.std.proofs.Common.{◌≡◌, ◌+◌, ◌<◌, ℕ, Bool, zero, suc, true, false, cond, List, [], ◌∷◌, ◌++◌, map, take, get_or, Vec, Global, length, slice_get, slice_index_or, count_by, bytes_eq, nat_lt, codes, Option, Some, None, Result, Ok, Err, MatchResult, refl, sym, ap, ◌∙◌, subst, arith}
+use Rattle.std.proofs.Common.{◌≡◌, ◌+◌, ◌<◌, ◌≤◌, ℕ, Bool, zero, suc, true, false, cond, List, [], ◌∷◌, ◌++◌, map, take, get_or, Vec, Global, length, slice_get, slice_index_or, count_by, bytes_eq, nat_lt, codes, Option, Some, None, Result, Ok, Err, MatchResult, inl, refl, sym, ap, ◌∙◌, subst, arith}
 use Rattle.std.proofs.lemmas.Grind.{common_steps}
 use Rattle.std.proofs.lemmas.List.{map-id}
 use Rattle.std.specs.List.{fold}
@@ -12,7 +12,7 @@ use Rattle.cudf_check.specs.Runs.{Change, change, ReadsAll, ReadsIfThere, ReadsI
 use Rattle.cudf_check.specs.RankRuns.{RanksRun, ReadsAllOf}
 use Rattle.cudf_check.specs.declared.job.Job.{Job}
 use Rattle.cudf_check.specs.declared.job.Job.TheVariants.{Lint, Check, Score}
-use Rattle.std.specs.Io.KnownBytes.{Appends}
+use Rattle.std.specs.Io.KnownBytes.{Appends, Consumes, Keeps}
 use Rattle.std.proofs.lemmas.Result.{IfOk-weaker}
 use Rattle.cudf_check.specs.Device.{SinkState, SourceState}
 use Rattle.cudf_check.specs.DeviceInside.{device_inner}
@@ -22,16 +22,17 @@ use Rattle.cudf_check.specs.declared.outcome.RunError.{RunError}
 use Rattle.cudf_document.specs.declared.mode.Mode.{Mode}
 use Rattle.cudf_referee.specs.declared.aims.Aim.{Aim}
 use Rattle.cudf_program.specs.Command.{AreGivenBy, AreNamedBy, IsNamedBy, Refuses, are_standard_twice, files_alone, is_standard}
-use Rattle.cudf_program.specs.Program.{AreOpened, Did, DidOrder, IsFailureOf, IsKnownAs, IsOfFile, IsPrepared, IsOpened, IsTask, OfReport, bytes_left, known_of, left_of}
+use Rattle.cudf_program.specs.Program.{AreOpened, Did, DidOrder, Finishes, IsFailureOf, IsKnownAs, IsNamed, IsOfFile, IsPrepared, IsTask, OfReport, Responds, known_of, left_of, origin_left}
 use Rattle.cudf_program.specs.declared.command.FileName.{FileName}
 use Rattle.cudf_program.specs.declared.command.Order.{Order}
-use Rattle.cudf_program.specs.declared.command.Refusal.TheVariants.{Twice}
+use Rattle.cudf_program.specs.declared.refusal.Refusal.TheVariants.{Twice}
 use Rattle.cudf_program.specs.declared.command.Work.TheVariants.{Run as RunOf, Rank as RankOf}
 use Rattle.cudf_program.specs.Orders.{IsAskedFor}
 use Rattle.cudf_program.specs.declared.failure.Failure.{Failure}
 use Rattle.cudf_program.specs.declared.failure.Failure.TheVariants as reason
 use Rattle.cudf_program.specs.declared.file.Input.{Input}
-use Rattle.cudf_program.specs.declared.file.Input.TheVariants as input
+use Rattle.cudf_program.specs.declared.file.Origin.{Origin}
+use Rattle.cudf_program.specs.declared.file.Origin.TheVariants as origin
 use Rattle.cudf_program.specs.declared.Task.{Task}
 use Rattle.cudf_program.specs.declared.command.FileName.TheVariants.{Path, Standard}
 
@@ -118,6 +119,12 @@ each_known state left is (old ∷ olds) (new ∷ news) [] same m = absurd m
 each_known state left is (old ∷ olds) (new ∷ news) (t ∷ texts) same m =
     (subst (λ known. IsKnownAs known t) (sym (is old)) (all_known (change state old new) t m.0), each_known state left is olds news texts (omega arith) m.1)
 
+-- a read that gave no byte leaves what is known as it was
+pub kept : (old new : Option (List ℕ)) (bytes : List ℕ) → bytes ≡ [] → Consumes old new bytes → Keeps old new
+kept None new bytes none h = tt
+kept (Some xs) None bytes none h = absurd h
+kept (Some xs) (Some ys) bytes none h = sym (h ∙ ap (λ front. front ++ ys) none)
+
 -- ---- runs
 
 -- some bytes of which as much is known
@@ -174,14 +181,24 @@ first_item : {D : Type 0} (d : D) (olds : List D) → true ≡ nat_lt 0 (length 
 first_item d [] some is = absurd cc
 first_item d (old ∷ olds) some is = (olds, ap (λ first. first ∷ olds) (sym is))
 
--- a run on the first of these devices
-pub did_first : {D : Type 0} (state : D → SourceState) (job : Job) (mode : Mode) (input : Change SourceState) (olds : List D) (old new : D)
-    (out : Change SinkState) (result : Result Outcome RunError) → true ≡ nat_lt 0 (length olds) → old ≡ slice_index_or olds 0 old → Runs job mode input (Some (change state old new)) out result
+-- a run where there is no device of a solution
+pub did_alone : {D : Type 0} (state : D → SourceState) (job : Job) (mode : Mode) (input : Change SourceState) (olds : List D)
+    (out : Change SinkState) (result : Result Outcome RunError) → length olds ≤ 0 → Runs job mode input None out result
     → Did (RunOf job) mode input.before.remaining (map (λ d. (state d).remaining) olds) out.before out.after result
-did_first state job mode input olds old new out result some is runs =
+did_alone state job mode input [] out result none runs = did_run job mode input None [] out result runs
+did_alone state job mode input (old ∷ olds) out result none runs = absurd (omega arith)
+
+-- a run on the first of these devices
+pub did_first : {D : Type 0} (state : D → SourceState) (job : Job) (mode : Mode) (input : Change SourceState) (olds : List D) (old : D) (reader : Change SourceState)
+    (out : Change SinkState) (result : Result Outcome RunError) → true ≡ nat_lt 0 (length olds) → old ≡ slice_index_or olds 0 old → reader.before ≡ state old
+    → Runs job mode input (Some reader) out result
+    → Did (RunOf job) mode input.before.remaining (map (λ d. (state d).remaining) olds) out.before out.after result
+did_first state job mode input olds old reader out result some is first runs =
     let more = first_item old olds some is in
+    let rest = map (λ d. (state d).remaining) more.0 in
     subst (λ ds. Did (RunOf job) mode input.before.remaining (map (λ d. (state d).remaining) ds) out.before out.after result) (sym more.1)
-    (did_run job mode input (Some (change state old new)) (map (λ d. (state d).remaining) more.0) out result runs)
+    (subst (λ (s : SourceState). Did (RunOf job) mode input.before.remaining (s.remaining ∷ rest) out.before out.after result) first
+    (did_run job mode input (Some reader) rest out result runs))
 
 -- ---- rankings
 
@@ -210,12 +227,12 @@ did_ranking state aims mode problem olds news out result same ranks = record {
 -- ---- what an order did
 
 -- what is known of a file's bytes is what is known of those of its input
-opened_known : {I : Type 0} (left : I → Option (List ℕ)) (standard : I) (name : FileName) (opened : Input I) → IsOpened standard name opened
-    → bytes_left left opened ≡ known_of (left standard) name
-opened_known left standard (Path path) (input.File file) is = refl
-opened_known left standard (Path path) (input.Standard other) is = absurd is
-opened_known left standard Standard (input.File file) is = absurd is
-opened_known left standard Standard (input.Standard other) is = ap left is
+opened_known : {I : Type 0} (left : I → Option (List ℕ)) (standard : I) (name : FileName) (opened : Origin I) → IsNamed standard name opened
+    → origin_left left opened ≡ known_of (left standard) name
+opened_known left standard (Path path) (origin.File file) is = refl
+opened_known left standard (Path path) (origin.Standard other) is = absurd is
+opened_known left standard Standard (origin.File file) is = absurd is
+opened_known left standard Standard (origin.Standard other) is = ap left is
 
 all_opened_known : {I : Type 0} (left : I → Option (List ℕ)) (standard : I) (names : List FileName) (devices : List (Device (Input I))) → AreOpened standard names devices
     → map (left_of left) devices ≡ map (known_of (left standard)) names
@@ -223,20 +240,29 @@ all_opened_known left standard [] [] are = refl
 all_opened_known left standard [] (device ∷ devices) are = absurd are
 all_opened_known left standard (name ∷ names) [] are = absurd are
 all_opened_known left standard (name ∷ names) (device ∷ devices) are =
-    ap (λ first. first ∷ map (left_of left) devices) (opened_known left standard name (device_inner device) are.0)
+    ap (λ first. first ∷ map (left_of left) devices) (opened_known left standard name (device_inner device).origin are.0)
     ∙ ap (λ others. known_of (left standard) name ∷ others) (all_opened_known left standard names devices are.1)
 
 pub did : {I : Type 0} (left : I → Option (List ℕ)) (standard : I) (order : Order) (task : Task I) (before after : SinkState) (answer : Result Outcome RunError)
-    → IsTask standard order task → Did task.work task.mode (left_of left task.problem) (map (left_of left) task.solutions.items) before after answer
+    → IsTask standard order task → Did task.order.work task.order.mode (left_of left task.problem) (map (left_of left) task.solutions.items) before after answer
     → DidOrder order (left standard) before after answer
 did left standard order task before after answer is performed =
-    let problem = known_of (left standard) order.problem in
     let solutions = map (known_of (left standard)) order.solutions.items in
-    subst (λ work. Did work order.mode problem solutions before after answer) is.work_is
-    (subst (λ mode. Did task.work mode problem solutions before after answer) is.mode_is
-    (subst (λ known. Did task.work task.mode known solutions before after answer) (opened_known left standard order.problem (device_inner task.problem) is.problem_is)
-    (subst (λ known. Did task.work task.mode (left_of left task.problem) known before after answer)
-    (all_opened_known left standard order.solutions.items task.solutions.items is.solutions_are) performed)))
+    subst (λ known. Did order.work order.mode known solutions before after answer) (opened_known left standard order.problem (device_inner task.problem).origin is.problem_is)
+    (subst (λ known. Did order.work order.mode (left_of left task.problem) known before after answer)
+    (all_opened_known left standard order.solutions.items task.solutions.items is.solutions_are)
+    (subst (λ (o : Order). Did o.work o.mode (left_of left task.problem) (map (left_of left) task.solutions.items) before after answer) is.order_is performed))
+
+-- what is finished is what the words ask for
+pub answered : {I : Type 0} (words : List (List ℕ)) (left : I → Option (List ℕ)) (standard : I) (task : Task I) (before after : SinkState) (status : ℕ)
+    → IsPrepared words standard task → Finishes left task before after status → Responds words (left standard) before after status
+answered words left standard task before after status prepared finished = inl (record {
+  order = prepared.0;
+  asked = prepared.1;
+  answer = finished.answer;
+  did = did left standard prepared.0 task before after finished.answer prepared.2 finished.did;
+  status_is = finished.status_is;
+})
 
 -- ---- what is prepared
 
@@ -246,4 +272,4 @@ prepared words standard order (Ok task) asked h = (order, asked, h)
 prepared words standard order (Err (reason.Words error)) asked h = absurd h
 prepared words standard order (Err (reason.Usage usage)) asked h = absurd h
 prepared words standard order (Err (reason.Open name error)) asked h = (order, asked)
-prepared words standard order (Err (reason.Run error)) asked h = (h, (order, asked))
+prepared words standard order (Err reason.Memory) asked h = (order, asked)

@@ -14,6 +14,9 @@ described app old new text is of = (ap app_of_fields is ∙ of.0, ap (λ f. f.ha
 pub long_described : (app : App) (old new : Command) (text : Bor (List ℕ)) → out-Command new ≡ record (out-Command old) { long_about = Some text } → IsOf app old → IsOf app new
 long_described app old new text is of = (ap app_of_fields is ∙ of.0, ap (λ f. f.has_globals) is ∙ of.1)
 
+pub followed : (app : App) (old new : Command) (text : Bor (List ℕ)) → out-Command new ≡ record (out-Command old) { after_help = Some text } → IsOf app old → IsOf app new
+followed app old new text is of = (ap app_of_fields is ∙ of.0, ap (λ f. f.has_globals) is ∙ of.1)
+
 pub versioned : (app : App) (old new : Command) (text : Bor (List ℕ)) → out-Command new ≡ record (out-Command old) { version = Some text } → IsOf app old
     → IsOf (record app { top = record app.top { has_version = true } }) new
 versioned app old new text is of =

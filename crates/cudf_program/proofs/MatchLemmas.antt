@@ -5,7 +5,7 @@ use Rattle.clap.specs.Matches.{first_value, matched_of, raw_values}
 use Rattle.clap.specs.Words.{Row, rows_of, first_of, all_of}
 use Rattle.clap.proofs.WalkLemmas.{first_value-rows, raw_values-rows}
 use Rattle.cudf_program.specs.declared.command.Order.{Order}
-use Rattle.cudf_program.specs.declared.command.Refusal.{Refusal}
+use Rattle.cudf_program.specs.declared.refusal.Refusal.{Refusal}
 use Rattle.cudf_program.specs.Command.{Words, words_of, words_in, Asks, AsksOf, IsAskedBy, IsRefusedBy, arguments, has_list_apart}
 
 abbrev all_words : (problem : Option (List ℕ)) (solution solutions : Option (List (List ℕ))) (after limit criteria strict : Option (List ℕ)) → Words

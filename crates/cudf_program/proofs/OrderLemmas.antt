@@ -1,5 +1,5 @@
 -- What a parse by the grammar says of the words.
-use Rattle.std.proofs.Common.{◌≡◌, ◌∙◌, ℕ, [], List, Result, Ok, Err, IsErr, IsErrAnd, MatchResult, ap, subst, inl, inr, refl, true}
+use Rattle.std.proofs.Common.{◌≡◌, ◌∙◌, ℕ, [], List, ap, subst, sym, inl, inr, refl, true}
 use Rattle.clap.specs.Faults.{fault_of, is_simple_and_free}
 use Rattle.clap.specs.Kinds.{HasKind}
 use Rattle.clap.specs.Simple.{App, HasMatchesOf, is_simple, subcommand_of, subcommand_rows_of}
@@ -8,10 +8,11 @@ use Rattle.clap.specs.declared.error.Error.{Error}
 use Rattle.clap.specs.declared.parser.matches.ArgMatches.{ArgMatches}
 use Rattle.clap.proofs.OnLiterals.{clap_on_literals}
 use Rattle.cudf_program.specs.Grammar.{grammar}
-use Rattle.cudf_program.specs.Orders.{IsAskedFor, IsUnasked}
-use Rattle.cudf_program.specs.Usage.{kind_status, usage_status}
-use Rattle.cudf_program.specs.declared.command.Order.{Order}
+use Rattle.cudf_program.specs.Command.{refusal_status}
+use Rattle.cudf_program.specs.Orders.{HasFault, IsUnasked, IsUnparsed}
+use Rattle.cudf_program.specs.Usage.{kind_status}
 use Rattle.cudf_program.specs.declared.usage.Usage.{Usage}
+use Rattle.cudf_program.specs.declared.usage.Usage.TheVariants.{Told, Mistake, Refused, Memory}
 
 is-simple : is_simple grammar ≡ true
 unfolding clap_on_literals
@@ -36,13 +37,17 @@ pub met : (words : List (List ℕ)) (app : App) (m : ArgMatches) → app ≡ gra
     → subcommand_rows_of m ≡ subcommand_of grammar words
 met words app m is h = (h (ap is_simple is ∙ is-simple)).1 ∙ ap (λ (a : App). subcommand_of a words) is
 
--- words that the parse refused ask for no run
-pub unparsed : (words : List (List ℕ)) (e : Error) (usage : Usage) → usage_status usage ≡ kind_status (kind_of e)
-    → HasKind (fault_of grammar words) e → IsUnasked words usage
-unparsed words e usage is (inl memory) = inl (is ∙ ap kind_status memory)
-unparsed words e usage is (inr kind) = inr (inl (kind_of e, kind, is))
+-- the kind of a fault that isn't want of memory, with its status
+of_kind : (words : List (List ℕ)) (e : Error) (status : ℕ) → status ≡ kind_status (kind_of e) → (status ≡ 6 → ⊥)
+    → HasKind (fault_of grammar words) e → HasFault words status
+of_kind words e status is other (inl memory) = absurd (other (is ∙ ap kind_status memory))
+of_kind words e status is other (inr among) = (kind_of e, among, is)
 
-pub told : (words : List (List ℕ)) (r : Result Order Usage) (e : Error) → IsErr r × IsErrAnd r (λ usage. usage_status usage ≡ kind_status (kind_of e))
-    → HasKind (fault_of grammar words) e → MatchResult r (IsAskedFor words) (IsUnasked words)
-told words (Ok order) e is h = absurd is.1
-told words (Err usage) e is h = unparsed words e usage is.1 h
+-- words in which the parse found a fault ask for no run
+pub unparsed : (words : List (List ℕ)) (e : Error) (usage : Usage) → IsUnparsed words (kind_of e) usage
+    → HasKind (fault_of grammar words) e → IsUnasked words usage
+unparsed words e (Told text) h kind = of_kind words e 0 h.status_is (λ is. cc) kind
+unparsed words e (Mistake topic text) h kind = (of_kind words e 4 h.status_is (λ is. cc) kind, h.told_apart)
+unparsed words e (Refused topic refusal) h kind =
+    inr (of_kind words e 4 (sym (ap refusal_status h.told_apart.0) ∙ h.status_is) (λ is. cc) kind, h.told_apart.0, h.told_apart.1)
+unparsed words e Memory h kind = tt

@@ -20,8 +20,8 @@ use Rattle.cudf_check.specs.declared.job.Job.TheVariants.{Lint, Check, Score}
 use Rattle.cudf_program.specs.declared.command.FileName.{FileName}
 use Rattle.cudf_program.specs.declared.command.FileName.TheVariants.{Path, Standard}
 use Rattle.cudf_program.specs.declared.command.Order.{Order}
-use Rattle.cudf_program.specs.declared.command.Refusal.{Refusal}
-use Rattle.cudf_program.specs.declared.command.Refusal.TheVariants.{Missing, Twice, NoKey, NoNumber, NoList, Apart, Memory}
+use Rattle.cudf_program.specs.declared.refusal.Refusal.{Refusal}
+use Rattle.cudf_program.specs.declared.refusal.Refusal.TheVariants.{Missing, Twice, NoKey, NoNumber, NoList, Apart, Memory}
 use Rattle.cudf_program.specs.declared.command.Work.{Work}
 use Rattle.cudf_program.specs.declared.command.Work.TheVariants.{Run, Rank}
 
@@ -116,6 +116,15 @@ HasList given = (aims : Option (List Aim)) × IsList given aims
 abbrev pub has_list_apart : List (List ℕ) → Bool
 has_list_apart [] = false
 has_list_apart (word ∷ words) = if bytes_eq word (codes "--") then false else (bytes_eq word (codes "--criteria") || has_list_apart words)
+
+-- the arguments are of a command that takes a list
+abbrev pub takes_list : List (List ℕ) → Bool
+takes_list [] = false
+takes_list (word ∷ words) = bytes_eq word (codes "score") || bytes_eq word (codes "rank")
+
+-- of such a command, the list stands apart
+abbrev pub takes_list_apart : List (List ℕ) → Bool
+takes_list_apart words = takes_list words && has_list_apart words
 
 -- ---- modes
 

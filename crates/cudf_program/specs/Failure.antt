@@ -1,37 +1,38 @@
 -- The exit statuses where the program wrote no whole report.
-use Rattle.std.specs.Prelude.{◌≡◌, ◌≢◌, ◌⊎◌, ℕ, Result, Ok, Err}
+use Rattle.std.specs.Prelude.{◌≡◌, ◌≢◌, ◌<◌, ◌⊎◌, ℕ, Result, Ok, Err}
 use Rattle.std.specs.declared.io.Error.{Error}
 use Rattle.std.specs.declared.io.ErrorKind.{ErrorKind}
 use Rattle.std.specs.declared.io.ErrorKind.TheVariants.{OutOfMemory}
-use Rattle.cudf_program.specs.Usage.{usage_status}
+use Rattle.cudf_check.specs.Device.{SinkState}
 use Rattle.cudf_check.specs.Outcome.{error_status, outcome_status}
-use Rattle.cudf_program.specs.declared.command.FileName.{FileName}
-use Rattle.cudf_program.specs.declared.failure.Failure.{Failure}
-use Rattle.cudf_program.specs.declared.failure.Failure.TheVariants.{Words, Usage, Open, Run}
 use Rattle.cudf_check.specs.declared.outcome.Outcome.{Outcome}
 use Rattle.cudf_check.specs.declared.outcome.RunError.{RunError}
-use Rattle.cudf_check.specs.declared.outcome.RunError.TheVariants.{Memory}
+use Rattle.cudf_program.specs.Usage.{usage_status}
+use Rattle.cudf_program.specs.declared.command.FileName.{FileName}
+use Rattle.cudf_program.specs.declared.failure.Failure.{Failure}
+use Rattle.cudf_program.specs.declared.failure.Failure.TheVariants.{Words, Usage, Open, Memory}
+use Rattle.cudf_program.specs.declared.usage.Usage.TheVariants as usage
 
 -- words that can't be had are a usage fault, and a file that can't be opened is one of files
 abbrev pub failure_status : Failure → ℕ
 failure_status (Words error) = 4
 failure_status (Usage usage) = usage_status usage
 failure_status (Open name error) = 5
-failure_status (Run error) = error_status error
+failure_status Memory = 6
 
 -- why the words can't be had: out of memory is told as such
 abbrev pub words_failure : ErrorKind → Error → Failure
-words_failure OutOfMemory error = Run Memory
+words_failure OutOfMemory error = Usage usage.Memory
 words_failure _ error = Words error
 
 -- why the file can't be opened: out of memory is told as such, and anything else names the file
 abbrev pub open_failure : ErrorKind → FileName → Error → Failure
-open_failure OutOfMemory name error = Run Memory
+open_failure OutOfMemory name error = Memory
 open_failure _ name error = Open name error
 
--- the status of a failure: help that can't be printed is a write fault
-pub record IsStatusOf (failure : Failure) (status : ℕ) : Type 0 where
-  pub told : failure_status failure ≡ 0 → (status ≡ 0) ⊎ (status ≡ 5)
+-- the status of a failure: 5 for help or the version where a write of it failed
+pub record IsStatusOf (failure : Failure) (before after : SinkState) (status : ℕ) : Type 0 where
+  pub told : failure_status failure ≡ 0 → (status ≡ 0) ⊎ ((status ≡ 5) × (before.failures < after.failures))
   pub failed : failure_status failure ≢ 0 → status ≡ failure_status failure
 
 -- the status of a run's answer

@@ -13,7 +13,7 @@ use Rattle.cudf_check.specs.Report.{Report, report}
 use Rattle.cudf_check.specs.declared.device.Device.{Device}
 use Rattle.cudf_check.specs.declared.outcome.Outcome.{Outcome}
 use Rattle.cudf_check.specs.declared.outcome.RunError.{RunError}
-use Rattle.cudf_check.specs.declared.outcome.RunError.TheVariants.{Write, Memory}
+use Rattle.cudf_check.specs.declared.outcome.RunError.TheVariants.{Write}
 use Rattle.cudf_program.specs.Failure.{IsStatusOf, answer_status, failure_status, open_failure}
 use Rattle.cudf_program.specs.Orders.{IsAskedFor, IsUnasked}
 use Rattle.cudf_program.specs.declared.Task.{Task}
@@ -25,21 +25,30 @@ use Rattle.cudf_program.specs.declared.command.Work.TheVariants.{Run, Rank}
 use Rattle.cudf_program.specs.declared.failure.Failure.{Failure}
 use Rattle.cudf_program.specs.declared.failure.Failure.TheVariants as reason
 use Rattle.cudf_program.specs.declared.file.Input.{Input}
-use Rattle.cudf_program.specs.declared.file.Input.TheVariants as input
+use Rattle.cudf_program.specs.declared.file.Origin.{Origin}
+use Rattle.cudf_program.specs.declared.file.Origin.TheVariants as origin
 
 -- ---- inputs
 
--- the bytes that an input will still give, where it tells them: a file doesn't, and standard input by `left`
+-- the bytes that will still come from there, where it tells them: a file doesn't, and standard input by `left`
+abbrev pub origin_left : {I : Type 0} → (I → Option (List ℕ)) → Origin I → Option (List ℕ)
+origin_left left (origin.File file) = None
+origin_left left (origin.Standard standard) = left standard
+
+-- the bytes that an input will still give, where it tells them
 abbrev pub bytes_left : {I : Type 0} → (I → Option (List ℕ)) → Input I → Option (List ℕ)
-bytes_left left (input.File file) = None
-bytes_left left (input.Standard standard) = left standard
+bytes_left left input = origin_left left input.origin
+
+-- it is what the name stands for
+abbrev pub IsNamed : {I : Type 0} → I → FileName → Origin I → Type 0
+IsNamed standard (Path path) (origin.File file) = Unit {0}
+IsNamed standard (Path path) (origin.Standard other) = ⊥
+IsNamed standard Standard (origin.File file) = ⊥
+IsNamed standard Standard (origin.Standard other) = other ≡ standard
 
 -- the input is that of the name
 abbrev pub IsOpened : {I : Type 0} → I → FileName → Input I → Type 0
-IsOpened standard (Path path) (input.File file) = Unit {0}
-IsOpened standard (Path path) (input.Standard other) = ⊥
-IsOpened standard Standard (input.File file) = ⊥
-IsOpened standard Standard (input.Standard other) = other ≡ standard
+IsOpened standard name input = IsNamed standard name input.origin
 
 -- the input under a device is that of the name
 abbrev pub IsOpenedAs : {I : Type 0} → I → FileName → Device (Input I) → Type 0
@@ -51,8 +60,7 @@ AreOpened standard names devices = OfEach (IsOpenedAs standard) names devices
 
 -- the task is the order, on its files
 pub record IsTask {I : Type 0} (standard : I) (order : Order) (task : Task I) : Type 0 where
-  pub work_is : task.work ≡ order.work
-  pub mode_is : task.mode ≡ order.mode
+  pub order_is : task.order ≡ order
   pub problem_is : IsOpenedAs standard order.problem task.problem
   pub solutions_are : AreOpened standard order.solutions.items task.solutions.items
 
@@ -95,16 +103,18 @@ pub record Did (work : Work) (mode : Mode) (problem : Option (List ℕ)) (soluti
   -- `Write` exactly where a write failed
   pub write : IsErrOf answer Write ↔ (before.failures < after.failures)
 
+-- what a task did, and the status that comes of its answer
+pub record Finishes {I : Type 0} (left : I → Option (List ℕ)) (task : Task I) (before after : SinkState) (status : ℕ) : Type 0 where
+  pub answer : Result Outcome RunError
+  pub did : Did task.order.work task.order.mode (left_of left task.problem) (map (left_of left) task.solutions.items) before after answer
+  pub status_is : status ≡ answer_status answer
+
 -- ---- the program
 
 -- what is known of the bytes of a file: those of standard input, where it tells them
 abbrev pub known_of : Option (List ℕ) → FileName → Option (List ℕ)
 known_of standard (Path path) = None
 known_of standard Standard = standard
-
--- what contracts see of a device over a writer that has taken these bytes
-abbrev pub sink_state : {W : Type 0} → (W → Option (List ℕ)) → Device W → SinkState
-sink_state contents d = record { contents = contents d.inner; failures = d.failures }
 
 -- what an order did, where standard input gives these bytes
 abbrev pub DidOrder : Order → Option (List ℕ) → SinkState → SinkState → Result Outcome RunError → Type 0
@@ -123,26 +133,26 @@ abbrev pub IsFailureOf : List (List ℕ) → Failure → Type 0
 IsFailureOf words (reason.Words error) = ⊥
 IsFailureOf words (reason.Usage usage) = IsUnasked words usage
 IsFailureOf words (reason.Open name error) = (order : Order) × IsAskedFor words order
-IsFailureOf words (reason.Run error) = (error ≡ Memory) × ((order : Order) × IsAskedFor words order)
+IsFailureOf words reason.Memory = (order : Order) × IsAskedFor words order
 
 -- a failure to open a file
 abbrev pub IsOfFile : Failure → Type 0
 IsOfFile (reason.Words error) = ⊥
 IsOfFile (reason.Usage usage) = ⊥
 IsOfFile (reason.Open name error) = Unit {0}
-IsOfFile (reason.Run error) = error ≡ Memory
+IsOfFile reason.Memory = Unit {0}
 
 -- a file of this name couldn't be opened, for some error
 abbrev pub IsUnopened : FileName → Failure → Type 0
 IsUnopened name failure = (error : Error) × (failure ≡ open_failure (error_kind error) name error)
 
--- no run was begun, and the status says why: help and the version are printed, and nothing else is
-pub record Fails (words : List (List ℕ)) (before after : Option (List ℕ)) (status : ℕ) : Type 0 where
+-- no run was begun, and the status says why: something is printed only where help or the version was asked for
+pub record Fails (words : List (List ℕ)) (before after : SinkState) (status : ℕ) : Type 0 where
   pub failure : Failure
   pub comes_of : IsFailureOf words failure
-  pub status_is : IsStatusOf failure status
-  pub untouched : failure_status failure ≢ 0 → Keeps before after
+  pub status_is : IsStatusOf failure before after status
+  pub untouched : failure_status failure ≢ 0 → Keeps before.contents after.contents
 
 -- what the program does with the words, where standard input holds these bytes and standard output had these
 abbrev pub Responds : List (List ℕ) → Option (List ℕ) → SinkState → SinkState → ℕ → Type 0
-Responds words standard before after status = Answers words standard before after status ⊎ Fails words before.contents after.contents status
+Responds words standard before after status = Answers words standard before after status ⊎ Fails words before after status

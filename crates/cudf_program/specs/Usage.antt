@@ -2,13 +2,15 @@
 use Rattle.std.specs.Prelude.{ℕ}
 use Rattle.clap.specs.declared.error.kind.ErrorKind.{ErrorKind}
 use Rattle.clap.specs.declared.error.kind.ErrorKind.TheVariants.{DisplayHelp, DisplayVersion, OutOfMemory}
+use Rattle.cudf_program.specs.Command.{refusal_status}
 use Rattle.cudf_program.specs.declared.usage.Usage.{Usage}
-use Rattle.cudf_program.specs.declared.usage.Usage.TheVariants.{Told, Mistake, Memory}
+use Rattle.cudf_program.specs.declared.usage.Usage.TheVariants.{Told, Mistake, Refused, Memory}
 
--- help and the version are answers, a mistake is a usage fault
+-- help and the version are answers, a mistake is a usage fault, and a refusal has its own status
 abbrev pub usage_status : Usage → ℕ
 usage_status (Told text) = 0
-usage_status (Mistake text) = 4
+usage_status (Mistake topic text) = 4
+usage_status (Refused topic refusal) = refusal_status refusal
 usage_status Memory = 6
 
 -- the status of words that can't be parsed, by the kind of error

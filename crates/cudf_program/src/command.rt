@@ -2,17 +2,17 @@
 ghost use Rattle.std.specs.Prelude.{◌≡◌, IfOk, MatchResult, drop, is_some, map, option_map, string_bytes, true, false};
 ghost use Rattle.clap.specs.Matches.{found_of};
 ghost use Rattle.clap.specs.Words.{subcommand_rows_of};
-ghost use Rattle.cudf_program.specs.Command.{IsNamedBy, AreNamedBy, AreGivenBy, IsAfter, IsLimit, IsList, words_of, lint_words, check_words, score_words, rank_words, AnswersBy, Lints, Checks, Scores, Ranks, RefusesKey, RefusesLimit, RefusesList, Asks, IsAskedBy, IsRefusedBy, has_list_apart, mode_of, refusal_status, takes_standard_twice};
-ghost use Rattle.cudf_program.specs.declared.command.Refusal.TheVariants.{Memory};
-ghost use Rattle.cudf_program.specs.Usage.{usage_status};
+ghost use Rattle.cudf_program.specs.Command.{IsNamedBy, AreNamedBy, AreGivenBy, IsAfter, IsLimit, IsList, words_of, lint_words, check_words, score_words, rank_words, AnswersBy, Lints, Checks, Scores, Ranks, RefusesKey, RefusesLimit, RefusesList, Asks, IsAskedBy, IsRefusedBy, has_list_apart, mode_of, takes_list, takes_list_apart, takes_standard_twice};
+ghost use Rattle.cudf_program.specs.declared.refusal.Refusal.TheVariants.{Memory};
 ghost use Rattle.cudf_program.specs.Orders.{IsAskedFor, IsUnasked};
 
 use crate::grammar::{
     AFTER, CHECK, CRITERIA, LIMIT, LINT, PROBLEM, RANK, SCORE, SOLUTION, SOLUTIONS, STRICT, program,
 };
-use crate::usage::Usage;
-use clap::error::ErrorKind;
-use clap::{ArgMatches, Command};
+use crate::refusal::Refusal;
+use crate::topic::Topic;
+use crate::usage::{Usage, unparsed};
+use clap::ArgMatches;
 use cudf_check::{Aim, Job, Key, Mode};
 use cudf_referee::read_criterion;
 use cudf_value::read_posint;
@@ -39,6 +39,15 @@ impl FileName<'_> {
     }
 }
 
+impl fmt::Display for FileName<'_> {
+    fn fmt<W: fmt::Write>(&self, f: &mut fmt::Formatter<W>) -> fmt::Result {
+        match self {
+            FileName::Path(path) => write!(f, "{path}"),
+            FileName::Standard => write!(f, "standard input"),
+        }
+    }
+}
+
 /// What the words ask for.
 #[derive(Debug, PartialEq, Eq, Drop)]
 pub(crate) struct Order<'w> {
@@ -61,91 +70,19 @@ pub(crate) enum Work {
     Rank(Vec<Aim>),
 }
 
-/// Why the words of a command ask for no run.
-#[derive(Clone, Copy)]
-pub(crate) enum Refusal<'w> {
-    /// A word is missing.
-    Missing,
-    /// Two files are standard input.
-    Twice,
-    /// The word of `--after` is no key.
-    NoKey(&'w str),
-    /// The word of `--limit` is no positive integer.
-    NoNumber(&'w str),
-    /// The word of `--criteria` is no list of aims.
-    NoList(&'w str),
-    /// `--criteria` and its list are two words.
-    Apart,
-    /// Memory ran out.
-    Memory,
-}
-
-impl Refusal<'_> {
-    /// The kind of usage fault.
-    fn kind(self) -> ErrorKind {
-        match self {
-            Refusal::Missing => ErrorKind::MissingRequiredArgument,
-            Refusal::Apart => ErrorKind::NoEquals,
-            Refusal::Memory => ErrorKind::OutOfMemory,
-            Refusal::Twice | Refusal::NoKey(_) | Refusal::NoNumber(_) | Refusal::NoList(_) => {
-                ErrorKind::ValueValidation
-            }
-        }
-    }
-}
-
-impl fmt::Display for Refusal<'_> {
-    fn fmt<W: fmt::Write>(&self, f: &mut fmt::Formatter<W>) -> fmt::Result {
-        match self {
-            Refusal::Missing => write!(f, "a word is missing"),
-            Refusal::Twice => write!(f, "- can stand for one file only"),
-            Refusal::NoKey(word) => write!(
-                f,
-                "invalid value '{word}' for '--after <KEY>': a key is written as in a report, as p1.depends.2"
-            ),
-            Refusal::NoNumber(word) => write!(
-                f,
-                "invalid value '{word}' for '--limit <N>': it is no number from 1 to 18446744073709551615"
-            ),
-            Refusal::NoList(word) => write!(
-                f,
-                "invalid value '{word}' for '--criteria=<LIST>': a list is written without blanks, as -removed,+new"
-            ),
-            Refusal::Apart => write!(
-                f,
-                "equal sign is needed when assigning values to '--criteria=<LIST>'"
-            ),
-            Refusal::Memory => write!(f, "there is not enough memory"),
-        }
-    }
-}
-
 /// The run that the words ask for. The first word is the program's name.
-pub(crate) fn command<'w>(alloc: Global, words: &'w [String]) -> Result<Order<'w>, Usage>
+pub(crate) fn command<'w>(alloc: Global, words: &'w [String]) -> Result<Order<'w>, Usage<'w>>
     ensures asks { MatchResult result (IsAskedFor (map (λ word. string_bytes word) words.entry.now)) (IsUnasked (map (λ word. string_bytes word) words.entry.now)) }
     ensures once { IfOk result (λ order. takes_standard_twice order ≡ false) }
 {
     let mut program = program(alloc)?;
-    let matches = program.try_get_matches_from_mut(words)?;
-    match asked_order(alloc, words, &matches) {
-        Ok(order) => Ok(order),
-        Err(refusal) => Err(usage(alloc, &mut program, refusal)?),
+    match program.try_get_matches_from_mut(words) {
+        Ok(matches) => match asked_order(alloc, words, &matches) {
+            Ok(order) => Ok(order),
+            Err(refusal) => Err(Usage::Refused(Topic::of(arguments(words)), refusal)),
+        },
+        Err(error) => Err(unparsed(alloc, words, error)?),
     }
-}
-
-/// Why the words start no run, where a refusal says it.
-fn usage(
-    alloc: Global,
-    program: &mut Command<'_>,
-    refusal: Refusal<'_>,
-) -> Result<Usage, AllocError>
-    ensures { IfOk result (λ usage. usage_status usage ≡ refusal_status refusal.entry) }
-{
-    if let Refusal::Memory = refusal {
-        return Ok(Usage::Memory);
-    }
-    let text = format!(in alloc; "{refusal}")?;
-    Ok(Usage::Mistake(program.error(refusal.kind(), &text)?))
 }
 
 /// What the words ask for, of which a parse met these matches.
@@ -169,12 +106,29 @@ fn asked_order<'w>(
 }
 
 /// The words behind the program's own name.
-fn arguments(words: &[String]) -> &[String]
+pub(crate) fn arguments(words: &[String]) -> &[String]
     ensures { map (λ word. string_bytes word) result.now ≡ drop 1 (map (λ word. string_bytes word) words.now) }
 {
     match words.split_first() {
         Some((_, arguments)) => arguments,
         None => words,
+    }
+}
+
+/// Whether a list stands apart from the `--criteria` of a command that takes one.
+pub(crate) fn takes_list_apart(arguments: &[String]) -> bool
+    ensures { result ≡ takes_list_apart (map (λ word. string_bytes word) arguments.now) }
+{
+    takes_list(arguments) && has_list_apart(arguments)
+}
+
+/// Whether the first argument is a command that takes a list.
+fn takes_list(arguments: &[String]) -> bool
+    ensures { result ≡ takes_list (map (λ word. string_bytes word) arguments.now) }
+{
+    match arguments.first() {
+        Some(word) => word.as_str() == SCORE || word.as_str() == RANK,
+        None => false,
     }
 }
 
@@ -311,7 +265,7 @@ fn read_list<'w>(alloc: Global, word: Option<&'w str>) -> Result<Option<Vec<Aim>
 
 impl From<AllocError> for Refusal<'_> {
     ghost use Rattle.std.specs.Prelude.{◌≡◌};
-    ghost use Rattle.cudf_program.specs.declared.command.Refusal.TheVariants.{Memory};
+    ghost use Rattle.cudf_program.specs.declared.refusal.Refusal.TheVariants.{Memory};
 
     ghost from_gives = { λ _ refusal. refusal ≡ Memory };
 

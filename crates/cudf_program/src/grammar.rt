@@ -7,7 +7,7 @@ use clap::{Arg, ArgAction, Command};
 use std::alloc::{AllocError, Global};
 
 /// The version of the program.
-const VERSION: &str = "0.1.0";
+const VERSION: &str = "1.0.0";
 
 pub(crate) const LINT: &str = "lint";
 
@@ -42,7 +42,7 @@ It prints these lines, and then whether the answer is a solution. They are count
   new               counts the names with a package installed after and none before.
   changed           counts the names whose set of installed versions differs.
   notuptodate       counts the names with a package installed after, but not their greatest version in the problem.
-  unsat_recommends  counts the recommended conjuncts of packages installed after that the answer doesn't satisfy.
+  unsat_recommends  counts the recommended clauses of packages installed after that the answer doesn't satisfy.
   paranoid          is what the paranoid track minimises: removed, then changed.
   trendy            is what the trendy track minimises: removed, then notuptodate, unsat_recommends and new.";
 
@@ -57,12 +57,25 @@ or touched. Solutions are compared by the first aim whose counts differ. Those t
 files.
   touched  counts the packages that are installed before or after, and not both.";
 
+const STATUSES: &str = "Exit status:
+  0  the answer is a solution, or the problem is without fault; rank: one of the answers is a solution
+  1  the answer is no solution; rank: none is, and one doesn't say FAIL
+  2  a document is faulty
+  3  the answer says FAIL; rank: all do
+  4  the words aren't understood
+  5  a file can't be opened, a read or a write failed, or an input is longer than 268435456 bytes
+  6  there isn't enough memory
+
+FAIL alone in the file of an answer says that its solver found no solution; whether there is one isn't judged.
+A line of a report begins with a key, as p1.depends.2: the second clause of depends of the first package of the problem.";
+
 /// The program with its commands.
 pub(crate) fn program<'w>(alloc: Global) -> Result<Command<'w>, AllocError>
     ensures { IfOk result (IsOf grammar) }
 {
     Command::new(alloc, "cudf_check")
         .about("Checks solutions of CUDF 2.0 problems")
+        .after_help(STATUSES)
         .version(VERSION)
         .subcommand_required(true)
         .subcommand(lint_command(alloc)?)?
@@ -76,8 +89,9 @@ fn lint_command<'w>(alloc: Global) -> Result<Command<'w>, AllocError>
 {
     Command::new(alloc, LINT)
         .about("Says whether a file is a problem without fault")
+        .after_help(STATUSES)
         .arg(problem(alloc))?
-        .arg(strict(alloc))
+        .arg(strict_problem(alloc))
 }
 
 fn check_command<'w>(alloc: Global) -> Result<Command<'w>, AllocError>
@@ -85,6 +99,7 @@ fn check_command<'w>(alloc: Global) -> Result<Command<'w>, AllocError>
 {
     Command::new(alloc, CHECK)
         .about("Checks a solution, and prints each rule that it breaks")
+        .after_help(STATUSES)
         .arg(problem(alloc))?
         .arg(solution(alloc))?
         .arg(after(alloc))?
@@ -98,6 +113,7 @@ fn score_command<'w>(alloc: Global) -> Result<Command<'w>, AllocError>
     Command::new(alloc, SCORE)
         .about(ABOUT_SCORE)
         .long_about(ABOUT_SCORE_LINES)
+        .after_help(STATUSES)
         .arg(problem(alloc))?
         .arg(solution(alloc))?
         .arg(criteria(alloc))?
@@ -110,6 +126,7 @@ fn rank_command<'w>(alloc: Global) -> Result<Command<'w>, AllocError>
     Command::new(alloc, RANK)
         .about(ABOUT_RANK)
         .long_about(ABOUT_RANK_LINES)
+        .after_help(STATUSES)
         .arg(problem(alloc))?
         .arg(solutions(alloc))?
         .arg(needed_criteria(alloc))?
@@ -149,10 +166,9 @@ fn after<'w>(alloc: Global) -> Arg<'w>
     ensures rule { rule_of result ≡ after_option }
     ensures local { result.global ≡ false }
 {
-    Arg::new(alloc, AFTER)
-        .long(AFTER)
-        .value_name("KEY")
-        .help("Prints only the lines whose keys come after this one")
+    Arg::new(alloc, AFTER).long(AFTER).value_name("KEY").help(
+        "Prints only the broken rules whose keys come after this one",
+    )
 }
 
 fn limit<'w>(alloc: Global) -> Arg<'w>
@@ -160,7 +176,7 @@ fn limit<'w>(alloc: Global) -> Arg<'w>
     ensures local { result.global ≡ false }
 {
     Arg::new(alloc, LIMIT).long(LIMIT).value_name("N").help(
-        "Prints at most N of these lines, and after which key the next one comes",
+        "Prints at most N broken rules, and after which key the next one comes",
     )
 }
 
@@ -188,10 +204,19 @@ fn strict<'w>(alloc: Global) -> Arg<'w>
     ensures rule { rule_of result ≡ strict_flag }
     ensures local { result.global ≡ false }
 {
+    strict_problem(alloc).help(
+        "Refuses a package that lacks a property which the preamble declares without a default, and a pair of name and version that a solution gives twice",
+    )
+}
+
+fn strict_problem<'w>(alloc: Global) -> Arg<'w>
+    ensures rule { rule_of result ≡ strict_flag }
+    ensures local { result.global ≡ false }
+{
     Arg::new(alloc, STRICT)
         .long(STRICT)
         .action(ArgAction::SetTrue)
         .help(
-            "Refuses packages without a declared property that has no default, and pairs that a solution gives twice",
+            "Refuses a package that lacks a property which the preamble declares without a default",
         )
 }

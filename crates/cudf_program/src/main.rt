@@ -2,35 +2,43 @@
 #![tactic(auto)]
 
 ghost use Rattle.std.specs.Prelude.{◌≡◌, ◌≢◌, IfOk, IfErr, MatchResult, map, string_bytes};
+ghost use Rattle.std.specs.Io.KnownBytes.{Keeps};
 ghost use Rattle.std.specs.Vec.Iter.{into_iter_items};
-ghost use Rattle.cudf_program.specs.Failure.{IsStatusOf, answer_status, failure_status};
-ghost use Rattle.cudf_program.specs.Program.{AreOpened, Did, IsPrepared, IsFailureOf, IsOfFile, IsOpened, IsTask, IsUnopened, Responds, left_of, sink_state};
+ghost use Rattle.cudf_program.specs.Failure.{IsStatusOf, failure_status};
+ghost use Rattle.cudf_program.specs.Program.{AreOpened, Did, Finishes, IsPrepared, IsFailureOf, IsOfFile, IsOpened, IsTask, IsUnopened, Responds, left_of};
 ghost use Rattle.cudf_program.specs.declared.command.Work.TheVariants.{Run};
 
 mod command;
 mod failure;
 mod file;
 mod grammar;
+mod output;
+mod refusal;
+mod stop;
 #[cfg(test)]
 mod tests;
+mod topic;
 mod usage;
 
 use command::{FileName, Order, Work, command as order_of};
 use cudf_check::{Device, Job, Mode, Outcome, RunError, Sink, rank, run};
-use failure::{Failure, tell};
+use failure::Failure;
 use file::{Input, open};
+use output::write_all;
 use std::alloc::{AllocError, Global};
 use std::env;
 use std::fs::File;
 use std::io::{self, Read, Write};
 use std::process::ExitCode;
 use std::rt::Env;
+use stop::Stop;
+use usage::Usage;
 
 fn main(rt: HostRuntime) -> ExitCode {
-    let (mut output, mut errors) = (rt.stdout(), rt.stderr());
+    let (mut out, mut errors) = (Device::new(rt.stdout()), rt.stderr());
     let status = match words(&rt) {
-        Ok(words) => respond(&rt, &words, rt.stdin(), Device::new(output), &mut errors).0,
-        Err(error) => fail(Failure::from_words(error), &mut output, &mut errors),
+        Ok(words) => respond(&rt, &words, rt.stdin(), &mut out, &mut errors),
+        Err(error) => fail(Failure::from_words(error), &mut out, &mut errors),
     };
     ExitCode::from(status)
 }
@@ -53,50 +61,52 @@ fn gathered(alloc: Global, args: env::Args) -> Result<Vec<String>, AllocError>
     Ok(words)
 }
 
-/// Does what the words ask for, over standard input and output. Answers the exit status, and gives
-/// standard output back.
-fn respond<I: Read + Copy + Drop, O: Write + Drop, E: Write>(
+/// Does what the words ask for, over standard input and output, and answers the exit status.
+fn respond<I: Read + Copy + Drop, W: Sink, E: Write>(
     rt: &HostRuntime,
     words: &[String],
     standard: I,
-    mut out: Device<O>,
+    out: &mut W,
     errors: &mut E,
-) -> (u8, Device<O>)
-    ensures { Responds (map (λ word. string_bytes word) words.now) (I.remaining standard) (sink_state O.contents out) (sink_state O.contents result.1) result.0 }
+) -> u8
+    ensures { Responds (map (λ word. string_bytes word) words.now) (I.remaining standard) (W.state out.old) (W.state out.new) result }
 {
     match prepare(rt, words, standard) {
-        Ok(task) => {
-            let answer = perform(rt.alloc(), task, &mut out);
-            (close(answer, errors), out)
-        }
-        Err(failure) => {
-            let mut output = out.into_inner();
-            let status = fail(failure, &mut output, errors);
-            (status, Device::new(output))
-        }
+        Ok(task) => finish(rt.alloc(), task, out, errors),
+        Err(failure) => fail(failure, out, errors),
     }
 }
 
-/// The exit status of a run's answer. Where the run was broken off, it says why.
-fn close<E: Write>(answer: Result<Outcome, RunError>, errors: &mut E) -> u8
-    ensures { result ≡ answer_status answer }
+/// An order on open files.
+#[derive(Drop)]
+struct Task<'w, I> {
+    order: Order<'w>,
+    problem: Device<Input<I>>,
+    solutions: Vec<Device<Input<I>>>,
+}
+
+/// Does the work, and answers its exit status. Where it was broken off, it says why.
+fn finish<I: Read + Drop, W: Sink, E: Write>(
+    alloc: Global,
+    task: Task<'_, I>,
+    out: &mut W,
+    errors: &mut E,
+) -> u8
+    ensures { Finishes I.remaining task.entry (W.state out.old) (W.state out.new) result }
 {
-    match answer {
+    let Task {
+        order,
+        mut problem,
+        mut solutions,
+    } = task;
+    match perform(alloc, &order, &mut problem, &mut solutions, out) {
         Ok(outcome) => outcome.status(),
         Err(error) => {
-            let _told = tell(error, errors);
+            let stop = Stop::of((order.problem, problem), &order.solutions, solutions);
+            let _told = stop.tell(error, errors);
             error.status()
         }
     }
-}
-
-/// What the words ask for, on open files.
-#[derive(Drop)]
-struct Task<I> {
-    work: Work,
-    mode: Mode,
-    problem: Device<Input<I>>,
-    solutions: Vec<Device<Input<I>>>,
 }
 
 /// Opens the files that the words name. Nothing is opened before the words are understood and, where
@@ -105,7 +115,7 @@ fn prepare<'w, I: Read + Copy + Drop>(
     rt: &HostRuntime,
     words: &'w [String],
     standard: I,
-) -> Result<Task<I>, Failure<'w>>
+) -> Result<Task<'w, I>, Failure<'w>>
     ensures { MatchResult result (IsPrepared (map (λ word. string_bytes word) words.entry.now) standard) (IsFailureOf (map (λ word. string_bytes word) words.entry.now)) }
 {
     match order_of(rt.alloc(), words) {
@@ -119,17 +129,17 @@ fn open_files<'w, I: Read + Copy + Drop>(
     rt: &HostRuntime,
     order: Order<'w>,
     standard: I,
-) -> Result<Task<I>, Failure<'w>>
+) -> Result<Task<'w, I>, Failure<'w>>
     ensures { MatchResult result (IsTask standard order.entry) IsOfFile }
 {
     if order.takes_standard() {
-        expect_open(standard)?;
+        let mut tried = standard;
+        expect_open(&mut tried)?;
     }
     let problem = open_named(rt, order.problem, standard)?;
     let solutions = open_each(rt, &order.solutions, standard)?;
     Ok(Task {
-        work: order.work,
-        mode: order.mode,
+        order,
         problem: Device::new(problem),
         solutions,
     })
@@ -147,15 +157,16 @@ fn open_each<'w, I: Copy + Drop>(
     for &name in names {
         let input = open_named(rt, name, standard)?;
         if devices.push(Device::new(input)).is_err() {
-            return Err(Failure::Run(RunError::Memory));
+            return Err(Failure::Memory);
         }
     }
     Ok(devices)
 }
 
 /// Fails where standard input is closed: a file that is opened then would be read in its place.
-fn expect_open<'w, I: Read + Drop>(mut standard: I) -> Result<(), Failure<'w>>
-    ensures { IfErr result IsOfFile }
+fn expect_open<'w, I: Read>(standard: &mut I) -> Result<(), Failure<'w>>
+    ensures failed { IfErr result IsOfFile }
+    ensures untouched { Keeps (I.remaining standard.old) (I.remaining standard.new) }
 {
     match standard.read(&mut []) {
         Ok(_) => Ok(()),
@@ -178,23 +189,19 @@ fn open_named<'w, I: Drop>(
     }
 }
 
-/// Does the work on open files.
+/// Does the work of an order on open files.
 fn perform<I: Read + Drop, W: Sink>(
     alloc: Global,
-    task: Task<I>,
+    order: &Order<'_>,
+    problem: &mut Device<Input<I>>,
+    solutions: &mut [Device<Input<I>>],
     out: &mut W,
 ) -> Result<Outcome, RunError>
-    ensures { Did task.work task.mode (left_of I.remaining task.problem) (map (left_of I.remaining) task.solutions.items) (W.state out.old) (W.state out.new) result }
+    ensures { Did order.now.work order.now.mode (left_of I.remaining problem.old) (map (left_of I.remaining) solutions.old) (W.state out.old) (W.state out.new) result }
 {
-    let Task {
-        work,
-        mode,
-        mut problem,
-        mut solutions,
-    } = task;
-    match work {
-        Work::Run(job) => run_files(alloc, &job, mode, &mut problem, &mut solutions, out),
-        Work::Rank(aims) => rank(alloc, &aims, mode, &mut problem, &mut solutions, out),
+    match &order.work {
+        Work::Run(job) => run_files(alloc, job, order.mode, problem, solutions, out),
+        Work::Rank(aims) => rank(alloc, aims, order.mode, problem, solutions, out),
     }
 }
 
@@ -215,13 +222,18 @@ fn run_files<I: Read + Drop, W: Sink>(
     }
 }
 
-/// Prints what went wrong, and answers the exit status. Help that can't be printed is a write fault.
-fn fail<O: Write, E: Write>(failure: Failure<'_>, output: &mut O, errors: &mut E) -> u8
-    ensures status { IsStatusOf failure.entry result }
-    ensures quiet { failure_status failure.entry ≢ 0 → output.new ≡ output.old }
+/// Prints help or the version, or says what went wrong, and answers the exit status. Help that can't be printed is a
+/// write fault.
+fn fail<W: Sink, E: Write>(failure: Failure<'_>, out: &mut W, errors: &mut E) -> u8
+    ensures status { IsStatusOf failure.entry (W.state out.old) (W.state out.new) result }
+    ensures quiet { failure_status failure.entry ≢ 0 → out.new ≡ out.old }
 {
-    match (failure.print(output, errors), failure.status()) {
-        (Err(_), 0) => RunError::Write.status(),
-        (_, status) => status,
+    if let Failure::Usage(Usage::Told(text)) = &failure {
+        return match write_all(out, text.as_bytes()) {
+            Ok(()) => 0,
+            Err(_) => RunError::Write.status(),
+        };
     }
+    let _told = failure.tell(errors);
+    failure.status()
 }

@@ -4,3 +4,4 @@ mod failures;
 mod output;
 mod usage;
 mod words;
+mod writers;

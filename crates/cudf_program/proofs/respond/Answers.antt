@@ -1,13 +1,6 @@
-use Rattle.std.proofs.Common.{inl}
-use Rattle.cudf_program.proofs.FileLemmas.{did}
+use Rattle.std.proofs.Common.{map, string_bytes}
+use Rattle.cudf_program.proofs.FileLemmas.{answered}
 use Rattle.cudf_program.proofs.respond.Goals as goal
 
 pub returns-in-Ok : goal.returns-in-Ok
-returns-in-Ok g c =
-    inl (record {
-      order = c.in-Ok.ensures.0;
-      asked = c.in-Ok.ensures.1;
-      answer = c.perform-answer.result;
-      did = did g.I.Read.remaining c.args.standard c.in-Ok.ensures.0 c.in-Ok.task _ _ c.perform-answer.result c.in-Ok.ensures.2 c.perform-answer.ensures;
-      status_is = c.close.ensures;
-    })
+returns-in-Ok g c = answered (map string_bytes c.args.words.now) g.I.Read.remaining c.args.standard c.in-Ok.task _ _ c.finish.result c.in-Ok.ensures c.finish.ensures

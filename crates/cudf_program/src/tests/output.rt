@@ -41,6 +41,9 @@ const FIVE: &str =
 const FIVE_BY_NEW: &str =
     "1 solution 2 yes +new 1\n2 solution 4 yes +new 0\n3 solution 5 yes +new 0\n4 solution 3 no\n5 solution 1 FAIL\n";
 
+const UNREAD: &str =
+    "cudf_check: folder could not be read to its end: Is a directory (os error 21); check that it is a file that can be read, and run again\n";
+
 pub(super) const UNMET: &str = "p1.depends.1 car 1 line 1: needs wheel > 2\nsolution no\n";
 
 /// Words with what stands on standard input, and what the program answers and prints.
@@ -84,13 +87,9 @@ pub(super) fn fails(line: &'static str, status: u8, errors: &'static str) -> Cas
 fn passes(rt: &HostRuntime, case: &Case) -> Result<bool, Fail> {
     let words = words(rt, case.line)?;
     let mut errors = Vec::new(rt.alloc());
-    let (status, out) = respond(
-        rt,
-        &words,
-        case.standard.as_bytes(),
-        Device::new(Vec::new(rt.alloc())),
-        &mut errors,
-    );
+    let mut out = Device::new(Vec::new(rt.alloc()));
+    let standard = case.standard.as_bytes();
+    let status = respond(rt, &words, standard, &mut out, &mut errors);
     let output = out.into_inner();
     Ok(
         status == case.status
@@ -337,15 +336,14 @@ fn tells_what_went_wrong(rt: HostRuntime) -> Result<(), Fail> {
             5,
             "cudf_check: missing.cudf can't be opened: No such file or directory (os error 2); check the name, and run again\n",
         ),
+        fails("lint folder", 5, UNREAD),
+        fails("check problem.cudf folder", 5, UNREAD),
+        fails("check folder problem.cudf", 5, UNREAD),
+        // Of several inputs the one that fails is named.
         fails(
-            "lint folder",
+            "rank --criteria=-new cars.cudf car.cudf kept.cudf folder ghost.cudf",
             5,
-            "cudf_check: an input could not be read to its end; check that it is a file that can be read, and run again\n",
-        ),
-        fails(
-            "check problem.cudf folder",
-            5,
-            "cudf_check: an input could not be read to its end; check that it is a file that can be read, and run again\n",
+            UNREAD,
         ),
     ];
     assert_eq!(rt; first_failure(&rt, &cases)?, None);

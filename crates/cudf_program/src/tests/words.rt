@@ -1,13 +1,21 @@
 //! Words, the runs that they ask for, and the statuses of those that ask for none.
 use crate::command::{FileName, Order, Work, command};
+use crate::refusal::Refusal;
+use crate::topic::Topic;
+use crate::usage::Usage;
 use cudf_check::{Job, Key, Mode};
 use std::alloc::{AllocError, Global};
 use std::test::Fail;
 
 /// The words behind the program's name, parted at spaces.
 pub(super) fn words(rt: &HostRuntime, line: &str) -> Result<Vec<String>, Fail> {
+    words_of("cudf_check", rt, line)
+}
+
+/// The words of a program of this name.
+fn words_of(name: &str, rt: &HostRuntime, line: &str) -> Result<Vec<String>, Fail> {
     let mut words = Vec::new(rt.alloc());
-    words.push(String::from_str(rt.alloc(), "cudf_check")?)?;
+    words.push(String::from_str(rt.alloc(), name)?)?;
     for word in line.split(' ') {
         if !word.is_empty() {
             words.push(String::from_str(rt.alloc(), word)?)?;
@@ -280,6 +288,68 @@ fn refuses_other_keys_and_numbers(rt: HostRuntime) -> Result<(), Fail> {
         let joined = format!(in rt.alloc(); "check --{option}={value} p s")?;
         assert_eq!(rt; status_of(&rt, &parted)?, Some(4), "{option} {value}");
         assert_eq!(rt; status_of(&rt, &joined)?, Some(4), "{option} {value}");
+    }
+    Ok(())
+}
+
+/// The program's own name is no word of its command line, whatever it is.
+#[test]
+fn answers_under_other_names(rt: HostRuntime) -> Result<(), Fail> {
+    for name in ["cudf_check", "--", "--criteria", ""] {
+        for (line, topic) in [
+            ("score p s --criteria +new", Topic::Score),
+            ("rank --criteria +new p s", Topic::Rank),
+            ("rank --criteria -new p s", Topic::Rank),
+        ] {
+            let words = words_of(name, &rt, line)?;
+            let usage = command(rt.alloc(), &words).err();
+            assert!(rt;
+                matches!(&usage, Some(Usage::Refused(told, Refusal::Apart)) if *told == topic),
+                "{name:?} {line}"
+            );
+        }
+        for (line, asked, problem, solution) in [
+            ("lint p", Asked::Lint, "p", None),
+            ("check p s", Asked::Check, "p", Some("s")),
+            (
+                "score -- p --criteria",
+                Asked::Score,
+                "p",
+                Some("--criteria"),
+            ),
+        ] {
+            let words = words_of(name, &rt, line)?;
+            let answer = command(rt.alloc(), &words)?;
+            let expected = order(rt.alloc(), job_of(asked), problem, solution)?;
+            assert!(rt; answer == expected, "{name:?} {line}");
+        }
+    }
+    Ok(())
+}
+
+/// Of several refusals the first is told: a list that stands apart, the key, the limit, the list, and then the files.
+#[test]
+fn tells_the_first_refusal(rt: HostRuntime) -> Result<(), Fail> {
+    let lines = [
+        ("score - - --criteria=x --criteria +new", Refusal::Apart),
+        ("rank --criteria +new - -", Refusal::Apart),
+        ("check - - --limit 0 --after x", Refusal::NoKey("x")),
+        (
+            "check - - --limit 0 --after p1.keep.1",
+            Refusal::NoNumber("0"),
+        ),
+        ("check - - --limit 1 --after p1.keep.1", Refusal::Twice),
+        ("score - - --criteria=x", Refusal::NoList("x")),
+        ("rank - - --criteria=+x", Refusal::NoList("+x")),
+        ("rank - - --criteria=+new", Refusal::Twice),
+    ];
+    for (line, refusal) in lines {
+        let words = words(&rt, line)?;
+        let usage = command(rt.alloc(), &words).err();
+        assert!(rt;
+            matches!(&usage, Some(Usage::Refused(_, told)) if *told == refusal),
+            "{line}"
+        );
     }
     Ok(())
 }

@@ -1,0 +1,73 @@
+//! What the program says where a run was broken off.
+use crate::command::FileName;
+use crate::file::{Input, Reading};
+use cudf_check::{Device, RunError};
+use std::io::{self, Write};
+
+/// The input at which a run was broken off: the last one from which it read.
+#[derive(Clone, Copy)]
+pub(crate) struct Stop<'w> {
+    /// Its name.
+    pub name: FileName<'w>,
+    /// What its last read answered.
+    pub reading: Reading,
+}
+
+impl<'w> Stop<'w> {
+    /// The last of these inputs that was read, or else the first of all.
+    pub(crate) fn of<I: Drop>(
+        problem: (FileName<'w>, Device<Input<I>>),
+        names: &[FileName<'w>],
+        solutions: Vec<Device<Input<I>>>,
+    ) -> Stop<'w> {
+        let (name, device) = problem;
+        let mut last = Stop {
+            name,
+            reading: device.into_inner().reading(),
+        };
+        for (name, device) in names.iter().zip(solutions) {
+            let reading = device.into_inner().reading();
+            if !matches!(reading, Reading::Unread) {
+                last = Stop {
+                    name: *name,
+                    reading,
+                };
+            }
+        }
+        last
+    }
+
+    /// Says why the run was broken off.
+    pub(crate) fn tell<E: Write>(self, error: RunError, errors: &mut E) -> io::Result<()> {
+        match error {
+            RunError::Read => self.tell_read(errors),
+            RunError::TooLong => {
+                let name = self.name;
+                writeln!(
+                    errors,
+                    "cudf_check: {name} is longer than 268435456 bytes; give a shorter one"
+                )
+            }
+            RunError::Write => writeln!(
+                errors,
+                "cudf_check: the report could not be written to its end: the disk is full, or what reads it ended, as head does; check --limit gives a shorter report"
+            ),
+            RunError::Memory => writeln!(
+                errors,
+                "cudf_check: there is not enough memory for this input; free some, and run again"
+            ),
+        }
+    }
+
+    fn tell_read<E: Write>(self, errors: &mut E) -> io::Result<()> {
+        let name = self.name;
+        write!(errors, "cudf_check: {name} could not be read to its end")?;
+        if let Reading::Failed(error) = self.reading {
+            write!(errors, ": {error}")?;
+        }
+        writeln!(
+            errors,
+            "; check that it is a file that can be read, and run again"
+        )
+    }
+}
