@@ -508,6 +508,18 @@ def texts(trial):
         trial.expect(words, 6, "", NO_ROOM, before=lambda: resource.setrlimit(resource.RLIMIT_AS, (limit, limit)))
 
 
+def little_memory(trial):
+    """Too little memory for the words: what is enough for two of them, and as many that they need some ten megabytes."""
+    def limited(size):
+        return lambda: resource.setrlimit(resource.RLIMIT_AS, (size, size))
+
+    sizes = range(2 * MEGABYTE, 200 * MEGABYTE, MEGABYTE)
+    least = next(size for size in sizes if trial.run(["--version"], before=limited(size))[0] == 0)
+    words = ["rank", "--criteria=-new", "p"] + ["good"] * 100_000
+    trial.expect(words, 6, "", NO_ROOM_FOR_WORDS, before=limited(least + 3 * MEGABYTE))
+    trial.expect(words[:4], 0, ranked("1 yes -new 1"), before=limited(least + 3 * MEGABYTE))
+
+
 ROWS = (
     statuses, helps, scores_by_lists, rankings, faults_in_rankings, first_refusals, refused_lists, refused_rankings, unopened,
     too_many_files, names_with_blanks, other_names, closed_input, standard_input, empty_words, many_solutions, texts,
