@@ -282,7 +282,9 @@ fn tells_faults_of_lists(rt: HostRuntime) -> Result<(), Fail> {
             4,
             "error: the following required arguments were not provided:\n  --criteria <LIST>\n\nUsage: cudf_check rank [OPTIONS] --criteria <LIST> <P> <S>...\n\nFor more information, try 'cudf_check rank --help'.\n",
         ),
-        writes("rank --criteria --help", "", 0, RANK_HELP),
+        // Help is printed where the parse comes to it.
+        fails("rank --criteria --help", 4, APART),
+        writes("rank --help --criteria -new", "", 0, RANK_HELP),
     ];
     assert_eq!(rt; first_failure(&rt, &cases)?, None);
     Ok(())
