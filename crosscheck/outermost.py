@@ -343,7 +343,7 @@ def names_with_blanks(trial):
     ):
         trial.expect(words, status, output)
     for words, name in (
-        (["lint", "p  "], "p  "), (["check", "p", "good "], "good "), (["check", "p", " -"], " -"), (["lint", "- "], "- "),
+        (["lint", "p  "], "p  "), (["check", "p", "good "], "good "), (["check", "p", " -"], " -"), (["lint", "--", "- "], "- "),
         (["rank", "--criteria=-new", "p", "good", "\tbad"], "\tbad"),
     ):
         trial.expect(words, 5, "", missing(name))
@@ -522,7 +522,7 @@ def little_memory(trial):
 
 ROWS = (
     statuses, helps, scores_by_lists, rankings, faults_in_rankings, first_refusals, refused_lists, refused_rankings, unopened,
-    too_many_files, names_with_blanks, other_names, closed_input, standard_input, empty_words, many_solutions, texts,
+    too_many_files, names_with_blanks, other_names, closed_input, standard_input, empty_words, many_solutions, little_memory, texts,
 )
 
 

@@ -44,7 +44,7 @@ BYTES_PER_BYTE, FAULTY_BYTES_PER_BYTE, MORE_BYTES = 64, 3, MEGABYTE
 MORE_GROWTHS, MORE_READS = 500, 8
 GROWTHS_DOUBLED, TIME_DOUBLED = 2.2, 2.6
 TURNS, ROUNDS = 3, 5
-LONG = b"cudf_check: an input is longer than 268435456 bytes; give a shorter one\n"
+LONG = "cudf_check: {} is longer than 268435456 bytes; give a shorter one\n"
 OK, YES, NO = "problem ok\n", "solution yes\n", "solution no\n"
 
 Counts = collections.namedtuple("Counts", "growths blocks bytes peak reads given")
@@ -335,7 +335,7 @@ class Trials:
                 words = [self.path] + [{"G": great, "S": small}.get(word, word) for word in job.split()]
                 status, output, errors, counts = self.runner.counted(words)
                 answer = (OK if job == "lint G" else YES).encode()
-                wanted = (0, answer, b"") if size == GREATEST_INPUT else (5, b"", LONG)
+                wanted = (0, answer, b"") if size == GREATEST_INPUT else (5, b"", LONG.format(great).encode())
                 faults = [] if (status, output, errors) == wanted else [f"status {status}: {output[-99:]} {errors[-99:]}"]
                 if counts.peak > 3 * size + MORE_BYTES:
                     faults.append(f"{counts.peak} bytes of memory")
