@@ -542,12 +542,12 @@ def libraries(trials, behind_ci, jobs):
         stop("a library below isn't proved, so no edit can be tried")
 
 
-def try_all(trials, lanes, turns):
+def try_all(trials, lanes, turns, settled):
     """Tries all edits, so many checks side by side; of those that wait the one that takes longest first. A crate waits for
-    the libraries below it."""
+    the libraries below it, and is told of as soon as nothing of it is left to be tried."""
     jobs = max(1, lanes // len(trials)) if not turns.number else 1
     sizes = {it: it.crate.count(rb"\n") for it in trials}
-    waiting, numbers = PriorityQueue(), count()
+    waiting, numbers, left = PriorityQueue(), count(), Counter()
     pool = ThreadPoolExecutor(lanes)
 
     def next_done():
@@ -558,6 +558,7 @@ def try_all(trials, lanes, turns):
     def submit(trial, weight, act):
         # (a thread does what then waits at the front, which may be of another crate)
         waiting.put((-weight, next(numbers), trial, act))
+        left[trial] += 1
         return pool.submit(next_done)
 
     try:
@@ -573,21 +574,26 @@ def try_all(trials, lanes, turns):
             done, running = wait(running, timeout=1 if later else None, return_when="FIRST_COMPLETED")
             for trial, groups in (it.result() for it in done):
                 running |= {submit(trial, len(it.args[0]) * sizes[trial], it) for it in groups}
+                left[trial] -= 1
+                if not left[trial]:
+                    settled(trial)
     finally:
         # (after an error the checks that run are still waited for, so that their folders go)
         pool.shutdown(cancel_futures=True)
 
 
-def tell(trials, verbose):
-    """Prints what came of each edit, and returns whether each was refused."""
-    kinds = Counter()
-    for trial in trials:
-        for edit in trial.edits:
-            kind = trial.kind[edit]
-            kinds[kind] += 1
-            if verbose or kind != "refused":
-                print(f"{edit.name(trial.crate)}: {kind}: {trial.text[edit][:400]}")
-        print(f"{trial.crate.name}: {len(trial.edits)} wrong bodies, checks {', '.join(f'{it}: {n}' for it, n in trial.runs.items())}")
+def tell(trial, verbose):
+    """Prints what came of each edit of a crate."""
+    for edit in trial.edits:
+        if verbose or trial.kind[edit] != "refused":
+            print(f"{edit.name(trial.crate)}: {trial.kind[edit]}: {trial.text[edit][:400]}")
+    checks = ", ".join(f"{it}: {n}" for it, n in trial.runs.items())
+    print(f"{trial.crate.name}: {len(trial.edits)} wrong bodies, checks {checks}", flush=True)
+
+
+def tell_all(trials):
+    """Prints how many edits were refused, and returns whether each was."""
+    kinds = Counter(trial.kind[edit] for trial in trials for edit in trial.edits)
     well = sum(kinds[it] for it in WELL)
     used = resource.getrusage(resource.RUSAGE_CHILDREN)
     print(f"at most {used.ru_maxrss // 1024} MB a check, {(used.ru_utime + used.ru_stime) / 60:.1f} minutes of processor time")
@@ -621,8 +627,8 @@ def main():
         os.nice(10)
     else:
         libraries(trials, given.behind_ci, lanes)
-    try_all(trials, lanes, Turns(given.beside, lanes))
-    is_well = tell(trials, given.verbose)
+    try_all(trials, lanes, Turns(given.beside, lanes), partial(tell, verbose=given.verbose))
+    is_well = tell_all(trials)
     for it in held:
         os.close(it)
     return 0 if is_well else 1
