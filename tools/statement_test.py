@@ -88,7 +88,7 @@ class Program(Copy):
     def test_calls_none(self):
         path = self.root / "crates/cudf_program/src/main.rt"
         text = path.read_text()
-        changed = text.replace(", run};", "};").replace("    run(", "    skip(").replace("    run::<", "    skip::<")
+        changed = text.replace(", run};", "};").replace(" run(", " skip(").replace(" run::<", " skip::<")
         self.assertNotEqual(changed, text)
         path.write_text(changed)
         self.assert_refused(1, "the program doesn't call `run` of cudf_check")
@@ -96,7 +96,7 @@ class Program(Copy):
     def test_names_it_only(self):
         path = self.root / "crates/cudf_program/src/main.rt"
         text = path.read_text()
-        path.write_text(text.replace("    run(", "    skip(").replace("    run::<", "    skip::<"))
+        path.write_text(text.replace(" run(", " skip(").replace(" run::<", " skip::<"))
         self.assert_refused(1, "the program doesn't call `run` of cudf_check")
 
     def test_calls_another(self):
@@ -104,7 +104,7 @@ class Program(Copy):
         self.assert_refused(1, "the program uses `cudf_check::answer_job`")
 
     def test_calls_another_by_its_path(self):
-        self.plant("cudf_program/src/main.rt", "    run(alloc", "    cudf_check::run_again(alloc")
+        self.plant("cudf_program/src/main.rt", " run(alloc", " cudf_check::run_again(alloc")
         self.assert_refused(1, "the program uses `cudf_check::run_again`")
 
 
@@ -189,7 +189,7 @@ class Uses(Copy):
         self.assert_follows("use Rattle.cudf_check.specs.Working.Pages as pages -- all of them")
 
     def test_comment_behind_in_rust(self):
-        self.plant("cudf_check/src/lib.rt", "Runs.{change, change_of_lent, lent, returned, IsStopped, Runs, SkipsSolution};",
+        self.plant("cudf_check/src/lib.rt", "Runs.{change, change_of_lent, lent, returned, IsStopped, IsWithinTurns, Runs, SkipsSolution};",
                    "Working.Pages.{change, change_of_lent, lent, returned, Runs, SkipsSolution}; // a run")
         self.assert_refused(1, "the headline rests on crates/cudf_check/specs/Working/Pages.antt")
 
