@@ -251,8 +251,10 @@ fn answers_other_words_by_a_status(rt: HostRuntime) -> Result<(), Fail> {
 /// The status of words that ask for no run.
 pub(super) fn status_of(rt: &HostRuntime, line: &str) -> Result<Option<u8>, Fail> {
     let words = words(rt, line)?;
-    let usage = command(rt.alloc(), &words).err();
-    Ok(usage.map(|usage| usage.status()))
+    match command(rt.alloc(), &words) {
+        Ok(_) => Ok(None),
+        Err(usage) => Ok(Some(usage.status())),
+    }
 }
 
 #[test]

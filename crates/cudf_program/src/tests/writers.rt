@@ -24,12 +24,9 @@ impl Write for Stumbling {
         if call == self.failing {
             return Err(io::Error::from(ErrorKind::StorageFull));
         }
-        let mut count = 0;
-        for byte in bytes.iter().take(TAKEN) {
-            self.taken.push(*byte)?;
-            count += 1;
-        }
-        Ok(count)
+        let taken = &bytes[..bytes.len().min(TAKEN)];
+        self.taken.extend_from_slice(taken)?;
+        Ok(taken.len())
     }
 
     fn flush(&mut self) -> io::Result<()> {
