@@ -189,8 +189,8 @@ class Uses(Copy):
         self.assert_follows("use Rattle.cudf_check.specs.Working.Pages as pages -- all of them")
 
     def test_comment_behind_in_rust(self):
-        self.plant("cudf_check/src/lib.rt", "Runs.{change, change_of_lent, lent, returned, IsStopped, IsWithinTurns, Runs, SkipsSolution};",
-                   "Working.Pages.{change, change_of_lent, lent, returned, Runs, SkipsSolution}; // a run")
+        self.plant("cudf_check/src/lib.rt", "Runs.{change_of_lent, job_report, lent, read_for, returned, Runs, SkipsSolution};",
+                   "Working.Pages.{change_of_lent, job_report, lent, read_for, returned, Runs, SkipsSolution}; // a run")
         self.assert_refused(1, "the headline rests on crates/cudf_check/specs/Working/Pages.antt")
 
     def test_everything(self):

@@ -4,8 +4,8 @@ use Rattle.std.specs.List.{All}
 use Rattle.cudf_check.specs.declared.outcome.RunError.{RunError}
 use Rattle.cudf_check.specs.declared.outcome.RunError.TheVariants.{Read, TooLong, Write, Memory}
 use Rattle.cudf_check.specs.Device.{SourceState}
-use Rattle.cudf_check.specs.ManyRuns.{changes, OfOne, OfEach, LeavesBehind}
-use Rattle.cudf_check.specs.Runs.{Change, change, ReadsAll, IsUnfinished, IsTooLong, IsStopped, IsWithinTurns}
+use Rattle.cudf_check.specs.ManyRuns.{changes, LeavesBehind}
+use Rattle.cudf_check.specs.Readers.{Change, change, ReadsAll, IsUnfinished, IsTooLong, IsStopped, IsWithinTurns, OfOne, OfEach}
 use Rattle.cudf_check.specs.Working.InTurn.{ReadsInTurn}
 use Rattle.cudf_check.proofs.CommonLemmas.{same_error}
 

@@ -8,8 +8,8 @@ pub mod PageLemmas
 pub mod PaperLemmas
 pub mod RankExamples
 pub mod RankingLawLemmas
-pub mod RankLemmas
 pub mod RankingLemmas
 pub mod ReadingLemmas
+pub mod RunLemmas
 pub mod ThinLemmas
 pub mod WalkLemmas

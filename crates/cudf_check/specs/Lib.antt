@@ -6,8 +6,8 @@ pub mod Outcome
 pub mod Prefix
 pub mod RankLaws
 pub mod RankReport
-pub mod RankRuns
 pub mod Ranking
+pub mod Readers
 pub mod Report
 pub mod Runs
 pub mod Working

@@ -1,5 +1,5 @@
 -- The report of a ranking: a function of the aims, the problem and its solutions to a text and an outcome. Own.
-use Rattle.std.specs.Prelude.{ℕ, Bool, true, false, List, [], ◌∷◌, ◌++◌, map, codes, decimal, Option, option_map, if◌then◌else◌}
+use Rattle.std.specs.Prelude.{ℕ, Bool, ◌==◌, List, [], ◌∷◌, ◌++◌, map, codes, decimal, Option, option_map, if◌then◌else◌}
 use Rattle.std.specs.List.{flat_map, filter_map, list_any, enumerate_from}
 use Rattle.cudf_document.specs.declared.mode.Mode.{Mode}
 use Rattle.cudf_text.specs.declared.fault.Fault.{Fault}
@@ -12,7 +12,7 @@ use Rattle.cudf_referee.specs.Proposals.{Proposal}
 use Rattle.cudf_referee.specs.Solutions.{is_solution}
 use Rattle.cudf_referee.specs.declared.aims.Aim.{Aim}
 use Rattle.cudf_referee.specs.declared.criteria.Criteria.{Criteria}
-use Rattle.cudf_check.specs.Ranking.{ranking}
+use Rattle.cudf_check.specs.Ranking.{class, ranking}
 use Rattle.cudf_check.specs.Report.{Report, line, faulty, faulty_or, problem_fault, solution_fault, proposal_of}
 use Rattle.cudf_check.specs.declared.outcome.Outcome.{Outcome}
 use Rattle.cudf_check.specs.declared.outcome.Outcome.TheVariants.{Yes, No, Fail}
@@ -72,21 +72,11 @@ ranking_text aims ranked = flat_map (rank_line aims) (enumerate_from 1 ranked)
 
 -- it was judged to be a solution
 abbrev pub solves : Standing → Bool
-solves s = is_yes s.judgement
-  where
-    is_yes : Judgement → Bool
-    is_yes (Solution c) = true
-    is_yes NoSolution = false
-    is_yes SaysFail = false
+solves s = class s.judgement == 0
 
 -- it was judged to be none
 abbrev pub refuses : Standing → Bool
-refuses s = is_no s.judgement
-  where
-    is_no : Judgement → Bool
-    is_no (Solution c) = false
-    is_no NoSolution = true
-    is_no SaysFail = false
+refuses s = class s.judgement == 1
 
 -- `Yes` where one is a solution, or else `No` where one is none, or else `Fail`
 abbrev pub best_outcome : List Standing → Outcome

@@ -1,6 +1,6 @@
 //! Reads an input to its end, within limits on its bytes and on the calls that it takes.
 ghost use Rattle.std.specs.Prelude.{◌≡◌, ◌≢◌, ◌↔◌, IfOk, IfErr, IfSome, IsErrOf};
-ghost use Rattle.cudf_check.specs.Runs.{change, ReadsAll, IsUnfinished, IsTooLong, IsWithinTurns};
+ghost use Rattle.cudf_check.specs.Readers.{change, ReadsAll, IsUnfinished, IsTooLong, IsWithinTurns};
 
 use crate::device::{Source, Trouble};
 use crate::outcome::RunError;

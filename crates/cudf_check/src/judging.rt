@@ -1,6 +1,7 @@
 //! Judges the solutions of a problem.
 ghost use Rattle.std.specs.Prelude.{◌≡◌, ℕ, List, map, IfOk, IfErr};
 ghost use Rattle.cudf_document.specs.Universe.{PlainProblem};
+ghost use Rattle.cudf_document.specs.declared.mode.Mode.{Mode};
 ghost use Rattle.cudf_check.specs.RankReport.{judgement_of};
 ghost use Rattle.cudf_check.specs.Report.{solution_fault};
 ghost use Rattle.cudf_check.specs.Working.Judged.{IsJudged, AreJudged, IsFirstRefused};
@@ -8,10 +9,11 @@ ghost use Rattle.cudf_check.specs.Working.Refusals.{IsFaultOf, IsRefused};
 
 use crate::ranking::{Judgement, Standing};
 use crate::readings::{Refusal, proposed_in};
-use cudf_document::{Mode, Problem, ReadError};
+use crate::setting::Setting;
+use cudf_document::{Problem, ReadError};
 use cudf_referee::Referee;
 use cudf_text::Room;
-use std::alloc::{AllocError, Global};
+use std::alloc::AllocError;
 
 /// Why the solutions aren't ranked.
 #[derive(Debug, Drop)]
@@ -44,18 +46,13 @@ fn unjudged(refusal: Refusal) -> Result<Judgement, ReadError>
 }
 
 /// Judges a solution.
-fn judge(
-    alloc: Global,
-    problem: &Problem<'_>,
-    bytes: &[u8],
-    mode: Mode,
-) -> Result<Judgement, ReadError>
-    ensures judged { IfOk result (IsJudged mode problem.now bytes.now) }
-    ensures fault { IfErr result (IsFaultOf (solution_fault mode bytes.now)) }
+fn judge(setting: Setting, problem: &Problem<'_>, bytes: &[u8]) -> Result<Judgement, ReadError>
+    ensures judged { IfOk result (IsJudged setting.mode problem.now bytes.now) }
+    ensures fault { IfErr result (IsFaultOf (solution_fault setting.mode bytes.now)) }
 {
-    let mut room = Room::new(alloc);
-    match proposed_in(alloc, bytes, &mut room, problem, mode) {
-        Ok(solution) => match Referee::new(alloc, problem, &solution) {
+    let mut room = Room::new(setting.alloc);
+    match proposed_in(setting, bytes, &mut room, problem) {
+        Ok(solution) => match Referee::new(setting.alloc, problem, &solution) {
             Ok(referee) => Ok(judgement_by(&referee)),
             Err(error) => Err(ReadError::Memory(error)),
         },
@@ -65,18 +62,17 @@ fn judge(
 
 /// Judges the solutions, up to the first that has a fault.
 pub(crate) fn judge_each(
-    alloc: Global,
+    setting: Setting,
     problem: &Problem<'_>,
     solutions: &[Vec<u8>],
-    mode: Mode,
 ) -> Result<Vec<Standing>, Refused>
-    ensures judged { IfOk result (λ ss. AreJudged mode problem.now (map (λ b. b.items) solutions.now) ss.items) }
-    ensures refused { IfErr result (IsFirstRefused mode (map (λ b. b.items) solutions.now)) }
+    ensures judged { IfOk result (λ ss. AreJudged setting.mode problem.now (map (λ b. b.items) solutions.now) ss.items) }
+    ensures refused { IfErr result (IsFirstRefused setting.mode (map (λ b. b.items) solutions.now)) }
 {
-    let mut standings = Vec::new(alloc);
+    let mut standings = Vec::new(setting.alloc);
     for (index, bytes) in solutions.iter().enumerate() {
         let place = index as u64 + 1;
-        match judge(alloc, problem, bytes, mode) {
+        match judge(setting, problem, bytes) {
             Ok(judgement) => {
                 if standings.push(Standing { place, judgement }).is_err() {
                     let error = ReadError::Memory(AllocError);

@@ -2,11 +2,12 @@
 //! reports each rule that a solution breaks, `rank` compares several solutions of one problem.
 #![tactic(auto)]
 
-ghost use Rattle.std.specs.Prelude.{◌≡◌, None, Some, IfSome};
+ghost use Rattle.std.specs.Prelude.{◌≡◌, [], Some, IfSome};
 ghost use Rattle.std.specs.List.{All};
 ghost use Rattle.cudf_check.specs.ManyRuns.{changes, LeavesBehind};
-ghost use Rattle.cudf_check.specs.RankRuns.{RanksRun};
-ghost use Rattle.cudf_check.specs.Runs.{change, change_of_lent, lent, returned, IsStopped, IsWithinTurns, Runs, SkipsSolution};
+ghost use Rattle.cudf_check.specs.RankReport.{rank_report};
+ghost use Rattle.cudf_check.specs.Readers.{change, IsStopped, IsWithinTurns};
+ghost use Rattle.cudf_check.specs.Runs.{change_of_lent, job_report, lent, read_for, returned, Runs, SkipsSolution};
 
 mod buffer;
 mod device;
@@ -23,6 +24,7 @@ mod rank_report;
 mod ranking;
 mod readings;
 mod report;
+mod setting;
 
 pub use cudf_document::Mode;
 pub use cudf_referee::{Aim, Count, Criteria, Key, Sign, compare, read_criterion};
@@ -31,8 +33,9 @@ use input::read_all;
 use inputs::read_each;
 pub use job::Job;
 pub use outcome::{Outcome, RunError};
-use rank_report::{Contest, answer_ranking};
-use report::{Task, answer_job};
+use rank_report::answer_ranking;
+use report::answer_job;
+use setting::Setting;
 use std::alloc::Global;
 
 /// Reads `input` to its end, and then `solution`, where it is given and the job judges one; reads the documents in this
@@ -60,8 +63,8 @@ pub fn run<R: Source, S: Source, W: Sink>(
     solution: Option<&mut S>,
     out: &mut W,
 ) -> Result<Outcome, RunError>
-    ensures runs { Runs job.now mode (change R.state input.old input.new)
-        (change_of_lent S.state (lent solution.entry) (returned solution.exit))
+    ensures runs { Runs (job_report job.now mode) (change R.state input.old input.new)
+        (read_for job.now (change_of_lent S.state (lent solution.entry) (returned solution.exit)))
         (change W.state out.old out.new) result }
 
     // No reader is called more often than an input may take.
@@ -71,10 +74,10 @@ pub fn run<R: Source, S: Source, W: Sink>(
     // Where the solution isn't read, it is returned as it was lent.
     ensures unread { SkipsSolution job.now (change R.state input.old input.new) → returned solution.exit ≡ lent solution.entry }
 {
-    let task = Task { alloc, job, mode };
+    let setting = Setting { alloc, mode };
     match solution {
-        Some(solution) => run_two(task, input, solution, out),
-        None => run_one(task, input, out),
+        Some(solution) => run_two(setting, job, input, solution, out),
+        None => run_one(setting, job, input, out),
     }
 }
 
@@ -111,7 +114,7 @@ pub fn rank<R: Source, S: Source, W: Sink>(
     solutions: &mut [S],
     out: &mut W,
 ) -> Result<Outcome, RunError>
-    ensures ranks { RanksRun aims.now mode (change R.state problem.old problem.new) (changes S.state solutions.old solutions.new)
+    ensures runs { Runs (rank_report aims.now mode) (change R.state problem.old problem.new) (changes S.state solutions.old solutions.new)
         (change W.state out.old out.new) result }
 
     // No reader is called more often than an input may take.
@@ -125,41 +128,43 @@ pub fn rank<R: Source, S: Source, W: Sink>(
 {
     let first = read_all(alloc, problem)?;
     let others = read_each(alloc, solutions)?;
-    answer_ranking(Contest { alloc, aims, mode }, &first, &others, out)
+    answer_ranking(Setting { alloc, mode }, aims, &first, &others, out)
 }
 
 /// The run on one input.
 fn run_one<R: Source, W: Sink>(
-    task: Task<'_>,
+    setting: Setting,
+    job: &Job,
     input: &mut R,
     out: &mut W,
 ) -> Result<Outcome, RunError>
-    ensures runs { Runs task.entry.job.now task.entry.mode (change R.state input.old input.new) None (change W.state out.old out.new) result }
+    ensures runs { Runs (job_report job.now setting.mode) (change R.state input.old input.new) [] (change W.state out.old out.new) result }
     ensures turns { IsWithinTurns (change R.state input.old input.new) }
 {
-    let bytes = read_all(task.alloc, input)?;
-    answer_job(task, &bytes, None, out)
+    let bytes = read_all(setting.alloc, input)?;
+    answer_job(setting, job, &bytes, None, out)
 }
 
 /// The run on two inputs. The second isn't read where the job judges no solution.
 fn run_two<R: Source, S: Source, W: Sink>(
-    task: Task<'_>,
+    setting: Setting,
+    job: &Job,
     input: &mut R,
     solution: &mut S,
     out: &mut W,
 ) -> Result<Outcome, RunError>
-    ensures runs { Runs task.entry.job.now task.entry.mode (change R.state input.old input.new) (Some (change S.state solution.old solution.new))
-        (change W.state out.old out.new) result }
+    ensures runs { Runs (job_report job.now setting.mode) (change R.state input.old input.new)
+        (read_for job.now (Some (change S.state solution.old solution.new))) (change W.state out.old out.new) result }
     ensures turns { IsWithinTurns (change R.state input.old input.new) }
     ensures solution_turns { IsWithinTurns (change S.state solution.old solution.new) }
-    ensures unread { SkipsSolution task.entry.job.now (change R.state input.old input.new) → solution.new ≡ solution.old }
+    ensures unread { SkipsSolution job.now (change R.state input.old input.new) → solution.new ≡ solution.old }
 {
-    let first = read_all(task.alloc, input)?;
-    match task.job {
-        Job::Lint => answer_job(task, &first, None, out),
+    let first = read_all(setting.alloc, input)?;
+    match job {
+        Job::Lint => answer_job(setting, job, &first, None, out),
         Job::Check { .. } | Job::Score { .. } => {
-            let second = read_all(task.alloc, solution)?;
-            answer_job(task, &first, Some(&second), out)
+            let second = read_all(setting.alloc, solution)?;
+            answer_job(setting, job, &first, Some(&second), out)
         }
     }
 }

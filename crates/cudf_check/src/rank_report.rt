@@ -1,5 +1,6 @@
 //! Decides which report a problem and its solutions have.
 ghost use Rattle.std.specs.Prelude.{map};
+ghost use Rattle.cudf_document.specs.declared.mode.Mode.{Mode};
 ghost use Rattle.cudf_check.specs.RankReport.{rank_report, placed_faults, first_faulty_or};
 ghost use Rattle.cudf_check.specs.Report.{Report};
 ghost use Rattle.cudf_check.specs.Working.Answering.{Answers};
@@ -12,18 +13,11 @@ use crate::outcome::{Outcome, RunError};
 use crate::ranking::{best_outcome, ranked};
 use crate::readings::problem_in;
 use crate::report::answer_refusal;
-use cudf_document::{Mode, ReadError};
+use crate::setting::Setting;
+use cudf_document::ReadError;
 use cudf_referee::Aim;
 use cudf_text::Room;
 use std::alloc::Global;
-
-/// By what solutions are ranked, and the mode in which the documents are read.
-#[derive(Clone, Copy)]
-pub(crate) struct Contest<'a> {
-    pub(crate) alloc: Global,
-    pub(crate) aims: &'a [Aim],
-    pub(crate) mode: Mode,
-}
 
 /// Answers a solution that isn't judged.
 fn answer_refused<W: Sink>(
@@ -43,20 +37,21 @@ fn answer_refused<W: Sink>(
 /// Ranks the solutions of a problem.
 #[tactic(auto, unfolding(crate::specs::RankReport::rank_report))]
 pub(crate) fn answer_ranking<W: Sink>(
-    contest: Contest<'_>,
+    setting: Setting,
+    aims: &[Aim],
     problem: &[u8],
     solutions: &[Vec<u8>],
     out: &mut W,
 ) -> Result<Outcome, RunError>
-    ensures { Answers (W.state out.old) (W.state out.new) (rank_report contest.entry.aims.now contest.entry.mode problem.now (map (λ b. b.items) solutions.now)) result }
+    ensures { Answers (W.state out.old) (W.state out.new) (rank_report aims.now setting.mode problem.now (map (λ b. b.items) solutions.now)) result }
 {
-    let Contest { alloc, aims, mode } = contest;
+    let alloc = setting.alloc;
     let mut room = Room::new(alloc);
-    let problem = match problem_in(alloc, problem, &mut room, mode) {
+    let problem = match problem_in(setting, problem, &mut room) {
         Ok(problem) => problem,
         Err(error) => return answer_refusal(alloc, out, "problem", error),
     };
-    let standings = match judge_each(alloc, &problem, solutions, mode) {
+    let standings = match judge_each(setting, &problem, solutions) {
         Ok(standings) => standings,
         Err(refused) => return answer_refused(alloc, out, refused),
     };

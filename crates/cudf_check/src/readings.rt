@@ -12,8 +12,9 @@ ghost use Rattle.cudf_check.specs.Report.{problem_fault, solution_fault, proposa
 ghost use Rattle.cudf_check.specs.Working.Chosen.{AreChosen, ReportsAlike};
 ghost use Rattle.cudf_check.specs.Working.Refusals.{IsFaultOf, IsRefused};
 
+use crate::setting::Setting;
 use cudf_document::{
-    Chosen, Mode, Problem, ReadError, Solution, first_fault, problem_for, problem_of, solution_of,
+    Chosen, Problem, ReadError, Solution, first_fault, problem_for, problem_of, solution_of,
 };
 use cudf_referee::laws::thin;
 use cudf_text::{Room, Stanzas, is_fail, source_of, stanzas};
@@ -29,10 +30,11 @@ pub(crate) enum Refusal {
 }
 
 /// Whether a problem has no fault; else its first.
-pub(crate) fn sound_in(alloc: Global, bytes: &[u8], mode: Mode) -> Result<(), ReadError>
-    ensures sound { OnOk result (problem_fault mode bytes.now ≡ None) }
-    ensures fault { IfErr result (IsFaultOf (problem_fault mode bytes.now)) }
+pub(crate) fn sound_in(setting: Setting, bytes: &[u8]) -> Result<(), ReadError>
+    ensures sound { OnOk result (problem_fault setting.mode bytes.now ≡ None) }
+    ensures fault { IfErr result (IsFaultOf (problem_fault setting.mode bytes.now)) }
 {
+    let Setting { alloc, mode } = setting;
     let mut room = Room::new(alloc);
     let stanzas = match stanzas(alloc, bytes, &mut room) {
         Ok(stanzas) => stanzas,
@@ -46,15 +48,15 @@ pub(crate) fn sound_in(alloc: Global, bytes: &[u8], mode: Mode) -> Result<(), Re
 
 /// The problem. All of it is kept.
 pub(crate) fn problem_in<'t>(
-    alloc: Global,
+    setting: Setting,
     bytes: &'t [u8],
     room: &'t mut Room,
-    mode: Mode,
 ) -> Result<Problem<'t>, ReadError>
-    ensures sound { IfOk result (λ _. problem_fault mode bytes.now ≡ None) }
+    ensures sound { IfOk result (λ _. problem_fault setting.mode bytes.now ≡ None) }
     ensures problem { IfOk result (λ p. p ≡ plain_problem (plain_text bytes.now)) }
-    ensures fault { IfErr result (IsFaultOf (problem_fault mode bytes.now)) }
+    ensures fault { IfErr result (IsFaultOf (problem_fault setting.mode bytes.now)) }
 {
+    let Setting { alloc, mode } = setting;
     match stanzas(alloc, bytes, room) {
         Ok(stanzas) => problem_of(alloc, stanzas, mode),
         Err(fault) => Err(ReadError::Fault(fault)),
@@ -77,19 +79,19 @@ fn chosen_by<'s>(
 
 /// The problem, for a solution that installs these. What is needed by other packages isn't kept.
 fn problem_for_chosen<'t>(
-    alloc: Global,
+    setting: Setting,
     bytes: &'t [u8],
     room: &'t mut Room,
     chosen: &Chosen<'_>,
     solution: &[u8],
-    mode: Mode,
 ) -> Result<Problem<'t>, ReadError>
     requires { AreChosen chosen.now solution.now }
 
-    ensures sound { IfOk result (λ _. problem_fault mode bytes.now ≡ None) }
+    ensures sound { IfOk result (λ _. problem_fault setting.mode bytes.now ≡ None) }
     ensures problem { IfOk result (λ p. ReportsAlike solution.now p (plain_problem (plain_text bytes.now))) }
-    ensures fault { IfErr result (IsFaultOf (problem_fault mode bytes.now)) }
+    ensures fault { IfErr result (IsFaultOf (problem_fault setting.mode bytes.now)) }
 {
+    let Setting { alloc, mode } = setting;
     thin();
     match stanzas(alloc, bytes, room) {
         Ok(stanzas) => problem_for(alloc, stanzas, chosen, mode),
@@ -104,42 +106,42 @@ fn is_short_beside(solution: &[u8], problem: &[u8]) -> bool {
 
 /// The problem, or one that has the same report for this solution.
 pub(crate) fn problem_beside<'t>(
-    alloc: Global,
+    setting: Setting,
     bytes: &'t [u8],
     room: &'t mut Room,
     solution: &[u8],
-    mode: Mode,
 ) -> Result<Problem<'t>, ReadError>
-    ensures sound { IfOk result (λ _. problem_fault mode bytes.now ≡ None) }
+    ensures sound { IfOk result (λ _. problem_fault setting.mode bytes.now ≡ None) }
     ensures problem { IfOk result (λ p. ReportsAlike solution.now p (plain_problem (plain_text bytes.now))) }
-    ensures fault { IfErr result (IsFaultOf (problem_fault mode bytes.now)) }
+    ensures fault { IfErr result (IsFaultOf (problem_fault setting.mode bytes.now)) }
 {
     if !is_short_beside(solution, bytes) {
-        return problem_in(alloc, bytes, room, mode);
+        return problem_in(setting, bytes, room);
     }
+    let alloc = setting.alloc;
     let mut solution_room = Room::new(alloc);
     match chosen_by(alloc, solution, &mut solution_room) {
-        Ok(chosen) => problem_for_chosen(alloc, bytes, room, &chosen, solution, mode),
+        Ok(chosen) => problem_for_chosen(setting, bytes, room, &chosen, solution),
         Err(error) => Err(ReadError::Memory(error)),
     }
 }
 
 /// What a solution proposes for the problem.
 pub(crate) fn proposed_in<'t>(
-    alloc: Global,
+    setting: Setting,
     bytes: &'t [u8],
     room: &'t mut Room,
     problem: &Problem<'_>,
-    mode: Mode,
 ) -> Result<Solution<'t>, Refusal>
-    ensures sound { IfOk result (λ _. solution_fault mode bytes.now ≡ None) }
+    ensures sound { IfOk result (λ _. solution_fault setting.mode bytes.now ≡ None) }
     ensures utf8 { IfOk result (λ _. is_utf8 bytes.now ≡ true) }
     ensures goes_on { IfOk result (λ _. joined.is_fail bytes.now ≡ false) }
     ensures proposal { IfOk result (λ s. proposal problem.now (is_initial problem.now) (set.contains s.status) (map unknown_view s.unknown.items)
         ≡ proposal_of problem.now (plain_text bytes.now)) }
     ensures ascending { IfOk result (λ s. IsTrue (ascend_above 0 (map unknown_view s.unknown.items))) }
-    ensures refused { IfErr result (IsRefused mode bytes.now) }
+    ensures refused { IfErr result (IsRefused setting.mode bytes.now) }
 {
+    let Setting { alloc, mode } = setting;
     match source_of(bytes) {
         Ok(source) => {
             if is_fail(source) {

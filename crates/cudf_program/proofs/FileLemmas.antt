@@ -4,12 +4,12 @@ use Rattle.std.proofs.lemmas.Grind.{common_steps}
 use Rattle.std.proofs.lemmas.List.{map-id}
 use Rattle.std.specs.List.{fold}
 use Rattle.cudf_document.proofs.NameLemmas.{same_bytes}
-use Rattle.cudf_check.specs.ManyRuns.{LeavesBehind, OfEach, changes}
+use Rattle.cudf_check.specs.ManyRuns.{LeavesBehind, changes}
+use Rattle.cudf_check.specs.Readers.{Change, OfEach, ReadsAll, change}
 use Rattle.cudf_check.specs.Prefix.{AppendsPrefix}
 use Rattle.cudf_check.specs.RankReport.{rank_report}
 use Rattle.cudf_check.specs.Report.{Report, report}
-use Rattle.cudf_check.specs.Runs.{Change, change, ReadsAll, ReadsIfThere, ReadsInputs, Runs, reader_for}
-use Rattle.cudf_check.specs.RankRuns.{RanksRun, ReadsAllOf}
+use Rattle.cudf_check.specs.Runs.{Runs, job_report, read_for}
 use Rattle.cudf_check.specs.declared.job.Job.{Job}
 use Rattle.cudf_check.specs.declared.job.Job.TheVariants.{Lint, Check, Score}
 use Rattle.std.specs.Io.KnownBytes.{Appends, Consumes, Keeps}
@@ -142,37 +142,39 @@ abbrev pub knowns : Option (Change SourceState) → List (Option (List ℕ)) →
 knowns None rest = []
 knowns (Some reader) rest = reader.before.remaining ∷ rest
 
--- solutions of which this is known, with the same report
-abbrev HasOthers : Job → Mode → List ℕ → Option (List ℕ) → List (Option (List ℕ)) → Type 0
-HasOthers job mode first second known = (others : List (List ℕ)) × OfEach IsKnownAs known others × (report job mode first second ≡ report job mode first (slice_get others 0))
+-- texts of which this is known, with the same report as these
+abbrev HasOthers : Job → Mode → List ℕ → List (List ℕ) → List (Option (List ℕ)) → Type 0
+HasOthers job mode text texts known = (others : List (List ℕ)) × OfEach IsKnownAs known others × (job_report job mode text texts ≡ job_report job mode text others)
 
-others_of : (job : Job) (mode : Mode) (first : List ℕ) (solution : Option (Change SourceState)) (second : Option (List ℕ)) (rest : List (Option (List ℕ)))
-    → ReadsIfThere (reader_for job solution) second → HasOthers job mode first second (knowns solution rest)
+read_alone : (job : Job) (mode : Mode) (text : List ℕ) (reader : Change SourceState) (texts : List (List ℕ)) (rest : List (Option (List ℕ)))
+    → OfEach ReadsAll (reader ∷ []) texts → HasOthers job mode text texts (reader.before.remaining ∷ rest)
+read_alone job mode text reader [] rest h = absurd h
+read_alone job mode text reader (bytes ∷ []) rest h = (bytes ∷ map filling rest, (all_known reader bytes h.0, filled rest), refl)
+read_alone job mode text reader (bytes ∷ other ∷ texts) rest h = absurd h.1
+
+others_of : (job : Job) (mode : Mode) (text : List ℕ) (solution : Option (Change SourceState)) (texts : List (List ℕ)) (rest : List (Option (List ℕ)))
+    → OfEach ReadsAll (read_for job solution) texts → HasOthers job mode text texts (knowns solution rest)
 unfolding report
-others_of Lint mode first solution second rest h = (map filling (knowns solution rest), filled (knowns solution rest), refl)
-others_of (Check after limit) mode first None None rest h = ([], tt, refl)
-others_of (Check after limit) mode first None (Some bytes) rest h = absurd h
-others_of (Check after limit) mode first (Some reader) None rest h = absurd h
-others_of (Check after limit) mode first (Some reader) (Some bytes) rest h = (bytes ∷ map filling rest, (all_known reader bytes h, filled rest), refl)
-others_of (Score aims) mode first None None rest h = ([], tt, refl)
-others_of (Score aims) mode first None (Some bytes) rest h = absurd h
-others_of (Score aims) mode first (Some reader) None rest h = absurd h
-others_of (Score aims) mode first (Some reader) (Some bytes) rest h = (bytes ∷ map filling rest, (all_known reader bytes h, filled rest), refl)
+others_of job mode text None [] rest h = ([], tt, refl)
+others_of job mode text None (bytes ∷ texts) rest h = absurd h
+others_of Lint mode text (Some reader) texts rest h = (map filling (knowns (Some reader) rest), filled (knowns (Some reader) rest), refl)
+others_of (Check after limit) mode text (Some reader) texts rest h = read_alone (Check after limit) mode text reader texts rest h
+others_of (Score aims) mode text (Some reader) texts rest h = read_alone (Score aims) mode text reader texts rest h
 
 of_run : (P : Report → Type 0) (job : Job) (mode : Mode) (input : Change SourceState) (solution : Option (Change SourceState)) (rest : List (Option (List ℕ)))
-    (first : List ℕ) (second : Option (List ℕ)) → ReadsInputs job input solution first second → P (report job mode first second)
+    (text : List ℕ) (texts : List (List ℕ)) → ReadsAll input text → OfEach ReadsAll (read_for job solution) texts → P (job_report job mode text texts)
     → OfReport (RunOf job) mode input.before.remaining (knowns solution rest) P
-of_run P job mode input solution rest first second read holds =
-    let o : HasOthers job mode first second (knowns solution rest) = others_of job mode first solution second rest read.second_read in
-    record { first = first; others = o.0; first_is = all_known input first read.first_read; others_are = o.1; holds = subst P o.2 holds }
+of_run P job mode input solution rest text texts first_read others_read holds =
+    let o : HasOthers job mode text texts (knowns solution rest) = others_of job mode text solution texts rest others_read in
+    record { first = text; others = o.0; first_is = all_known input text first_read; others_are = o.1; holds = subst P o.2 holds }
 
 -- a run on a problem, and on the first solution where there is one
 pub did_run : (job : Job) (mode : Mode) (input : Change SourceState) (solution : Option (Change SourceState)) (rest : List (Option (List ℕ)))
-    (out : Change SinkState) (result : Result Outcome RunError) → Runs job mode input solution out result
+    (out : Change SinkState) (result : Result Outcome RunError) → Runs (job_report job mode) input (read_for job solution) out result
     → Did (RunOf job) mode input.before.remaining (knowns solution rest) out.before out.after result
 did_run job mode input solution rest out result runs = record {
-  done = IfOk-weaker result _ _ (λ outcome h. of_run (λ r. Appends out.before.contents out.after.contents r.text × (outcome ≡ r.outcome)) job mode input solution rest h.first h.second h.read (h.written, h.answered)) runs.done;
-  cut_short = λ failed. let h = runs.cut_short failed in of_run (λ r. AppendsPrefix out.before.contents out.after.contents r.text) job mode input solution rest h.first h.second h.read h.written;
+  done = IfOk-weaker result _ _ (λ outcome h. of_run (λ r. Appends out.before.contents out.after.contents r.text × (outcome ≡ r.outcome)) job mode input solution rest h.text h.texts h.first_read h.others_read h.holds) runs.done;
+  cut_short = λ failed. let h = runs.cut_short failed in of_run (λ r. AppendsPrefix out.before.contents out.after.contents r.text) job mode input solution rest h.text h.texts h.first_read h.others_read h.holds;
   untouched = runs.untouched;
   write = runs.write;
 }
@@ -183,7 +185,7 @@ first_item d (old ∷ olds) some is = (olds, ap (λ first. first ∷ olds) (sym 
 
 -- a run where there is no device of a solution
 pub did_alone : {D : Type 0} (state : D → SourceState) (job : Job) (mode : Mode) (input : Change SourceState) (olds : List D)
-    (out : Change SinkState) (result : Result Outcome RunError) → length olds ≤ 0 → Runs job mode input None out result
+    (out : Change SinkState) (result : Result Outcome RunError) → length olds ≤ 0 → Runs (job_report job mode) input (read_for job None) out result
     → Did (RunOf job) mode input.before.remaining (map (λ d. (state d).remaining) olds) out.before out.after result
 did_alone state job mode input [] out result none runs = did_run job mode input None [] out result runs
 did_alone state job mode input (old ∷ olds) out result none runs = absurd (omega arith)
@@ -191,7 +193,7 @@ did_alone state job mode input (old ∷ olds) out result none runs = absurd (ome
 -- a run on the first of these devices
 pub did_first : {D : Type 0} (state : D → SourceState) (job : Job) (mode : Mode) (input : Change SourceState) (olds : List D) (old : D) (reader : Change SourceState)
     (out : Change SinkState) (result : Result Outcome RunError) → true ≡ nat_lt 0 (length olds) → old ≡ slice_index_or olds 0 old → reader.before ≡ state old
-    → Runs job mode input (Some reader) out result
+    → Runs (job_report job mode) input (read_for job (Some reader)) out result
     → Did (RunOf job) mode input.before.remaining (map (λ d. (state d).remaining) olds) out.before out.after result
 did_first state job mode input olds old reader out result some is first runs =
     let more = first_item old olds some is in
@@ -203,25 +205,25 @@ did_first state job mode input olds old reader out result some is first runs =
 -- ---- rankings
 
 of_ranking : {D : Type 0} (P : Report → Type 0) (state : D → SourceState) (aims : Vec Aim Global) (mode : Mode) (problem : Change SourceState) (olds news : List D)
-    (first : List ℕ) (others : List (List ℕ)) → length news ≡ length olds → ReadsAllOf problem (changes state olds news) first others → P (rank_report aims.items mode first others)
+    (text : List ℕ) (texts : List (List ℕ)) → length news ≡ length olds → ReadsAll problem text → OfEach ReadsAll (changes state olds news) texts → P (rank_report aims.items mode text texts)
     → OfReport (RankOf aims) mode problem.before.remaining (map (λ d. (state d).remaining) olds) P
-of_ranking P state aims mode problem olds news first others same read holds = record {
-  first = first;
-  others = others;
-  first_is = all_known problem first read.problem_read;
-  others_are = each_known state (λ d. (state d).remaining) (λ d. refl) olds news others same read.solutions_read;
+of_ranking P state aims mode problem olds news text texts same first_read others_read holds = record {
+  first = text;
+  others = texts;
+  first_is = all_known problem text first_read;
+  others_are = each_known state (λ d. (state d).remaining) (λ d. refl) olds news texts same others_read;
   holds = holds;
 }
 
 -- a ranking, by the bytes that its inputs still give
 pub did_ranking : {D : Type 0} (state : D → SourceState) (aims : Vec Aim Global) (mode : Mode) (problem : Change SourceState) (olds news : List D)
-    (out : Change SinkState) (result : Result Outcome RunError) → length news ≡ length olds → RanksRun aims.items mode problem (changes state olds news) out result
+    (out : Change SinkState) (result : Result Outcome RunError) → length news ≡ length olds → Runs (rank_report aims.items mode) problem (changes state olds news) out result
     → Did (RankOf aims) mode problem.before.remaining (map (λ d. (state d).remaining) olds) out.before out.after result
-did_ranking state aims mode problem olds news out result same ranks = record {
-  done = IfOk-weaker result _ _ (λ outcome h. of_ranking (λ r. Appends out.before.contents out.after.contents r.text × (outcome ≡ r.outcome)) state aims mode problem olds news h.first h.others same h.read (h.written, h.answered)) ranks.done;
-  cut_short = λ failed. let h = ranks.cut_short failed in of_ranking (λ r. AppendsPrefix out.before.contents out.after.contents r.text) state aims mode problem olds news h.first h.others same h.read h.written;
-  untouched = ranks.untouched;
-  write = ranks.write;
+did_ranking state aims mode problem olds news out result same runs = record {
+  done = IfOk-weaker result _ _ (λ outcome h. of_ranking (λ r. Appends out.before.contents out.after.contents r.text × (outcome ≡ r.outcome)) state aims mode problem olds news h.text h.texts same h.first_read h.others_read h.holds) runs.done;
+  cut_short = λ failed. let h = runs.cut_short failed in of_ranking (λ r. AppendsPrefix out.before.contents out.after.contents r.text) state aims mode problem olds news h.text h.texts same h.first_read h.others_read h.holds;
+  untouched = runs.untouched;
+  write = runs.write;
 }
 
 -- ---- what an order did

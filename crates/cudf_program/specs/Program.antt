@@ -1,15 +1,16 @@
 -- What the program prints on standard output, and its exit status.
-use Rattle.std.specs.Prelude.{◌≡◌, ◌≢◌, ◌<◌, ◌⊎◌, ◌↔◌, ℕ, List, map, slice_get, Option, Some, None, Result, IfOk, IfErr, IsErrOf}
+use Rattle.std.specs.Prelude.{◌≡◌, ◌≢◌, ◌<◌, ◌⊎◌, ◌↔◌, ℕ, List, map, Option, Some, None, Result, IfOk, IfErr, IsErrOf}
 use Rattle.std.specs.Io.KnownBytes.{Appends, Keeps}
 use Rattle.std.specs.IoError.{error_kind}
 use Rattle.std.specs.declared.io.Error.{Error}
 use Rattle.cudf_document.specs.declared.mode.Mode.{Mode}
 use Rattle.cudf_check.specs.Device.{SinkState}
 use Rattle.cudf_check.specs.DeviceInside.{device_inner}
-use Rattle.cudf_check.specs.ManyRuns.{OfEach}
+use Rattle.cudf_check.specs.Readers.{OfEach}
 use Rattle.cudf_check.specs.Prefix.{AppendsPrefix}
 use Rattle.cudf_check.specs.RankReport.{rank_report}
-use Rattle.cudf_check.specs.Report.{Report, report}
+use Rattle.cudf_check.specs.Report.{Report}
+use Rattle.cudf_check.specs.Runs.{job_report}
 use Rattle.cudf_check.specs.declared.device.Device.{Device}
 use Rattle.cudf_check.specs.declared.outcome.Outcome.{Outcome}
 use Rattle.cudf_check.specs.declared.outcome.RunError.{RunError}
@@ -81,8 +82,8 @@ IsKnownAs (Some known) bytes = bytes ≡ known
 
 -- the report of inputs of these bytes; a run is on the first solution, where there is one
 abbrev pub work_report : Work → Mode → List ℕ → List (List ℕ) → Report
-work_report (Run job) mode problem solutions = report job mode problem (slice_get solutions 0)
-work_report (Rank aims) mode problem solutions = rank_report aims.items mode problem solutions
+work_report (Run job) mode = job_report job mode
+work_report (Rank aims) mode = rank_report aims.items mode
 
 -- this holds of the report of inputs of which this is known
 pub record OfReport (work : Work) (mode : Mode) (problem : Option (List ℕ)) (solutions : List (Option (List ℕ))) (P : Report → Type 0) : Type 0 where

@@ -1,10 +1,11 @@
-use Rattle.cudf_check.proofs.InputsLemmas.{IsBeyondTurns, behind_still, beyond_turns_fails, each_within, none_still}
-use Rattle.cudf_check.proofs.RankLemmas.{problem_stopped}
+use Rattle.cudf_check.proofs.InputsLemmas.{IsBeyondTurns, behind_still, beyond_turns_fails, each_within, none_still, too_long_fails, unfinished_fails}
+use Rattle.cudf_check.proofs.RunLemmas.{first_stopped}
 use Rattle.cudf_check.proofs.rank.Goals as goal
 
-pub returns-in_err-first-clause-ranks : goal.returns-in_err-first-clause-ranks
-returns-in_err-first-clause-ranks g c =
-    problem_stopped _ c.args.mode g.S.Source.state _ _ _ c.read_all.result _ _ c.in_err-first.was
+pub returns-in_err-first-clause-runs : goal.returns-in_err-first-clause-runs
+returns-in_err-first-clause-runs g c =
+    let state = g.S.Source.state in
+    first_stopped _ _ _ _ c.read_all.result _ _ (none_still state _ (too_long_fails state) _) (none_still state _ (unfinished_fails state) _) c.in_err-first.was
     c.read_all.ensures.too_long c.read_all.ensures.read c.read_all.ensures.no_write c.from_residual.ensures
 
 pub returns-in_err-first-clause-behind : goal.returns-in_err-first-clause-behind

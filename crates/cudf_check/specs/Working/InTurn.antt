@@ -2,8 +2,8 @@
 use Rattle.std.specs.Prelude.{◌≢◌, ◌↔◌, ℕ, List, Result, Err, IfOk, IsErrOf}
 use Rattle.std.specs.List.{All}
 use Rattle.cudf_check.specs.Device.{SourceState}
-use Rattle.cudf_check.specs.ManyRuns.{changes, OfOne, OfEach, LeavesBehind}
-use Rattle.cudf_check.specs.Runs.{change, ReadsAll, IsUnfinished, IsTooLong, IsStopped, IsWithinTurns}
+use Rattle.cudf_check.specs.ManyRuns.{changes, LeavesBehind}
+use Rattle.cudf_check.specs.Readers.{change, ReadsAll, IsUnfinished, IsTooLong, IsStopped, IsWithinTurns, OfOne, OfEach}
 use Rattle.cudf_check.specs.declared.outcome.RunError.{RunError}
 use Rattle.cudf_check.specs.declared.outcome.RunError.TheVariants.{Read, TooLong, Write}
 

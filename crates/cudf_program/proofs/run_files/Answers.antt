@@ -1,7 +1,7 @@
 use Rattle.std.proofs.Common.{◌≤◌, length, refl, arith}
 use Rattle.std.proofs.lemmas.Grind.{common_steps}
 use Rattle.cudf_check.specs.DeviceInside.{source_state}
-use Rattle.cudf_check.specs.Runs.{change}
+use Rattle.cudf_check.specs.Readers.{change}
 use Rattle.cudf_program.specs.Program.{bytes_left}
 use Rattle.cudf_program.proofs.FileLemmas.{did_alone, did_first}
 use Rattle.cudf_program.proofs.run_files.Goals as goal

@@ -9,10 +9,10 @@ use Rattle.cudf_check.proofs.rank_report.answer_ranking.Goals as goal
 pub returns-in-Err : goal.returns-in-Err
 unfolding rank_report
 returns-in-Err g c =
-    let mode = c.args.contest.mode in
+    let mode = c.args.setting.mode in
     let solutions = map (λ b. b.items) c.args.solutions.now in
     c.answer_refusal.ensures (problem_fault mode c.args.problem.now)
-    (first_faulty_or (placed_faults mode solutions) (ranked_report c.args.contest.aims.now (standings (plain_problem (plain_text c.args.problem.now)) solutions)))
+    (first_faulty_or (placed_faults mode solutions) (ranked_report c.args.aims.now (standings (plain_problem (plain_text c.args.problem.now)) solutions)))
     c.in-Err.ensures.fault
 
 pub returns : goal.returns

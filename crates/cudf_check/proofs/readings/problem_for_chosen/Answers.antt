@@ -12,7 +12,7 @@ use Rattle.cudf_check.proofs.readings.problem_for_chosen.Goals as goal
 
 pub returns-in-Ok-clause-sound : goal.returns-in-Ok-clause-sound
 returns-in-Ok-clause-sound c =
-    let read = problem_read c.args.mode c.args.bytes.now c.in-Ok.stanzas c.in-Ok.ensures.utf8.0 c.in-Ok.ensures.utf8.1 in
+    let read = problem_read c.args.setting.mode c.args.bytes.now c.in-Ok.stanzas c.in-Ok.ensures.utf8.0 c.in-Ok.ensures.utf8.1 in
     ok_map c.problem_for.result (λ p none. sym read ∙ ap least none) c.problem_for.ensures.sound
 
 pub returns-in-Ok-clause-problem : goal.returns-in-Ok-clause-problem
@@ -24,8 +24,8 @@ returns-in-Ok-clause-problem c =
 pub returns-in-Ok-clause-fault : goal.returns-in-Ok-clause-fault
 returns-in-Ok-clause-fault c =
     let text = c.in-Ok.stanzas in
-    let read = problem_read c.args.mode c.args.bytes.now text c.in-Ok.ensures.utf8.0 c.in-Ok.ensures.utf8.1 in
-    err_map c.problem_for.result (first_of (problem_faults text c.args.mode) (problem_fault c.args.mode c.args.bytes.now) read) c.problem_for.ensures.fault
+    let read = problem_read c.args.setting.mode c.args.bytes.now text c.in-Ok.ensures.utf8.0 c.in-Ok.ensures.utf8.1 in
+    err_map c.problem_for.result (first_of (problem_faults text c.args.setting.mode) (problem_fault c.args.setting.mode c.args.bytes.now) read) c.problem_for.ensures.fault
 
 pub returns-in-Err-clause-fault : goal.returns-in-Err-clause-fault
-returns-in-Err-clause-fault c = problem_unread c.args.mode c.args.bytes.now c.in-Err.fault c.in-Err.ensures.fault.0 c.in-Err.ensures.fault.1
+returns-in-Err-clause-fault c = problem_unread c.args.setting.mode c.args.bytes.now c.in-Err.fault c.in-Err.ensures.fault.0 c.in-Err.ensures.fault.1

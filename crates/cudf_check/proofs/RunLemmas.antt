@@ -1,0 +1,126 @@
+-- A run: how it ends where its reading does, and where that went well.
+use Rattle.std.proofs.Common.{◌≡◌, ◌↔◌, ◌⊎◌, inl, inr, ℕ, List, [], ◌∷◌, Option, Some, Vec, Global, Result, Ok, Err, IsErr, IsErrAnd, IsErrOf, refl, sym, ap, ◌∙◌}
+use Rattle.std.proofs.KnownBytes.{Keeps-refl}
+use Rattle.cudf_referee.specs.declared.aims.Aim.{Aim}
+use Rattle.cudf_referee.specs.declared.key.Key.{Key}
+use Rattle.cudf_check.specs.declared.job.Job.{Job}
+use Rattle.cudf_check.specs.declared.job.Job.TheVariants.{Check, Score}
+use Rattle.cudf_check.specs.declared.outcome.Outcome.{Outcome}
+use Rattle.cudf_check.specs.declared.outcome.RunError.{RunError}
+use Rattle.cudf_check.specs.declared.outcome.RunError.TheVariants.{Read, TooLong, Write, Memory}
+use Rattle.cudf_check.specs.Device.{SourceState, SinkState}
+use Rattle.cudf_check.specs.Readers.{Change, ReadsAll, IsUnfinished, IsTooLong, IsWithinTurns, OfOne, OfEach}
+use Rattle.cudf_check.specs.Report.{Report}
+use Rattle.cudf_check.specs.Runs.{OfReport, Runs, read_for}
+use Rattle.cudf_check.specs.Working.Answering.{Answers}
+use Rattle.cudf_check.proofs.CommonLemmas.{none_below, same_error}
+use Rattle.cudf_check.proofs.InputsLemmas.{WasRead}
+
+-- nothing was written
+abbrev still : SinkState → Change SinkState
+still out = record { before = out; after = out }
+
+-- the reading of the first input ended in an error, and so did the run
+pub first_stopped : {T : Type 0} (answer : List ℕ → List (List ℕ) → Report) (first : Change SourceState) (others : List (Change SourceState)) (out : SinkState)
+    (reading : Result T RunError) (e : RunError) (result : Result Outcome RunError) → (OfOne IsTooLong others → ⊥) → (OfOne IsUnfinished others → ⊥) → reading ≡ Err e
+    → (IsErrOf reading TooLong ↔ IsTooLong first) → (IsErrOf reading Read ↔ IsUnfinished first) → (reading ≡ Err Write → ⊥)
+    → IsErr result × IsErrAnd result (λ y. y ≡ e) → Runs answer first others (still out) result
+first_stopped answer first others out reading e (Ok outcome) none_long none_unfinished is too_long unfinished no_write same = absurd same.1
+first_stopped answer first others out reading e (Err y) none_long none_unfinished is too_long unfinished no_write same =
+    let error : y ≡ e = same.1 in
+    record {
+      done = tt;
+      cut_short = λ h. absurd (no_write (is ∙ ap Err (sym error ∙ same_error h)));
+      untouched = λ other. Keeps-refl out.contents;
+      read = (λ h. inl (unfinished.0 (is ∙ ap Err (sym error ∙ same_error h))), read_back error);
+      too_long = (λ h. inl (too_long.0 (is ∙ ap Err (sym error ∙ same_error h))), long_back error);
+      write = (λ h. absurd (no_write (is ∙ ap Err (sym error ∙ same_error h))), λ below. absurd (none_below out.failures out.failures refl below));
+    }
+  where
+    read_back : y ≡ e → IsUnfinished first ⊎ OfOne IsUnfinished others → IsErrOf {T = Outcome} (Err y) Read
+    read_back error (inl h) = ap Err (error ∙ same_error (sym is ∙ unfinished.1 h))
+    read_back error (inr h) = absurd (none_unfinished h)
+
+    long_back : y ≡ e → IsTooLong first ⊎ OfOne IsTooLong others → IsErrOf {T = Outcome} (Err y) TooLong
+    long_back error (inl h) = ap Err (error ∙ same_error (sym is ∙ too_long.1 h))
+    long_back error (inr h) = absurd (none_long h)
+
+-- readers that were read to their ends, none of them with an error
+pub record WereRead (others : List (Change SourceState)) (texts : List (List ℕ)) : Type 0 where
+  pub all : OfEach ReadsAll others texts
+  pub finished : OfOne IsUnfinished others → ⊥
+  pub short : OfOne IsTooLong others → ⊥
+
+-- all was read, and answered
+module _ (answer : List ℕ → List (List ℕ) → Report) (first : Change SourceState) (text : List ℕ) (others : List (Change SourceState)) (texts : List (List ℕ))
+    (was : WasRead first text) (were : WereRead others texts) where
+  none_unfinished : IsUnfinished first ⊎ OfOne IsUnfinished others → ⊥
+  none_unfinished (inl h) = was.finished h
+  none_unfinished (inr h) = were.finished h
+
+  none_too_long : IsTooLong first ⊎ OfOne IsTooLong others → ⊥
+  none_too_long (inl h) = was.short h
+  none_too_long (inr h) = were.short h
+
+  of_report : (P : Report → Type 0) → P (answer text texts) → OfReport answer first others P
+  of_report P holds = record { text = text; texts = texts; first_read = was.all; others_read = were.all; holds = holds }
+
+  pub all_answered : (before after : SinkState) (result : Result Outcome RunError) → Answers before after (answer text texts) result
+      → Runs answer first others (record { before = before; after = after }) result
+  all_answered before after (Ok outcome) m = record {
+    done = of_report _ (m.ok.written, m.ok.answered);
+    cut_short = λ h. absurd (cc h);
+    untouched = tt;
+    read = (λ h. absurd (cc h), λ h. absurd (none_unfinished h));
+    too_long = (λ h. absurd (cc h), λ h. absurd (none_too_long h));
+    write = m.failed;
+  }
+  all_answered before after (Err Read) m = absurd m.only
+  all_answered before after (Err TooLong) m = absurd m.only
+  all_answered before after (Err Write) m = record {
+    done = tt;
+    cut_short = λ h. of_report _ m.leaves;
+    untouched = λ other. absurd (other refl);
+    read = (λ h. absurd (cc h), λ h. absurd (none_unfinished h));
+    too_long = (λ h. absurd (cc h), λ h. absurd (none_too_long h));
+    write = m.failed;
+  }
+  all_answered before after (Err Memory) m = record {
+    done = tt;
+    cut_short = λ h. absurd (cc h);
+    untouched = λ other. m.leaves;
+    read = (λ h. absurd (cc h), λ h. absurd (none_unfinished h));
+    too_long = (λ h. absurd (cc h), λ h. absurd (none_too_long h));
+    write = m.failed;
+  }
+
+-- ---- one reader behind the first
+
+-- a reading that ended well
+pub was_read : {T : Type 0} (reader : Change SourceState) (bytes : List ℕ) (v : T) → ReadsAll reader bytes
+    → (IsErrOf {T = T} {E = RunError} (Ok v) TooLong ↔ IsTooLong reader) → (IsErrOf {T = T} {E = RunError} (Ok v) Read ↔ IsUnfinished reader) → IsWithinTurns reader → WasRead reader bytes
+was_read reader bytes v all too_long unfinished turns = record {
+  all = all;
+  finished = λ h. absurd (cc (unfinished.1 h));
+  short = λ h. absurd (cc (too_long.1 h));
+  turns = turns;
+}
+
+-- one stands behind it
+pub one_behind : (reader : Change SourceState) (bytes : List ℕ) → WasRead reader bytes → WereRead (reader ∷ []) (bytes ∷ [])
+one_behind reader bytes was = record { all = (was.all, tt); finished = finished; short = short }
+  where
+    finished : OfOne IsUnfinished (reader ∷ []) → ⊥
+    finished (inl h) = was.finished h
+    finished (inr h) = absurd h
+
+    short : OfOne IsTooLong (reader ∷ []) → ⊥
+    short (inl h) = was.short h
+    short (inr h) = absurd h
+
+-- a job that judges a solution reads it
+pub reads_it : (job : Job) (solution : Change SourceState)
+    → ((after : Option Key) × (limit : Option ℕ) × (job ≡ Check after limit)) ⊎ ((aims : Option (Vec Aim Global)) × (job ≡ Score aims))
+    → read_for job (Some solution) ≡ solution ∷ []
+reads_it job solution (inl check) = ap (λ j. read_for j (Some solution)) check.2
+reads_it job solution (inr score) = ap (λ j. read_for j (Some solution)) score.1
