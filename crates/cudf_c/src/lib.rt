@@ -1,0 +1,136 @@
+//! The library for C, and for each language that calls C: reports of documents that are held in memory.
+//!
+//! A call answers the exit status that the program has for the same documents. Its report goes to the front of the
+//! caller's buffer as far as there is room, and the length of the whole report is told: where that is more than the
+//! buffer has, a second call with a larger one gives all of it. With status 4, 5 and 6 nothing is written, and the length
+//! is 0. Nothing is kept between calls, so any number of threads may call at once. Own.
+#![tactic(auto)]
+
+ghost use Rattle.std.specs.Prelude.{◌≡◌, Some, None, codes, map};
+ghost use Rattle.cudf_check.specs.RankReport.{rank_report};
+ghost use Rattle.cudf_check.specs.Report.{report};
+ghost use Rattle.cudf_check.specs.declared.job.Job.TheVariants.{Lint};
+ghost use Rattle.cudf_c.specs.Calls.{Answers, AnswersAsked, Shows, left, mode_of};
+ghost use Rattle.cudf_c.specs.Words.{IsAims, IsNoKey, IsNoList, IsPage, IsScore};
+
+mod made;
+mod stop;
+mod words;
+
+use cudf_check::{Job, Mode};
+use made::{copy_front, judged, ranked, refuse, show};
+use std::alloc::Global;
+use words::{aims, page, score};
+
+/// A text of a caller's.
+#[repr(C)]
+#[derive(Clone, Copy, Debug, PartialEq, Eq)]
+pub struct Text<'t> {
+    /// Its bytes: a pointer, which isn't null, and how many there are.
+    pub bytes: &'t [u8],
+}
+
+/// Says whether a problem is without fault, as the program's `lint` does.
+#[unsafe(no_mangle)]
+pub extern "C" fn cudf_check_lint(
+    alloc: Global,
+    strict: bool,
+    problem: &[u8],
+    room: &mut [u8],
+    length: &mut usize,
+) -> u8
+    ensures { Answers (report Lint (mode_of strict) problem.now None) (left room.old room.new length.new result) }
+{
+    let report = judged(alloc, &Job::Lint, mode(strict), problem, None);
+    show(report, room, length)
+}
+
+/// Says what is wrong with a solution of a problem, as the program's `check` does: the violations behind the key `after`,
+/// which may be a text of no bytes, and at most `limit` of them, where that isn't 0. Status 4 where `after` is no key.
+#[unsafe(no_mangle)]
+pub extern "C" fn cudf_check_check(
+    alloc: Global,
+    strict: bool,
+    problem: &[u8],
+    solution: &[u8],
+    after: &[u8],
+    limit: u64,
+    room: &mut [u8],
+    length: &mut usize,
+) -> u8
+    ensures { AnswersAsked (IsPage after.now limit) (IsNoKey after.now)
+        (λ job. report job (mode_of strict) problem.now (Some solution.now)) (left room.old room.new length.new result) }
+{
+    match page(after, limit) {
+        Ok(page) => {
+            let report = judged(alloc, &page, mode(strict), problem, Some(solution));
+            show(report, room, length)
+        }
+        Err(stop) => refuse(stop, length),
+    }
+}
+
+/// Counts what a solution of a problem changes and lacks, as the program's `score` does: by the list `criteria`, or, where
+/// that has no bytes, by the criteria of the MISC competition. Status 4 where `criteria` is no list.
+#[unsafe(no_mangle)]
+pub extern "C" fn cudf_check_score(
+    alloc: Global,
+    strict: bool,
+    problem: &[u8],
+    solution: &[u8],
+    criteria: &[u8],
+    room: &mut [u8],
+    length: &mut usize,
+) -> u8
+    ensures { AnswersAsked (IsScore criteria.now) (IsNoList criteria.now)
+        (λ job. report job (mode_of strict) problem.now (Some solution.now)) (left room.old room.new length.new result) }
+{
+    match score(alloc, criteria) {
+        Ok(score) => {
+            let report = judged(alloc, &score, mode(strict), problem, Some(solution));
+            show(report, room, length)
+        }
+        Err(stop) => refuse(stop, length),
+    }
+}
+
+/// Ranks solutions of a problem by the list `criteria`, as the program's `rank` does; where that has no bytes, by their
+/// places alone. Status 4 where `criteria` is no list.
+#[unsafe(no_mangle)]
+pub extern "C" fn cudf_check_rank(
+    alloc: Global,
+    strict: bool,
+    problem: &[u8],
+    solutions: &[Text<'_>],
+    criteria: &[u8],
+    room: &mut [u8],
+    length: &mut usize,
+) -> u8
+    ensures { AnswersAsked (IsAims criteria.now) (IsNoList criteria.now)
+        (λ aims. rank_report aims (mode_of strict) problem.now (map (λ text. text.bytes.now) solutions.now)) (left room.old room.new length.new result) }
+{
+    match aims(alloc, criteria) {
+        Ok(aims) => {
+            let report = ranked(alloc, &aims, mode(strict), problem, solutions);
+            show(report, room, length)
+        }
+        Err(stop) => refuse(stop, length),
+    }
+}
+
+/// Tells the library's version, which is that of the program: as `1.0.0`.
+#[unsafe(no_mangle)]
+pub extern "C" fn cudf_check_version(room: &mut [u8], length: &mut usize)
+    ensures { Shows (codes "1.0.0") (left room.old room.new length.new 0) }
+{
+    let version = b"1.0.0";
+    *length = version.len();
+    copy_front(version, room);
+}
+
+/// How documents are read.
+fn mode(strict: bool) -> Mode
+    ensures { result ≡ mode_of strict }
+{
+    if strict { Mode::Strict } else { Mode::Lenient }
+}

@@ -1,0 +1,58 @@
+//! Why a call has no report.
+ghost use Rattle.std.specs.Prelude.{◌≡◌};
+
+use cudf_check::RunError;
+use std::alloc::AllocError;
+
+/// Why a call has no report.
+#[derive(Clone, Copy, Debug, PartialEq, Eq)]
+pub(crate) enum Stop {
+    /// A key is none, or a list.
+    Refused,
+    /// A document is longer than 268435456 bytes.
+    TooLong,
+    /// Memory ran out.
+    Memory,
+}
+
+impl Stop {
+    ghost use Rattle.std.specs.Prelude.{◌≡◌};
+    ghost use Rattle.cudf_c.specs.Working.Stops.{stop_status};
+
+    /// The status: 4 where the call's words ask for nothing, 5 where a document is too long, 6 where memory ran out.
+    pub fn status(self) -> u8
+        ensures { result ≡ stop_status self }
+    {
+        match self {
+            Stop::Refused => 4,
+            Stop::TooLong => 5,
+            Stop::Memory => 6,
+        }
+    }
+}
+
+impl From<AllocError> for Stop {
+    ghost use Rattle.std.specs.Prelude.{◌≡◌};
+    ghost use Rattle.cudf_c.specs.declared.stop.Stop.TheVariants.{Memory};
+
+    ghost from_gives = { λ _ stop. stop ≡ Memory };
+
+    fn from(_error: AllocError) -> Self {
+        Stop::Memory
+    }
+}
+
+impl From<RunError> for Stop {
+    ghost use Rattle.std.specs.Prelude.{◌≡◌, ◌≢◌};
+    ghost use Rattle.cudf_c.specs.Working.Stops.{stop_of};
+
+    ghost from_gives = { λ error stop. stop ≡ stop_of error };
+
+    fn from(error: RunError) -> Self {
+        match error {
+            RunError::Read | RunError::TooLong => Stop::TooLong,
+            // A report is written to memory, which fails where a growth is refused, and never else.
+            RunError::Write | RunError::Memory => Stop::Memory,
+        }
+    }
+}
