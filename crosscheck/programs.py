@@ -53,7 +53,12 @@ class Program:
         return f"not known to the program: {', '.join(left) or 'nothing'}; --version {version}"
 
     def run(self, words, data=b""):
-        """The lines and the status, with these bytes as standard input. Files in memory, no pipe: it is run often."""
+        """The lines and the status, with these bytes as standard input."""
+        output, status = self.output(words, data)
+        return lines_of(output), status
+
+    def output(self, words, data=b""):
+        """The bytes and the status, with these bytes as standard input. Files in memory, no pipe: it is run often."""
         source, sink = os.memfd_create("source"), os.memfd_create("sink")
         try:
             os.write(source, data)
@@ -61,7 +66,7 @@ class Program:
             places = [(os.POSIX_SPAWN_DUP2, source, 0), (os.POSIX_SPAWN_DUP2, sink, 1), QUIET]
             child = os.posix_spawn(self.path, [self.path] + words, os.environ, file_actions=places)
             status = ended(child)
-            return lines_of(os.pread(sink, os.fstat(sink).st_size, 0)), status
+            return os.pread(sink, os.fstat(sink).st_size, 0), status
         finally:
             os.close(source)
             os.close(sink)

@@ -1,0 +1,50 @@
+/* Times calls of the library, for calls.py.
+
+usage: calls PROBLEM SOLUTION COUNT
+
+Prints the nanoseconds that COUNT calls of cudf_check_check took, each with a buffer that is there already. */
+#define _POSIX_C_SOURCE 199309L
+#include "cudf_check.h"
+
+#include <stdio.h>
+#include <stdlib.h>
+#include <time.h>
+
+struct text {
+    uint8_t bytes[1 << 16];
+    size_t length;
+};
+
+static void read_text(const char *name, struct text *text)
+{
+    FILE *file = fopen(name, "rb");
+    if (!file)
+        exit(EXIT_FAILURE);
+    text->length = fread(text->bytes, 1, sizeof text->bytes, file);
+    fclose(file);
+}
+
+static long long now(void)
+{
+    struct timespec time;
+    clock_gettime(CLOCK_MONOTONIC, &time);
+    return time.tv_sec * 1000000000LL + time.tv_nsec;
+}
+
+int main(int count, char **words)
+{
+    static struct text problem, solution, report;
+    if (count != 4)
+        return EXIT_FAILURE;
+    read_text(words[1], &problem);
+    read_text(words[2], &solution);
+    long long begun = now();
+    for (long left = strtol(words[3], NULL, 10); left > 0; left--) {
+        uint8_t status = cudf_check_check(false, problem.bytes, problem.length, solution.bytes, solution.length, NULL, 0, 0,
+                                          report.bytes, sizeof report.bytes, &report.length);
+        if (status != CUDF_CHECK_NO)
+            return EXIT_FAILURE;
+    }
+    printf("%lld\n", now() - begun);
+    return EXIT_SUCCESS;
+}

@@ -1,0 +1,227 @@
+/* Makes calls of cudf_check.h for embedding.py.
+
+usage: embedding FILE [THREADS CALLS STACK]
+
+FILE has requests, one behind the other, in numbers of 64 bits as the machine has them: which call it is (0 lint, 1 check,
+2 score, 3 rank), whether it is strict, the limit, the room, how many texts there are, and then the texts, each a length and
+bytes. The problem comes first, then the solutions, and last the key or the list. A length NONE stands for a null pointer,
+and with ZEROES for that many bytes 0, which don't stand in the file; a room NONE stands for a null buffer.
+
+For each request its answer is written in the same way: the status, the length that was told, and the buffer with GUARD
+bytes behind its room. All its bytes were PATTERN before the call.
+
+With THREADS the requests are answered once, and then so often as CALLS says by so many threads at once, whose stacks have
+STACK bytes, or the usual ones where that is 0. What is written is how many of these answers were others. The status is 70
+where FILE can't be opened, or memory for a request is refused before its call. For systems with POSIX threads. */
+#include "cudf_check.h"
+
+#include <pthread.h>
+#include <stdio.h>
+#include <stdlib.h>
+#include <string.h>
+
+#define NONE UINT64_MAX
+#define ZEROES (UINT64_C(1) << 63)
+enum { LINT, CHECK, SCORE, RANK };
+enum { GUARD = 64, PATTERN = 0xa5, REFUSED = 70 };
+
+struct text {
+    uint8_t *bytes;
+    size_t length;
+};
+
+struct request {
+    uint64_t call, strict, limit, room, count;
+    struct text *texts;
+    cudf_check_text *solutions;
+};
+
+/* What a call left. The buffer has GUARD bytes more than the room that the call was told of. */
+struct answer {
+    uint64_t status;
+    size_t length, size;
+    uint8_t *buffer;
+};
+
+static void *taken(size_t size)
+{
+    void *memory = calloc(1, size ? size : 1);
+    if (!memory)
+        exit(REFUSED);
+    return memory;
+}
+
+static bool read_number(FILE *file, uint64_t *number)
+{
+    return fread(number, sizeof *number, 1, file) == 1;
+}
+
+/* Each text has a block of its own, so that a sanitizer knows where it ends. */
+static void read_text(FILE *file, struct text *text)
+{
+    uint64_t length;
+    if (!read_number(file, &length))
+        abort();
+    text->length = length == NONE ? 0 : (size_t)(length & ~ZEROES);
+    text->bytes = length == NONE ? NULL : taken(text->length);
+    if (!(length & ZEROES) && fread(text->bytes, 1, text->length, file) != text->length)
+        abort();
+}
+
+static bool read_request(FILE *file, struct request *request)
+{
+    if (!read_number(file, &request->call))
+        return false;
+    if (!read_number(file, &request->strict) || !read_number(file, &request->limit) || !read_number(file, &request->room)
+        || !read_number(file, &request->count))
+        abort();
+    request->texts = taken(request->count * sizeof *request->texts);
+    for (uint64_t at = 0; at < request->count; at++)
+        read_text(file, &request->texts[at]);
+    request->solutions = NULL;
+    if (request->call == RANK && request->count > 2) {
+        request->solutions = taken((request->count - 2) * sizeof *request->solutions);
+        for (uint64_t at = 0; at < request->count - 2; at++)
+            request->solutions[at] = cudf_check_text_of(request->texts[at + 1].bytes, request->texts[at + 1].length);
+    }
+    return true;
+}
+
+static void drop_request(struct request *request)
+{
+    for (uint64_t at = 0; at < request->count; at++)
+        free(request->texts[at].bytes);
+    free(request->texts);
+    free(request->solutions);
+}
+
+static void call(const struct request *request, struct answer *answer)
+{
+    const struct text *problem = request->texts, *solution = problem + 1, *words = problem + request->count - 1;
+    bool strict = request->strict;
+    bool is_null = request->room == NONE;
+    size_t room = is_null ? 0 : request->room;
+    answer->size = is_null ? 0 : room + GUARD;
+    answer->buffer = is_null ? NULL : taken(answer->size);
+    answer->length = SIZE_MAX;
+    if (!is_null)
+        memset(answer->buffer, PATTERN, answer->size);
+    switch (request->call) {
+    case LINT:
+        answer->status = cudf_check_lint(strict, problem->bytes, problem->length, answer->buffer, room, &answer->length);
+        break;
+    case CHECK:
+        answer->status = cudf_check_check(strict, problem->bytes, problem->length, solution->bytes, solution->length,
+                                          words->bytes, words->length, request->limit, answer->buffer, room,
+                                          &answer->length);
+        break;
+    case SCORE:
+        answer->status = cudf_check_score(strict, problem->bytes, problem->length, solution->bytes, solution->length,
+                                          words->bytes, words->length, answer->buffer, room, &answer->length);
+        break;
+    case RANK:
+        answer->status = cudf_check_rank(strict, problem->bytes, problem->length, request->solutions, request->count - 2,
+                                         words->bytes, words->length, answer->buffer, room, &answer->length);
+        break;
+    default:
+        abort();
+    }
+}
+
+static void write_answer(const struct answer *answer)
+{
+    uint64_t numbers[] = {answer->status, answer->length, answer->size};
+    fwrite(numbers, sizeof numbers, 1, stdout);
+    if (answer->size)
+        fwrite(answer->buffer, 1, answer->size, stdout);
+}
+
+static bool is_same(const struct answer *one, const struct answer *other)
+{
+    return one->status == other->status && one->length == other->length && one->size == other->size
+        && (one->size == 0 || memcmp(one->buffer, other->buffer, one->size) == 0);
+}
+
+/* All requests with their answers, and what one thread does of the calls. */
+struct work {
+    const struct request *requests;
+    const struct answer *answers;
+    size_t count, first, calls, differing;
+};
+
+static void *turns(void *given)
+{
+    struct work *work = given;
+    for (size_t turn = 0; turn < work->calls; turn++) {
+        size_t at = (work->first + turn) % work->count;
+        struct answer answer;
+        call(&work->requests[at], &answer);
+        work->differing += !is_same(&answer, &work->answers[at]);
+        free(answer.buffer);
+    }
+    return NULL;
+}
+
+static void at_once(FILE *file, size_t threads, size_t calls, size_t stack)
+{
+    pthread_attr_t attributes;
+    struct request *requests = NULL, request;
+    size_t count = 0, differing = 0;
+    while (read_request(file, &request)) {
+        requests = realloc(requests, (count + 1) * sizeof *requests);
+        if (!requests)
+            exit(REFUSED);
+        requests[count++] = request;
+    }
+    struct answer *answers = taken(count * sizeof *answers);
+    for (size_t at = 0; at < count; at++)
+        call(&requests[at], &answers[at]);
+    struct work *works = taken(threads * sizeof *works);
+    pthread_t *running = taken(threads * sizeof *running);
+    if (pthread_attr_init(&attributes) || (stack && pthread_attr_setstacksize(&attributes, stack)))
+        abort();
+    for (size_t at = 0; at < threads; at++) {
+        works[at] = (struct work){requests, answers, count, at * count / threads, calls / threads, 0};
+        if (pthread_create(&running[at], &attributes, turns, &works[at]))
+            abort();
+    }
+    for (size_t at = 0; at < threads; at++) {
+        pthread_join(running[at], NULL);
+        differing += works[at].differing;
+    }
+    pthread_attr_destroy(&attributes);
+    printf("%zu\n", differing);
+    for (size_t at = 0; at < count; at++) {
+        free(answers[at].buffer);
+        drop_request(&requests[at]);
+    }
+    free(running);
+    free(works);
+    free(answers);
+    free(requests);
+}
+
+int main(int count, char **words)
+{
+    /* buffers of our own, so that stdio asks for no memory where growths are refused */
+    static char source[1 << 16], sink[1 << 16];
+    FILE *file = count > 1 ? fopen(words[1], "rb") : NULL;
+    if (!file)
+        return REFUSED;
+    setvbuf(file, source, _IOFBF, sizeof source);
+    setvbuf(stdout, sink, _IOFBF, sizeof sink);
+    if (count == 5) {
+        at_once(file, strtoul(words[2], NULL, 10), strtoul(words[3], NULL, 10), strtoul(words[4], NULL, 10));
+    } else {
+        struct request request;
+        struct answer answer;
+        while (read_request(file, &request)) {
+            call(&request, &answer);
+            write_answer(&answer);
+            free(answer.buffer);
+            drop_request(&request);
+        }
+    }
+    fclose(file);
+    return EXIT_SUCCESS;
+}

@@ -1,0 +1,586 @@
+#!/usr/bin/env python3
+"""Tries the library for C: by the callers in embedding/, and beside the program.
+
+usage: embedding.py PROGRAM LIBRARY_FOLDER
+
+LIBRARY_FOLDER has libcudf_check.a and libcudf_check.so.1.
+
+- The examples in C, C++, Python and OCaml, linked to each of the two files, print embedding/expected.txt. What
+  docs/EMBEDDING.md shows of them stands in them.
+- 500 random problems with their solutions, in both modes, by all four calls, with pages and lists, right ones and wrong
+  ones: through C and through Python the status and the bytes of the report are the program's, and the values that Python
+  gives say the same.
+- Reports that are cut at every length; null pointers; keys, lists and rankings that a command line can't ask for.
+- Each growth of memory in a call refused in turn; documents that are too long, and one that just isn't.
+- 10,000 calls by eight threads at once: with stacks of 128 KB, under a sanitizer for addresses and leaks, and under one for
+  threads. Of the library these see what it asks of the C library; so its data is looked at too, of which none is writable.
+- What the shared library exports.
+
+What isn't as wanted is printed, what had to be left out, and then how many there were. The status is 1 where one is wrong,
+and 2 where there is no program or no library. For Linux and glibc; Python's standard library alone.
+"""
+import ast
+import dataclasses
+import importlib
+import os
+import re
+import shutil
+import struct
+import subprocess
+import sys
+import tempfile
+
+import programs
+import refusals
+from inputs import Inputs
+
+HERE = os.path.dirname(os.path.abspath(__file__))
+ROOT = os.path.dirname(HERE)
+EMBEDDING = os.path.join(ROOT, "embedding")
+EXAMPLES = os.path.join(ROOT, "examples")
+INCLUDE = "-I" + os.path.join(ROOT, "include")
+DRIVER = os.path.join(HERE, "embedding.c")
+STATIC, SHARED = "libcudf_check.a", "libcudf_check.so.1"
+LIMIT_SECONDS = 120
+WARNINGS = ("-O1", "-Wall", "-Wextra", "-pedantic", "-Werror")
+CALLS = ("lint", "check", "score", "rank")
+PAIRS, THREADS, TURNS, SOME = 500, 8, 10_000, 60
+SMALL_STACK = 128 << 10
+YES, NO, FAULTY, FAIL, USAGE, UNREAD, MEMORY = range(7)
+GREATEST_INPUT = 268_435_456
+GREATEST = 2**64 - 1
+# as the driver has them
+NONE, ZEROES, GUARD, PATTERN, REFUSED = 2**64 - 1, 1 << 63, 64, b"\xa5", 70
+
+PROBLEM = b"package: car\nversion: 1\ndepends: wheel > 2\ninstalled: true\n\npackage: wheel\nversion: 2\n\nrequest:\n"
+GOOD = b"package: wheel\nversion: 2\ninstalled: true\n"
+BAD = b"package: car\nversion: 1\ninstalled: true\n"
+UNMET = b"p1.depends.1 car 1 line 1: needs wheel > 2\nsolution no\n"
+# docs/FORMAT.md: what a key and a list can't be; and what no word of a command line can be
+NO_KEYS = (b"p01.keep.1", b"r.upgrade.1", b"r.install.1.many", b" r.install.1", b"r.install.1 ", b"r.install.1\n", b"\xff",
+           b"r.install.1\0", b"\0", b"p18446744073709551616.keep.1")
+NO_LISTS = (b"removed", b"-removed,", b"- removed", b"-Removed", b"-size", b",", b"-new\0", b"\0", b"-new,\xff")
+
+# programs that are wrong, to see whether a sanitizer tells
+LEAK = """#include <stdlib.h>
+static void __attribute__((noinline)) lose(void) { *(volatile char *)malloc(99) = 1; }
+int main(void) { for (int n = 0; n < 9; n++) lose(); return 0; }
+"""
+RACE = """#include <pthread.h>
+static int shared;
+static void *add(void *none) { for (int n = 0; n < 9999; n++) shared++; return none; }
+int main(void) { pthread_t one; pthread_create(&one, 0, add, 0); add(0); return pthread_join(one, 0); }
+"""
+
+
+class Trial:
+    """Counts what was as wanted, and prints what wasn't. The folder is for what is made."""
+
+    def __init__(self, program, library, folder):
+        self.passed, self.failed, self.folder = 0, 0, folder
+        self.program, self.library = programs.Program(os.path.abspath(program)), os.path.abspath(library)
+
+    def note(self, name, given, wanted):
+        if given == wanted:
+            self.passed += 1
+        else:
+            self.failed += 1
+            print(f"{name}:\n  {shown(given)}, wanted\n  {shown(wanted)}", flush=True)
+
+    def file(self, name):
+        return os.path.join(self.folder, name)
+
+    def built(self, name, words):
+        """Whether a compiler makes the file without a word."""
+        ran = run(words + ["-o", self.file(name)], self.folder)
+        self.note(f"{words[0]}, {name}", ran, (0, b"", b""))
+        return ran[0] == 0
+
+    def driver(self, name, *words):
+        """The driver, by the first C compiler there is, linked to the library's file of this name; or None."""
+        found = compilers("gcc", "clang")
+        if found and self.built(name, [found[0], "-std=c99", *WARNINGS, "-pthread", INCLUDE, DRIVER, *words]):
+            return self.file(name)
+        return None
+
+    def static(self):
+        return os.path.join(self.library, STATIC)
+
+    def shared(self):
+        return os.path.join(self.library, SHARED)
+
+    def kinds(self):
+        """What links to each of the library's files."""
+        return ("static", [self.static()]), ("shared", [self.shared(), "-Wl,-rpath," + self.library])
+
+
+def shown(value):
+    text = repr(value)
+    return text if len(text) < 800 else text[:400] + " .. " + text[-400:]
+
+
+def left_out(what, why):
+    print(f"left out: {what}: {why}", flush=True)
+
+
+def run(words, folder, **more):
+    """The status and the bytes on both outputs. A name with None isn't in the surroundings."""
+    surroundings = dict(os.environ, LC_ALL="C", PYTHONDONTWRITEBYTECODE="1", **more)
+    surroundings = {name: value for name, value in surroundings.items() if value is not None}
+    try:
+        ran = subprocess.run(
+            words, cwd=folder, env=surroundings, stdin=subprocess.DEVNULL, capture_output=True, timeout=LIMIT_SECONDS,
+            check=False,
+        )
+        return ran.returncode, ran.stdout, ran.stderr
+    except subprocess.TimeoutExpired:
+        return "no end", b"", b""
+
+
+def compilers(*names):
+    return [name for name in names if shutil.which(name)]
+
+
+def contents(*names):
+    with open(os.path.join(*names), "rb") as file:
+        return file.read()
+
+
+# ---- the callers
+
+
+def callers(trial):
+    """The examples of each language print the same. Each is built as the oldest and as a later standard has it."""
+    wanted = (0, contents(EMBEDDING, "expected.txt"), b"")
+    for language, names, standards in (
+        ("c", ("gcc", "clang"), ("-std=c99", "-std=c2x")), ("cpp", ("g++", "clang++"), ("-std=c++17", "-std=c++20")),
+    ):
+        source = os.path.join(EMBEDDING, language, "example." + language)
+        for compiler in compilers(*names):
+            for standard, (kind, library) in zip(standards, trial.kinds()):
+                name = f"example.{language}-{compiler}-{kind}"
+                if trial.built(name, [compiler, standard, *WARNINGS, INCLUDE, source, *library]):
+                    trial.note(name, run([trial.file(name)], trial.folder), wanted)
+        if not compilers(*names):
+            left_out(f"the example in {language}", f"none of {', '.join(names)} is there")
+    python(trial, wanted)
+    ocaml(trial, wanted)
+
+
+def python(trial, wanted):
+    """The library is found by its file and by its name. The grammar is that of the oldest version that is promised."""
+    folder = os.path.join(EMBEDDING, "python")
+    for surroundings in (
+        {"CUDF_CHECK_LIBRARY": trial.shared()}, {"CUDF_CHECK_LIBRARY": None, "LD_LIBRARY_PATH": trial.library},
+    ):
+        told = run([sys.executable, os.path.join(folder, "example.py")], trial.folder, **surroundings)
+        trial.note(f"example.py, {surroundings}", told, wanted)
+    for name in ("cudf_check.py", "example.py"):
+        ast.parse(contents(folder, name), name, feature_version=(3, 8))
+
+
+def ocaml(trial, wanted):
+    """Machine code and bytecode, whose stubs differ. The compilers write beside their sources, so these are copied."""
+    for compiler, mode in (("ocamlopt", []), ("ocamlc", ["-custom"])):
+        if not shutil.which(compiler):
+            left_out(f"the example in OCaml by {compiler}", "it isn't there")
+            continue
+        for kind, library in trial.kinds():
+            name = f"{compiler}-{kind}"
+            folder = shutil.copytree(os.path.join(EMBEDDING, "ocaml"), trial.file(name + "-sources"))
+            linked = [word for file in library for word in ("-cclib", file)]
+            warned = [word for flag in ("-Wall", "-Wextra", "-Werror", INCLUDE) for word in ("-ccopt", flag)]
+            sources = ["cudf_check_stubs.c", "cudf_check.mli", "cudf_check.ml", "example.ml"]
+            words = [compiler, "-w", "+a-4-9-40..42-70", "-warn-error", "+a", *mode, *warned, *sources, *linked]
+            ran = run(words + ["-o", trial.file(name)], folder)
+            trial.note(f"{name}: built", ran, (0, b"", b""))
+            if ran[0] == 0:
+                trial.note(name, run([trial.file(name)], trial.folder), wanted)
+
+
+def shown_blocks(trial):
+    """What docs/EMBEDDING.md shows in a block of a language stands so in the example of that language."""
+    text = contents(ROOT, "docs", "EMBEDDING.md").decode()
+    examples = {"c": "c/example.c", "cpp": "cpp/example.cpp", "python": "python/example.py", "ocaml": "ocaml/example.ml"}
+    blocks = re.findall(r"^```(\w+)\n(.*?)^```$", text, re.MULTILINE | re.DOTALL)
+    trial.note("docs/EMBEDDING.md: languages", [language for language, _ in blocks], list(examples))
+    for language, block in blocks:
+        is_there = block in contents(EMBEDDING, examples[language]).decode()
+        trial.note(f"docs/EMBEDDING.md, {language}", is_there or block, True)
+
+
+# ---- requests and their answers
+
+
+@dataclasses.dataclass(frozen=True)
+class Request:
+    """A call: the texts are the problem and the solutions, `said` the key or the list. A number is so many bytes 0."""
+
+    call: str
+    texts: tuple
+    said: bytes = b""
+    limit: int = 0
+    is_strict: bool = False
+    room: int = 1024
+
+    def words(self, files):
+        """What asks the program the same, of these files."""
+        option = {"check": "--after=", "score": "--criteria=", "rank": "--criteria="}.get(self.call, "")
+        words = [os.fsencode(option) + self.said] * bool(self.said) + [f"--limit={self.limit}"] * bool(self.limit)
+        return [self.call, *files, *words] + ["--strict"] * self.is_strict
+
+    def written(self):
+        """The request as the driver reads it."""
+        texts = self.texts if self.call == "lint" else (*self.texts, self.said)
+        room = NONE if self.room is None else self.room
+        head = struct.pack("5Q", CALLS.index(self.call), self.is_strict, self.limit, room, len(texts))
+        return head + b"".join(map(written, texts))
+
+    def left(self, status, report):
+        """What the call leaves of a report: the status, its length, and the buffer with the guard behind it."""
+        size = 0 if self.room is None else self.room + GUARD
+        return status, len(report), (report[: self.room or 0]).ljust(size, PATTERN)
+
+
+def written(text):
+    if text is None:
+        return struct.pack("Q", NONE)
+    if isinstance(text, int):
+        return struct.pack("Q", ZEROES | text)
+    return struct.pack("Q", len(text)) + text
+
+
+def answers(output):
+    """What the driver wrote: of each request the status, the length and the buffer."""
+    at = 0
+    while at + 24 <= len(output):
+        status, length, size = struct.unpack_from("3Q", output, at)
+        at += 24 + size
+        yield status, length, output[at - size: at]
+
+
+def through_c(trial, driver, named):
+    """Makes the calls, and compares with what is wanted of each: rows of a name, a request and what it leaves."""
+    path = trial.file("requests")
+    with open(path, "wb") as file:
+        file.writelines(request.written() for _, request, _ in named)
+    status, output, errors = run([driver, path], trial.folder)
+    trial.note(f"{driver}: its end", (status, errors), (0, b""))
+    given = list(answers(output))
+    trial.note(f"{driver}: answers", len(given), len(named))
+    for (name, _, wanted), left in zip(named, given):
+        trial.note(name, left, wanted)
+
+
+def asked(trial, request):
+    """The program's status and report."""
+    files = [programs.write(trial.folder, f"text{at}", text) for at, text in enumerate(request.texts)]
+    output, status = trial.program.output(request.words(files))
+    return status, output
+
+
+# ---- beside the program
+
+
+def random_requests(number):
+    """What is asked of one random problem and its solutions."""
+    inputs = Inputs(f"embedding/{number}")
+    pairs = inputs.pairs()
+    problem, solutions = inputs.problem(pairs), inputs.solutions(pairs)
+    pair, is_strict = (problem, solutions[0]), inputs.now_and_then(0.5)
+    key = (inputs.odd_key() if inputs.now_and_then(0.4) else inputs.key()).encode()
+    limit, other_limit = inputs.pick((0, 1, 2, 3, GREATEST)), inputs.pick((1, 1, 2, 5))
+    yield Request("lint", (problem,), is_strict=is_strict)
+    yield Request("check", pair, is_strict=is_strict)
+    yield Request("check", pair, b"", other_limit, is_strict)
+    # a text of no bytes is no key, and no list
+    yield Request("check", pair, key, limit, is_strict)
+    yield Request("score", pair, is_strict=is_strict)
+    yield Request("score", pair, inputs.aims().encode(), is_strict=is_strict)
+    yield Request("rank", (problem, *solutions), inputs.aims().encode() or b"-new", is_strict=is_strict)
+
+
+def with_room(request, report, number):
+    """The request with a buffer that is ample, just enough, or too small."""
+    rooms = (len(report) + 100, len(report) + 1, len(report), max(0, len(report) - 1), len(report) // 2)
+    return dataclasses.replace(request, room=rooms[number % len(rooms)])
+
+
+def beside(trial, driver):
+    """Random requests: what the program says, and the two callers beside it. Returns the requests with what they leave."""
+    named = []
+    python_of = python_module(trial)
+    values(trial, python_of)
+    for number in range(1, PAIRS + 1):
+        for request in random_requests(number):
+            status, report = asked(trial, request)
+            name = f"pair {number}: {request}"
+            answer = python_call(python_of, request)
+            trial.note(f"Python, {name}", (answer.status, answer.report.encode()), (status, report))
+            trial.note(f"Python's values, {name}", told_again(request, answer), report.decode())
+            request = with_room(request, report, len(named))
+            named.append((f"C, {name}", request, request.left(status, report)))
+    kinds = {status: sum(row[2][0] == status for row in named) for status in (YES, NO, FAULTY, FAIL, USAGE)}
+    trial.note("a status that never came", [status for status, count in kinds.items() if not count], [])
+    if driver:
+        through_c(trial, driver, named)
+    return named
+
+
+def python_module(trial):
+    os.environ["CUDF_CHECK_LIBRARY"] = trial.shared()
+    sys.path.insert(0, os.path.join(EMBEDDING, "python"))
+    return importlib.import_module("cudf_check")
+
+
+def python_call(module, request):
+    problem, *solutions = request.texts
+    if request.call == "lint":
+        return module.lint(problem, request.is_strict)
+    if request.call == "check":
+        return module.check(problem, *solutions, request.said, request.limit or None, request.is_strict)
+    if request.call == "score":
+        return module.score(problem, *solutions, request.said, request.is_strict)
+    return module.rank(problem, solutions, request.said, request.is_strict)
+
+
+def values(trial, module):
+    """Values of Python's by hand, of each kind of line, and what it refuses to ask."""
+    rules = example("rules.problem.cudf").decode(), example("rules.answer.cudf").decode()
+    checked = module.check(*rules, after="r.upgrade.1.many", limit=2)
+    trial.note("Python's page", (checked.status, checked.more_after, checked.verdict, checked.fault), (
+        NO, "r.upgrade.2.unsatisfied", "no", None,
+    ))
+    told = module.check(*rules, limit=1).violations + checked.violations + module.check(*rules).violations[-1:]
+    trial.note("Python's violations", told, [module.Violation(*cells) for cells in (
+        ("p1.depends.1", "p1", "depends", 1, None, "car", 1, 1, "needs wheel > 2"),
+        ("r.upgrade.1.lower", "r", "upgrade", 1, "lower", None, None, 44, "upgrade map is lower than before"),
+        ("r.upgrade.2.unsatisfied", "r", "upgrade", 2, "unsatisfied", None, None, 44, "upgrade needs radio"),
+        ("s.unknown.7", "s", "unknown", 7, None, "ghost", 9, 25, "not in the universe"),
+    )])
+    fault = (1, "E12", "no version")
+    trial.note("Python's faults", [module.check(PROBLEM, b"package: a").fault, module.lint("package: a").fault], [
+        module.Fault("solution", *fault), module.Fault("problem", *fault),
+    ])
+    ranked = module.rank(PROBLEM, [GOOD, "package: a"], "-new")
+    trial.note("Python's fault in a ranking", (ranked.fault, ranked.ranks), (module.Fault("solution", *fault, 2), []))
+    trial.note("Python's ranks", module.rank(PROBLEM, [BAD, GOOD], "-new,-removed").ranks, [
+        module.Rank(1, 2, "yes", (("-new", 1), ("-removed", 1))), module.Rank(2, 1, "no", ()),
+    ])
+    scored = module.score(PROBLEM, GOOD)
+    trial.note("Python's counts", (scored.counts, scored.vectors, scored.verdict), (
+        {"removed": 1, "new": 1, "changed": 2, "notuptodate": 0, "unsat_recommends": 0},
+        {"paranoid": (1, 2), "trendy": (1, 0, 0, 1)}, "yes",
+    ))
+    for limit in (0, -1, 2**64):
+        try:
+            trial.note(f"Python, limit {limit}", module.check(PROBLEM, BAD, limit=limit), ValueError)
+        except ValueError:
+            trial.note(f"Python, limit {limit}", ValueError, ValueError)
+
+
+def told_again(request, answer):
+    """The report, put together of the values that Python gives."""
+    if answer.status not in (YES, NO, FAULTY, FAIL):
+        return ""
+    if answer.fault:
+        fault = answer.fault
+        whose = fault.whose if fault.place is None else f"{fault.whose} {fault.place}"
+        return f"{whose} line {fault.line}: {fault.kind} {fault.text}\n"
+    if request.call == "lint":
+        lines = ["problem ok"]
+    elif request.call == "rank":
+        lines = [ranked_again(rank) for rank in answer.ranks]
+    elif request.call == "check":
+        lines = [violation_again(violation) for violation in answer.violations]
+        lines += [f"more after {answer.more_after}"] if answer.more_after else []
+    elif request.said:
+        lines = [f"{aim} {answer.counts[aim[1:]]}" for aim in request.said.decode().split(",") if answer.counts]
+    else:
+        lines = [f"{name} {count}" for name, count in answer.counts.items()]
+        lines += [" ".join([track, *map(str, numbers)]) for track, numbers in answer.vectors.items()]
+    if request.call in ("check", "score"):
+        lines.append(f"solution {answer.verdict}")
+    return "".join(line + "\n" for line in lines)
+
+
+def ranked_again(rank):
+    return " ".join([f"{rank.rank} solution {rank.place} {rank.verdict}"] + [f"{aim} {count}" for aim, count in rank.counts])
+
+
+def violation_again(violation):
+    key = f"{violation.part}.{violation.rule}.{violation.place}" + (f".{violation.aspect}" if violation.aspect else "")
+    subject = f" {violation.name} {violation.version}" if violation.name else ""
+    return f"{key}{subject} line {violation.line}: {violation.text}" if key == violation.key else violation.key
+
+
+# ---- buffers, null pointers, and what no command line can ask for
+
+
+def example(name):
+    return contents(EXAMPLES, name)
+
+
+def usual_requests():
+    """One request of each call, with a report of some lines, of documents that need most of what the library does."""
+    rules = (example("rules.problem.cudf"), example("rules.answer.cudf"))
+    car = [example(f"car.{name}.cudf") for name in ("problem", "broken", "good", "fail")]
+    return (
+        Request("lint", (example("producer.problem.cudf"),)), Request("check", rules),
+        Request("score", rules, b"-removed,+new,-touched"), Request("rank", tuple(car), b"-changed,-touched"),
+    )
+
+
+def cuts(trial):
+    """A report in buffers of each length up to one more than its own, and in none."""
+    for request in usual_requests():
+        status, report = asked(trial, request)
+        for room in (*range(len(report) + 2), None):
+            cut = dataclasses.replace(request, room=room)
+            yield f"{request.call}, cut at {room}", cut, cut.left(status, report)
+
+
+def nulls(trial):
+    """A null pointer is an empty text; the program is given empty files."""
+    for request in (
+        Request("lint", (None,)), Request("check", (PROBLEM, None), None), Request("check", (None, BAD), b"", 1),
+        Request("check", (PROBLEM, BAD), None, room=0), Request("score", (PROBLEM, None), None),
+        Request("score", (None, None), b"-new"), Request("rank", (PROBLEM, None), b"-new"),
+        Request("rank", (PROBLEM, BAD, None, GOOD), b"-new", room=None),
+    ):
+        filled = dataclasses.replace(request, texts=tuple(text or b"" for text in request.texts), said=request.said or b"")
+        yield f"null pointers: {request}", request, request.left(*asked(trial, filled))
+
+
+def by_hand():
+    """What docs/FORMAT.md and the header say of what no command line can ask for."""
+    faulty = b"problem line 1: E2 not a property, continuation, comment or blank line\n"
+    ranked = b"1 solution 2 yes\n2 solution 4 yes\n3 solution 1 no\n4 solution 3 FAIL\n"
+    rows = [
+        (Request("rank", (PROBLEM,)), FAIL, b""), (Request("rank", (PROBLEM,), None, room=None), FAIL, b""),
+        (Request("rank", (PROBLEM,), b"-new"), FAIL, b""), (Request("rank", (b"?",), b"-new"), FAULTY, faulty),
+        (Request("rank", (PROBLEM, BAD, GOOD, b"FAIL", GOOD)), YES, ranked),
+        (Request("check", (PROBLEM, BAD), b"p1.conflicts.1"), NO, b"solution no\n"),
+        (Request("check", (PROBLEM, BAD), limit=1), NO, UNMET),
+    ]
+    rows += [(Request("check", (PROBLEM, BAD), key), USAGE, b"") for key in NO_KEYS]
+    rows += [(Request(call, (PROBLEM, BAD), said), USAGE, b"") for said in NO_LISTS for call in ("score", "rank")]
+    # the words are judged before the documents
+    rows += [(Request("check", (b"?", BAD), b"x"), USAGE, b""), (Request("rank", (b"?",), b"x"), USAGE, b"")]
+    for request, status, report in rows:
+        yield f"by hand: {request}", request, request.left(status, report)
+
+
+def lengths():
+    """Documents that are longer than may be, whatever the others are, and one that is as long as may be."""
+    long = GREATEST_INPUT + 1
+    rows = [
+        Request("lint", (long,)), Request("check", (PROBLEM, long)), Request("score", (long, b"FAIL")),
+        Request("rank", (b"?", GOOD, b"FAIL", long), b"-new"),
+    ]
+    for request in rows:
+        yield f"too long: {request}", request, request.left(UNREAD, b"")
+    request = Request("lint", (GREATEST_INPUT,))
+    faulty = b"problem line 1: E2 not a property, continuation, comment or blank line\n"
+    yield "as long as may be", request, request.left(FAULTY, faulty)
+
+
+# ---- memory, threads, symbols
+
+
+def refused_growths(trial, driver):
+    """Each growth of one call, alone and with all later ones: status 6 and an untouched buffer, and nothing else."""
+    if not shutil.which("gcc"):
+        left_out("refused growths", "gcc isn't there")
+        return
+    refuser = refusals.Refuser(trial.folder)
+    for request in usual_requests():
+        path = programs.write(trial.folder, "request", request.written())
+        right, refused, in_call = request.left(*asked(trial, request)), request.left(MEMORY, b""), 0
+        for growth, later, (status, output, _, marks) in refusals.in_turn(refuser, [driver, path]):
+            is_refused = b"g" in marks
+            if is_refused and status == REFUSED:
+                continue
+            in_call += is_refused
+            left = list(answers(output))
+            # where memory that was to be given back is refused, the report is right as well
+            wanted = refused if is_refused or marks and left == [refused] else right
+            trial.note(f"{request.call}, growth {growth}, later {later}", (status, left), (0, [wanted]))
+        trial.note(f"{request.call}: whether a growth in the call was refused", in_call > 0, True)
+
+
+def sanitizers(folder, compiler):
+    """The sanitizers that tell of a wrong program. The others are left out."""
+    for flag, wrong, told in (
+        ("address", LEAK, b"LeakSanitizer: detected memory leaks"), ("thread", RACE, b"ThreadSanitizer: data race"),
+    ):
+        programs.write(folder, "wrong.c", wrong.encode())
+        built = run([compiler, "-g", f"-fsanitize={flag}", "-pthread", "wrong.c", "-o", "wrong"], folder)
+        if built[0] == 0 and told in run(["./wrong"], folder)[2]:
+            yield flag
+        else:
+            left_out(f"calls at once under -fsanitize={flag}", "it doesn't tell of a wrong program here")
+
+
+def at_once(trial, driver, named):
+    """Calls by threads give the answers of one thread: with small stacks, and under the sanitizers, which tell nothing."""
+    path = trial.file("some-requests")
+    with open(path, "wb") as file:
+        file.writelines(request.written() for _, request, _ in named[:: len(named) // SOME])
+    drivers = [(driver, SMALL_STACK)]
+    for flag in sanitizers(trial.folder, compilers("gcc", "clang")[0]):
+        drivers.append((trial.driver(f"driver-{flag}", "-g", f"-fsanitize={flag}", trial.static()), 0))
+    for built, stack in drivers:
+        if built:
+            told = run([built, path, str(THREADS), str(TURNS), str(stack)], trial.folder)
+            trial.note(f"{TURNS} calls by {THREADS} threads, {built}", told, (0, b"0\n", b""))
+
+
+def symbols(trial):
+    """The shared library exports the five calls alone."""
+    exported = {f"cudf_check_{call}" for call in (*CALLS, "version")}
+    status, output, _ = run(["nm", "-D", "--defined-only", trial.shared()], trial.folder)
+    told = {line.split()[-1].split("@")[0] for line in output.decode().splitlines()}
+    trial.note("what the shared library exports", (status, told), (0, exported))
+
+
+def data(trial):
+    """Calls at once have nothing to share: there is no writable data, but a byte whose address stands for refused memory."""
+    status, output, _ = run(["size", trial.static()], trial.folder)
+    sizes = [tuple(map(int, line.split()[1:3])) for line in output.decode().splitlines()[1:]]
+    trial.note("writable data", (status, sum(map(sum, sizes)) <= 1, bool(sizes)), (0, True, True))
+
+
+def main(program, library):
+    with tempfile.TemporaryDirectory() as folder:
+        trial = Trial(program, library, folder)
+        callers(trial)
+        shown_blocks(trial)
+        drivers = [trial.driver(f"driver-{kind}", *library) for kind, library in trial.kinds()]
+        named = beside(trial, drivers[0])
+        for driver in filter(None, drivers):
+            through_c(trial, driver, [*cuts(trial), *nulls(trial), *by_hand()])
+        if drivers[0]:
+            through_c(trial, drivers[0], list(lengths()))
+            refused_growths(trial, drivers[0])
+            at_once(trial, drivers[0], named)
+        else:
+            left_out("calls through C", "no C compiler is there")
+        for tool, part in (("nm", symbols), ("size", data)):
+            if shutil.which(tool):
+                part(trial)
+            else:
+                left_out(part.__doc__, f"{tool} isn't there")
+    print(f"{trial.passed} passed, {trial.failed} failed")
+    return 1 if trial.failed else 0
+
+
+def start(program, library):
+    if os.path.isfile(program) and os.access(program, os.X_OK) and os.path.isfile(os.path.join(library, SHARED)):
+        return main(program, library)
+    print(f"{program} is no program, or {library} has no {SHARED}: make library puts it into lib", file=sys.stderr)
+    return 2
+
+
+if __name__ == "__main__":
+    sys.exit(start(*sys.argv[1:]) if len(sys.argv) == 3 else __doc__)

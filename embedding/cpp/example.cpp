@@ -1,0 +1,126 @@
+// cudf_check from C++17: judges an answer, reads a fault, counts, ranks, and goes through a long report by pages.
+// Prints what stands in embedding/expected.txt.
+//
+//     c++ -std=c++17 -Iinclude embedding/cpp/example.cpp lib/libcudf_check.a -o example
+#include "cudf_check.hpp"
+
+#include <iostream>
+#include <sstream>
+#include <string>
+#include <string_view>
+#include <utility>
+
+namespace {
+
+// car 1 is installed and needs a newer wheel than the one that is installed beside it
+constexpr std::string_view problem = R"(package: car
+version: 1
+depends: wheel > 2
+installed: true
+
+package: wheel
+version: 2
+installed: true
+
+package: wheel
+version: 3
+
+request: no upgrade
+install: car
+)";
+constexpr std::string_view old_wheel = R"(package: car
+version: 1
+installed: true
+
+package: wheel
+version: 2
+installed: true
+)";
+constexpr std::string_view new_wheel = R"(package: car
+version: 1
+installed: true
+
+package: wheel
+version: 3
+installed: true
+)";
+constexpr std::string_view both_wheels = R"(package: car
+version: 1
+installed: true
+
+package: wheel
+version: 2
+installed: true
+
+package: wheel
+version: 3
+installed: true
+)";
+constexpr std::string_view faulty = "package: car\nversion: one\n\nrequest:\n";
+
+constexpr int packages = 10000, lines = 1000;
+
+int number(cudf_check::Status status)
+{
+    return static_cast<int>(status);
+}
+
+void print(std::string_view job, const cudf_check::Answer &answer)
+{
+    std::cout << '\n' << job << ": status " << number(answer.status) << '\n' << answer.report;
+}
+
+void print_fault(std::string_view job, const cudf_check::Answer &answer)
+{
+    std::istringstream report(answer.report);
+    std::string whose, word, kind, text;
+    int line = 0;
+    char colon = 0;
+    report >> whose >> word >> line >> colon >> kind >> std::ws;
+    std::getline(report, text);
+    std::cout << '\n' << job << ": status " << number(answer.status) << ", " << kind << " on line " << line << " of the "
+              << whose << ": " << text << '\n';
+}
+
+// A problem of packages that are installed and need what isn't there. As its own answer it is no solution.
+std::string broken(int count)
+{
+    std::ostringstream text;
+    for (int number = 1; number <= count; number++)
+        text << "package: p" << number << "\nversion: 1\ndepends: none\ninstalled: true\n\n";
+    text << "request:\n";
+    return text.str();
+}
+
+// The pages of a listing, without what stands behind all but the last of them, and how many they are.
+std::pair<std::string, int> by_pages(const std::string &text)
+{
+    constexpr std::string_view more = "\nmore after ";
+    std::string together, after;
+    for (int pages = 1;; pages++) {
+        const std::string page = cudf_check::check(text, text, after, lines).report;
+        const std::size_t end = page.find(more);
+        if (end == page.npos)
+            return {together + page, pages};
+        together += page.substr(0, end + 1);
+        const std::size_t key = end + more.size();
+        after = page.substr(key, page.find('\n', key) - key);
+    }
+}
+
+} // namespace
+
+int main()
+{
+    std::cout << "cudf_check " << cudf_check::version() << '\n';
+    print("check", cudf_check::check(problem, old_wheel));
+    print_fault("lint", cudf_check::lint(faulty));
+    print("score", cudf_check::score(problem, new_wheel));
+    print("rank", cudf_check::rank(problem, {old_wheel, both_wheels, new_wheel}, "-changed,-touched"));
+
+    const std::string many = broken(packages);
+    const auto [together, pages] = by_pages(many);
+    std::cout << "\npages: " << pages << " of at most " << lines << " lines, which together "
+              << (together == cudf_check::check(many, many).report ? "are" : "aren't") << " the report of " << packages
+              << '\n';
+}

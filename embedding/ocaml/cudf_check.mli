@@ -1,0 +1,37 @@
+(** cudf_check: checks proposed solutions of CUDF 2.0 upgrade problems, through the library for C.
+
+    Each of the four functions makes the report of the program's command of its name, byte for byte, of documents that are
+    held in memory; docs/FORMAT.md and docs/RULES.md of cudf_check say what a report says. With [~strict:true] two things
+    more are faults, as with the program's [--strict]. No document and no list raises an exception. *)
+
+(** The exit status of the program. *)
+type status =
+  | Yes  (** a solution; [lint]: no fault; [rank]: at least one of them is a solution *)
+  | No  (** not a solution; [rank]: none of them is one, and not all say FAIL *)
+  | Faulty  (** a faulty document *)
+  | Fail  (** the solution says FAIL; [rank]: all of them do, or there are none *)
+  | Usage  (** the key isn't one, or the list isn't one *)
+  | Unread  (** a document is longer than 256 MiB *)
+  | Memory  (** the library got no memory *)
+
+(** The report has no text with [Usage], [Unread] and [Memory]. *)
+type answer = { status : status; report : string }
+
+(** [lint problem] says whether the problem is without fault. *)
+val lint : ?strict:bool -> string -> answer
+
+(** [check problem solution] says what is wrong with the solution: a line for each violation behind the key [after], at
+    most [limit] of them, and the verdict.
+    @raise Invalid_argument where [limit] is less than 1. *)
+val check : ?strict:bool -> ?after:string -> ?limit:int -> string -> string -> answer
+
+(** [score problem solution] counts what the solution changes and lacks, by the list [criteria], such as
+    ["-removed,-changed"], or by the criteria of the MISC competition. *)
+val score : ?strict:bool -> ?criteria:string -> string -> string -> answer
+
+(** [rank ~criteria problem solutions] ranks the solutions by the list, the best first. With an empty list their places
+    alone decide between two solutions. *)
+val rank : ?strict:bool -> criteria:string -> string -> string list -> answer
+
+(** The library's version. *)
+val version : unit -> string

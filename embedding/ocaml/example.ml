@@ -1,0 +1,82 @@
+(* cudf_check from OCaml: judges an answer, reads a fault, counts, ranks, and goes through a long report by pages.
+   Prints what stands in embedding/expected.txt.
+
+   In embedding/ocaml, or a copy of it:
+
+       ocamlopt -ccopt -I../../include cudf_check_stubs.c cudf_check.mli cudf_check.ml example.ml \
+           ../../lib/libcudf_check.a -o example *)
+
+(* car 1 is installed and needs a newer wheel than the one that is installed beside it *)
+let problem =
+  {|package: car
+version: 1
+depends: wheel > 2
+installed: true
+
+package: wheel
+version: 2
+installed: true
+
+package: wheel
+version: 3
+
+request: no upgrade
+install: car
+|}
+
+let car = "package: car\nversion: 1\ninstalled: true\n"
+let wheel_2 = "package: wheel\nversion: 2\ninstalled: true\n"
+let wheel_3 = "package: wheel\nversion: 3\ninstalled: true\n"
+let old_wheel = String.concat "\n" [ car; wheel_2 ]
+let new_wheel = String.concat "\n" [ car; wheel_3 ]
+let both_wheels = String.concat "\n" [ car; wheel_2; wheel_3 ]
+let faulty = "package: car\nversion: one\n\nrequest:\n"
+let packages = 10_000
+let lines = 1_000
+
+let number : Cudf_check.status -> int = function
+  | Yes -> 0
+  | No -> 1
+  | Faulty -> 2
+  | Fail -> 3
+  | Usage -> 4
+  | Unread -> 5
+  | Memory -> 6
+
+let print job ({ status; report } : Cudf_check.answer) =
+  Printf.printf "\n%s: status %d\n%s" job (number status) report
+
+let print_fault job ({ status; report } : Cudf_check.answer) =
+  Scanf.sscanf report "%s line %d: %s %[^\n]" (fun whose line kind text ->
+      Printf.printf "\n%s: status %d, %s on line %d of the %s: %s\n" job (number status) kind line whose text)
+
+(* A problem of packages that are installed and need what isn't there. As its own answer it is no solution. *)
+let broken count =
+  let stanza at = Printf.sprintf "package: p%d\nversion: 1\ndepends: none\ninstalled: true\n\n" (at + 1) in
+  String.concat "" (List.init count stanza) ^ "request:\n"
+
+(* The key in a line `more after KEY`. *)
+let more_after line =
+  try Scanf.sscanf line "more after %s" Option.some with Scanf.Scan_failure _ | End_of_file -> None
+
+let lines_of report = String.split_on_char '\n' report
+
+(* The lines of each page of a listing, without what stands behind all but the last of them. *)
+let rec pages_of ?after text =
+  let page = lines_of (Cudf_check.check ?after ~limit:lines text text).report in
+  match List.find_map more_after page with
+  | None -> [ page ]
+  | Some key -> List.filteri (fun at _ -> at < lines) page :: pages_of ~after:key text
+
+let () =
+  Printf.printf "cudf_check %s\n" (Cudf_check.version ());
+  print "check" (Cudf_check.check problem old_wheel);
+  print_fault "lint" (Cudf_check.lint faulty);
+  print "score" (Cudf_check.score problem new_wheel);
+  print "rank" (Cudf_check.rank ~criteria:"-changed,-touched" problem [ old_wheel; both_wheels; new_wheel ]);
+  let many = broken packages in
+  let pages = pages_of many in
+  let is_same = List.concat pages = lines_of (Cudf_check.check many many).report in
+  Printf.printf "\npages: %d of at most %d lines, which together %s the report of %d\n" (List.length pages) lines
+    (if is_same then "are" else "aren't")
+    packages
