@@ -1,21 +1,41 @@
 # make run: proves and builds the program, and checks the example of the README.
+# make library: proves and builds the library for C, in lib/. make linked ARCHIVE=..: the same from what rt lib built before.
 # make test: the gate. make statement: the files on which the headline rests, compared with docs/PROOFS.md.
-# make install PREFIX=..: copies the executable, its man page and the pages for users; make uninstall takes them away.
+# make install PREFIX=..: copies the program and the library, whichever was built, with the man page, the completions and
+# the pages for users; make uninstall takes all of it away.
+# make dist, make deb: packages of program and library, in dist/. What was built from one commit makes the same bytes.
 
 PREFIX ?= /usr/local
+DESTDIR ?=
+# where libraries are, below PREFIX
+LIBDIR := lib
 PROGRAM := bin/cudf_check
+LIBRARY := lib
+DIST := dist
 BUILT := crates/cudf_program/out/cudf_program
+ARCHIVE := crates/cudf_c/out/libcudf_c.a
 
-PAGES := RULES FORMAT DIFFERENCES COMPETITION
+PAGES := RULES FORMAT DIFFERENCES COMPETITION EMBEDDING
+VERSION := $(shell sed -n 's/^.define CUDF_CHECK_VERSION "\(.*\)"$$/\1/p' include/cudf_check.h)
 
-.PHONY: run test statement install uninstall toolchain
+# for the scripts of packaging/
+export DESTDIR PREFIX LIBDIR PROGRAM LIBRARY DIST PAGES VERSION
+
+.PHONY: run library linked test statement install uninstall dist deb toolchain
 
 # The example is no solution, so the program's status is 1.
 run: toolchain
 	@echo "Everything is proved before it is built: the first time that takes about 25 minutes on four processors, later only what changed."
 	cd crates/cudf_program && rt run -- check ../../examples/car-and-wheel.cudf; test $$? -eq 1
-	install -D -m 755 $(BUILT) $(PROGRAM)
+	install -D -m 755 $(BUILT) "$(PROGRAM)"
 	@echo "the program is $(PROGRAM)"
+
+library: toolchain
+	cd crates/cudf_c && rt lib
+	$(MAKE) linked
+
+linked:
+	packaging/library.sh "$(ARCHIVE)"
 
 test: toolchain
 	.ci/run
@@ -23,16 +43,14 @@ test: toolchain
 statement:
 	python3 tools/statement.py
 
-install:
-	@test -x $(PROGRAM) || { echo "$(PROGRAM) is not there: run make run first" >&2; exit 2; }
-	install -D -m 755 $(PROGRAM) "$(DESTDIR)$(PREFIX)/bin/cudf_check"
-	install -D -m 644 cudf_check.1 "$(DESTDIR)$(PREFIX)/share/man/man1/cudf_check.1"
-	install -d "$(DESTDIR)$(PREFIX)/share/doc/cudf_check"
-	install -m 644 $(PAGES:%=docs/%.md) "$(DESTDIR)$(PREFIX)/share/doc/cudf_check"
+install uninstall:
+	packaging/install.sh $@
 
-uninstall:
-	rm -f "$(DESTDIR)$(PREFIX)/bin/cudf_check" "$(DESTDIR)$(PREFIX)/share/man/man1/cudf_check.1"
-	rm -rf "$(DESTDIR)$(PREFIX)/share/doc/cudf_check"
+dist:
+	packaging/tarball.sh
+
+deb:
+	packaging/debian.sh
 
 toolchain:
 	@command -v rt >/dev/null || { echo "rt is not on the PATH: install the Rattle toolchain, or add the folder of its command rt to PATH" >&2; exit 2; }

@@ -1,0 +1,48 @@
+# Completion of cudf_check for bash.
+
+_cudf_check()
+{
+    local word=${COMP_LINE:0:COMP_POINT} command=${COMP_WORDS[1]} given=" ${COMP_WORDS[*]::COMP_CWORD} " list name each
+    local -a offered=()
+    COMPREPLY=()
+    if [[ $given == *' -- '* ]]; then
+        return
+    fi
+    # the word as it was typed: bash ends a word at =, too, and a reply stands for its last part alone, which is $2
+    word=${word##*[[:blank:]]}
+    if ((COMP_CWORD == 1)); then
+        command=
+    elif [[ $3 == --after || $3 == --limit ]]; then
+        word=$3=
+    fi
+    case $command:$word in
+        :-*) offered=(-h --help -V --version) ;;
+        :*) offered=(lint check score rank help) ;;
+        help:*) ((COMP_CWORD > 2)) || offered=(lint check score rank help) ;;
+        score:--criteria=* | rank:--criteria=*)
+            list=${word#*=}
+            list=${list%"${list##*,}"}
+            for name in removed new changed notuptodate unsat_recommends touched; do
+                [[ ,$list == *,[-+]$name,* ]] || offered+=("--criteria=$list-$name" "--criteria=$list+$name")
+            done
+            ;;
+        *:--*=*) ;;
+        lint:-*) offered=(--strict -h --help) ;;
+        check:-*) offered=(--after --limit --strict -h --help) ;;
+        score:-* | rank:-*) offered=(--criteria= --strict -h --help) ;;
+        *) return ;;
+    esac
+    # there stands no file
+    compopt +o bashdefault +o default
+    for each in "${offered[@]}"; do
+        if [[ $each == "$word"* && ($each != -* || $given != *" ${each%=} "*) ]]; then
+            COMPREPLY+=("${each#"${word%"$2"}"}")
+        fi
+    done
+    # a list goes on in the same word
+    if [[ $word == --criteria=* || ${COMPREPLY[*]} == --criteria= ]]; then
+        compopt -o nospace
+    fi
+}
+
+complete -o bashdefault -o default -F _cudf_check cudf_check

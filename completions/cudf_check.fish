@@ -1,0 +1,27 @@
+# Completion of cudf_check for fish.
+
+# The lists that continue the word --criteria=LIST: its last aim is each of those whose counts aren't in it yet.
+function __cudf_check_lists
+    set -l list (string replace -- --criteria= '' (commandline -ct))
+    set -l front (string match -r -- '^.*,' $list)
+    for name in removed new changed notuptodate unsat_recommends touched
+        if not string match -qr -- "(^|,)[-+]$name," $list
+            printf '%s\n' "$front-$name" "$front+$name"
+        end
+    end
+end
+
+complete -c cudf_check -n __fish_use_subcommand -f -a lint -d 'Say whether a file is a problem without fault'
+complete -c cudf_check -n __fish_use_subcommand -f -a check -d 'Check a solution, and print each rule that it breaks'
+complete -c cudf_check -n __fish_use_subcommand -f -a score -d 'Count what a solution changes and lacks'
+complete -c cudf_check -n __fish_use_subcommand -f -a rank -d 'Rank several solutions by a list of criteria'
+complete -c cudf_check -n __fish_use_subcommand -f -a help -d 'Print help'
+complete -c cudf_check -n __fish_use_subcommand -s V -l version -d 'Print the version'
+complete -c cudf_check -n 'not __fish_seen_subcommand_from help' -s h -l help -d 'Print help'
+complete -c cudf_check -n '__fish_seen_subcommand_from help' -f
+complete -c cudf_check -n '__fish_seen_subcommand_from help; and test (count (commandline -opc)) -eq 2' -a 'lint check score rank help'
+complete -c cudf_check -n '__fish_seen_subcommand_from lint check score rank' -l strict -d 'Take two things more for faults'
+complete -c cudf_check -n '__fish_seen_subcommand_from check' -x -l after -d 'Print only the violations with greater keys'
+complete -c cudf_check -n '__fish_seen_subcommand_from check' -x -l limit -d 'Print at most so many violations'
+# no option that requires a value: fish would offer it without the =
+complete -c cudf_check -n '__fish_seen_subcommand_from score rank' -f -l criteria -a '(__cudf_check_lists)' -d 'The counts, in their order'

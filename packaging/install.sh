@@ -1,0 +1,59 @@
+#!/bin/sh
+# Puts what was built into its places, or takes it away from there.
+#
+# usage: install.sh install | uninstall, at the top of the source, with these in the environment:
+#   DESTDIR, PREFIX   below these all places are; programs look for the files below PREFIX
+#   LIBDIR            where libraries are, below PREFIX
+#   PAGES             the pages for users, of docs/
+#   PROGRAM, LIBRARY  the program and the folder of the library; what isn't there isn't installed
+#   VERSION
+set -eu
+to=$DESTDIR$PREFIX
+doc=share/doc/cudf_check
+case $1 in
+    install) place() { install -D -m "$1" "$2" "$to/$3"; } ;;
+    uninstall) place() { rm -f "$to/$3"; } ;;
+    *) exit 4 ;;
+esac
+
+place_program() {
+    place 755 "$PROGRAM" bin/cudf_check
+    place 644 cudf_check.1 share/man/man1/cudf_check.1
+    place 644 completions/cudf_check.bash share/bash-completion/completions/cudf_check
+    place 644 completions/_cudf_check share/zsh/site-functions/_cudf_check
+    place 644 completions/cudf_check.fish share/fish/vendor_completions.d/cudf_check.fish
+}
+
+place_library() {
+    place 644 include/cudf_check.h include/cudf_check.h
+    for name in libcudf_check.a libcudf_check.so.1 libcudf_check.so pkgconfig/cudf_check.pc; do
+        place 644 "$LIBRARY/$name" "$LIBDIR/$name"
+    done
+}
+
+place_pages() {
+    for name in $PAGES; do
+        place 644 "docs/$name.md" "$doc/$name.md"
+    done
+}
+
+if [ "$1" = uninstall ]; then
+    place_program
+    place_library
+    rm -rf "${to:?}/$doc"
+    exit
+fi
+if [ ! -x "$PROGRAM" ] && [ ! -f "$LIBRARY/libcudf_check.a" ]; then
+    echo "neither $PROGRAM nor $LIBRARY is there: run make run or make library first" >&2
+    exit 2
+fi
+if [ -x "$PROGRAM" ]; then
+    place_program
+fi
+if [ -f "$LIBRARY/libcudf_check.a" ]; then
+    place_library
+    # what place copied of these two is right for the source alone
+    ln -sf libcudf_check.so.1 "$to/$LIBDIR/libcudf_check.so"
+    packaging/pkgconfig.sh "$PREFIX" "$LIBDIR" > "$to/$LIBDIR/pkgconfig/cudf_check.pc"
+fi
+place_pages
