@@ -152,6 +152,10 @@ vpkg_no_operator : vpkg (codes "a 2") ≡ None
 unfolding vpkg
 vpkg_no_operator = refl
 
+vpkg_blank_behind : vpkg (codes "a ") ≡ None
+unfolding vpkg positive natural
+vpkg_blank_behind = refl
+
 vpkg_no_name : vpkg (codes "= 2") ≡ None
 unfolding vpkg
 vpkg_no_name = refl

@@ -29,7 +29,7 @@ no_prefix test [] some fails = absurd (omega arith)
 no_prefix test (x ∷ xs) some fails = rw fails refl
 
 -- a vpkg is cut after its name
-pub cut_at_name : (name rest : List ℕ) → is_pkgname name ≡ true → prefix_len is_pkgname_char rest ≡ 0 → vpkg (name ++ rest) ≡ vpkg_after name (trim_start rest)
+pub cut_at_name : (name rest : List ℕ) → is_pkgname name ≡ true → prefix_len is_pkgname_char rest ≡ 0 → vpkg (name ++ rest) ≡ vpkg_after name rest
 unfolding vpkg is_pkgname
 cut_at_name name rest is_name none =
     let parts = and_parts (nat_lt 0 (length name)) (list_all is_pkgname_char name) is_name in
@@ -72,13 +72,13 @@ some_byte : (b : ℕ) (text : List ℕ) → (length (b ∷ text) == 0) ≡ false
 some_byte b text = ne_eqb (length (b ∷ text)) 0 (λ e. omega arith)
 
 bound_back : (name : List ℕ) (r : Relop) (n : ℕ) → 0 < n → n < 2 ^ 64
-    → vpkg_after name (trim_start (bound_text (Some (r, n)))) ≡ Some (record { name = name; bound = Some (r, n) })
-bound_back name Eq n above below = rw (some_byte 61 (32 ∷ decimal n), number_back n above below) refl
-bound_back name Neq n above below = rw (some_byte 33 (61 ∷ 32 ∷ decimal n), number_back n above below) refl
-bound_back name Geq n above below = rw (some_byte 62 (61 ∷ 32 ∷ decimal n), number_back n above below) refl
-bound_back name Gt n above below = rw (some_byte 62 (32 ∷ decimal n), number_back n above below) refl
-bound_back name Leq n above below = rw (some_byte 60 (61 ∷ 32 ∷ decimal n), number_back n above below) refl
-bound_back name Lt n above below = rw (some_byte 60 (32 ∷ decimal n), number_back n above below) refl
+    → vpkg_after name (bound_text (Some (r, n))) ≡ Some (record { name = name; bound = Some (r, n) })
+bound_back name Eq n above below = rw (some_byte 32 (61 ∷ 32 ∷ decimal n), number_back n above below) refl
+bound_back name Neq n above below = rw (some_byte 32 (33 ∷ 61 ∷ 32 ∷ decimal n), number_back n above below) refl
+bound_back name Geq n above below = rw (some_byte 32 (62 ∷ 61 ∷ 32 ∷ decimal n), number_back n above below) refl
+bound_back name Gt n above below = rw (some_byte 32 (62 ∷ 32 ∷ decimal n), number_back n above below) refl
+bound_back name Leq n above below = rw (some_byte 32 (60 ∷ 61 ∷ 32 ∷ decimal n), number_back n above below) refl
+bound_back name Lt n above below = rw (some_byte 32 (60 ∷ 32 ∷ decimal n), number_back n above below) refl
 
 pub printed_back : (name : List ℕ) (bound : Option (Relop × ℕ)) → is_pkgname name ≡ true → IsPosintBound bound → IsReadBack name bound
 printed_back name None is_name tt = cut_at_name name [] is_name refl

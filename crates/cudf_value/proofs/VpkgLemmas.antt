@@ -213,15 +213,21 @@ word_fails : (test : ℕ → Bool) → ((b : ℕ) → is_pkgname_char b ≡ true
 word_fails test fails word all some = ap (prefix_len test) (sym (append-nil word)) ∙ none_passes test is_pkgname_char fails word [] some all
 
 after_is : (name gap symbol space number : List ℕ) (r : Relop) (n : ℕ) → AreParts name gap symbol space number r n
-    → vpkg_after name (symbol ++ (space ++ number)) ≡ Some (with_bound name r n)
+    → vpkg_after name (gap ++ (symbol ++ (space ++ number))) ≡ Some (with_bound name r n)
 after_is name gap symbol space number r n are =
+    let tail = symbol ++ (space ++ number) in
+    let some_symbol = some_operator symbol r are.operator in
     let some_number = some_digits number n are.value in
     let no_operator : prefix_len is_operator_char (space ++ number) ≡ 0 =
     blanks_then is_operator_char blank_no_operator space number are.space_blank (word_fails is_operator_char (apart is_operator_char is_pkgname_char operator_no_name) number are.digits some_number) in
     let left : trim_start (space ++ number) ≡ number =
     blanks_off space number are.space_blank ∙ ap (λ k. drop k number) (word_fails is_blank name_no_blank number are.digits some_number) in
+    let start : trim_start (gap ++ tail) ≡ tail =
+    blanks_off gap tail are.gap_blank
+    ∙ ap (λ k. drop k tail) (none_passes is_blank is_operator_char (operator_is is_blank false refl refl refl refl) symbol (space ++ number) some_symbol are.operators) in
     rw (
-      ne_eqb (length (symbol ++ (space ++ number))) 0 (λ e. omega (arith, e, length-append symbol (space ++ number), some_operator symbol r are.operator)),
+      ne_eqb (length (gap ++ tail)) 0 (λ e. omega (arith, e, length-append gap tail, length-append symbol (space ++ number), some_symbol)),
+      start,
       prefix_through is_operator_char symbol (space ++ number) are.operators no_operator,
       take-append_seam symbol (space ++ number),
       drop-append_seam symbol (space ++ number),
@@ -239,8 +245,6 @@ bounded_vpkg name gap symbol space number r n are =
     cut_at_name name (gap ++ tail) (name_is name are.names are.some)
     (blanks_then is_pkgname_char blank_no_name gap tail are.gap_blank
     (none_passes is_pkgname_char is_operator_char operator_no_name symbol (space ++ number) some_symbol are.operators))
-    ∙ ap (vpkg_after name) (blanks_off gap tail are.gap_blank
-    ∙ ap (λ k. drop k tail) (none_passes is_blank is_operator_char (operator_is is_blank false refl refl refl refl) symbol (space ++ number) some_symbol are.operators))
     ∙ after_is name gap symbol space number r n are
 
 bounded_part : (before name gap symbol space number behind : List ℕ) (r : Relop) (n : ℕ) → AreParts name gap symbol space number r n

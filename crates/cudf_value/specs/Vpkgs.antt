@@ -1,5 +1,5 @@
 -- The types `vpkg` and `veqpkg` (the type library), and what a bound admits.
-use Rattle.std.specs.Prelude.{ℕ, Bool, true, false, not, ◌==◌, nat_lt, nat_le, List, length, take_while, Option, Some, None, option_and_then, bytes_eq, codes, if◌then◌else◌}
+use Rattle.std.specs.Prelude.{ℕ, Bool, true, false, not, ◌==◌, nat_lt, nat_le, List, length, take_while, Option, Some, None, option_map, option_and_then, bytes_eq, codes, if◌then◌else◌}
 use Rattle.cudf_value.specs.declared.relop.Relop.{Relop}
 use Rattle.cudf_value.specs.declared.relop.Relop.TheVariants.{Eq, Neq, Geq, Gt, Leq, Lt}
 use Rattle.cudf_text.specs.Chars.{trim_start}
@@ -22,21 +22,19 @@ relop text = if bytes_eq text (codes "=") then Some Eq
     else (if bytes_eq text (codes "<") then Some Lt
     else None)))))
 
--- the vpkg of a name, an operator and a number
-abbrev pub bounded : List ℕ → Option Relop → Option ℕ → Option PlainVpkg
-bounded name None n = None
-bounded name (Some r) None = None
-bounded name (Some r) (Some n) = Some (record { name = name; bound = Some (r, n) })
+-- an operator, and a posint, with blanks or none before it
+abbrev pub bound_of : List ℕ → Option (Relop × ℕ)
+bound_of text = option_and_then (λ r. option_map (λ n. (r, n)) (positive (trim_start (rest_after is_operator_char text)))) (relop (take_while is_operator_char text))
 
--- the vpkg of a name and what stands after it: nothing, or an operator, blanks or none, and a posint
+-- the vpkg of a name and what stands directly after it: nothing, or a bound, with blanks or none before it
 abbrev pub vpkg_after : List ℕ → List ℕ → Option PlainVpkg
 vpkg_after name rest = if length rest == 0 then Some (record { name = name; bound = None })
-    else bounded name (relop (take_while is_operator_char rest)) (positive (trim_start (rest_after is_operator_char rest)))
+    else option_map (λ b. record { name = name; bound = Some b }) (bound_of (trim_start rest))
 
--- a vpkg begins with its name, the longest there is, with blanks or none after it
+-- a vpkg begins with its name, the longest there is
 unfoldable pub vpkg : List ℕ → Option PlainVpkg
 vpkg text = if length (take_while is_pkgname_char text) == 0 then None
-    else vpkg_after (take_while is_pkgname_char text) (trim_start (rest_after is_pkgname_char text))
+    else vpkg_after (take_while is_pkgname_char text) (rest_after is_pkgname_char text)
 
 -- no bound, or one by `=`
 abbrev pub is_exact : Option (Relop × ℕ) → Bool

@@ -46,7 +46,7 @@ pub(crate) fn vpkg_of(text: &str) -> Option<Vpkg<'_>>
     if name.is_empty() {
         None
     } else {
-        vpkg_before(name, trim_start(rest))
+        vpkg_before(name, rest)
     }
 }
 
@@ -84,14 +84,14 @@ fn bound_at(text: &str) -> Option<(Relop, u64, &str)>
     Some((relop, number, trim_start(rest)))
 }
 
-/// The vpkg of a name, with `rest` after it.
+/// The vpkg of a name, with `rest` directly after it.
 fn vpkg_before<'t>(name: &'t str, rest: &str) -> Option<Vpkg<'t>>
     ensures { option_map vpkg_view result ≡ vpkg_after name.now rest.now }
 {
     if rest.is_empty() {
         return Some(Vpkg { name, bound: None });
     }
-    let (symbol, rest) = split_run(rest, Class::Operator);
+    let (symbol, rest) = split_run(trim_start(rest), Class::Operator);
     let relop = Relop::of_symbol(symbol)?;
     let number = posint_of(trim_start(rest))?;
     Some(Vpkg {
