@@ -6,7 +6,7 @@ pub mod Boundary
 pub mod NumberLemmas
 pub mod PartsLemmas
 pub mod PiecesLemmas
-pub mod LexStatesLemmas
+pub mod SpotLemmas
 mod MadeLemmas
 pub mod PrintingLemmas
 pub mod ReadBack

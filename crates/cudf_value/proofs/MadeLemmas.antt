@@ -1,18 +1,17 @@
 -- A text that has pieces is made of tokens, and one that can stand between quotes of what stands there.
 use Rattle.std.proofs.Common.{◌≡◌, ℕ, Bool, true, false, ◌||◌, ◌==◌, List, [], ◌∷◌, ◌++◌, Some, None, refl, sym, ap, subst, ◌∙◌, if◌then◌else◌, map}
 use Rattle.std.specs.Prelude.{IfSome}
-use Rattle.std.specs.List.{slice_split, list_all, flat_map}
+use Rattle.std.specs.List.{fold, slice_split, list_all, flat_map}
 use Rattle.std.specs.Str.{byte}
 use Rattle.std.proofs.lemmas.Bool.{and_parts, or_parts, not-true, eqb-true}
 use Rattle.std.proofs.lemmas.List.{append_assoc}
-use Rattle.cudf_value.specs.declared.lex_state.LexState.{LexState}
-use Rattle.cudf_value.specs.declared.lex_state.LexState.TheVariants.{Outside, Bracket, Quotes, Escape, BracketQuotes, BracketEscape, Broken}
 use Rattle.cudf_value.specs.Promises.Laws.{IsMadeOfTokens, IsQuotableAsMade}
-use Rattle.cudf_value.specs.LexStates.{quote_mark, backslash, in_quotes, in_escape, next_state, state_after, is_outside, is_quotable_from, is_quotable}
+use Rattle.cudf_value.specs.Spots.{quote_mark, backslash, Spot, unquoted, in_quotes, after_backslash, astray, next_spot, is_outside, is_quotable}
+use Rattle.cudf_value.specs.Working.Spots.{is_quotable_from}
 use Rattle.cudf_value.specs.Promises.Tokens.{Inner, plain, escaped, Item, char_item, quoted_item, Token, char, quoted, bracketed, is_inner, is_item, is_token, is_comma, inner_text, quoted_text, item_text, text_of}
 use Rattle.cudf_value.proofs.TokenLemmas.{cut_from, is_cut}
 
--- ---- what stands from a state on to the end of a text that ends outside
+-- ---- what stands from a spot on to the end of a text that ends outside
 
 record Tokens (text : List ℕ) : Type 0 where
   tokens : List Token
@@ -36,20 +35,20 @@ record InQuotes (After : List ℕ → Type 0) (text : List ℕ) : Type 0 where
   after : After rest
 
 -- after a backslash the text with it
-abbrev Made : LexState → List ℕ → Type 0
-Made Outside text = Tokens text
-Made Bracket text = InBracket text
-Made Quotes text = InQuotes Tokens text
-Made Escape text = InQuotes Tokens (backslash ∷ text)
-Made BracketQuotes text = InQuotes InBracket text
-Made BracketEscape text = InQuotes InBracket (backslash ∷ text)
-Made Broken text = ⊥
+abbrev Made : Spot → List ℕ → Type 0
+Made (unquoted false) text = Tokens text
+Made (unquoted true) text = InBracket text
+Made (in_quotes false) text = InQuotes Tokens text
+Made (after_backslash false) text = InQuotes Tokens (backslash ∷ text)
+Made (in_quotes true) text = InQuotes InBracket text
+Made (after_backslash true) text = InQuotes InBracket (backslash ∷ text)
+Made astray text = ⊥
 
 -- ---- one more character in quotes
 
-quotes_step : (After : List ℕ → Type 0) (quotes slash start : LexState) (b : ℕ) (text : List ℕ)
+quotes_step : (After : List ℕ → Type 0) (quotes slash start : Spot) (b : ℕ) (text : List ℕ)
     → (Made quotes text → InQuotes After text) → (Made slash text → InQuotes After (backslash ∷ text)) → (Made start text → After text)
-    → Made (in_quotes b slash start quotes) text → InQuotes After (b ∷ text)
+    → Made (if b == backslash then slash else (if b == quote_mark then start else quotes)) text → InQuotes After (b ∷ text)
 quotes_step After quotes slash start b text more escapes closes made = by (b == backslash) (b == quote_mark) refl refl made
   where
     by : (s q : Bool) → (b == backslash) ≡ s → (b == quote_mark) ≡ q → Made (if s then slash else (if q then start else quotes)) text → InQuotes After (b ∷ text)
@@ -61,11 +60,11 @@ quotes_step After quotes slash start b text more escapes closes made = by (b == 
         let m = more made in
         record { inner = plain b ∷ m.inner; are = rw (q_is, s_is) m.are; rest = m.rest; whole = ap (λ t. b ∷ t) m.whole; after = m.after }
 
-escape_step : (After : List ℕ → Type 0) (quotes : LexState) (b : ℕ) (text : List ℕ) → (Made quotes text → InQuotes After text)
-    → Made (in_escape b quotes) text → InQuotes After (backslash ∷ b ∷ text)
+escape_step : (After : List ℕ → Type 0) (quotes : Spot) (b : ℕ) (text : List ℕ) → (Made quotes text → InQuotes After text)
+    → Made (if b == quote_mark || b == backslash then quotes else astray) text → InQuotes After (backslash ∷ b ∷ text)
 escape_step After quotes b text more made = by (b == quote_mark || b == backslash) refl made
   where
-    by : (e : Bool) → (b == quote_mark || b == backslash) ≡ e → Made (if e then quotes else Broken) text → InQuotes After (backslash ∷ b ∷ text)
+    by : (e : Bool) → (b == quote_mark || b == backslash) ≡ e → Made (if e then quotes else astray) text → InQuotes After (backslash ∷ b ∷ text)
     by true is made =
         let m = more made in
         record { inner = escaped b ∷ m.inner; are = rw is m.are; rest = m.rest; whole = ap (λ t. backslash ∷ b ∷ t) m.whole; after = m.after }
@@ -89,16 +88,16 @@ quoted_in_bracket text q =
       outside = b.outside;
     }
 
-bracket_step : (b : ℕ) (text : List ℕ) → Made (next_state Bracket b) text → InBracket (b ∷ text)
-bracket_step b text made = by (b == quote_mark) (b == byte "]") (b == byte "[") refl refl refl made
+bracket_step : (b : ℕ) (text : List ℕ) → Made (next_spot (unquoted true) b) text → InBracket (b ∷ text)
+bracket_step b text made = by (b == quote_mark) (b == byte "[") (b == byte "]") refl refl refl made
   where
-    by : (q c o : Bool) → (b == quote_mark) ≡ q → (b == byte "]") ≡ c → (b == byte "[") ≡ o
-        → Made (if q then BracketQuotes else (if c then Outside else (if o then Broken else Bracket))) text → InBracket (b ∷ text)
-    by true c o q_is c_is o_is made = subst (λ x. InBracket (x ∷ text)) (sym (eqb-true b quote_mark q_is)) (quoted_in_bracket text made)
-    by false true o q_is c_is o_is made =
+    by : (q o c : Bool) → (b == quote_mark) ≡ q → (b == byte "[") ≡ o → (b == byte "]") ≡ c
+        → Made (if q then (in_quotes true) else (if o then astray else (if c then (unquoted false) else (unquoted true)))) text → InBracket (b ∷ text)
+    by true o c q_is o_is c_is made = subst (λ x. InBracket (x ∷ text)) (sym (eqb-true b quote_mark q_is)) (quoted_in_bracket text made)
+    by false true c q_is o_is c_is made = absurd made
+    by false false true q_is o_is c_is made =
         subst (λ x. InBracket (x ∷ text)) (sym (eqb-true b (byte "]") c_is)) (record { items = []; are = refl; rest = text; whole = refl; outside = made })
-    by false false true q_is c_is o_is made = absurd made
-    by false false false q_is c_is o_is made = record {
+    by false false false q_is o_is c_is made = record {
       items = char_item b ∷ made.items;
       are = rw (q_is, o_is, c_is) made.are;
       rest = made.rest;
@@ -128,11 +127,11 @@ bracketed_outside text b =
           ∙ ap (λ t. flat_map item_text b.items ++ byte "]" ∷ t) b.outside.whole ∙ b.whole);
     }
 
-outside_step : (b : ℕ) (text : List ℕ) → Made (next_state Outside b) text → Tokens (b ∷ text)
+outside_step : (b : ℕ) (text : List ℕ) → Made (next_spot (unquoted false) b) text → Tokens (b ∷ text)
 outside_step b text made = by (b == quote_mark) (b == byte "[") (b == byte "]") refl refl refl made
   where
     by : (q o c : Bool) → (b == quote_mark) ≡ q → (b == byte "[") ≡ o → (b == byte "]") ≡ c
-        → Made (if q then Quotes else (if o then Bracket else (if c then Broken else Outside))) text → Tokens (b ∷ text)
+        → Made (if q then (in_quotes false) else (if o then (unquoted true) else (if c then astray else (unquoted false)))) text → Tokens (b ∷ text)
     by true o c q_is o_is c_is made = subst (λ x. Tokens (x ∷ text)) (sym (eqb-true b quote_mark q_is)) (quoted_outside text made)
     by false true c q_is o_is c_is made = subst (λ x. Tokens (x ∷ text)) (sym (eqb-true b (byte "[") o_is)) (bracketed_outside text made)
     by false false true q_is o_is c_is made = absurd made
@@ -141,32 +140,32 @@ outside_step b text made = by (b == quote_mark) (b == byte "[") (b == byte "]") 
 
 -- ---- a text that ends outside
 
-step : (state : LexState) (b : ℕ) (text : List ℕ) → Made (next_state state b) text → Made state (b ∷ text)
-step Outside b text made = outside_step b text made
-step Bracket b text made = bracket_step b text made
-step Quotes b text made = quotes_step Tokens Quotes Escape Outside b text (λ m. m) (λ m. m) (λ m. m) made
-step Escape b text made = escape_step Tokens Quotes b text (λ m. m) made
-step BracketQuotes b text made = quotes_step InBracket BracketQuotes BracketEscape Bracket b text (λ m. m) (λ m. m) (λ m. m) made
-step BracketEscape b text made = escape_step InBracket BracketQuotes b text (λ m. m) made
-step Broken b text made = absurd made
+step : (spot : Spot) (b : ℕ) (text : List ℕ) → Made (next_spot spot b) text → Made spot (b ∷ text)
+step (unquoted false) b text made = outside_step b text made
+step (unquoted true) b text made = bracket_step b text made
+step (in_quotes false) b text made = quotes_step Tokens (in_quotes false) (after_backslash false) (unquoted false) b text (λ m. m) (λ m. m) (λ m. m) made
+step (after_backslash false) b text made = escape_step Tokens (in_quotes false) b text (λ m. m) made
+step (in_quotes true) b text made = quotes_step InBracket (in_quotes true) (after_backslash true) (unquoted true) b text (λ m. m) (λ m. m) (λ m. m) made
+step (after_backslash true) b text made = escape_step InBracket (in_quotes true) b text (λ m. m) made
+step astray b text made = absurd made
 
-nothing : (state : LexState) → is_outside state ≡ true → Made state []
-nothing Outside outside = record { tokens = []; are = refl; whole = refl }
+nothing : (spot : Spot) → is_outside spot ≡ true → Made spot []
+nothing (unquoted false) outside = record { tokens = []; are = refl; whole = refl }
 nothing _ outside = absurd cc
 
-made : (state : LexState) (text : List ℕ) → is_outside (state_after state text) ≡ true → Made state text
-made state [] ends = nothing state ends
-made state (b ∷ text) ends = step state b text (made (next_state state b) text ends)
+made : (spot : Spot) (text : List ℕ) → is_outside (fold next_spot spot text) ≡ true → Made spot text
+made spot [] ends = nothing spot ends
+made spot (b ∷ text) ends = step spot b text (made (next_spot spot b) text ends)
 
 pub made_of_tokens : (text : List ℕ) → IsMadeOfTokens text
-made_of_tokens text = by (is_outside (state_after Outside text)) refl
+made_of_tokens text = by (is_outside (fold next_spot (unquoted false) text)) refl
   where
-    by : (b : Bool) → is_outside (state_after Outside text) ≡ b
-        → IfSome (if b then Some (cut_from Outside text) else None)
+    by : (b : Bool) → is_outside (fold next_spot (unquoted false) text) ≡ b
+        → IfSome (if b then Some (cut_from (unquoted false) text) else None)
         (λ ps. (tokens : List Token) × (list_all is_token tokens ≡ true) × (text_of tokens ≡ text) × (map text_of (slice_split is_comma tokens) ≡ ps))
     by true ends =
-        let t = made Outside text ends in
-        (t.tokens, t.are, t.whole, sym (is_cut t.tokens t.are).parts ∙ ap (cut_from Outside) t.whole)
+        let t = made (unquoted false) text ends in
+        (t.tokens, t.are, t.whole, sym (is_cut t.tokens t.are).parts ∙ ap (cut_from (unquoted false)) t.whole)
     by false ends = tt
 
 -- ---- between quotes
@@ -176,42 +175,42 @@ record Inners (text : List ℕ) : Type 0 where
   are : list_all is_inner inner ≡ true
   whole : flat_map inner_text inner ≡ text
 
-abbrev MadeInner : LexState → List ℕ → Type 0
-MadeInner Quotes text = Inners text
-MadeInner Escape text = Inners (backslash ∷ text)
+abbrev MadeInner : Spot → List ℕ → Type 0
+MadeInner (in_quotes false) text = Inners text
+MadeInner (after_backslash false) text = Inners (backslash ∷ text)
 MadeInner _ text = Unit {0}
 
-closed_before : (text : List ℕ) → is_quotable_from Outside text ≡ true → ⊥
+closed_before : (text : List ℕ) → is_quotable_from (unquoted false) text ≡ true → ⊥
 closed_before [] is = cc
 closed_before (b ∷ text) is = cc
 
-broken_before : (text : List ℕ) → is_quotable_from Broken text ≡ true → ⊥
+broken_before : (text : List ℕ) → is_quotable_from astray text ≡ true → ⊥
 broken_before [] is = cc
 broken_before (b ∷ text) is = broken_before text is
 
-inner_step : (b : ℕ) (text : List ℕ) → is_quotable_from (next_state Quotes b) text ≡ true → MadeInner (next_state Quotes b) text → Inners (b ∷ text)
+inner_step : (b : ℕ) (text : List ℕ) → is_quotable_from (next_spot (in_quotes false) b) text ≡ true → MadeInner (next_spot (in_quotes false) b) text → Inners (b ∷ text)
 inner_step b text quotable made = by (b == backslash) (b == quote_mark) refl refl quotable made
   where
-    by : (s q : Bool) → (b == backslash) ≡ s → (b == quote_mark) ≡ q → is_quotable_from (if s then Escape else (if q then Outside else Quotes)) text ≡ true
-        → MadeInner (if s then Escape else (if q then Outside else Quotes)) text → Inners (b ∷ text)
+    by : (s q : Bool) → (b == backslash) ≡ s → (b == quote_mark) ≡ q → is_quotable_from (if s then (after_backslash false) else (if q then (unquoted false) else (in_quotes false))) text ≡ true
+        → MadeInner (if s then (after_backslash false) else (if q then (unquoted false) else (in_quotes false))) text → Inners (b ∷ text)
     by true q s_is q_is quotable made = subst (λ x. Inners (x ∷ text)) (sym (eqb-true b backslash s_is)) made
     by false true s_is q_is quotable made = absurd (closed_before text quotable)
     by false false s_is q_is quotable made =
         record { inner = plain b ∷ made.inner; are = rw (q_is, s_is) made.are; whole = ap (λ t. b ∷ t) made.whole }
 
-escaped_step : (b : ℕ) (text : List ℕ) → is_quotable_from (next_state Escape b) text ≡ true → MadeInner (next_state Escape b) text → Inners (backslash ∷ b ∷ text)
+escaped_step : (b : ℕ) (text : List ℕ) → is_quotable_from (next_spot (after_backslash false) b) text ≡ true → MadeInner (next_spot (after_backslash false) b) text → Inners (backslash ∷ b ∷ text)
 escaped_step b text quotable made = by (b == quote_mark || b == backslash) refl quotable made
   where
-    by : (e : Bool) → (b == quote_mark || b == backslash) ≡ e → is_quotable_from (if e then Quotes else Broken) text ≡ true
-        → MadeInner (if e then Quotes else Broken) text → Inners (backslash ∷ b ∷ text)
+    by : (e : Bool) → (b == quote_mark || b == backslash) ≡ e → is_quotable_from (if e then (in_quotes false) else astray) text ≡ true
+        → MadeInner (if e then (in_quotes false) else astray) text → Inners (backslash ∷ b ∷ text)
     by true is quotable made = record { inner = escaped b ∷ made.inner; are = rw is made.are; whole = ap (λ t. backslash ∷ b ∷ t) made.whole }
     by false is quotable made = absurd (broken_before text quotable)
 
-made_inner : (state : LexState) (text : List ℕ) → is_quotable_from state text ≡ true → MadeInner state text
-made_inner Quotes [] quotable = record { inner = []; are = refl; whole = refl }
-made_inner Quotes (b ∷ text) quotable = inner_step b text quotable (made_inner (next_state Quotes b) text quotable)
-made_inner Escape [] quotable = absurd cc
-made_inner Escape (b ∷ text) quotable = escaped_step b text quotable (made_inner (next_state Escape b) text quotable)
+made_inner : (spot : Spot) (text : List ℕ) → is_quotable_from spot text ≡ true → MadeInner spot text
+made_inner (in_quotes false) [] quotable = record { inner = []; are = refl; whole = refl }
+made_inner (in_quotes false) (b ∷ text) quotable = inner_step b text quotable (made_inner (next_spot (in_quotes false) b) text quotable)
+made_inner (after_backslash false) [] quotable = absurd cc
+made_inner (after_backslash false) (b ∷ text) quotable = escaped_step b text quotable (made_inner (next_spot (after_backslash false) b) text quotable)
 made_inner _ text quotable = tt
 
 made-quotable : (inner : List Inner) → list_all is_inner inner ≡ true → is_quotable (flat_map inner_text inner) ≡ true
@@ -229,6 +228,6 @@ made-quotable (escaped b ∷ inner) all =
 
 pub quotable_as_made : (text : List ℕ) → IsQuotableAsMade text
 quotable_as_made text = (
-  λ quotable. let i = made_inner Quotes text quotable in (i.inner, i.are, i.whole),
+  λ quotable. let i = made_inner (in_quotes false) text quotable in (i.inner, i.are, i.whole),
   λ made. subst (λ t. is_quotable t ≡ true) made.2 (made-quotable made.0 made.1),
 )

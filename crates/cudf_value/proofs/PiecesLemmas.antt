@@ -2,7 +2,7 @@
 use Rattle.std.proofs.Common.{◌≡◌, ℕ, List, [], ◌∷◌, ◌++◌, map, Option, Some, None, option_map, ap, sym, ◌∙◌}
 use Rattle.std.specs.Prelude.{option_and_then}
 use Rattle.cudf_value.specs.Parts.{all_some}
-use Rattle.cudf_value.specs.LexStates.{pieces}
+use Rattle.cudf_value.specs.Spots.{pieces}
 use Rattle.cudf_value.specs.Declarations.{read_pieces}
 use Rattle.cudf_value.proofs.PartsLemmas.{onto, read_step}
 

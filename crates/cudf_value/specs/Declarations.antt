@@ -8,7 +8,7 @@ use Rattle.cudf_text.specs.Chars.{is_ident_char, trim_start, trim, is_ident}
 use Rattle.cudf_value.specs.Chars.{rest_after, between}
 use Rattle.cudf_value.specs.Parts.{some_if, all_some, read_parts}
 use Rattle.cudf_value.specs.Types.{PlainType, posint_type, nat_type, int_type, bool_type, string_type, pkgname_type, ident_type, enum_type, vpkg_type, veqpkg_type, vpkgformula_type, vpkglist_type, veqpkglist_type, is_one_of, is_of_type}
-use Rattle.cudf_value.specs.LexStates.{quote_mark, is_quotable, pieces}
+use Rattle.cudf_value.specs.Spots.{quote_mark, is_quotable, pieces}
 
 -- a declaration, in plain texts
 pub record PlainDeclaration : Type 0 where

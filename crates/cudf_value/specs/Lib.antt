@@ -6,7 +6,7 @@ pub mod Vpkgs
 pub mod Formulas
 pub mod Printing
 pub mod Types
-pub mod LexStates
+pub mod Spots
 pub mod Declarations
 pub mod Promises
 pub mod Working

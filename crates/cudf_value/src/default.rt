@@ -1,7 +1,7 @@
 //! Defaults of declarations.
 ghost use Rattle.std.specs.Prelude.{◌≡◌};
 ghost use Rattle.cudf_value.specs.Promises.Types.{type_view};
-ghost use Rattle.cudf_value.specs.LexStates.{is_quotable};
+ghost use Rattle.cudf_value.specs.Spots.{is_quotable};
 ghost use Rattle.cudf_value.specs.Declarations.{without_brackets, takes_quoted, is_default};
 
 use crate::lex_state::LexState;

@@ -1,5 +1,6 @@
 ghost use Rattle.std.specs.Prelude.{◌≡◌};
-ghost use Rattle.cudf_value.specs.LexStates.{next_state, is_outside, is_in_quotes, separates};
+ghost use Rattle.cudf_value.specs.Spots.{next_spot, is_outside, is_in_quotes, separates};
+ghost use Rattle.cudf_value.specs.Working.Spots.{spot_of};
 
 /// Where a character of a declaration stands.
 #[derive(Clone, Copy)]
@@ -20,7 +21,7 @@ pub(crate) enum LexState {
 impl LexState {
     /// The state after the character.
     pub(crate) fn next(self, byte: u8) -> LexState
-        ensures { result ≡ next_state self byte }
+        ensures { spot_of result ≡ next_spot (spot_of self) byte }
     {
         match self {
             LexState::Outside => match byte {
@@ -58,20 +59,20 @@ impl LexState {
     }
 
     pub(crate) fn is_outside(self) -> bool
-        ensures { result ≡ is_outside self }
+        ensures { result ≡ is_outside (spot_of self) }
     {
         matches!(self, LexState::Outside)
     }
 
     pub(crate) fn is_in_quotes(self) -> bool
-        ensures { result ≡ is_in_quotes self }
+        ensures { result ≡ is_in_quotes (spot_of self) }
     {
         matches!(self, LexState::Quotes)
     }
 
     /// Whether the character is a comma that separates declarations.
     pub(crate) fn separates(self, byte: u8) -> bool
-        ensures { result ≡ separates (self, byte) }
+        ensures { result ≡ separates (spot_of self, byte) }
     {
         self.is_outside() && byte == b','
     }

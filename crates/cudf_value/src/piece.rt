@@ -1,9 +1,9 @@
 //! Cutting a value at the commas outside quotes and brackets.
-ghost use Rattle.std.specs.Prelude.{◌≡◌, true, ◌<◌, ◌≤◌, ◌∷◌, None, length, take, slice_index, IfSome, MatchOption, option_map, option_copied};
-ghost use Rattle.std.specs.List.{position_or_len};
-ghost use Rattle.cudf_value.specs.declared.lex_state.LexState.TheVariants.{Outside};
-ghost use Rattle.cudf_value.specs.LexStates.{state_after, with_states, separates, pieces};
+ghost use Rattle.std.specs.Prelude.{◌≡◌, true, false, ◌<◌, ◌≤◌, ◌∷◌, None, length, take, slice_index, IfSome, MatchOption, option_map, option_copied};
+ghost use Rattle.std.specs.List.{fold, position_or_len};
+ghost use Rattle.cudf_value.specs.Spots.{unquoted, next_spot, with_spots, separates, pieces};
 ghost use Rattle.cudf_value.specs.Working.Rests.{pieces_after};
+ghost use Rattle.cudf_value.specs.Working.Spots.{spot_of};
 
 use crate::lex_state::LexState;
 use crate::text::{after, before};
@@ -28,9 +28,9 @@ pub(crate) fn cut_piece(text: &str) -> Option<(&str, Option<&str>)>
 /// How long the first piece is, and the state after it.
 fn piece_len(text: &str) -> (usize, LexState)
     ensures inside { result.0 ≤ length text.now }
-    ensures len { result.0 ≡ position_or_len separates (with_states Outside text.now) }
-    ensures state { result.1 ≡ state_after Outside (take result.0 text.now) }
-    ensures end { result.0 < length text.now → separates (result.1, slice_index text.now result.0) ≡ true }
+    ensures len { result.0 ≡ position_or_len separates (with_spots (unquoted false) text.now) }
+    ensures state { spot_of result.1 ≡ fold next_spot (unquoted false) (take result.0 text.now) }
+    ensures end { result.0 < length text.now → separates (spot_of result.1, slice_index text.now result.0) ≡ true }
 {
     let bytes = text.as_bytes();
     let mut state = LexState::Outside;

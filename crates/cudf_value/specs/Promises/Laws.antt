@@ -3,7 +3,7 @@ use Rattle.std.specs.Prelude.{◌≡◌, ℕ, ◌^◌, ◌<◌, true, List, map,
 use Rattle.std.specs.List.{list_all, flat_map, slice_split, join_with_byte}
 use Rattle.std.specs.Str.{byte}
 use Rattle.cudf_value.specs.declared.relop.Relop.{Relop}
-use Rattle.cudf_value.specs.LexStates.{pieces, is_quotable}
+use Rattle.cudf_value.specs.Spots.{pieces, is_quotable}
 use Rattle.cudf_value.specs.Promises.Tokens.{Inner, Token, is_inner, is_token, is_comma, inner_text, text_of}
 use Rattle.cudf_value.specs.Vpkgs.{PlainVpkg, vpkg}
 use Rattle.cudf_value.specs.Printing.{vpkg_text}

@@ -2,7 +2,7 @@
 use Rattle.std.specs.Prelude.{ℕ, Bool, false, not, ◌||◌, ◌==◌, List, [], ◌∷◌, ◌++◌}
 use Rattle.std.specs.List.{list_all, flat_map}
 use Rattle.std.specs.Str.{byte}
-use Rattle.cudf_value.specs.LexStates.{quote_mark, backslash}
+use Rattle.cudf_value.specs.Spots.{quote_mark, backslash}
 
 -- what stands between quotes: a character, or one that a backslash escapes
 pub data Inner : Type 0 where

@@ -5,7 +5,7 @@ use Rattle.cudf_text.specs.Chars.{trim_start, trim}
 use Rattle.cudf_value.specs.declared.relop.Relop.{Relop}
 use Rattle.cudf_value.specs.Chars.{is_pkgname_char, is_operator_char, rest_after}
 use Rattle.cudf_value.specs.Numbers.{positive}
-use Rattle.cudf_value.specs.LexStates.{pieces}
+use Rattle.cudf_value.specs.Spots.{pieces}
 use Rattle.cudf_value.specs.Parts.{parts}
 use Rattle.cudf_value.specs.Vpkgs.{PlainVpkg, relop, vpkg}
 use Rattle.cudf_value.specs.Working.Atoms.{is_inside}
