@@ -146,7 +146,7 @@ a_bad_byte_on_the_second_line = refl
 -- ---- a problem and a solution in one input
 
 a_problem : problem_part (codes "request: r" ++ 13 ∷ 10 ∷ 9 ∷ 10 ∷ codes "FAIL") ≡ codes "request: r" ++ 13 ∷ 10 ∷ 9 ∷ 10 ∷ []
-unfolding problem_part
+unfolding problem_part solution_part
 a_problem = refl
 
 a_solution : solution_part (codes "request: r" ++ 13 ∷ 10 ∷ 9 ∷ 10 ∷ codes "FAIL") ≡ codes "FAIL"
@@ -162,7 +162,7 @@ unfolding solution_part
 a_comment_is_no_blank_line = refl
 
 no_blank_line : problem_part (codes "request:" ++ 10 ∷ codes "a") ≡ codes "request:" ++ 10 ∷ codes "a"
-unfolding problem_part
+unfolding problem_part solution_part
 no_blank_line = refl
 
 -- ---- FAIL

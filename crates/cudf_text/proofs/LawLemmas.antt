@@ -3,9 +3,9 @@ use Rattle.std.proofs.Common.{ℕ, List, [], ◌∷◌, refl, ap, arith}
 use Rattle.std.specs.List.{AllByRecursion, onto_first, filter_map, slice_split, cons_option}
 use Rattle.std.proofs.lemmas.Bool.{or_parts}
 use Rattle.std.proofs.lemmas.List.Elements.{All-from_recursion}
-use Rattle.cudf_text.specs.Lines.{NumberedLine, is_lf}
+use Rattle.cudf_text.specs.Lines.{is_blank_line, NumberedLine, is_lf}
 use Rattle.cudf_text.specs.LineFaults.{read_lines}
-use Rattle.cudf_text.specs.Stanzas.{PlainProperty, PlainStanza, plain_text, stanza_of, stanza_with, properties, last_number, is_blank_line}
+use Rattle.cudf_text.specs.Stanzas.{PlainProperty, PlainStanza, plain_text, stanza_of, stanza_with, properties, last_number}
 use Rattle.cudf_text.specs.Promises.Laws.{LineEndsAtLf, LastLineNeedsNoLf, BeginsWithProperty, StanzasHaveProperties}
 
 pub line_ends_at_lf : (line rest : List ℕ) → LineEndsAtLf line rest

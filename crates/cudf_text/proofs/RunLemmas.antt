@@ -4,10 +4,9 @@ use Rattle.std.specs.List.{cons_option, onto_first, slice_split}
 use Rattle.std.proofs.lemmas.List.{append_assoc, append-nil, length_push}
 use Rattle.std.proofs.lemmas.Bool.{ne_eqb}
 use Rattle.cudf_text.specs.declared.fault.Fault.{Fault}
-use Rattle.cudf_text.specs.Lines.{Class, comment, blank, continuation, named, faulty, NumberedLine, is_no_comment}
-use Rattle.cudf_text.specs.LineFaults.{is_open, line_fault}
-use Rattle.cudf_text.specs.Working.Reading.{fault_after, read_after}
-use Rattle.cudf_text.specs.Stanzas.{continuations, last_number, is_blank_line}
+use Rattle.cudf_text.specs.Lines.{is_blank_line, Class, comment, blank, continuation, named, faulty, NumberedLine, is_no_comment}
+use Rattle.cudf_text.specs.Working.Reading.{is_open, line_fault, fault_after, read_after}
+use Rattle.cudf_text.specs.Stanzas.{continuations, last_number}
 use Rattle.cudf_text.specs.Working.Tracked.{TrackedProperty, TrackedStanza, TrackedValue, joined, properties, stanza_with, stanzas_of}
 use Rattle.cudf_text.specs.Working.Steps.{State, continued, ended, extend_last, step, with_stanza}
 use Rattle.cudf_text.proofs.ValueLemmas.{joined-push, joined-one}

@@ -11,8 +11,8 @@ use Rattle.cudf_text.specs.Promises.Cursor.{with_next}
 use Rattle.cudf_text.specs.declared.cursor.Next.{Next}
 use Rattle.cudf_text.specs.declared.cursor.Next.TheVariants as next
 use Rattle.cudf_text.specs.Promises.Borrows.{is_joined, joins, joined_values}
-use Rattle.cudf_text.specs.Lines.{Class, blank, continuation, named, NumberedLine, lines, judged_lines}
-use Rattle.cudf_text.specs.Stanzas.{PlainProperty, PlainStanza, PlainText, continuations, is_blank_line, last_number, plain_text}
+use Rattle.cudf_text.specs.Lines.{is_blank_line, Class, blank, continuation, named, NumberedLine, lines, judged_lines}
+use Rattle.cudf_text.specs.Stanzas.{PlainProperty, PlainStanza, PlainText, continuations, last_number, plain_text}
 use Rattle.cudf_text.specs.Stanzas as plain
 use Rattle.cudf_text.specs.Promises.Views.{own_property_view, own_stanza_view, owned_in, property_view}
 use Rattle.cudf_text.specs.Working.Left.{with_tracked}

@@ -1,4 +1,4 @@
--- The kinds of faults as texts.
+-- The kinds of faults as texts (own).
 use Rattle.std.specs.Prelude.{ℕ, List, codes}
 use Rattle.cudf_text.specs.declared.fault.Kind.{Kind}
 use Rattle.cudf_text.specs.declared.fault.Kind.TheVariants.{E1, E2, E3, E4, E5, E6, E7, E8, E9, E10, E11, E12, E13, E14, E15}

@@ -1,8 +1,9 @@
--- A problem and a solution in one input, and the solution FAIL.
-use Rattle.std.specs.Prelude.{ℕ, ◌+◌, Bool, false, not, ◌||◌, List, take, drop, codes, nat_eq, bytes_eq, find, Option, Some, None}
-use Rattle.std.specs.List.{concat, position_or_len, starts_with}
+-- A problem and a solution in one input, and the solution FAIL (own).
+use Rattle.std.specs.Prelude.{ℕ, ◌-◌, Bool, false, not, ◌||◌, List, [], ◌∷◌, length, take, codes, nat_eq, bytes_eq, find, if◌then◌else◌}
+use Rattle.std.specs.List.{concat, starts_with}
+use Rattle.std.specs.Option.{option_map_or}
 use Rattle.cudf_text.specs.Chars.{is_blank_text, trim}
-use Rattle.cudf_text.specs.Lines.{is_comment_text, raw_lines, lines}
+use Rattle.cudf_text.specs.Lines.{is_comment_text, raw_lines, line_text, lines}
 
 -- ---- the cut
 
@@ -10,22 +11,18 @@ use Rattle.cudf_text.specs.Lines.{is_comment_text, raw_lines, lines}
 abbrev pub begins_request : List ℕ → Bool
 begins_request line = starts_with nat_eq line (codes "request:")
 
--- how many lines there are up to the first that passes, with that line;
--- where none passes, one more than there are
-abbrev pub len_through : (List ℕ → Bool) → List (List ℕ) → ℕ
-len_through test ls = position_or_len test ls + 1
+-- the lines behind the first that passes; where none passes, none
+abbrev pub behind : (List ℕ → Bool) → List (List ℕ) → List (List ℕ)
+behind test [] = []
+behind test (raw ∷ raws) = if test (line_text raw) then raws else behind test raws
 
--- how many lines the problem has: up to the first request line, and from there through the first blank line
-abbrev pub problem_len : List (List ℕ) → ℕ
-problem_len ls = let request = len_through begins_request ls in request + len_through is_blank_text (drop request ls)
-
--- the lines of the problem, with their ends
-unfoldable pub problem_part : List ℕ → List ℕ
-problem_part text = concat (take (problem_len (lines text)) (raw_lines text))
-
--- the lines after the problem, with their ends
+-- the lines behind the first blank one behind the first request line, with their ends
 unfoldable pub solution_part : List ℕ → List ℕ
-solution_part text = concat (drop (problem_len (lines text)) (raw_lines text))
+solution_part text = concat (behind is_blank_text (behind begins_request (raw_lines text)))
+
+-- what stands before the solution
+unfoldable pub problem_part : List ℕ → List ℕ
+problem_part text = take (length text - length (solution_part text)) text
 
 -- ---- FAIL
 
@@ -33,11 +30,6 @@ solution_part text = concat (drop (problem_len (lines text)) (raw_lines text))
 abbrev pub says_something : List ℕ → Bool
 says_something line = not (is_blank_text line || is_comment_text line)
 
--- there is a line, and trimmed it is FAIL
-abbrev pub says_fail : Option (List ℕ) → Bool
-says_fail None = false
-says_fail (Some line) = bytes_eq (trim line) (codes "FAIL")
-
--- the first line that says something says FAIL
+-- there is a line that says something, and the first one is FAIL between blanks or none
 unfoldable pub is_fail : List ℕ → Bool
-is_fail text = says_fail (find says_something (lines text))
+is_fail text = option_map_or (λ line. bytes_eq (trim line) (codes "FAIL")) (find says_something (lines text)) false

@@ -1,30 +1,23 @@
 -- The first faulty line of a text, at which reading ends (own).
-use Rattle.std.specs.Prelude.{ℕ, Bool, true, false, nat_le, List, [], ◌∷◌, ◌++◌, filter, slice_get, if◌then◌else◌, Option, Some, None, option_to_list, ◌+◌, take, count_by}
+use Rattle.std.specs.Prelude.{ℕ, Bool, true, false, nat_le, List, ◌∷◌, filter, filter_map, find, slice_get, Option, Some, None, option_map, ◌+◌, take, count_by}
+use Rattle.std.specs.List.{slice_split}
 use Rattle.cudf_text.specs.declared.fault.Fault.{Fault}
 use Rattle.cudf_text.specs.declared.fault.Kind.TheVariants.{E2, E3, E1}
-use Rattle.cudf_text.specs.Lines.{Class, blank, continuation, named, faulty, NumberedLine, judged_lines, is_lf}
+use Rattle.cudf_text.specs.Lines.{continuation, faulty, NumberedLine, is_blank_line, judged_lines, is_lf}
 use Rattle.std.specs.Str.Lossy.{utf8_valid_len}
 
--- a continuation may directly follow a line of this class
-abbrev pub is_open : Class → Bool
-is_open (continuation text) = true
-is_open (named name text) = true
-is_open _ = false
+abbrev pub is_faulty : NumberedLine → Bool
+is_faulty (n, faulty) = true
+is_faulty (n, _) = false
 
--- what is wrong with a line that follows one of this class: E2 a faulty line, E3 a continuation of nothing
-abbrev pub line_fault : Class → NumberedLine → Option Fault
-line_fault before (n, faulty) = Some (record { line = n; kind = E2 })
-line_fault before (n, continuation text) = if is_open before then None else Some (record { line = n; kind = E3 })
-line_fault before (n, _) = None
+-- what is wrong with lines of which none is blank: a continuation of nothing comes first (E3), or else the first faulty line (E2)
+abbrev pub fault_in : List NumberedLine → Option Fault
+fault_in ((n, continuation text) ∷ ls) = Some (record { line = n; kind = E3 })
+fault_in ls = option_map (λ l. record { line = l.0; kind = E2 }) (find is_faulty ls)
 
--- the faults of lines, in order, where the first follows a line of this class
-abbrev pub line_faults : Class → List NumberedLine → List Fault
-line_faults before [] = []
-line_faults before ((n, class) ∷ ls) = option_to_list (line_fault before (n, class)) ++ line_faults class ls
-
--- the first fault of a text, whose first line stands as if after a blank one
+-- the first fault of a text: that of the first of its parts between blank lines that has one
 abbrev pub first_fault : List ℕ → Option Fault
-first_fault text = slice_get (line_faults blank (judged_lines text)) 0
+first_fault text = slice_get (filter_map fault_in (slice_split is_blank_line (judged_lines text))) 0
 
 -- the line isn't below the fault's
 abbrev pub is_read : Option Fault → NumberedLine → Bool

@@ -59,6 +59,10 @@ NumberedLine = ℕ × Class
 abbrev pub numbered_lines : List ℕ → List NumberedLine
 numbered_lines text = enumerate_from 1 (map class (lines text))
 
+abbrev pub is_blank_line : NumberedLine → Bool
+is_blank_line (n, blank) = true
+is_blank_line (n, _) = false
+
 abbrev pub is_no_comment : NumberedLine → Bool
 is_no_comment (n, comment) = false
 is_no_comment (n, _) = true

@@ -1,9 +1,9 @@
 -- What a text says, its properties and stanzas: CUDF 2.0, syntax of stanzas and properties.
-use Rattle.std.specs.Prelude.{ℕ, Bool, true, false, not, ◌==◌, List, [], ◌∷◌, length, filter, filter_map, Option, Some, None}
+use Rattle.std.specs.Prelude.{ℕ, not, ◌==◌, List, [], ◌∷◌, length, filter, filter_map, Option, Some, None}
 use Rattle.std.specs.List.{join_with_byte, slice_split}
 use Rattle.std.specs.Str.{byte}
 use Rattle.cudf_text.specs.declared.fault.Fault.{Fault}
-use Rattle.cudf_text.specs.Lines.{blank, continuation, named, NumberedLine, lines}
+use Rattle.cudf_text.specs.Lines.{continuation, named, NumberedLine, is_blank_line, lines}
 use Rattle.cudf_text.specs.LineFaults.{first_fault, read_lines}
 
 -- ---- what a text says
@@ -64,10 +64,6 @@ stanza_with last (p ∷ ps) = Some (record { line = p.line; last = last; propert
 -- the stanza on lines of which none is blank, if they have a property
 abbrev pub stanza_of : List NumberedLine → Option PlainStanza
 stanza_of ls = stanza_with (last_number ls) (properties ls)
-
-abbrev pub is_blank_line : NumberedLine → Bool
-is_blank_line (n, blank) = true
-is_blank_line (n, _) = false
 
 -- the lines are split at the blank ones, and each part is a stanza, if it has a property
 abbrev pub stanzas_of : List NumberedLine → List PlainStanza

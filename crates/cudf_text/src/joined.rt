@@ -1,7 +1,7 @@
 ghost use Rattle.std.specs.Prelude.{◌≡◌, ◌++◌, ◌-◌, ◌≤◌, length, drop};
 ghost use Rattle.std.specs.List.{starts_with};
-ghost use Rattle.cudf_text.specs.Joined.{len_through, problem_part, solution_part};
-ghost use Rattle.cudf_text.specs.Lines.{lines, raw_lines};
+ghost use Rattle.cudf_text.specs.Joined.{behind, problem_part, solution_part};
+ghost use Rattle.cudf_text.specs.Lines.{raw_lines};
 ghost use Rattle.cudf_text.specs.Working.Marks.{marks};
 
 use crate::blanks::is_blank_text;
@@ -43,7 +43,7 @@ impl Mark {
 fn after_mark(bytes: &[u8], mark: Mark) -> &[u8]
     ensures inside { length result.now ≤ length bytes.now }
     ensures end { drop (length bytes.now - length result.now) bytes.now ≡ result.now }
-    ensures lines { raw_lines result.now ≡ drop (len_through (marks mark) (lines bytes.now)) (raw_lines bytes.now) }
+    ensures lines { raw_lines result.now ≡ behind (marks mark) (raw_lines bytes.now) }
 {
     let mut rest = bytes;
     while !rest.is_empty() {

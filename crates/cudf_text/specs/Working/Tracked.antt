@@ -9,9 +9,9 @@ use Rattle.cudf_text.specs.declared.text.Property.{Property}
 use Rattle.cudf_text.specs.declared.text.PropertyRef.{PropertyRef}
 use Rattle.cudf_text.specs.Promises.Borrows.{is_joined}
 use Rattle.cudf_text.specs.Promises.Joins.{is_owned}
-use Rattle.cudf_text.specs.Lines.{blank, named, NumberedLine, judged_lines, lines}
+use Rattle.cudf_text.specs.Lines.{is_blank_line, blank, named, NumberedLine, judged_lines, lines}
 use Rattle.cudf_text.specs.Working.Reading.{fault_after, read_after}
-use Rattle.cudf_text.specs.Stanzas.{PlainProperty, PlainStanza, PlainText, continuations, joined as joined_bytes, last_number, is_blank_line}
+use Rattle.cudf_text.specs.Stanzas.{PlainProperty, PlainStanza, PlainText, continuations, joined as joined_bytes, last_number}
 
 pub record TrackedValue : Type 0 where
   pub bytes : List ℕ
