@@ -16,7 +16,8 @@ use Rattle.cudf_document.specs.declared.stanza.postmark.Postmark.{Postmark}
 use Rattle.cudf_document.specs.declared.stanza.postmark.Postmark.TheVariants.{Preamble, Package, Request}
 use Rattle.cudf_document.specs.Faults.{lesser, least, fault_if}
 use Rattle.cudf_document.specs.Documents.{is_empty, with_earlier, postmark, marks_preamble, marks_package, marks_request, is_request, line_of}
-use Rattle.cudf_document.specs.Ids.{Id, is_id, is_among, is_known, id_under, id_of}
+use Rattle.cudf_document.specs.Ids.{Id, is_id, is_among, is_known, id_of}
+use Rattle.cudf_document.specs.Working.Judging.{id_under, placed_faults}
 use Rattle.cudf_document.specs.Promises.Packages.{are_distinct, with_id}
 use Rattle.cudf_document.specs.Preamble.{declared_after, declared}
 use Rattle.cudf_document.specs.ProblemFaults.{place_faults, property_faults, version_property, required_names, lacks_one, inner_faults, stanza_faults, requestless_faults, problem_faults}
@@ -172,25 +173,25 @@ module _ (g : PlainBuilder) (before : List PlainStanza) (s : PlainStanza) (so_fa
 
   -- a stanza's first fault, by where it stands or else inside it
   pub stanza_least : (mode : Mode) (mark : Option Postmark) (is_first : Bool) (place inside : Option Fault) → postmark s ≡ mark → is_first ≡ is_empty before
-      → place ≡ least (place_faults is_first (is_some g.request) mark s.line) → inside ≡ least (faults_inside mark (required_names mode (declared before)) g s)
+      → place ≡ least (placed_faults is_first (is_some g.request) mark s.line) → inside ≡ least (faults_inside mark (required_names mode (declared before)) g s)
       → option_or place inside ≡ least (stanza_faults mode (before, s))
   stanza_least mode mark is_first place inside marked first place_is inside_eq =
-      (λ i. option_or ((place_is ∙ (λ j. least (place_faults (first j) (requested_is g before so_far j) (sym marked j) s.line))) i) (inside_eq i))
+      (λ i. option_or ((place_is ∙ (λ j. least (placed_faults (first j) (requested_is g before so_far j) (sym marked j) s.line))) i) (inside_eq i))
       ∙ within mark marked
-      ∙ sym (least-faults_or (place_faults (is_empty before) (list_any is_request before) (postmark s) s.line) (inner_faults mode before s))
+      ∙ sym (least-faults_or (place_faults before s) (inner_faults mode before s))
     where
       some_or : (f : Fault) (x y z : Option Fault) → option_or (lesser (Some f) x) y ≡ option_or (lesser (Some f) x) z
       some_or f None y z = refl
       some_or f (Some g') y z = refl
 
       within : (m : Option Postmark) → postmark s ≡ m
-          → option_or (least (place_faults (is_empty before) (list_any is_request before) (postmark s) s.line)) (least (faults_inside m (required_names mode (declared before)) g s))
-          ≡ option_or (least (place_faults (is_empty before) (list_any is_request before) (postmark s) s.line)) (least (inner_faults mode before s))
-      within (Some m) e = ap (λ fs. option_or (least (place_faults (is_empty before) (list_any is_request before) (postmark s) s.line)) (least fs)) (inside_is mode m e)
+          → option_or (least (place_faults before s)) (least (faults_inside m (required_names mode (declared before)) g s))
+          ≡ option_or (least (place_faults before s)) (least (inner_faults mode before s))
+      within (Some m) e = ap (λ fs. option_or (least (place_faults before s)) (least fs)) (inside_is mode m e)
       within None e =
-          ap (λ m. option_or (least (place_faults (is_empty before) (list_any is_request before) m s.line)) None) e
+          ap (λ m. option_or (least (placed_faults (is_empty before) (list_any is_request before) m s.line)) None) e
           ∙ some_or (record { line = s.line; kind = E4 }) (least ([] ++ fault_if (list_any is_request before) s.line E6)) None (least (inner_faults mode before s))
-          ∙ ap (λ m. option_or (least (place_faults (is_empty before) (list_any is_request before) m s.line)) (least (inner_faults mode before s))) (sym e)
+          ∙ ap (λ m. option_or (least (placed_faults (is_empty before) (list_any is_request before) m s.line)) (least (inner_faults mode before s))) (sym e)
 
 -- ---- each pair once
 
@@ -237,7 +238,7 @@ problem_least text mode first none line first_is none_is line_is =
     ∙ sym (least-append (option_to_list text.fault ++ flat_map (stanza_faults mode) (with_earlier [] text.stanzas)) (requestless_faults text))
 
 pub place_least : (is_first is_late none preamble : Bool) (mark : Option Postmark) (line : ℕ) → none ≡ is_none mark → preamble ≡ (marks_preamble mark && not is_first)
-    → lesser (lesser (least (fault_if none line E4)) (least (fault_if preamble line E5))) (least (fault_if is_late line E6)) ≡ least (place_faults is_first is_late mark line)
+    → lesser (lesser (least (fault_if none line E4)) (least (fault_if preamble line E5))) (least (fault_if is_late line E6)) ≡ least (placed_faults is_first is_late mark line)
 place_least is_first is_late none preamble mark line none_is preamble_is =
     (λ i. lesser (lesser (least (fault_if (none_is i) line E4)) (least (fault_if (preamble_is i) line E5))) (least (fault_if is_late line E6)))
     ∙ ap (λ x. lesser x (least (fault_if is_late line E6))) (sym (least-append (fault_if (is_none mark) line E4) (fault_if (marks_preamble mark && not is_first) line E5)))

@@ -6,20 +6,21 @@ use Rattle.std.proofs.lemmas.List.Elements.{filter_map-append}
 use Rattle.std.proofs.lemmas.List.Folds.{list_all-append}
 use Rattle.std.specs.List.{list_all}
 use Rattle.cudf_value.specs.Declarations.{PlainDeclaration}
-use Rattle.cudf_document.specs.Values.{declared_test, test_of}
+use Rattle.cudf_document.specs.Values.{declared_test}
+use Rattle.cudf_value.specs.Parts.{look_up}
 use Rattle.cudf_document.specs.Documents.{with_earlier}
-use Rattle.cudf_document.specs.Preamble.{is_declarable, all_declarable}
-use Rattle.cudf_document.specs.ProblemFaults.{name_without_default}
+use Rattle.cudf_document.specs.Preamble.{is_declarable}
+use Rattle.cudf_document.specs.Working.Judging.{all_declarable, name_without_default}
 use Rattle.cudf_document.proofs.ListLemmas.{as_list, with_earlier-push}
 
 -- the test of a declared name is that of its first declaration
 pub test_of-declared : (name : List ℕ) (ds : List PlainDeclaration)
-    → test_of name (map declared_test ds) ≡ option_map (λ d. (declared_test d).1) (find (λ d. bytes_eq name d.name) ds)
+    → look_up name (map declared_test ds) ≡ option_map (λ d. (declared_test d).1) (find (λ d. bytes_eq name d.name) ds)
 test_of-declared name [] = refl
 test_of-declared name (d ∷ ds) = by (bytes_eq name d.name) (test_of-declared name ds)
   where
-    by : (b : Bool) → test_of name (map declared_test ds) ≡ option_map (λ e. (declared_test e).1) (find (λ e. bytes_eq name e.name) ds)
-        → (if b then Some ((declared_test d).1) else test_of name (map declared_test ds))
+    by : (b : Bool) → look_up name (map declared_test ds) ≡ option_map (λ e. (declared_test e).1) (find (λ e. bytes_eq name e.name) ds)
+        → (if b then Some ((declared_test d).1) else look_up name (map declared_test ds))
         ≡ option_map (λ e. (declared_test e).1) (if b then Some d else find (λ e. bytes_eq name e.name) ds)
     by true rest = refl
     by false rest = rest

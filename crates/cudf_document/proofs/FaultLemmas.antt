@@ -8,7 +8,7 @@ use Rattle.std.specs.Option.{option_or}
 use Rattle.cudf_text.specs.declared.fault.Fault.{Fault}
 use Rattle.cudf_document.specs.Faults.{precedes, lesser, least}
 use Rattle.cudf_document.specs.Documents.{with_earlier}
-use Rattle.cudf_document.specs.ProblemFaults.{faults_or}
+use Rattle.cudf_document.specs.Working.Judging.{faults_or}
 use Rattle.cudf_document.proofs.ListLemmas.{with_earlier-push}
 
 -- ---- the order

@@ -19,10 +19,12 @@ use Rattle.cudf_document.specs.declared.stanza.postmark.Postmark.TheVariants.{Pr
 use Rattle.cudf_document.specs.Faults.{fault_if}
 use Rattle.cudf_document.specs.Documents.{is_empty, with_earlier, postmark_named, postmark, marks_preamble, marks_package, is_request, has_name, value_of, line_of}
 use Rattle.cudf_document.specs.Promises.Packages.{is_package, are_distinct}
-use Rattle.cudf_document.specs.Ids.{Id, is_id, is_among, is_known, id_with, id_under, id_of}
-use Rattle.cudf_document.specs.Values.{Test, name_value, version_value, can_be, test_of, fails}
+use Rattle.cudf_document.specs.Ids.{Id, is_id, is_among, is_known, id_with, id_of}
+use Rattle.cudf_document.specs.Working.Judging.{id_under, fails, faults_or}
+use Rattle.cudf_document.specs.Values.{Test, name_value, version_value, can_be}
+use Rattle.cudf_value.specs.Parts.{look_up}
 use Rattle.cudf_document.specs.Preamble.{declared}
-use Rattle.cudf_document.specs.ProblemFaults.{tests, is_repeatable, place_faults, property_faults, repeated_faults, undeclared_faults, mistyped_faults, misdeclared_faults, version_property, repeated_package_faults, unversioned_faults, required_names, missing_faults, inner_faults, faults_or, stanza_faults, requestless_faults, problem_faults}
+use Rattle.cudf_document.specs.ProblemFaults.{tests, place_faults, property_faults, repeated_faults, undeclared_faults, mistyped_faults, misdeclared_faults, version_property, repeated_package_faults, unversioned_faults, required_names, missing_faults, inner_faults, stanza_faults, requestless_faults, problem_faults}
 use Rattle.cudf_document.specs.Universe.{PlainPackage, package_id, package_with, package_of, packages_in}
 use Rattle.cudf_document.specs.Promises.Laws.{IsSound}
 use Rattle.cudf_document.proofs.ListLemmas.{is_some-find, is_some-option_map}
@@ -58,21 +60,21 @@ all_after test before (x ∷ xs) = ap (λ b. test x && b) (all_after test (befor
 
 record IsClean (before : List PlainStanza) (s : PlainStanza) : Type 0 where
   not_late : list_any is_request before ≡ false
-  well_typed : list_all (λ p. not (fails (test_of p.name (tests (declared before) (postmark s))) p.value)) s.properties ≡ true
+  well_typed : list_all (λ p. not (fails (look_up p.name (tests (declared before) (postmark s))) p.value)) s.properties ≡ true
   fresh : is_known (filter_map id_of before) (id_of s) ≡ false
   versioned : (marks_package (postmark s) && is_none (version_property s)) ≡ false
 
 typed_property : (ds : List PlainDeclaration) (mark : Option Postmark) (x : List PlainProperty × PlainProperty) → property_faults ds mark x ≡ []
-    → not (fails (test_of x.1.name (tests ds mark)) x.1.value) ≡ true
+    → not (fails (look_up x.1.name (tests ds mark)) x.1.value) ≡ true
 typed_property ds mark (before, p) none =
-    let repeated = repeated_faults (not (is_repeatable mark p)) before p in
+    let repeated = repeated_faults mark before p in
     let front = nil_parts (repeated ++ undeclared_faults ds mark p ++ mistyped_faults (tests ds mark) p) (misdeclared_faults mark before p) none in
     let typed = nil_parts (repeated ++ undeclared_faults ds mark p) (mistyped_faults (tests ds mark) p) front.0 in
-    ap not (none_of (fails (test_of p.name (tests ds mark)) p.value) p.line E9 typed.1)
+    ap not (none_of (fails (look_up p.name (tests ds mark)) p.value) p.line E9 typed.1)
 
 clean : (mode : Mode) (before : List PlainStanza) (s : PlainStanza) → stanza_faults mode (before, s) ≡ [] → IsClean before s
 clean mode before s none =
-    let both = neither (place_faults (is_empty before) (list_any is_request before) (postmark s) s.line) (inner_faults mode before s) none in
+    let both = neither (place_faults before s) (inner_faults mode before s) none in
     let place = nil_parts (fault_if (is_none (postmark s)) s.line E4 ++ fault_if (marks_preamble (postmark s) && not (is_empty before)) s.line E5)
     (fault_if (list_any is_request before) s.line E6) both.0 in
     let missing = missing_faults (required_names mode (declared before)) s in
@@ -83,8 +85,8 @@ clean mode before s none =
     record {
       not_late = none_of (list_any is_request before) s.line E6 place.1;
       well_typed =
-          sym (all_after (λ p. not (fails (test_of p.name (tests (declared before) (postmark s))) p.value)) [] s.properties)
-          ∙ all_without (property_faults (declared before) (postmark s)) (λ x. not (fails (test_of x.1.name (tests (declared before) (postmark s))) x.1.value))
+          sym (all_after (λ p. not (fails (look_up p.name (tests (declared before) (postmark s))) p.value)) [] s.properties)
+          ∙ all_without (property_faults (declared before) (postmark s)) (λ x. not (fails (look_up x.1.name (tests (declared before) (postmark s))) x.1.value))
           (typed_property (declared before) (postmark s)) (with_earlier [] s.properties) typed.1;
       fresh = none_of (is_known (filter_map id_of before) (id_of s)) (line_of (version_property s)) E11 front.1;
       versioned = none_of (marks_package (postmark s) && is_none (version_property s)) s.last E12 inner.1;
@@ -219,20 +221,20 @@ one_request text mode none =
 
 -- a property that is there and of its type has a value
 value_there : {A : Type 0} (read : List ℕ → Option A) (name : List ℕ) (known : List (List ℕ × Test)) (ps : List PlainProperty)
-    → test_of name known ≡ Some (can_be read) → list_all (λ p. not (fails (test_of p.name known) p.value)) ps ≡ true
+    → look_up name known ≡ Some (can_be read) → list_all (λ p. not (fails (look_up p.name known) p.value)) ps ≡ true
     → list_any (has_name name) ps ≡ true → is_some (value_of read name ps) ≡ true
 value_there read name known [] test typed there = absurd (true≢false (sym there))
 value_there {A} read name known (p ∷ ps) test typed there =
     by (bytes_eq p.name name) refl there (value_there read name known ps test parts.1)
   where
-    parts : (not (fails (test_of p.name known) p.value) ≡ true) × (list_all (λ q. not (fails (test_of q.name known) q.value)) ps ≡ true)
-    parts = and_parts (not (fails (test_of p.name known) p.value)) (list_all (λ q. not (fails (test_of q.name known) q.value)) ps) typed
+    parts : (not (fails (look_up p.name known) p.value) ≡ true) × (list_all (λ q. not (fails (look_up q.name known) q.value)) ps ≡ true)
+    parts = and_parts (not (fails (look_up p.name known) p.value)) (list_all (λ q. not (fails (look_up q.name known) q.value)) ps) typed
 
     by : (b : Bool) → bytes_eq p.name name ≡ b → (b || list_any (has_name name) ps) ≡ true → (list_any (has_name name) ps ≡ true → is_some (value_of read name ps) ≡ true)
         → is_some (option_and_then (λ q. read q.value) (if b then Some p else find (has_name name) ps)) ≡ true
     by true is there rest =
         sym (not-not (is_some (read p.value)))
-        ∙ ap (λ t. not (fails t p.value)) (sym (ap (λ n. test_of n known) (same_bytes p.name name is) ∙ test))
+        ∙ ap (λ t. not (fails t p.value)) (sym (ap (λ n. look_up n known) (same_bytes p.name name is) ∙ test))
         ∙ parts.0
     by false is there rest = rest there
 
@@ -256,8 +258,8 @@ id_there : (before : List PlainStanza) (s : PlainStanza) (mark : Option Postmark
     → (not (marks_package mark) || is_some (id_under mark s.properties)) ≡ true
 id_there before s (Some Package) marked c =
     let known = tests (declared before) (Some Package) in
-    let typed : list_all (λ p. not (fails (test_of p.name known) p.value)) s.properties ≡ true =
-    ap (λ m. list_all (λ p. not (fails (test_of p.name (tests (declared before) m)) p.value)) s.properties) (sym marked) ∙ c.well_typed in
+    let typed : list_all (λ p. not (fails (look_up p.name known) p.value)) s.properties ≡ true =
+    ap (λ m. list_all (λ p. not (fails (look_up p.name (tests (declared before) m)) p.value)) s.properties) (sym marked) ∙ c.well_typed in
     let version : is_none (version_property s) ≡ false = ap (λ m. marks_package m && is_none (version_property s)) (sym marked) ∙ c.versioned in
     both_there (value_of name_value (codes "package") s.properties) (value_of version_value (codes "version") s.properties)
     (value_there name_value (codes "package") known s.properties refl typed (named_package s.properties marked))

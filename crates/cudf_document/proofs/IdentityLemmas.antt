@@ -6,7 +6,8 @@ use Rattle.cudf_document.specs.declared.package.identity.Identity.{Identity}
 use Rattle.cudf_document.specs.declared.stanza.postmark.Postmark.TheVariants.{Package}
 use Rattle.cudf_document.specs.Documents.{line_of}
 use Rattle.cudf_document.specs.Faults.{fault_if}
-use Rattle.cudf_document.specs.Ids.{id_with, id_under}
+use Rattle.cudf_document.specs.Ids.{id_with}
+use Rattle.cudf_document.specs.Working.Judging.{id_under}
 use Rattle.cudf_document.specs.ProblemFaults.{version_property}
 use Rattle.cudf_document.specs.Working.Identities.{IsIdentity, known_id}
 

@@ -11,11 +11,13 @@ use Rattle.cudf_document.specs.declared.mode.Mode.TheVariants.{Lenient, Strict}
 use Rattle.cudf_document.specs.declared.stanza.postmark.Postmark.{Postmark}
 use Rattle.cudf_document.specs.declared.stanza.postmark.Postmark.TheVariants.{Package}
 use Rattle.cudf_document.specs.Faults.{fault_if}
-use Rattle.cudf_document.specs.Documents.{is_empty, with_earlier, postmark, marks_preamble, marks_package, is_request, same_name, line_of}
+use Rattle.cudf_document.specs.Documents.{is_empty, with_earlier, postmark, marks_preamble, marks_package, is_request, line_of}
+use Rattle.cudf_document.specs.Working.Judging.{same_name, fails, faults_or}
 use Rattle.cudf_document.specs.Ids.{id_of, is_known}
 use Rattle.cudf_document.specs.Preamble.{declared, declared_after, is_bad_declaration}
-use Rattle.cudf_document.specs.Values.{solution_tests, test_of, fails}
-use Rattle.cudf_document.specs.ProblemFaults.{tests, is_repeatable, property_faults, properties_faults, place_faults, version_property, repeated_package_faults, unversioned_faults, required_names, lacks_one, missing_faults, inner_faults, faults_or, stanza_faults, requestless_faults, problem_faults}
+use Rattle.cudf_document.specs.Values.{solution_tests}
+use Rattle.cudf_value.specs.Parts.{look_up}
+use Rattle.cudf_document.specs.ProblemFaults.{tests, is_repeatable, property_faults, properties_faults, place_faults, version_property, repeated_package_faults, unversioned_faults, required_names, lacks_one, missing_faults, inner_faults, stanza_faults, requestless_faults, problem_faults}
 use Rattle.cudf_document.specs.SolutionFaults.{value_faults, values_faults, solution_stanza_faults, repeated_pair_faults, repeated_pairs_faults, solution_faults}
 use Rattle.cudf_document.specs.Promises.Laws.{is_strict, StrictAdds, StrictAddsOneKind}
 use Rattle.cudf_document.proofs.LawLemmas.{head_or_after, none_in_nil, at_head}
@@ -94,8 +96,8 @@ module _ (line : Option Fault) where
   property_told : (ds : List PlainDeclaration) (mark : Option Postmark) (x : List PlainProperty × PlainProperty) → All (IsTold line) (property_faults ds mark x)
   property_told ds mark (before, p) =
       let repeated = told_if E7 refl (list_any (same_name p) before && not (is_repeatable mark p)) p.line in
-      let undeclared = told_if E8 refl (marks_package mark && is_none (test_of p.name (tests ds mark))) p.line in
-      let mistyped = told_if E9 refl (fails (test_of p.name (tests ds mark)) p.value) p.line in
+      let undeclared = told_if E8 refl (marks_package mark && is_none (look_up p.name (tests ds mark))) p.line in
+      let mistyped = told_if E9 refl (fails (look_up p.name (tests ds mark)) p.value) p.line in
       let misdeclared = told_if E10 refl (marks_preamble mark && is_bad_declaration (declared_after [] before) p) p.line in
       both_told _ _ (both_told _ _ (both_told _ _ repeated undeclared) mistyped) misdeclared
 
@@ -108,14 +110,14 @@ module _ (line : Option Fault) where
       let late = told_if E6 refl (list_any is_request before) s.line in
       let properties = told-flat_map (property_faults (declared before) (postmark s)) (property_told (declared before) (postmark s)) (with_earlier [] s.properties) in
       let repeated = told_if E11 refl (is_known (filter_map id_of before) (id_of s)) (line_of (version_property s)) in
-      told-faults_or (place_faults (is_empty before) (list_any is_request before) (postmark s) s.line) (inner_faults Lenient before s)
+      told-faults_or (place_faults before s) (inner_faults Lenient before s)
       (both_told _ _ (both_told _ _ (told_if E4 refl (is_none (postmark s)) s.line) late_preamble) late)
       (both_told _ _ (both_told _ _ properties repeated) (unversioned_told s))
 
   value_told : (x : List PlainProperty × PlainProperty) → All (IsTold line) (value_faults x)
   value_told (before, p) =
-      both_told _ _ (told_if E7 refl (list_any (same_name p) before && is_some (test_of p.name solution_tests)) p.line)
-      (told_if E9 refl (fails (test_of p.name solution_tests) p.value) p.line)
+      both_told _ _ (told_if E7 refl (list_any (same_name p) before && is_some (look_up p.name solution_tests)) p.line)
+      (told_if E9 refl (fails (look_up p.name solution_tests) p.value) p.line)
 
   values_told : (mark : Option Postmark) (ps : List PlainProperty) → All (IsTold line) (values_faults mark ps)
   values_told (Some Package) ps = told-flat_map value_faults value_told (with_earlier [] ps)
@@ -143,7 +145,7 @@ stanza_adds : (x : List PlainStanza × PlainStanza) → Adds E14 (stanza_faults 
 stanza_adds (before, s) =
     let ds = declared before in
     let missing = Adds-kind E14 (lacks_one (required_names Strict ds) s.properties && marks_package (postmark s)) s.last in
-    Adds-faults_or E14 (place_faults (is_empty before) (list_any is_request before) (postmark s) s.line) (inner_faults Lenient before s) (inner_faults Strict before s)
+    Adds-faults_or E14 (place_faults before s) (inner_faults Lenient before s) (inner_faults Strict before s)
     (Adds-append E14 _ _ (unversioned_faults s) (unversioned_faults s)
     (Adds-append E14 _ _ (repeated_package_faults (filter_map id_of before) s) (repeated_package_faults (filter_map id_of before) s)
     (Adds-append E14 [] (missing_faults (required_names Strict ds) s) (properties_faults ds (postmark s) s.properties) (properties_faults ds (postmark s) s.properties) missing

@@ -1,21 +1,23 @@
 -- The fields of a package.
-use Rattle.std.proofs.Common.{◌≡◌, ℕ, Bool, true, false, List, [], ◌∷◌, ◌++◌, map, Option, None, Some, is_some, find, refl, sym, ap, ◌∙◌, if◌then◌else◌, option_map, option_and_then, bytes_eq, codes}
+use Rattle.std.proofs.Common.{◌≡◌, ℕ, Bool, true, false, List, [], ◌∷◌, ◌++◌, map, Option, None, Some, is_some, find, refl, sym, ap, subst, ◌∙◌, if◌then◌else◌, option_map, option_and_then, bytes_eq, codes}
 use Rattle.std.specs.List.{list_any}
 use Rattle.cudf_text.specs.declared.fault.Kind.TheVariants.{E7}
 use Rattle.cudf_text.specs.Stanzas.{PlainProperty}
 use Rattle.cudf_text.specs.Chars.{trim}
-use Rattle.cudf_value.specs.Types.{PlainType, vpkgformula_type, is_of_type}
+use Rattle.cudf_value.specs.Types.{PlainType, word_type, enum_type, is_of_type}
 use Rattle.cudf_value.specs.Declarations.{PlainDeclaration}
 use Rattle.cudf_document.specs.declared.stanza.postmark.Postmark.TheVariants.{Package as PackageMark}
 use Rattle.cudf_document.specs.declared.package.property.PackageProperty.{PackageProperty}
 use Rattle.cudf_document.specs.declared.package.property.PackageProperty.TheVariants.{Depends, Conflicts, Recommends}
 use Rattle.cudf_document.specs.Faults.{least}
-use Rattle.cudf_document.specs.Documents.{same_name, value_of}
-use Rattle.cudf_document.specs.Values.{formula_value, list_value, exact_list_value, truth_value, keep_value, can_be, declared_test, test_of}
+use Rattle.cudf_document.specs.Documents.{value_of}
+use Rattle.cudf_document.specs.Working.Judging.{same_name}
+use Rattle.cudf_document.specs.Values.{formula_value, list_value, exact_list_value, truth_value, keep_value, can_be, declared_test}
+use Rattle.cudf_value.specs.Parts.{look_up}
 use Rattle.cudf_document.specs.Preamble.{is_formula_type, recommends_in}
 use Rattle.cudf_document.specs.ProblemFaults.{tests, property_faults}
 use Rattle.cudf_document.specs.Working.PackageFields.{PlainPackageFields, package_property_named, wrong_kind, fault_on, package_fields_of, with_package_property, no_package_fields, without_needs, is_need}
-use Rattle.cudf_document.proofs.NameLemmas.{by_words, value_of-repeated, value_next}
+use Rattle.cudf_document.proofs.NameLemmas.{same_bytes, by_words, value_of-repeated, value_next}
 use Rattle.cudf_document.proofs.DeclarationLemmas.{test_of-declared}
 use Rattle.cudf_document.proofs.PropertyLemmas.{package_property}
 
@@ -25,11 +27,16 @@ words = codes "depends" ∷ codes "conflicts" ∷ codes "provides" ∷ codes "in
 -- ---- tests
 
 formula_test : (d : PlainDeclaration) (kind : PlainType) → is_some (if is_formula_type kind then Some d else None) ≡ true → (λ (text : List ℕ). is_of_type kind (trim text)) ≡ can_be formula_value
-formula_test d vpkgformula_type h = refl
-formula_test d _ h = absurd cc
+formula_test d (word_type word) h = by (bytes_eq word (codes "vpkgformula")) refl h
+  where
+    by : (b : Bool) → bytes_eq word (codes "vpkgformula") ≡ b → is_some (if b then Some d else None) ≡ true
+        → (λ (text : List ℕ). is_of_type (word_type word) (trim text)) ≡ can_be formula_value
+    by true e h = subst (λ w. (λ (text : List ℕ). is_of_type (word_type w) (trim text)) ≡ can_be formula_value) (sym (same_bytes word (codes "vpkgformula") e)) refl
+    by false e h = absurd cc
+formula_test d (enum_type idents) h = absurd cc
 
 -- where `recommends` is declared as a formula, it has to be one
-pub recommends_test : (ds : List PlainDeclaration) → is_some (recommends_in ds) ≡ true → test_of (codes "recommends") (map declared_test ds) ≡ Some (can_be formula_value)
+pub recommends_test : (ds : List PlainDeclaration) → is_some (recommends_in ds) ≡ true → look_up (codes "recommends") (map declared_test ds) ≡ Some (can_be formula_value)
 recommends_test ds h = test_of-declared (codes "recommends") ds ∙ by (find (λ d. bytes_eq (codes "recommends") d.name) ds) h
   where
     by : (x : Option PlainDeclaration) → is_some (option_and_then (λ d. if is_formula_type d.kind then Some d else None) x) ≡ true
@@ -116,7 +123,7 @@ bare-other ds _ text v other = refl
 
 -- what is wrong with one more property, repeated or not
 pub package_fault : (ds : List PlainDeclaration) (ps : List PlainProperty) (p : PlainProperty) (again : Bool) → list_any (same_name p) ps ≡ again
-    → fault_on p.line (if again then Some E7 else wrong_kind (test_of p.name (tests ds (Some PackageMark))) p.value) ≡ least (property_faults ds (Some PackageMark) (ps, p))
+    → fault_on p.line (if again then Some E7 else wrong_kind (look_up p.name (tests ds (Some PackageMark))) p.value) ≡ least (property_faults ds (Some PackageMark) (ps, p))
 package_fault ds ps p again is =
-    ap (λ b. fault_on p.line (if b then Some E7 else wrong_kind (test_of p.name (tests ds (Some PackageMark))) p.value)) (sym is)
-    ∙ sym (package_property p.line (list_any (same_name p) ps) (test_of p.name (tests ds (Some PackageMark))) p.value)
+    ap (λ b. fault_on p.line (if b then Some E7 else wrong_kind (look_up p.name (tests ds (Some PackageMark))) p.value)) (sym is)
+    ∙ sym (package_property p.line (list_any (same_name p) ps) (look_up p.name (tests ds (Some PackageMark))) p.value)

@@ -11,7 +11,8 @@ use Rattle.cudf_document.specs.declared.stanza.postmark.Postmark.{Postmark}
 use Rattle.cudf_document.specs.declared.stanza.postmark.Postmark.TheVariants.{Preamble, Package, Request}
 use Rattle.cudf_document.specs.Documents.{is_empty, postmark, marks_package, marks_request, is_request}
 use Rattle.cudf_document.specs.Promises.Packages.{is_package, are_distinct}
-use Rattle.cudf_document.specs.Ids.{Id, id_of, id_under}
+use Rattle.cudf_document.specs.Ids.{Id, id_of}
+use Rattle.cudf_document.specs.Working.Judging.{id_under}
 use Rattle.cudf_document.specs.Preamble.{declared}
 use Rattle.cudf_document.specs.Promises.Thin.{thin_package, thin_problem}
 use Rattle.cudf_document.specs.Universe.{PlainPackage, PlainRequest, plain_problem, package_id, request_of, packages_in, request_in}

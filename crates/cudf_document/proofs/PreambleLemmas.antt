@@ -8,7 +8,8 @@ use Rattle.cudf_text.specs.Stanzas.{PlainProperty}
 use Rattle.cudf_value.specs.Declarations.{PlainDeclaration}
 use Rattle.cudf_document.specs.declared.stanza.postmark.Postmark.TheVariants.{Preamble as PreambleMark}
 use Rattle.cudf_document.specs.Faults.{lesser}
-use Rattle.cudf_document.specs.Documents.{has_name, same_name}
+use Rattle.cudf_document.specs.Documents.{has_name}
+use Rattle.cudf_document.specs.Working.Judging.{same_name}
 use Rattle.cudf_document.specs.Preamble.{declared_by, is_bad_declaration, added_by, declared_after}
 use Rattle.cudf_document.specs.Working.PackageFields.{fault_on}
 use Rattle.cudf_document.specs.Working.ProblemBuilders.{preamble_kind_after}

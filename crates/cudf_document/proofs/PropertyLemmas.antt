@@ -15,7 +15,8 @@ use Rattle.std.proofs.lemmas.Bool.Decides.{nat_tests}
 use Rattle.cudf_text.specs.declared.fault.Kind.{Kind}
 use Rattle.cudf_text.specs.declared.fault.Kind.TheVariants.{E7, E8, E9, E10}
 use Rattle.cudf_document.specs.Faults.{rank, lesser, least, fault_if}
-use Rattle.cudf_document.specs.Values.{Test, fails}
+use Rattle.cudf_document.specs.Values.{Test}
+use Rattle.cudf_document.specs.Working.Judging.{fails}
 use Rattle.cudf_document.specs.Working.PackageFields.{wrong_kind, fault_on}
 
 not_before : (n k l : ℕ) → l ≤ k → (nat_lt n n || n == n && nat_lt k l) ≡ false

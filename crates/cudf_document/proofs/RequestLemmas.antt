@@ -5,8 +5,10 @@ use Rattle.cudf_text.specs.declared.fault.Kind.TheVariants.{E7, E9}
 use Rattle.cudf_text.specs.Stanzas.{PlainProperty}
 use Rattle.cudf_document.specs.declared.stanza.postmark.Postmark.TheVariants.{Request as RequestMark}
 use Rattle.cudf_document.specs.Faults.{least}
-use Rattle.cudf_document.specs.Documents.{same_name, value_of}
-use Rattle.cudf_document.specs.Values.{list_value, request_tests, test_of, fails}
+use Rattle.cudf_document.specs.Documents.{value_of}
+use Rattle.cudf_document.specs.Working.Judging.{same_name, fails}
+use Rattle.cudf_document.specs.Values.{list_value, request_tests}
+use Rattle.cudf_value.specs.Parts.{look_up}
 use Rattle.cudf_document.specs.ProblemFaults.{property_faults}
 use Rattle.cudf_document.specs.Working.PackageFields.{fault_on}
 use Rattle.cudf_document.specs.Working.RequestFields.{PlainRequestFields, request_property_named, request_property_test, request_fields_of, with_request_property, request_kind_after, request_fields_after}
@@ -17,8 +19,8 @@ use Rattle.cudf_document.proofs.PropertyLemmas.{request_property}
 abbrev words : List (List ℕ)
 words = codes "install" ∷ codes "remove" ∷ codes "upgrade" ∷ []
 
-pub test_of-request : (name : List ℕ) → test_of name request_tests ≡ request_property_test (request_property_named name)
-test_of-request name = by_words (λ n. test_of n request_tests ≡ request_property_test (request_property_named n)) words name refl refl refl (λ a b c. simp (a, b, c))
+pub test_of-request : (name : List ℕ) → look_up name request_tests ≡ request_property_test (request_property_named name)
+test_of-request name = by_words (λ n. look_up n request_tests ≡ request_property_test (request_property_named n)) words name refl refl refl (λ a b c. simp (a, b, c))
 
 -- the lists, each with what a text says of it, where the name is its own
 abbrev says : List PlainProperty → List ℕ → List ℕ → PlainRequestFields
@@ -54,7 +56,7 @@ pub request_fault : (ps : List PlainProperty) (names : List (List ℕ)) (p : Pla
     → fault_on p.line (request_kind_after names p) ≡ least (property_faults [] (Some RequestMark) (ps, p))
 request_fault ps names p names_are =
     ap (fault_on p.line) (λ i. if names_are p.name i then Some E7 else (if fails (sym (test_of-request p.name) i) p.value then Some E9 else None))
-    ∙ sym (request_property p.line (list_any (same_name p) ps) (fails (test_of p.name request_tests) p.value))
+    ∙ sym (request_property p.line (list_any (same_name p) ps) (fails (look_up p.name request_tests) p.value))
 
 -- what it asks for
 pub asked_next : (ps : List PlainProperty) (names : List (List ℕ)) (fields : PlainRequestFields) (p : PlainProperty) (more : List PlainProperty) (new_fields : PlainRequestFields)

@@ -18,7 +18,8 @@ use Rattle.cudf_document.specs.Documents.{is_empty, with_earlier, postmark, is_r
 use Rattle.cudf_document.specs.Ids.{is_id, id_of}
 use Rattle.cudf_document.specs.Preamble.{declared}
 use Rattle.cudf_document.specs.Promises.Packages.{is_preamble}
-use Rattle.cudf_document.specs.ProblemFaults.{properties_faults, place_faults, required_names, stanza_faults}
+use Rattle.cudf_document.specs.ProblemFaults.{properties_faults, required_names, stanza_faults}
+use Rattle.cudf_document.specs.Working.Judging.{placed_faults}
 use Rattle.cudf_document.specs.Universe.{package_id, packages_in, request_in}
 use Rattle.cudf_document.specs.Working.ProblemBuilders.{PlainBuilder, with_stanza, faults_inside, IsBuilt, first_ids}
 use Rattle.cudf_document.specs.Working.Walks.{IsKnown, IsSoFar, GoesOn, IsWhole, judged_faults, judged_ids}
@@ -45,7 +46,7 @@ ids_inside _ is_first k before s = refl
 
 pub IsKnown-next : (mode : Mode) (required : List (List ℕ)) (old new : Walk) (before : List PlainStanza) (s : PlainStanza) (mark : Option Postmark) (is_first : Bool) (place inside : Option Fault)
     → is_first ≡ is_empty before → old.declarations ≡ declared before → required ≡ required_names mode (declared before) → IsKnown mode old before → mark ≡ postmark s
-    → place ≡ least (place_faults is_first old.requested mark s.line) → inside ≡ least (judged_faults mark required old.declarations old.ids s)
+    → place ≡ least (placed_faults is_first old.requested mark s.line) → inside ≡ least (judged_faults mark required old.declarations old.ids s)
     → new.first ≡ lesser old.first (option_or place inside) → new.ids ≡ judged_ids mark old.ids s → new.requested ≡ (marks_request mark || old.requested)
     → IsKnown mode new (before ++ s ∷ [])
 IsKnown-next mode required old new before s mark is_first place inside first ds required_are so_far marked place_is inside_is first_is ids_are requested =
@@ -55,7 +56,7 @@ IsKnown-next mode required old new before s mark is_first place inside first ds 
     record {
       first_is = first_is ∙ faults-next (stanza_faults mode) before s old.first (option_or place inside) so_far.first_is
           (stanza_least g before s builder mode mark is_first place inside (sym marked) first
-          (place_is ∙ ap (λ late. least (place_faults is_first late mark s.line)) (so_far.requested_is ∙ sym was))
+          (place_is ∙ ap (λ late. least (placed_faults is_first late mark s.line)) (so_far.requested_is ∙ sym was))
           (inside_is ∙ ap (λ names. least (judged_faults mark names old.declarations old.ids s)) required_are
           ∙ ap least (judged_inside mark (required_names mode (declared before)) old before s)));
       ids_are = λ id.
@@ -87,7 +88,7 @@ pub IsKnown-preamble : (mode : Mode) (old new : Walk) (s : PlainStanza) → is_p
 IsKnown-preamble mode old new s marked ds so_far first ids requested =
     IsKnown-next mode [] old new [] s (Some Preamble) true None (least (properties_faults [] (Some Preamble) s.properties)) refl ds (required_none mode) so_far
     (sym (preamble_mark (postmark s) marked))
-    (ap (λ late. least (place_faults true late (Some Preamble) s.line)) (sym so_far.requested_is)) refl first ids requested
+    (ap (λ late. least (placed_faults true late (Some Preamble) s.line)) (sym so_far.requested_is)) refl first ids requested
 
 -- where there is no fault now, there was none before
 pub none_before : (x y : Option Fault) → lesser x y ≡ None → x ≡ None

@@ -1,6 +1,7 @@
 -- Stanzas, by their first property, and the properties in them: CUDF 2.0, syntax of stanzas and properties.
-use Rattle.std.specs.Prelude.{ℕ, Bool, true, false, List, [], ◌∷◌, ◌++◌, Option, Some, None, find, slice_get, option_and_then, bytes_eq, codes, if◌then◌else◌}
+use Rattle.std.specs.Prelude.{ℕ, Bool, true, false, List, [], ◌∷◌, ◌++◌, Option, Some, None, find, slice_get, option_and_then, bytes_eq, codes}
 use Rattle.cudf_text.specs.Stanzas.{PlainProperty, PlainStanza}
+use Rattle.cudf_value.specs.Parts.{look_up}
 use Rattle.cudf_document.specs.declared.stanza.postmark.Postmark.{Postmark}
 use Rattle.cudf_document.specs.declared.stanza.postmark.Postmark.TheVariants.{Preamble, Package, Request}
 
@@ -18,10 +19,7 @@ with_earlier before (x ∷ xs) = (before, x) ∷ with_earlier (before ++ x ∷ [
 -- ---- what a stanza is
 
 abbrev pub postmark_named : List ℕ → Option Postmark
-postmark_named name = if bytes_eq name (codes "preamble") then Some Preamble
-    else (if bytes_eq name (codes "package") then Some Package
-    else (if bytes_eq name (codes "request") then Some Request
-    else None))
+postmark_named name = look_up name ((codes "preamble", Preamble) ∷ (codes "package", Package) ∷ (codes "request", Request) ∷ [])
 
 -- the first property's name says what a stanza is
 abbrev pub postmark : PlainStanza → Option Postmark
@@ -46,9 +44,6 @@ is_request s = marks_request (postmark s)
 
 abbrev pub has_name : List ℕ → PlainProperty → Bool
 has_name name p = bytes_eq p.name name
-
-abbrev pub same_name : PlainProperty → PlainProperty → Bool
-same_name p q = bytes_eq p.name q.name
 
 -- what the first property of this name says; later ones say nothing (own)
 abbrev pub value_of : {A : Type 0} → (List ℕ → Option A) → List ℕ → List PlainProperty → Option A

@@ -1,10 +1,11 @@
 -- The extra package properties that a document declares: CUDF 2.0, the preamble.
-use Rattle.std.specs.Prelude.{ℕ, Bool, true, false, not, ◌&&◌, ◌||◌, List, [], ◌∷◌, ◌++◌, Option, Some, None, find, is_none, unwrap_or, option_and_then, bytes_eq, codes, if◌then◌else◌}
+use Rattle.std.specs.Prelude.{ℕ, Bool, false, not, ◌&&◌, ◌||◌, List, [], ◌∷◌, ◌++◌, Option, find, is_none, unwrap_or, option_and_then, bytes_eq, codes, if◌then◌else◌}
 use Rattle.std.specs.List.{list_any, list_all}
 use Rattle.cudf_text.specs.Stanzas.{PlainProperty, PlainStanza}
 use Rattle.cudf_text.specs.Chars.{trim}
+use Rattle.cudf_value.specs.Parts.{some_if}
 use Rattle.cudf_value.specs.Formulas.{PlainAtom}
-use Rattle.cudf_value.specs.Types.{PlainType, vpkgformula_type}
+use Rattle.cudf_value.specs.Types.{PlainType, word_type, enum_type}
 use Rattle.cudf_value.specs.Declarations.{PlainDeclaration, declarations}
 use Rattle.cudf_document.specs.Documents.{with_earlier, has_name, postmark, marks_preamble}
 use Rattle.cudf_document.specs.Values.{formula_value}
@@ -25,13 +26,9 @@ is_declared ds name = list_any (λ d. bytes_eq name d.name) ds
 abbrev pub is_declarable : List PlainDeclaration × PlainDeclaration → Bool
 is_declarable (before, d) = not (is_reserved d.name || is_declared before d.name)
 
--- each may stand after those before, and after those that stand before it
-abbrev pub all_declarable : List PlainDeclaration → List PlainDeclaration → Bool
-all_declarable before ds = list_all is_declarable (with_earlier before ds)
-
--- what a `property` value declares after those before, None where it is a bad declaration
+-- what a `property` value declares after those before, where each may stand after those and after the ones before it in the value
 abbrev pub declared_by : List PlainDeclaration → List ℕ → Option (List PlainDeclaration)
-declared_by before text = option_and_then (λ ds. if all_declarable before ds then Some ds else None) (declarations (trim text))
+declared_by before text = option_and_then (λ ds. some_if (list_all is_declarable (with_earlier before ds)) ds) (declarations (trim text))
 
 -- a `property` with a bad declaration
 abbrev pub is_bad_declaration : List PlainDeclaration → PlainProperty → Bool
@@ -54,12 +51,12 @@ declared (s ∷ ss) = if marks_preamble (postmark s) then declared_after [] s.pr
 -- ---- recommends
 
 abbrev pub is_formula_type : PlainType → Bool
-is_formula_type vpkgformula_type = true
-is_formula_type _ = false
+is_formula_type (word_type word) = bytes_eq word (codes "vpkgformula")
+is_formula_type (enum_type idents) = false
 
 -- the declaration of `recommends`, where it is one of formulas
 abbrev pub recommends_in : List PlainDeclaration → Option PlainDeclaration
-recommends_in ds = option_and_then (λ d. if is_formula_type d.kind then Some d else None) (find (λ d. bytes_eq (codes "recommends") d.name) ds)
+recommends_in ds = option_and_then (λ d. some_if (is_formula_type d.kind) d) (find (λ d. bytes_eq (codes "recommends") d.name) ds)
 
 -- the declared default of `recommends`, where it is one of formulas
 abbrev pub recommends_default : List PlainDeclaration → Option (List (List PlainAtom))

@@ -1,38 +1,40 @@
 -- What is wrong with a problem: a definition for each kind of fault, with its line (own). The rules that they break are
--- those of CUDF 2.0, syntax of documents and of stanzas, the preamble, package and request properties.
-use Rattle.std.specs.Prelude.{ℕ, Bool, not, ◌&&◌, max, List, [], ◌++◌, map, is_none, Option, Some, None, find, filter_map, option_to_list, if◌then◌else◌, codes}
+-- those of CUDF 2.0, syntax of documents and of stanzas, the preamble, package and request properties; that a property has
+-- to be declared, and that some names can't be, is own.
+use Rattle.std.specs.Prelude.{ℕ, Bool, false, not, ◌&&◌, max, List, [], ◌++◌, map, is_none, Option, Some, find, filter_map, option_to_list, if◌then◌else◌, bytes_eq, codes}
 use Rattle.std.specs.List.{list_any, flat_map}
+use Rattle.std.specs.Option.{option_map_or}
 use Rattle.cudf_text.specs.declared.fault.Fault.{Fault}
 use Rattle.cudf_text.specs.declared.fault.Kind.TheVariants.{E4, E5, E6, E7, E8, E9, E10, E11, E12, E13, E14}
 use Rattle.cudf_text.specs.Stanzas.{PlainProperty, PlainStanza, PlainText}
+use Rattle.cudf_value.specs.Parts.{some_if, look_up}
 use Rattle.cudf_value.specs.Declarations.{PlainDeclaration}
 use Rattle.cudf_document.specs.declared.mode.Mode.{Mode}
 use Rattle.cudf_document.specs.declared.mode.Mode.TheVariants.{Lenient, Strict}
 use Rattle.cudf_document.specs.declared.stanza.postmark.Postmark.{Postmark}
 use Rattle.cudf_document.specs.declared.stanza.postmark.Postmark.TheVariants.{Package, Request}
 use Rattle.cudf_document.specs.Faults.{fault_if}
-use Rattle.cudf_document.specs.Documents.{is_empty, with_earlier, postmark, marks_preamble, marks_package, is_request, has_name, same_name, line_of}
+use Rattle.cudf_document.specs.Documents.{is_empty, with_earlier, postmark, marks_preamble, marks_package, is_request, has_name, line_of}
 use Rattle.cudf_document.specs.Ids.{Id, id_of, is_known}
-use Rattle.cudf_document.specs.Values.{Test, package_tests, request_tests, declared_test, test_of, fails}
+use Rattle.cudf_document.specs.Values.{Test, package_tests, request_tests, declared_test}
 use Rattle.cudf_document.specs.Preamble.{is_bad_declaration, declared_after, declared}
 
 -- ---- where a stanza stands
 
 -- E4, stanza without postmark
-abbrev pub unmarked_faults : Option Postmark → ℕ → List Fault
-unmarked_faults mark line = fault_if (is_none mark) line E4
+abbrev pub unmarked_faults : PlainStanza → List Fault
+unmarked_faults s = fault_if (is_none (postmark s)) s.line E4
 
 -- E5, preamble is not first
-abbrev pub late_preamble_faults : Bool → Option Postmark → ℕ → List Fault
-late_preamble_faults is_first mark line = fault_if (marks_preamble mark && not is_first) line E5
+abbrev pub late_preamble_faults : List PlainStanza → PlainStanza → List Fault
+late_preamble_faults before s = fault_if (marks_preamble (postmark s) && not (is_empty before)) s.line E5
 
 -- E6, stanza after the request
-abbrev pub late_stanza_faults : Bool → ℕ → List Fault
-late_stanza_faults is_after_request line = fault_if is_after_request line E6
+abbrev pub late_stanza_faults : List PlainStanza → PlainStanza → List Fault
+late_stanza_faults before s = fault_if (list_any is_request before) s.line E6
 
-abbrev pub place_faults : Bool → Bool → Option Postmark → ℕ → List Fault
-place_faults is_first is_after_request mark line =
-    unmarked_faults mark line ++ late_preamble_faults is_first mark line ++ late_stanza_faults is_after_request line
+abbrev pub place_faults : List PlainStanza → PlainStanza → List Fault
+place_faults before s = unmarked_faults s ++ late_preamble_faults before s ++ late_stanza_faults before s
 
 -- ---- properties, each after those before it in its stanza
 
@@ -46,17 +48,21 @@ tests ds (Some Package) = package_tests ++ map declared_test ds
 tests ds (Some Request) = request_tests
 tests ds _ = []
 
--- E7, property repeated, where that counts
-abbrev pub repeated_faults : Bool → List PlainProperty → PlainProperty → List Fault
-repeated_faults counts before p = fault_if (list_any (same_name p) before && counts) p.line E7
+-- an earlier property of the stanza has its name
+abbrev pub repeats : List PlainProperty → PlainProperty → Bool
+repeats before p = list_any (λ q. bytes_eq p.name q.name) before
+
+-- E7, property repeated
+abbrev pub repeated_faults : Option Postmark → List PlainProperty → PlainProperty → List Fault
+repeated_faults mark before p = fault_if (repeats before p && not (is_repeatable mark p)) p.line E7
 
 -- E8, property not declared
 abbrev pub undeclared_faults : List PlainDeclaration → Option Postmark → PlainProperty → List Fault
-undeclared_faults ds mark p = fault_if (marks_package mark && is_none (test_of p.name (tests ds mark))) p.line E8
+undeclared_faults ds mark p = fault_if (marks_package mark && is_none (look_up p.name (tests ds mark))) p.line E8
 
 -- E9, value is not of its type
 abbrev pub mistyped_faults : List (List ℕ × Test) → PlainProperty → List Fault
-mistyped_faults known p = fault_if (fails (test_of p.name known) p.value) p.line E9
+mistyped_faults known p = fault_if (option_map_or (λ test. not (test p.value)) (look_up p.name known) false) p.line E9
 
 -- E10, bad declaration
 abbrev pub misdeclared_faults : Option Postmark → List PlainProperty → PlainProperty → List Fault
@@ -65,7 +71,7 @@ misdeclared_faults mark before p = fault_if (marks_preamble mark && is_bad_decla
 -- the faults of a property after those before it
 abbrev pub property_faults : List PlainDeclaration → Option Postmark → List PlainProperty × PlainProperty → List Fault
 property_faults ds mark (before, p) =
-    repeated_faults (not (is_repeatable mark p)) before p ++ undeclared_faults ds mark p ++ mistyped_faults (tests ds mark) p
+    repeated_faults mark before p ++ undeclared_faults ds mark p ++ mistyped_faults (tests ds mark) p
     ++ misdeclared_faults mark before p
 
 -- the faults of a stanza's properties
@@ -87,14 +93,10 @@ unversioned_faults s = fault_if (marks_package (postmark s) && is_none (version_
 
 -- ---- strictly, what a package has to say
 
--- the name of a declared property that has no default
-abbrev pub name_without_default : PlainDeclaration → Option (List ℕ)
-name_without_default d = if is_none d.default then Some d.name else None
-
--- the properties that each package has to have
+-- the properties that each package has to have: those that are declared without a default
 abbrev pub required_names : Mode → List PlainDeclaration → List (List ℕ)
 required_names Lenient ds = []
-required_names Strict ds = filter_map name_without_default ds
+required_names Strict ds = filter_map (λ d. some_if (is_none d.default) d.name) ds
 
 -- for one of these names there is no property
 abbrev pub lacks_one : List (List ℕ) → List PlainProperty → Bool
@@ -113,11 +115,8 @@ inner_faults mode before s =
     ++ repeated_package_faults (filter_map id_of before) s ++ unversioned_faults s
 
 -- a stanza in a wrong place has no other fault (own)
-abbrev pub faults_or : List Fault → List Fault → List Fault
-faults_or place inner = if is_empty place then inner else place
-
 abbrev pub stanza_faults : Mode → List PlainStanza × PlainStanza → List Fault
-stanza_faults mode (before, s) = faults_or (place_faults (is_empty before) (list_any is_request before) (postmark s) s.line) (inner_faults mode before s)
+stanza_faults mode (before, s) = if is_empty (place_faults before s) then inner_faults mode before s else place_faults before s
 
 -- E13, no request
 abbrev pub requestless_faults : PlainText → List Fault

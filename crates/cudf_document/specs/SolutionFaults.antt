@@ -1,21 +1,22 @@
 -- What is wrong with a proposed solution (own): of its packages three properties count, and stanzas may stand in any order.
-use Rattle.std.specs.Prelude.{List, [], ◌++◌, is_some, Option, filter_map, option_to_list, if◌then◌else◌}
+use Rattle.std.specs.Prelude.{List, [], ◌++◌, ◌&&◌, is_some, Option, filter_map, option_to_list, if◌then◌else◌}
 use Rattle.std.specs.List.{flat_map}
 use Rattle.cudf_text.specs.declared.fault.Fault.{Fault}
-use Rattle.cudf_text.specs.declared.fault.Kind.TheVariants.{E15}
+use Rattle.cudf_text.specs.declared.fault.Kind.TheVariants.{E7, E15}
 use Rattle.cudf_text.specs.Stanzas.{PlainProperty, PlainStanza, PlainText}
+use Rattle.cudf_value.specs.Parts.{look_up}
 use Rattle.cudf_document.specs.declared.mode.Mode.{Mode}
 use Rattle.cudf_document.specs.declared.mode.Mode.TheVariants.{Lenient, Strict}
 use Rattle.cudf_document.specs.declared.stanza.postmark.Postmark.{Postmark}
 use Rattle.cudf_document.specs.Faults.{fault_if}
 use Rattle.cudf_document.specs.Documents.{with_earlier, postmark, marks_package, line_of}
 use Rattle.cudf_document.specs.Ids.{id_of, is_known}
-use Rattle.cudf_document.specs.Values.{solution_tests, test_of}
-use Rattle.cudf_document.specs.ProblemFaults.{unmarked_faults, repeated_faults, mistyped_faults, unversioned_faults, version_property}
+use Rattle.cudf_document.specs.Values.{solution_tests}
+use Rattle.cudf_document.specs.ProblemFaults.{unmarked_faults, repeats, mistyped_faults, unversioned_faults, version_property}
 
 -- the faults of a property after those before it: E7, where its name counts, and E9
 abbrev pub value_faults : List PlainProperty × PlainProperty → List Fault
-value_faults (before, p) = repeated_faults (is_some (test_of p.name solution_tests)) before p ++ mistyped_faults solution_tests p
+value_faults (before, p) = fault_if (repeats before p && is_some (look_up p.name solution_tests)) p.line E7 ++ mistyped_faults solution_tests p
 
 -- only the properties of packages count
 abbrev pub values_faults : Option Postmark → List PlainProperty → List Fault
@@ -23,7 +24,7 @@ values_faults mark ps = if marks_package mark then flat_map value_faults (with_e
 
 -- a stanza's faults: E4, E7 and E9, and E12
 abbrev pub solution_stanza_faults : PlainStanza → List Fault
-solution_stanza_faults s = unmarked_faults (postmark s) s.line ++ values_faults (postmark s) s.properties ++ unversioned_faults s
+solution_stanza_faults s = unmarked_faults s ++ values_faults (postmark s) s.properties ++ unversioned_faults s
 
 -- E15, pair repeated: an earlier package has this name and version, whether or not they are installed
 abbrev pub repeated_pair_faults : List PlainStanza × PlainStanza → List Fault

@@ -2,7 +2,7 @@
 use Rattle.std.specs.Prelude.{ℕ, Bool, false, List, map, Option, Some, None, filter_map, option_and_then, unwrap_or, codes, if◌then◌else◌, nat_lt, true, ◌&&◌, [], ◌∷◌}
 use Rattle.std.specs.List.{enumerate_from}
 use Rattle.std.specs.Option.{option_map_or}
-use Rattle.cudf_text.specs.Stanzas.{PlainProperty, PlainStanza}
+use Rattle.cudf_text.specs.Stanzas.{PlainStanza}
 use Rattle.cudf_document.specs.Documents.{value_of}
 use Rattle.cudf_document.specs.Ids.{Id, is_among, id_of}
 use Rattle.cudf_document.specs.Values.{truth_value}
@@ -12,12 +12,9 @@ use Rattle.cudf_document.specs.Universe.{PlainProblem, package_id, package_at}
 abbrev pub is_initial : PlainProblem → ℕ → Bool
 is_initial problem place = option_map_or (λ p. p.installed) (package_at problem place) false
 
-abbrev pub is_installed : List PlainProperty → Bool
-is_installed ps = unwrap_or (value_of truth_value (codes "installed") ps) false
-
 -- the pair that a stanza of a solution installs, if it installs one: none takes back what another installs (own)
 abbrev pub installed_id : PlainStanza → Option Id
-installed_id s = if is_installed s.properties then id_of s else None
+installed_id s = if unwrap_or (value_of truth_value (codes "installed") s.properties) false then id_of s else None
 
 abbrev pub installed_ids : List PlainStanza → List Id
 installed_ids stanzas = filter_map installed_id stanzas
@@ -26,7 +23,7 @@ installed_ids stanzas = filter_map installed_id stanzas
 abbrev pub is_proposed : PlainProblem → List PlainStanza → ℕ → Bool
 is_proposed problem stanzas place = option_map_or (λ p. is_among (installed_ids stanzas) (package_id p)) (package_at problem place) false
 
--- a stanza that installs a pair which isn't in the universe, by its number among all stanzas
+-- a stanza that installs a pair which isn't in the universe, by its number among all stanzas (own)
 pub record PlainUnknown : Type 0 where
   pub stanza : ℕ
   pub line : ℕ

@@ -1,6 +1,7 @@
 -- The types of the properties that CUDF knows: CUDF 2.0, package and request properties.
-use Rattle.std.specs.Prelude.{ℕ, Bool, true, false, not, List, [], ◌∷◌, Option, Some, None, is_some, bytes_eq, codes, if◌then◌else◌}
+use Rattle.std.specs.Prelude.{ℕ, Bool, true, List, [], ◌∷◌, Option, Some, None, is_some, codes, if◌then◌else◌}
 use Rattle.cudf_text.specs.Chars.{trim}
+use Rattle.cudf_value.specs.Parts.{look_up}
 use Rattle.cudf_value.specs.Words.{truth, is_pkgname}
 use Rattle.cudf_value.specs.Numbers.{positive}
 use Rattle.cudf_value.specs.Vpkgs.{PlainVpkg}
@@ -31,11 +32,7 @@ abbrev pub truth_value : List ℕ → Option Bool
 truth_value text = truth (trim text)
 
 abbrev pub keep_value : List ℕ → Option Keep
-keep_value text = if bytes_eq text (codes "version") then Some Version
-    else (if bytes_eq text (codes "package") then Some Package
-    else (if bytes_eq text (codes "feature") then Some Feature
-    else (if bytes_eq text (codes "none") then Some Nothing
-    else None)))
+keep_value text = look_up text ((codes "version", Version) ∷ (codes "package", Package) ∷ (codes "feature", Feature) ∷ (codes "none", Nothing) ∷ [])
 
 -- ---- what a value has to be
 
@@ -45,9 +42,6 @@ Test = List ℕ → Bool
 
 abbrev pub can_be : {A : Type 0} → (List ℕ → Option A) → Test
 can_be read = λ text. is_some (read text)
-
-abbrev pub is_anything : Test
-is_anything text = true
 
 -- the properties of a package, and what each has to be; `was-installed` may be anything (own)
 abbrev pub package_tests : List (List ℕ × Test)
@@ -59,7 +53,7 @@ package_tests =
     ∷ (codes "provides", can_be exact_list_value)
     ∷ (codes "installed", can_be truth_value)
     ∷ (codes "keep", can_be keep_value)
-    ∷ (codes "was-installed", is_anything)
+    ∷ (codes "was-installed", λ text. true)
     ∷ []
 
 -- the properties of a request that count
@@ -81,13 +75,3 @@ solution_tests =
 -- a declared property has to be of its declared type
 abbrev pub declared_test : PlainDeclaration → List ℕ × Test
 declared_test d = (d.name, λ text. is_of_type d.kind (trim text))
-
--- what a property of this name has to be, if the name is known
-abbrev pub test_of : List ℕ → List (List ℕ × Test) → Option Test
-test_of name [] = None
-test_of name ((known, test) ∷ tests) = if bytes_eq name known then Some test else test_of name tests
-
--- the value isn't what it has to be
-abbrev pub fails : Option Test → List ℕ → Bool
-fails None text = false
-fails (Some test) text = not (test text)

@@ -12,3 +12,4 @@ pub mod SolutionBuilders
 pub mod SolutionPackages
 pub mod SolutionReaders
 pub mod Walks
+pub mod Judging

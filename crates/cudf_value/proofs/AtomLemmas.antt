@@ -14,9 +14,9 @@ use Rattle.cudf_value.specs.Vpkgs.{PlainVpkg, vpkg}
 use Rattle.cudf_value.specs.Parts.{parts, all_some, read_parts}
 use Rattle.cudf_value.proofs.PartsLemmas.{cond_none}
 use Rattle.cudf_value.specs.declared.atom.Atom.{Atom}
-use Rattle.cudf_value.specs.Formulas.{PlainAtom, named, atom, atom_part, clause}
+use Rattle.cudf_value.specs.Formulas.{PlainAtom, named, atom, clause}
 use Rattle.cudf_value.specs.Promises.Views.{atom_view}
-use Rattle.cudf_value.specs.Working.Atoms.{ends_atom, is_inside, end_text, end_rest, values, values_of}
+use Rattle.cudf_value.specs.Working.Atoms.{atom_part, ends_atom, is_inside, end_text, end_rest, values, values_of}
 use Rattle.cudf_value.specs.Working.Rests.{BeginsWith}
 use Rattle.cudf_value.proofs.VpkgLemmas.{run_passes}
 

@@ -6,10 +6,9 @@ use Rattle.std.proofs.Math.Seq.{take-append_seam}
 use Rattle.std.proofs.lemmas.List.{append-nil}
 use Rattle.cudf_text.specs.Chars.{trim}
 use Rattle.cudf_value.specs.Vpkgs.{PlainVpkg, vpkg, veqpkg, is_exact}
-use Rattle.cudf_value.specs.Formulas.{vpkg_part}
 use Rattle.cudf_value.specs.Parts.{some_if, parts}
 use Rattle.cudf_value.specs.Working.Atoms.{is_inside}
-use Rattle.cudf_value.specs.Working.Entries.{first_part, entry_end}
+use Rattle.cudf_value.specs.Working.Entries.{vpkg_part, first_part, entry_end}
 use Rattle.cudf_value.specs.Working.Rests.{parts_after, BeginsWith}
 use Rattle.cudf_value.proofs.ReadBack.{prefix_through}
 use Rattle.cudf_value.proofs.AtomLemmas.{is-inside, comma-none, comma-at}

@@ -9,7 +9,7 @@ use Rattle.cudf_value.specs.Numbers.{natural, positive, signed}
 use Rattle.cudf_value.specs.Vpkgs.{PlainVpkg, vpkg, veqpkg}
 use Rattle.cudf_value.specs.Formulas.{truth_atom, falsehood_atom, named, formula, vpkglist, veqpkglist}
 use Rattle.cudf_value.specs.Printing.{vpkg_text, clause_text}
-use Rattle.cudf_value.specs.Types.{PlainType, nat_type, int_type, string_type, enum_type, vpkglist_type}
+use Rattle.cudf_value.specs.Types.{PlainType, word_type, enum_type}
 use Rattle.cudf_value.specs.Declarations.{PlainDeclaration, declarations}
 
 trimmed : trim (codes " \t a b \t") ≡ codes "a b"
@@ -257,12 +257,12 @@ unfolding declarations
 declared_none = refl
 
 declared_two : declarations (codes "a: int, b: vpkglist = [x, y]")
-    ≡ Some (without_default (codes "a") int_type ∷ defaulted (codes "b") vpkglist_type (codes "x, y") ∷ [])
+    ≡ Some (without_default (codes "a") (word_type (codes "int")) ∷ defaulted (codes "b") (word_type (codes "vpkglist")) (codes "x, y") ∷ [])
 unfolding declarations is_ident vpkglist vpkg
 declared_two = refl
 
 declared_quotes : declarations (codes "note: string = [\"a \\\"b\\\", c\"]")
-    ≡ Some (defaulted (codes "note") string_type (codes "\"a \\\"b\\\", c\"") ∷ [])
+    ≡ Some (defaulted (codes "note") (word_type (codes "string")) (codes "\"a \\\"b\\\", c\"") ∷ [])
 unfolding declarations is_ident
 declared_quotes = refl
 
@@ -279,19 +279,19 @@ declared_enum_blank_in_quotes : declarations (codes "e: enum[a] = [\" a\"]") ≡
 unfolding declarations is_ident
 declared_enum_blank_in_quotes = refl
 
-declared_brackets_apart : declarations (codes "s: string = [x][y]") ≡ Some (defaulted (codes "s") string_type (codes "x][y") ∷ [])
+declared_brackets_apart : declarations (codes "s: string = [x][y]") ≡ Some (defaulted (codes "s") (word_type (codes "string")) (codes "x][y") ∷ [])
 unfolding declarations is_ident
 declared_brackets_apart = refl
 
-declared_empty_string : declarations (codes "s: string =") ≡ Some (defaulted (codes "s") string_type [] ∷ [])
+declared_empty_string : declarations (codes "s: string =") ≡ Some (defaulted (codes "s") (word_type (codes "string")) [] ∷ [])
 unfolding declarations is_ident
 declared_empty_string = refl
 
-declared_empty_list : declarations (codes "l: vpkglist = []") ≡ Some (defaulted (codes "l") vpkglist_type [] ∷ [])
+declared_empty_list : declarations (codes "l: vpkglist = []") ≡ Some (defaulted (codes "l") (word_type (codes "vpkglist")) [] ∷ [])
 unfolding declarations is_ident vpkglist
 declared_empty_list = refl
 
-declared_twice : declarations (codes "a: int, a: nat") ≡ Some (without_default (codes "a") int_type ∷ without_default (codes "a") nat_type ∷ [])
+declared_twice : declarations (codes "a: int, a: nat") ≡ Some (without_default (codes "a") (word_type (codes "int")) ∷ without_default (codes "a") (word_type (codes "nat")) ∷ [])
 unfolding declarations is_ident
 declared_twice = refl
 
@@ -339,6 +339,6 @@ declared_open_bracket : declarations (codes "s: string = [x") ≡ None
 unfolding declarations
 declared_open_bracket = refl
 
-declared_blank_before_colon : declarations (codes "a : int") ≡ Some (without_default (codes "a") int_type ∷ [])
+declared_blank_before_colon : declarations (codes "a : int") ≡ Some (without_default (codes "a") (word_type (codes "int")) ∷ [])
 unfolding declarations is_ident
 declared_blank_before_colon = refl

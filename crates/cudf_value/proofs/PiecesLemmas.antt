@@ -3,7 +3,7 @@ use Rattle.std.proofs.Common.{◌≡◌, ℕ, List, [], ◌∷◌, ◌++◌, map
 use Rattle.std.specs.Prelude.{option_and_then}
 use Rattle.cudf_value.specs.Parts.{all_some}
 use Rattle.cudf_value.specs.Spots.{pieces}
-use Rattle.cudf_value.specs.Declarations.{read_pieces}
+use Rattle.cudf_value.specs.Working.Rests.{read_pieces}
 use Rattle.cudf_value.proofs.PartsLemmas.{onto, read_step}
 
 -- the values of the pieces, if there are any

@@ -1,5 +1,5 @@
 -- Values made of parts: a text is cut at each separator, and each part has to have a value.
-use Rattle.std.specs.Prelude.{ℕ, Bool, ◌==◌, List, [], ◌∷◌, length, map, Option, Some, None, option_map, if◌then◌else◌}
+use Rattle.std.specs.Prelude.{ℕ, Bool, ◌==◌, List, [], ◌∷◌, length, map, Option, Some, None, option_map, bytes_eq, if◌then◌else◌}
 use Rattle.std.specs.List.{slice_split}
 use Rattle.std.specs.Str.{byte}
 
@@ -12,6 +12,11 @@ abbrev pub all_some : {A : Type 0} → List (Option A) → Option (List A)
 all_some [] = Some []
 all_some (None ∷ rest) = None
 all_some (Some value ∷ rest) = option_map (λ values. value ∷ values) (all_some rest)
+
+-- what stands beside the word in the first of these rows that has it
+abbrev pub look_up : {A : Type 0} → List ℕ → List (List ℕ × A) → Option A
+look_up word [] = None
+look_up word ((known, value) ∷ rows) = if bytes_eq word known then Some value else look_up word rows
 
 -- the parts of a text, cut at each separator
 abbrev pub parts : ℕ → List ℕ → List (List ℕ)

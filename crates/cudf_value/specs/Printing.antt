@@ -2,18 +2,8 @@
 use Rattle.std.specs.Prelude.{ℕ, List, [], ◌++◌, Option, Some, None, codes, decimal}
 use Rattle.std.specs.List.{join_by}
 use Rattle.cudf_value.specs.declared.relop.Relop.{Relop}
-use Rattle.cudf_value.specs.declared.relop.Relop.TheVariants.{Eq, Neq, Geq, Gt, Leq, Lt}
-use Rattle.cudf_value.specs.Vpkgs.{PlainVpkg}
+use Rattle.cudf_value.specs.Vpkgs.{PlainVpkg, relop_text}
 use Rattle.cudf_value.specs.Formulas.{PlainAtom, truth_atom, falsehood_atom, named}
-
--- the operator as it is written
-abbrev pub relop_text : Relop → List ℕ
-relop_text Eq = codes "="
-relop_text Neq = codes "!="
-relop_text Geq = codes ">="
-relop_text Gt = codes ">"
-relop_text Leq = codes "<="
-relop_text Lt = codes "<"
 
 -- a bound, with the space before it
 abbrev pub bound_text : Option (Relop × ℕ) → List ℕ

@@ -1,5 +1,5 @@
 -- The types `vpkg` and `veqpkg` (the type library), and what a bound admits.
-use Rattle.std.specs.Prelude.{ℕ, Bool, true, false, not, ◌==◌, nat_lt, nat_le, List, length, take_while, Option, Some, None, option_map, option_and_then, bytes_eq, codes, if◌then◌else◌}
+use Rattle.std.specs.Prelude.{ℕ, Bool, true, false, not, ◌==◌, nat_lt, nat_le, List, [], ◌∷◌, length, take_while, find, Option, Some, None, option_map, option_and_then, bytes_eq, codes, if◌then◌else◌}
 use Rattle.cudf_value.specs.declared.relop.Relop.{Relop}
 use Rattle.cudf_value.specs.declared.relop.Relop.TheVariants.{Eq, Neq, Geq, Gt, Leq, Lt}
 use Rattle.cudf_text.specs.Chars.{trim_start}
@@ -12,15 +12,18 @@ pub record PlainVpkg : Type 0 where
   pub name : List ℕ
   pub bound : Option (Relop × ℕ)
 
+-- the operator as it is written
+abbrev pub relop_text : Relop → List ℕ
+relop_text Eq = codes "="
+relop_text Neq = codes "!="
+relop_text Geq = codes ">="
+relop_text Gt = codes ">"
+relop_text Leq = codes "<="
+relop_text Lt = codes "<"
+
 -- the operator that is written so
 abbrev pub relop : List ℕ → Option Relop
-relop text = if bytes_eq text (codes "=") then Some Eq
-    else (if bytes_eq text (codes "!=") then Some Neq
-    else (if bytes_eq text (codes ">=") then Some Geq
-    else (if bytes_eq text (codes ">") then Some Gt
-    else (if bytes_eq text (codes "<=") then Some Leq
-    else (if bytes_eq text (codes "<") then Some Lt
-    else None)))))
+relop text = find (λ r. bytes_eq text (relop_text r)) (Eq ∷ Neq ∷ Geq ∷ Gt ∷ Leq ∷ Lt ∷ [])
 
 -- an operator, and a posint, with blanks or none before it
 abbrev pub bound_of : List ℕ → Option (Relop × ℕ)

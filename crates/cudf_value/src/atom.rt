@@ -2,8 +2,7 @@
 ghost use Rattle.std.specs.Prelude.{◌≡◌, true, ◌++◌, ◌<◌, length, drop, position, slice_index, option_map, IfSome, IsTrue};
 ghost use Rattle.std.specs.List.{list_all};
 ghost use Rattle.cudf_value.specs.Promises.Views.{atom_view};
-ghost use Rattle.cudf_value.specs.Formulas.{atom_part};
-ghost use Rattle.cudf_value.specs.Working.Atoms.{ends_atom, is_inside, end_text, end_rest, values, values_of};
+ghost use Rattle.cudf_value.specs.Working.Atoms.{atom_part, ends_atom, is_inside, end_text, end_rest, values, values_of};
 
 use crate::text::{after, before};
 use crate::vpkg::{Vpkg, vpkg_at, vpkg_of};

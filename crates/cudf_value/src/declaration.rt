@@ -2,7 +2,8 @@
 ghost use Rattle.std.specs.Prelude.{◌≡◌, map, option_map, IfOk};
 ghost use Rattle.cudf_text.specs.Chars.{trim};
 ghost use Rattle.cudf_value.specs.Promises.Types.{type_view, declaration_view};
-ghost use Rattle.cudf_value.specs.Declarations.{with_kind, declaration_piece, read_pieces, declarations};
+ghost use Rattle.cudf_value.specs.Declarations.{with_kind, declarations};
+ghost use Rattle.cudf_value.specs.Working.Rests.{declaration_piece, read_pieces};
 
 use crate::class::Class;
 use crate::default::{is_default, without_brackets};

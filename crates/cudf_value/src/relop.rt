@@ -1,6 +1,5 @@
 ghost use Rattle.std.specs.Prelude.{◌≡◌};
-ghost use Rattle.cudf_value.specs.Vpkgs.{relop, meets};
-ghost use Rattle.cudf_value.specs.Printing.{relop_text};
+ghost use Rattle.cudf_value.specs.Vpkgs.{relop_text, relop, meets};
 
 /// A relational operator of the type `vpkg`.
 #[derive(Clone, Copy, Debug, PartialEq, Eq)]

@@ -1,9 +1,10 @@
 //! The types as declarations write them.
 ghost use Rattle.std.specs.Prelude.{◌≡◌, map, option_map, option_copied, IfOk};
 ghost use Rattle.std.specs.Str.{byte};
-ghost use Rattle.cudf_value.specs.Parts.{read_parts};
+ghost use Rattle.cudf_value.specs.Parts.{look_up, read_parts};
 ghost use Rattle.cudf_value.specs.Promises.Types.{type_view};
-ghost use Rattle.cudf_value.specs.Declarations.{type_word, ident_part, enum_at, type_at};
+ghost use Rattle.cudf_value.specs.Types.{types, word_type};
+ghost use Rattle.cudf_value.specs.Declarations.{ident_part, enum_at, type_at};
 
 use crate::class::Class;
 use crate::text::{after, before, cut, find, first_byte, split_run, trim_start};
@@ -30,7 +31,7 @@ pub(crate) fn type_of(
 
 /// The type that is one word.
 fn kind_of_word<'t>(word: &str) -> Option<ValueType<'t>>
-    ensures { option_map type_view result ≡ type_word word.now }
+    ensures { option_map type_view result ≡ option_map (λ test. word_type word.now) (look_up word.now types) }
 {
     match word {
         "posint" => Some(ValueType::Positive),

@@ -5,9 +5,9 @@ ghost use Rattle.cudf_text.specs.Chars.{trim};
 ghost use Rattle.cudf_value.specs.Parts.{some_if, parts, read_parts, comma_list};
 ghost use Rattle.cudf_value.specs.Promises.Views.{vpkg_view};
 ghost use Rattle.cudf_value.specs.Vpkgs.{is_exact};
-ghost use Rattle.cudf_value.specs.Formulas.{vpkg_part, vpkglist, veqpkglist};
+ghost use Rattle.cudf_value.specs.Formulas.{vpkglist, veqpkglist};
 ghost use Rattle.cudf_value.specs.Working.Rests.{parts_after};
-ghost use Rattle.cudf_value.specs.Working.Entries.{first_part, ends_entry, entry_end};
+ghost use Rattle.cudf_value.specs.Working.Entries.{vpkg_part, first_part, ends_entry, entry_end};
 
 use crate::text::{after, cut, first_byte, room_for};
 use crate::vpkg::{Vpkg, is_exact, veqpkg_of, vpkg_at, vpkg_of};

@@ -18,7 +18,9 @@ use Rattle.cudf_document.specs.Preamble.{recommends_in}
 use Rattle.cudf_document.specs.Universe.{PlainPackage, own_recommends}
 use Rattle.cudf_document.specs.Promises.Views.{list_view}
 use Rattle.cudf_document.specs.Ids.{Id}
-use Rattle.cudf_document.specs.Values.{Test, formula_value, list_value, exact_list_value, truth_value, keep_value, can_be, is_anything, declared_test, test_of}
+use Rattle.cudf_document.specs.Values.{Test, formula_value, list_value, exact_list_value, truth_value, keep_value, can_be, declared_test}
+use Rattle.cudf_document.specs.Working.Judging.{is_anything}
+use Rattle.cudf_value.specs.Parts.{look_up}
 
 -- ---- fields
 
@@ -40,8 +42,8 @@ package_property_test ds (Some Provides) name = Some (can_be exact_list_value)
 package_property_test ds (Some Installed) name = Some (can_be truth_value)
 package_property_test ds (Some Keep) name = Some (can_be keep_value)
 package_property_test ds (Some WasInstalled) name = Some is_anything
-package_property_test ds (Some Recommends) name = test_of (codes "recommends") (map declared_test ds)
-package_property_test ds None name = test_of name (map declared_test ds)
+package_property_test ds (Some Recommends) name = look_up (codes "recommends") (map declared_test ds)
+package_property_test ds None name = look_up name (map declared_test ds)
 
 -- what is wrong with a property that stands once: it isn't declared, or its value isn't of its type
 abbrev pub wrong_kind : Option Test → List ℕ → Option Kind

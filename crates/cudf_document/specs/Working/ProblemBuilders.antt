@@ -11,7 +11,8 @@ use Rattle.cudf_document.specs.declared.stanza.postmark.Postmark.{Postmark}
 use Rattle.cudf_document.specs.declared.stanza.postmark.Postmark.TheVariants.{Preamble, Package, Request}
 use Rattle.cudf_document.specs.Faults.{fault_if}
 use Rattle.cudf_document.specs.Documents.{has_name, line_of}
-use Rattle.cudf_document.specs.Ids.{Id, is_id, is_among, is_known, id_under, id_of}
+use Rattle.cudf_document.specs.Ids.{Id, is_id, is_among, is_known, id_of}
+use Rattle.cudf_document.specs.Working.Judging.{id_under}
 use Rattle.cudf_document.specs.Promises.Packages.{with_id}
 use Rattle.cudf_document.specs.Preamble.{declared_after, is_bad_declaration, declared, recommends_default}
 use Rattle.cudf_document.specs.ProblemFaults.{properties_faults, version_property, lacks_one}

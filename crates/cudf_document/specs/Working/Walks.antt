@@ -11,7 +11,8 @@ use Rattle.cudf_document.specs.declared.stanza.postmark.Postmark.TheVariants.{Pa
 use Rattle.cudf_document.specs.declared.problem.walk.Walk.{Walk}
 use Rattle.cudf_document.specs.Faults.{least}
 use Rattle.cudf_document.specs.Documents.{is_empty, with_earlier, is_request}
-use Rattle.cudf_document.specs.Ids.{Id, is_among, id_of, id_under}
+use Rattle.cudf_document.specs.Ids.{Id, is_among, id_of}
+use Rattle.cudf_document.specs.Working.Judging.{id_under}
 use Rattle.cudf_document.specs.Promises.Packages.{with_id}
 use Rattle.cudf_document.specs.Preamble.{declared}
 use Rattle.cudf_document.specs.ProblemFaults.{properties_faults, required_names, stanza_faults, problem_faults}

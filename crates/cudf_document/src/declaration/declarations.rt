@@ -2,9 +2,11 @@
 ghost use Rattle.std.specs.Prelude.{◌≡◌, false, not, ◌&&◌, ◌||◌, [], ◌∷◌, ◌++◌, map, take, length, filter_map, find, is_some, Some, None, option_map, option_to_list, unwrap_or, bytes_eq, IfOk, OnOk, IsTrue, if◌then◌else◌};
 ghost use Rattle.cudf_value.specs.Promises.Views.{formula_view};
 ghost use Rattle.cudf_value.specs.Promises.Types.{declaration_view};
-ghost use Rattle.cudf_document.specs.Values.{declared_test, test_of};
-ghost use Rattle.cudf_document.specs.ProblemFaults.{name_without_default, required_names};
-ghost use Rattle.cudf_document.specs.Preamble.{is_reserved, is_declared, is_declarable, all_declarable, declared_by, recommends_in, recommends_default};
+ghost use Rattle.cudf_document.specs.Values.{declared_test};
+ghost use Rattle.cudf_value.specs.Parts.{look_up};
+ghost use Rattle.cudf_document.specs.ProblemFaults.{required_names};
+ghost use Rattle.cudf_document.specs.Working.Judging.{name_without_default, all_declarable};
+ghost use Rattle.cudf_document.specs.Preamble.{is_reserved, is_declared, is_declarable, declared_by, recommends_in, recommends_default};
 ghost use Rattle.cudf_document.specs.Working.PackageFields.{wrong_kind};
 
 use crate::declaration::declared::Declared;
@@ -66,7 +68,7 @@ impl<'t> Declarations<'t> {
     /// What is wrong with a property of this name: it isn't declared, or its value isn't of the
     /// declared type.
     pub(crate) fn wrong_kind(&self, name: &str, text: &str) -> Option<Kind>
-        ensures { result ≡ wrong_kind (test_of name.now (map declared_test self.now)) text.now }
+        ensures { result ≡ wrong_kind (look_up name.now (map declared_test self.now)) text.now }
     {
         match self.find(name) {
             Some(declared) => mistyped_unless(declared.fits(text)),

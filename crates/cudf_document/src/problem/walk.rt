@@ -7,7 +7,8 @@ ghost use Rattle.cudf_text.specs.declared.fault.Kind.TheVariants.{E11, E12};
 ghost use Rattle.cudf_document.specs.Faults.{least, fault_if};
 ghost use Rattle.cudf_document.specs.Documents.{postmark, marks_preamble, marks_request};
 ghost use Rattle.cudf_document.specs.Ids.{Id};
-ghost use Rattle.cudf_document.specs.ProblemFaults.{properties_faults, place_faults};
+ghost use Rattle.cudf_document.specs.ProblemFaults.{properties_faults};
+ghost use Rattle.cudf_document.specs.Working.Judging.{placed_faults};
 ghost use Rattle.cudf_document.specs.Working.Identities.{IsIdentity};
 ghost use Rattle.cudf_document.specs.Working.SeenNames.{AreNames};
 ghost use Rattle.cudf_document.specs.Working.Walks.{texts, IsWhole};
@@ -147,7 +148,8 @@ impl<'a> Walk<'a> {
     ghost use Rattle.cudf_text.specs.Promises.Views.{stanza_view};
     ghost use Rattle.cudf_text.specs.declared.fault.Kind.TheVariants.{E13};
     ghost use Rattle.cudf_document.specs.Faults.{least, lesser, fault_if};
-    ghost use Rattle.cudf_document.specs.Ids.{Id, id_under};
+    ghost use Rattle.cudf_document.specs.Ids.{Id};
+    ghost use Rattle.cudf_document.specs.Working.Judging.{id_under};
     ghost use Rattle.cudf_document.specs.Promises.Packages.{with_id};
     ghost use Rattle.cudf_document.specs.Working.ProblemBuilders.{package_faults};
     ghost use Rattle.cudf_document.specs.Working.Walks.{texts, IsKnown, IsSoFar, judged_faults, judged_ids};
@@ -402,7 +404,7 @@ fn package_fault(is_repeated: bool, version_line: Option<u64>, last: u64) -> Opt
 
 /// The first fault of where a stanza stands.
 fn place_fault(is_first: bool, is_late: bool, mark: Option<Postmark>, line: u64) -> Option<Fault>
-    ensures { result ≡ least (place_faults is_first is_late mark line) }
+    ensures { result ≡ least (placed_faults is_first is_late mark line) }
 {
     let unmarked = fault_if(mark.is_none(), line, Kind::E4);
     let late_preamble = fault_if(is_late_preamble(is_first, mark), line, Kind::E5);

@@ -5,7 +5,7 @@ ghost use Rattle.cudf_text.specs.Stanzas.{PlainProperty};
 ghost use Rattle.cudf_text.specs.Promises.Views.{property_view, stanza_view};
 ghost use Rattle.cudf_document.specs.Faults.{least};
 ghost use Rattle.cudf_document.specs.Documents.{has_name};
-ghost use Rattle.cudf_document.specs.Values.{test_of};
+ghost use Rattle.cudf_value.specs.Parts.{look_up};
 ghost use Rattle.cudf_document.specs.ProblemFaults.{tests, property_faults, properties_faults};
 ghost use Rattle.cudf_document.specs.Working.Identities.{IsIdentity};
 ghost use Rattle.cudf_document.specs.Working.PackageFields.{PlainPackageFields, fault_on, package_fields_of, package_property_named, package_property_test, with_package_property, wrong_kind};
@@ -121,7 +121,7 @@ fn read_first<'a, S: Fields<'a>>(
         find (has_name property.now.name.now) all ≡ Some (property_view property.now) →
         IfOk result (λ kind.
         kind
-        ≡ wrong_kind (test_of property.now.name.now (tests declarations.now (Some PackageMark))) (property_view property.now).value) }
+        ≡ wrong_kind (look_up property.now.name.now (tests declarations.now (Some PackageMark))) (property_view property.now).value) }
     ensures read { (values : PlainPackageFields) →
         S.IsRead values fields.old →
         OnOk result (S.IsRead (with_package_property declarations.now (package_property_named property.now.name.now) (property_view property.now).value values) fields.new) }

@@ -5,9 +5,14 @@ use Rattle.std.specs.Str.{byte}
 use Rattle.cudf_value.specs.declared.atom.AtomEnd.{AtomEnd}
 use Rattle.cudf_value.specs.declared.atom.AtomEnd.TheVariants.{Text, Comma, Bar}
 use Rattle.cudf_value.specs.declared.formula.FirstClause.{FirstClause}
+use Rattle.cudf_text.specs.Chars.{trim}
 use Rattle.cudf_value.specs.Parts.{parts, read_parts}
-use Rattle.cudf_value.specs.Formulas.{PlainAtom, atom_part, clause}
+use Rattle.cudf_value.specs.Formulas.{PlainAtom, atom, clause}
 use Rattle.cudf_value.specs.Promises.Views.{clause_view}
+
+-- a part of a clause, with blanks or none round the atom
+abbrev pub atom_part : List ℕ → Option PlainAtom
+atom_part part = atom (trim part)
 
 abbrev pub ends_atom : ℕ → Bool
 ends_atom b = b == byte "," || b == byte "|"
@@ -33,9 +38,9 @@ values text = map (λ part. map atom_part (parts (byte "|") part)) (parts (byte 
 
 -- the value of an atom, and those behind its end
 abbrev pub values_of : Option PlainAtom → AtomEnd → List (List (Option PlainAtom))
-values_of atom Text = (atom ∷ []) ∷ []
-values_of atom (Comma more) = (atom ∷ []) ∷ values more.now
-values_of atom (Bar more) = onto_first atom (values more.now)
+values_of value Text = (value ∷ []) ∷ []
+values_of value (Comma more) = (value ∷ []) ∷ values more.now
+values_of value (Bar more) = onto_first value (values more.now)
 
 -- the clauses of what stands after a comma, if there is one
 abbrev pub clauses_after : Option (List ℕ) → Option (List (List PlainAtom))

@@ -1,7 +1,14 @@
 -- The entries of a list, one after the other.
-use Rattle.std.specs.Prelude.{ℕ, Bool, ◌||◌, ◌==◌, List, [], ◌∷◌, length, slice_index, Option, Some, None}
+use Rattle.std.specs.Prelude.{ℕ, Bool, true, false, ◌||◌, ◌==◌, List, [], ◌∷◌, length, slice_index, Option, Some, None}
 use Rattle.std.specs.List.{before_first}
 use Rattle.std.specs.Str.{byte}
+use Rattle.cudf_text.specs.Chars.{trim}
+use Rattle.cudf_value.specs.Vpkgs.{PlainVpkg, vpkg, veqpkg}
+
+-- a part of a list, with blanks or none round the vpkg, which has to be a veqpkg where it is exact
+abbrev pub vpkg_part : Bool → List ℕ → Option PlainVpkg
+vpkg_part false part = vpkg (trim part)
+vpkg_part true part = veqpkg (trim part)
 
 -- the text before the first comma
 abbrev pub first_part : List ℕ → List ℕ

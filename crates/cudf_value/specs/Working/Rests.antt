@@ -1,14 +1,23 @@
 -- What is left of a text while it is cut.
-use Rattle.std.specs.Prelude.{◌≡◌, ℕ, true, List, [], ◌++◌, take_while, Option, Some, None}
+use Rattle.std.specs.Prelude.{◌≡◌, ℕ, true, List, [], ◌++◌, map, take_while, Option, Some, None, option_and_then}
 use Rattle.std.specs.List.{list_all}
 use Rattle.cudf_text.specs.Chars.{trim_start, trim}
 use Rattle.cudf_value.specs.declared.relop.Relop.{Relop}
 use Rattle.cudf_value.specs.Chars.{is_pkgname_char, is_operator_char, rest_after}
 use Rattle.cudf_value.specs.Numbers.{positive}
 use Rattle.cudf_value.specs.Spots.{pieces}
-use Rattle.cudf_value.specs.Parts.{parts}
+use Rattle.cudf_value.specs.Parts.{all_some, parts}
+use Rattle.cudf_value.specs.Declarations.{PlainDeclaration, declaration}
 use Rattle.cudf_value.specs.Vpkgs.{PlainVpkg, relop, vpkg}
 use Rattle.cudf_value.specs.Working.Atoms.{is_inside}
+
+-- a piece, with blanks or none round the declaration
+abbrev pub declaration_piece : List ℕ → Option PlainDeclaration
+declaration_piece piece = declaration (trim piece)
+
+-- the values of the pieces between commas outside quotes and brackets
+abbrev pub read_pieces : {A : Type 0} → (List ℕ → Option A) → List ℕ → Option (List A)
+read_pieces read text = option_and_then (λ ps. all_some (map read ps)) (pieces text)
 
 -- the parts of what stands after a separator, if there is one
 abbrev pub parts_after : ℕ → Option (List ℕ) → List (List ℕ)

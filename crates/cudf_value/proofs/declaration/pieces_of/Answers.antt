@@ -1,6 +1,6 @@
 use Rattle.std.proofs.Common.{rules}
 use Rattle.cudf_value.specs.Promises.Types.{declaration_view}
-use Rattle.cudf_value.specs.Declarations.{declaration_piece, read_pieces}
+use Rattle.cudf_value.specs.Working.Rests.{declaration_piece, read_pieces}
 use Rattle.cudf_value.proofs.PiecesLemmas.{pieces_step}
 use Rattle.cudf_value.proofs.declaration.pieces_of.Goals as goal
 

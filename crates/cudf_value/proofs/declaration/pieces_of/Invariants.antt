@@ -2,7 +2,7 @@ use Rattle.std.proofs.Common.{◌≡◌, length, map}
 use denote.Text.{Utf8}
 use denote.Shadow.{shadow}
 use Rattle.cudf_value.specs.Promises.Types.{declaration_view}
-use Rattle.cudf_value.specs.Declarations.{declaration_piece, read_pieces}
+use Rattle.cudf_value.specs.Working.Rests.{declaration_piece, read_pieces}
 use Rattle.cudf_value.proofs.PartsLemmas.{onto}
 use Rattle.cudf_value.proofs.declaration.pieces_of.Given as goal
 

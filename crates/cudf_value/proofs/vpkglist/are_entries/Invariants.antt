@@ -3,7 +3,7 @@ use Rattle.std.specs.Str.{byte}
 use denote.Text.{Utf8}
 use denote.Shadow.{shadow}
 use Rattle.cudf_value.specs.Parts.{read_parts}
-use Rattle.cudf_value.specs.Formulas.{vpkg_part}
+use Rattle.cudf_value.specs.Working.Entries.{vpkg_part}
 use Rattle.cudf_value.proofs.vpkglist.are_entries.Given as goal
 
 abbrev pub invariant-parts : goal.invariant-parts

@@ -4,7 +4,7 @@ use denote.Text.{Utf8}
 use denote.Shadow.{shadow}
 use Rattle.cudf_value.specs.Parts.{read_parts}
 use Rattle.cudf_value.specs.Promises.Views.{vpkg_view}
-use Rattle.cudf_value.specs.Formulas.{vpkg_part}
+use Rattle.cudf_value.specs.Working.Entries.{vpkg_part}
 use Rattle.cudf_value.proofs.PartsLemmas.{onto}
 use Rattle.cudf_value.proofs.vpkglist.entries_of.Given as goal
 

@@ -1,7 +1,7 @@
 use Rattle.std.proofs.Common.{◌≡◌, true, false, not, ◌++◌, ◌∷◌, sym, ap, subst, ◌∙◌}
 use Rattle.std.specs.List.{list_any}
 use Rattle.cudf_text.specs.Promises.Views.{property_view}
-use Rattle.cudf_document.specs.Documents.{same_name}
+use Rattle.cudf_document.specs.Working.Judging.{same_name}
 use Rattle.cudf_document.specs.Working.PackageFields.{fault_on, package_fields_of}
 use Rattle.cudf_document.proofs.BuilderLemmas.{not_swap}
 use Rattle.cudf_document.proofs.NameLemmas.{find-first}

@@ -1,11 +1,11 @@
 use Rattle.std.proofs.Common.{◌≡◌, Some, not, is_none, ◌++◌, ◌&&◌, [], sym, ap, ◌∙◌, codes}
 use Rattle.std.specs.List.{flat_map}
-use Rattle.cudf_text.specs.declared.fault.Kind.TheVariants.{E12}
+use Rattle.cudf_text.specs.declared.fault.Kind.TheVariants.{E4, E12}
 use Rattle.cudf_text.specs.Promises.Views.{stanza_view}
 use Rattle.cudf_document.specs.declared.stanza.postmark.Postmark.TheVariants.{Package}
 use Rattle.cudf_document.specs.Faults.{lesser, least, fault_if}
 use Rattle.cudf_document.specs.Documents.{has_name, with_earlier, postmark, marks_package}
-use Rattle.cudf_document.specs.ProblemFaults.{unmarked_faults, version_property}
+use Rattle.cudf_document.specs.ProblemFaults.{version_property}
 use Rattle.cudf_document.specs.SolutionFaults.{value_faults, values_faults}
 use Rattle.cudf_document.proofs.ListLemmas.{is_none-find}
 use Rattle.cudf_document.proofs.FaultLemmas.{least-append}
@@ -21,4 +21,4 @@ returns-in-Some-Package-clause-fault c =
     c.lesser.ensures ∙ (λ i. lesser (c.read_solution_package-fault.ensures.fault i) (c.fault_if-unversioned.ensures i))
     ∙ ap (λ b. lesser (least inner) (least (fault_if b s.last E12))) none
     ∙ sym (least-append inner (fault_if (is_none (version_property s)) s.last E12))
-    ∙ ap (λ m. least (unmarked_faults m s.line ++ values_faults m s.properties ++ fault_if (marks_package m && is_none (version_property s)) s.last E12)) (sym marked)
+    ∙ ap (λ m. least (fault_if (is_none m) s.line E4 ++ values_faults m s.properties ++ fault_if (marks_package m && is_none (version_property s)) s.last E12)) (sym marked)

@@ -1,7 +1,7 @@
 use Rattle.std.proofs.Common.{◌≡◌, ◌∙◌, map, filter_map, sym, ap, rules}
 use Rattle.std.proofs.lemmas.List.{map_push}
 use Rattle.std.proofs.lemmas.Map.Iter.{iter_end}
-use Rattle.cudf_document.specs.ProblemFaults.{name_without_default}
+use Rattle.cudf_document.specs.Working.Judging.{name_without_default}
 use Rattle.cudf_document.proofs.DeclarationLemmas.{required_more}
 use Rattle.cudf_document.proofs.declaration.declarations.Declarations.without_default.Goals as goal
 

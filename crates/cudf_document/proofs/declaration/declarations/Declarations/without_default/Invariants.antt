@@ -1,5 +1,5 @@
 use Rattle.std.proofs.Common.{◌≡◌, map, filter_map}
-use Rattle.cudf_document.specs.ProblemFaults.{name_without_default}
+use Rattle.cudf_document.specs.Working.Judging.{name_without_default}
 use Rattle.cudf_document.proofs.declaration.declarations.Declarations.without_default.Given as goal
 
 abbrev pub invariant-loop-declared : goal.invariant-loop-declared

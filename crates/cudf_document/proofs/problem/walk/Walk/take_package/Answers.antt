@@ -6,7 +6,8 @@ use Rattle.cudf_text.specs.Promises.Views.{stanza_view}
 use Rattle.cudf_document.specs.declared.stanza.postmark.Postmark.TheVariants.{Package}
 use Rattle.cudf_document.specs.Faults.{lesser, least, fault_if}
 use Rattle.cudf_document.specs.Documents.{with_earlier, line_of}
-use Rattle.cudf_document.specs.Ids.{is_known, id_under}
+use Rattle.cudf_document.specs.Ids.{is_known}
+use Rattle.cudf_document.specs.Working.Judging.{id_under}
 use Rattle.cudf_document.specs.Promises.Packages.{with_id}
 use Rattle.cudf_document.specs.ProblemFaults.{property_faults, version_property, lacks_one}
 use Rattle.cudf_document.specs.Working.Walks.{texts}

@@ -1,0 +1,45 @@
+-- What is judged of parts of a stanza: of its postmark, its place, or a property's name.
+use Rattle.std.specs.Prelude.{ℕ, Bool, true, false, not, ◌&&◌, List, ◌++◌, Option, Some, None, is_none, bytes_eq, codes, if◌then◌else◌}
+use Rattle.std.specs.List.{list_all}
+use Rattle.std.specs.Option.{option_map_or}
+use Rattle.cudf_text.specs.declared.fault.Fault.{Fault}
+use Rattle.cudf_text.specs.declared.fault.Kind.TheVariants.{E4, E5, E6}
+use Rattle.cudf_text.specs.Stanzas.{PlainProperty}
+use Rattle.cudf_value.specs.Declarations.{PlainDeclaration}
+use Rattle.cudf_document.specs.declared.stanza.postmark.Postmark.{Postmark}
+use Rattle.cudf_document.specs.Faults.{fault_if}
+use Rattle.cudf_document.specs.Documents.{is_empty, with_earlier, marks_preamble, marks_package, value_of}
+use Rattle.cudf_document.specs.Ids.{Id, id_with}
+use Rattle.cudf_document.specs.Values.{Test, name_value, version_value}
+use Rattle.cudf_document.specs.Preamble.{is_declarable}
+
+-- the name and the version in these properties, where the postmark is a package's
+abbrev pub id_under : Option Postmark → List PlainProperty → Option Id
+id_under mark ps = if marks_package mark then id_with (value_of name_value (codes "package") ps) (value_of version_value (codes "version") ps) else None
+
+-- the faults of where a stanza stands
+abbrev pub placed_faults : Bool → Bool → Option Postmark → ℕ → List Fault
+placed_faults is_first is_late mark line =
+    fault_if (is_none mark) line E4 ++ fault_if (marks_preamble mark && not is_first) line E5 ++ fault_if is_late line E6
+
+-- the faults of the place, or else those inside
+abbrev pub faults_or : List Fault → List Fault → List Fault
+faults_or place inner = if is_empty place then inner else place
+
+abbrev pub same_name : PlainProperty → PlainProperty → Bool
+same_name p q = bytes_eq p.name q.name
+
+abbrev pub is_anything : Test
+is_anything text = true
+
+-- the value isn't what it has to be
+abbrev pub fails : Option Test → List ℕ → Bool
+fails test text = option_map_or (λ passes. not (passes text)) test false
+
+-- the name of a declared property that has no default
+abbrev pub name_without_default : PlainDeclaration → Option (List ℕ)
+name_without_default d = if is_none d.default then Some d.name else None
+
+-- each may stand after those before, and after those that stand before it
+abbrev pub all_declarable : List PlainDeclaration → List PlainDeclaration → Bool
+all_declarable before ds = list_all is_declarable (with_earlier before ds)
