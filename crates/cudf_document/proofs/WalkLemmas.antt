@@ -19,8 +19,8 @@ use Rattle.cudf_document.specs.Ids.{is_id, id_of}
 use Rattle.cudf_document.specs.Preamble.{declared}
 use Rattle.cudf_document.specs.Promises.Packages.{is_preamble}
 use Rattle.cudf_document.specs.ProblemFaults.{properties_faults, required_names, stanza_faults}
-use Rattle.cudf_document.specs.Working.Judging.{placed_faults}
-use Rattle.cudf_document.specs.Universe.{package_id, packages_in, request_in}
+use Rattle.cudf_document.specs.Working.Judging.{request_in, placed_faults}
+use Rattle.cudf_document.specs.Universe.{package_id, packages_in}
 use Rattle.cudf_document.specs.Working.ProblemBuilders.{PlainBuilder, with_stanza, faults_inside, IsBuilt, first_ids}
 use Rattle.cudf_document.specs.Working.Walks.{IsKnown, IsSoFar, GoesOn, IsWhole, judged_faults, judged_ids}
 use Rattle.cudf_document.proofs.ListLemmas.{is_empty-push}

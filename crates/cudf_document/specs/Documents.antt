@@ -1,5 +1,6 @@
 -- Stanzas, by their first property, and the properties in them: CUDF 2.0, syntax of stanzas and properties.
-use Rattle.std.specs.Prelude.{ℕ, Bool, true, false, List, [], ◌∷◌, ◌++◌, Option, Some, None, find, slice_get, option_and_then, bytes_eq, codes}
+use Rattle.std.specs.Prelude.{ℕ, Bool, true, false, List, [], ◌∷◌, ◌++◌, Option, Some, find, slice_get, option_and_then, bytes_eq, codes}
+use Rattle.std.specs.Option.{option_map_or}
 use Rattle.cudf_text.specs.Stanzas.{PlainProperty, PlainStanza}
 use Rattle.cudf_value.specs.Parts.{look_up}
 use Rattle.cudf_document.specs.declared.stanza.postmark.Postmark.{Postmark}
@@ -51,5 +52,4 @@ value_of read name ps = option_and_then (λ p. read p.value) (find (has_name nam
 
 -- the line of the first property of this name, or 0
 abbrev pub line_of : Option PlainProperty → ℕ
-line_of None = 0
-line_of (Some p) = p.line
+line_of p = option_map_or (λ q. q.line) p 0

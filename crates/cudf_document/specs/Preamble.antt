@@ -1,6 +1,6 @@
 -- The extra package properties that a document declares: CUDF 2.0, the preamble.
 use Rattle.std.specs.Prelude.{ℕ, Bool, false, not, ◌&&◌, ◌||◌, List, [], ◌∷◌, ◌++◌, Option, find, is_none, unwrap_or, option_and_then, bytes_eq, codes, if◌then◌else◌}
-use Rattle.std.specs.List.{list_any, list_all}
+use Rattle.std.specs.List.{fold, list_any, list_all}
 use Rattle.cudf_text.specs.Stanzas.{PlainProperty, PlainStanza}
 use Rattle.cudf_text.specs.Chars.{trim}
 use Rattle.cudf_value.specs.Parts.{some_if}
@@ -40,8 +40,7 @@ added_by before p = if has_name (codes "property") p then unwrap_or (declared_by
 
 -- those before, and those that the properties add, on several lines too (own)
 abbrev pub declared_after : List PlainDeclaration → List PlainProperty → List PlainDeclaration
-declared_after before [] = before
-declared_after before (p ∷ ps) = declared_after (before ++ added_by before p) ps
+declared_after before ps = fold (λ ds p. ds ++ added_by ds p) before ps
 
 -- what a document declares: what its first stanza does, where that is a preamble
 abbrev pub declared : List PlainStanza → List PlainDeclaration

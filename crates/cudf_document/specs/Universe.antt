@@ -29,11 +29,8 @@ pub record PlainPackage : Type 0 where
 abbrev pub package_id : PlainPackage → Id
 package_id p = (p.name, p.version)
 
--- a package's own `recommends`, where that is declared to be a formula
-abbrev pub own_recommends : List PlainDeclaration → List PlainProperty → Option (List (List PlainAtom))
-own_recommends ds ps = if is_some (recommends_in ds) then value_of formula_value (codes "recommends") ps else None
-
--- the package of this name and version, with the values of its other properties or their defaults
+-- the package of this name and version, with the values of its other properties or their defaults; it has `recommends`
+-- of its own where that is declared to be a formula
 abbrev pub package_with : List PlainDeclaration → ℕ → List PlainProperty → Id → PlainPackage
 package_with ds line ps (name, version) = record {
   line = line;
@@ -44,7 +41,7 @@ package_with ds line ps (name, version) = record {
   provides = unwrap_or (value_of exact_list_value (codes "provides") ps) [];
   installed = unwrap_or (value_of truth_value (codes "installed") ps) false;
   keep = unwrap_or (value_of keep_value (codes "keep") ps) Nothing;
-  recommends = own_recommends ds ps;
+  recommends = if is_some (recommends_in ds) then value_of formula_value (codes "recommends") ps else None;
 }
 
 -- the package that a stanza describes, if it is a package stanza with a name and a version
@@ -67,10 +64,6 @@ request_of s = record {
   upgrade = unwrap_or (value_of list_value (codes "upgrade") s.properties) [];
 }
 
--- what the first request stanza asks for
-abbrev pub request_in : List PlainStanza → Option PlainRequest
-request_in stanzas = option_map request_of (find is_request stanzas)
-
 -- asks for nothing; a problem without fault has a request
 abbrev pub no_request : PlainRequest
 no_request = record { line = 0; install = []; remove = []; upgrade = [] }
@@ -89,7 +82,7 @@ packages_in stanzas = filter_map (package_of (declared stanzas)) stanzas
 unfoldable pub plain_problem : PlainText → PlainProblem
 plain_problem text = record {
   packages = packages_in text.stanzas;
-  request = unwrap_or (request_in text.stanzas) no_request;
+  request = unwrap_or (option_map request_of (find is_request text.stanzas)) no_request;
   recommends = recommends_default (declared text.stanzas);
 }
 

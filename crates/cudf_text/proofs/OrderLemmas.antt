@@ -7,7 +7,7 @@ use Rattle.std.proofs.lemmas.Bool.{le-leb, lt-leb}
 use Rattle.cudf_text.specs.declared.fault.Fault.{Fault}
 use Rattle.cudf_text.specs.declared.fault.Kind.{Kind}
 use Rattle.cudf_text.specs.declared.fault.Kind.TheVariants.{E2, E3}
-use Rattle.cudf_text.specs.Lines.{Class, comment, blank, continuation, named, faulty, NumberedLine, is_blank_line, is_no_comment, class, lines, numbered_lines, judged_lines}
+use Rattle.cudf_text.specs.Lines.{Class, comment, blank, continuation, named, faulty, NumberedLine, is_blank_line, is_no_comment, class, lines, judged_lines}
 use Rattle.cudf_text.specs.LineFaults.{is_faulty, fault_in, first_fault, is_read, read_lines}
 use Rattle.cudf_text.specs.Working.Reading.{is_open, read_after, fault_after}
 
@@ -143,7 +143,7 @@ read_is n before ((m, c) ∷ ls) up = goes_on m c ls _ _ (above m c ls up.1) (re
 
 pub first_fault-is : (text : List ℕ) → first_fault text ≡ fault_after blank (judged_lines text)
 unfolding parts_of
-first_fault-is text = sym (first_is blank (numbered_lines text) ∙ behind_blank (slice_split is_blank_line (judged_lines text)))
+first_fault-is text = sym (first_is blank (enumerate_from 1 (map class (lines text))) ∙ behind_blank (slice_split is_blank_line (judged_lines text)))
 
 pub read_lines-is : (text : List ℕ) → read_lines text ≡ read_after blank (judged_lines text)
 read_lines-is text = ap (λ f. filter (is_read f) (judged_lines text)) (first_fault-is text) ∙ read_is 0 blank (judged_lines text) (Ascends-filter 0 _ (Ascends-numbered 0 1 (map class (lines text)) (omega arith)))

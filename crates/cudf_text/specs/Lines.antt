@@ -55,10 +55,6 @@ class line =
 abbrev pub NumberedLine : Type 0
 NumberedLine = ℕ × Class
 
--- all lines, numbered from 1
-abbrev pub numbered_lines : List ℕ → List NumberedLine
-numbered_lines text = enumerate_from 1 (map class (lines text))
-
 abbrev pub is_blank_line : NumberedLine → Bool
 is_blank_line (n, blank) = true
 is_blank_line (n, _) = false
@@ -67,6 +63,6 @@ abbrev pub is_no_comment : NumberedLine → Bool
 is_no_comment (n, comment) = false
 is_no_comment (n, _) = true
 
--- the lines that count: all but the comments, each with its number among all
+-- the lines that count: all but the comments, each with its number among all, from 1
 abbrev pub judged_lines : List ℕ → List NumberedLine
-judged_lines text = filter is_no_comment (numbered_lines text)
+judged_lines text = filter is_no_comment (enumerate_from 1 (map class (lines text)))

@@ -7,7 +7,8 @@ use Rattle.std.proofs.lemmas.Bool.{and_from, and_parts, lt-ltb, ltb-true, eq-eqb
 use Rattle.std.proofs.lemmas.Iterator.Adapters.{option_map_id}
 use Rattle.std.proofs.lemmas.Str.Parse.{IsNumeralModel, numerals_by_value, tells_all_ascii_digits, parse_signed_minus, parse_signed_plus, parse_signed_plain}
 use mir.Syntax.{w64}
-use Rattle.cudf_value.specs.Numbers.{is_number_below, number_below, natural, signed}
+use Rattle.cudf_value.specs.Numbers.{number_below, natural, signed}
+use Rattle.cudf_value.specs.Working.Rests.{is_number_below}
 
 pub own : IsNumeralModel (λ ds. all_ascii_digits ds ≡ true) (digits_value 10)
 own = numerals_by_value _ tells_all_ascii_digits
@@ -19,7 +20,7 @@ IsNumberBelow limit ds = (all_ascii_digits ds ≡ true) × (0 < length ds) × (d
 pub test_true : (limit : ℕ) (ds : List ℕ) → IsNumberBelow limit ds → is_number_below limit ds ≡ true
 test_true limit ds h = and_from _ _ (and_from _ _ h.0 (lt-ltb _ _ h.1)) (lt-ltb _ _ h.2)
 
-test_tells : (limit : ℕ) (ds : List ℕ) → is_number_below limit ds ≡ true → IsNumberBelow limit ds
+pub test_tells : (limit : ℕ) (ds : List ℕ) → is_number_below limit ds ≡ true → IsNumberBelow limit ds
 test_tells limit ds t =
     let outer = and_parts (all_ascii_digits ds && nat_lt 0 (length ds)) (nat_lt (digits_value 10 ds) limit) t in
     let first = and_parts (all_ascii_digits ds) (nat_lt 0 (length ds)) outer.0 in

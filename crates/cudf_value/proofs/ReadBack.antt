@@ -11,7 +11,8 @@ use Rattle.cudf_text.specs.Chars.{is_blank, trim_start}
 use Rattle.cudf_value.specs.Chars.{is_pkgname_char}
 use Rattle.cudf_value.specs.Words.{is_pkgname}
 use Rattle.cudf_value.specs.Numbers.{natural, positive}
-use Rattle.cudf_value.specs.Vpkgs.{vpkg, vpkg_after}
+use Rattle.cudf_value.specs.Vpkgs.{vpkg}
+use Rattle.cudf_value.specs.Working.Rests.{vpkg_after}
 use Rattle.cudf_value.specs.Printing.{bound_text}
 use Rattle.cudf_value.specs.Promises.Laws.{IsPosintBound, IsReadBack}
 use Rattle.cudf_value.proofs.NumberLemmas.{own, test_true}

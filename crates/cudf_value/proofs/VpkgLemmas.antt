@@ -1,19 +1,27 @@
 -- A vpkg at the front of a text.
-use Rattle.std.proofs.Common.{◌≡◌, ℕ, suc, ◌+◌, ◌-◌, ◌<◌, Bool, true, false, not, ◌&&◌, ◌==◌, List, [], ◌∷◌, ◌++◌, length, take, drop, get_or, Some, None, inl, inr, refl, sym, ap, ◌∙◌, arith}
+use Rattle.std.proofs.Common.{◌≡◌, ℕ, suc, ◌+◌, ◌-◌, ◌<◌, Bool, true, false, not, ◌&&◌, ◌==◌, List, [], ◌∷◌, ◌++◌, length, take, drop, get_or, cond, Option, Some, None, nat_lt, ◌^◌, inl, inr, refl, sym, ap, ◌∙◌, arith}
+use Rattle.std.specs.Prelude.{option_and_then, IfSome}
+use Rattle.std.specs.Char.{is_ascii_digit}
+use Rattle.std.specs.Str.{all_ascii_digits}
+use Rattle.std.specs.Str.Parse.{digits_value, without_leading_plus}
 use Rattle.std.specs.List.{list_all, prefix_len, suffix_len}
 use Rattle.std.proofs.Math.Seq.{take-append_seam, drop-append_seam}
-use Rattle.std.proofs.lemmas.Bool.{true≢false, or_cases, and_from, and_parts, eqb-true, lt-ltb, ne_eqb, false_from_ne_true}
+use Rattle.std.proofs.lemmas.Bool.{true≢false, or_cases, and_from, and_parts, eqb-true, lt-ltb, ltb-true, ne_eqb, false_from_ne_true}
 use Rattle.std.proofs.lemmas.List.{append_assoc, append-nil, take-append-drop, get_or_append_left, get_or-append_right, length-append}
 use Rattle.std.proofs.lemmas.List.Folds.{list_all-append}
 use Rattle.std.proofs.lemmas.List.Sums.{suffix_len_is, AllPass-from_list_all}
-use Rattle.cudf_text.specs.Chars.{is_blank, trim_start, trim_end, trim}
+use Rattle.cudf_text.specs.Chars.{is_blank, is_blank_text, trim_start, trim_end, trim}
 use Rattle.cudf_value.specs.Chars.{is_pkgname_char, is_operator_char, rest_after}
 use Rattle.cudf_value.specs.declared.relop.Relop.{Relop}
+use Rattle.cudf_value.specs.declared.relop.Relop.TheVariants.{Eq, Neq, Geq, Gt, Leq, Lt}
+use Rattle.cudf_value.specs.Parts.{some_if}
+use Rattle.cudf_value.specs.Promises.Laws.{IsReadSpaced}
 use Rattle.cudf_value.specs.Words.{is_pkgname}
 use Rattle.cudf_value.specs.Numbers.{natural, positive}
-use Rattle.cudf_value.specs.Vpkgs.{PlainVpkg, relop, vpkg, vpkg_after}
+use Rattle.cudf_value.specs.Working.Rests.{BeginsWith, BoundBegins, vpkg_after, is_number_below}
+use Rattle.cudf_value.specs.Vpkgs.{PlainVpkg, relop_text, relop, vpkg}
 use Rattle.cudf_value.specs.Working.Atoms.{ends_atom, is_inside}
-use Rattle.cudf_value.specs.Working.Rests.{BeginsWith, BoundBegins}
+use Rattle.cudf_value.proofs.NumberLemmas.{test_tells}
 use Rattle.cudf_value.proofs.ReadBack.{prefix_through, cut_at_name}
 
 -- ---- the characters of each class
@@ -246,6 +254,82 @@ bounded_vpkg name gap symbol space number r n are =
     (blanks_then is_pkgname_char blank_no_name gap tail are.gap_blank
     (none_passes is_pkgname_char is_operator_char operator_no_name symbol (space ++ number) some_symbol are.operators))
     ∙ after_is name gap symbol space number r n are
+
+-- ---- a vpkg as it is written, with any blanks
+
+digits_named : (digits : List ℕ) → all_ascii_digits digits ≡ true → list_all is_pkgname_char digits ≡ true
+digits_named [] all = refl
+digits_named (d ∷ digits) all =
+    let each = and_parts (is_ascii_digit d) (all_ascii_digits digits) all in
+    let is = each.0 in
+    rw is (digits_named digits each.1)
+
+plus_named : (text : List ℕ) → list_all is_pkgname_char (without_leading_plus text) ≡ true → list_all is_pkgname_char text ≡ true
+plus_named [] all = refl
+plus_named (b ∷ text) all = by (b == 43) refl all
+  where
+    by : (plus : Bool) → (b == 43) ≡ plus → list_all is_pkgname_char (drop (cond plus 1 0) (b ∷ text)) ≡ true → list_all is_pkgname_char (b ∷ text) ≡ true
+    by true is all = ap (λ c. is_pkgname_char c && list_all is_pkgname_char text) (eqb-true b 43 is) ∙ all
+    by false is all = all
+
+posint_named : (text : List ℕ) (n : ℕ) → positive text ≡ Some n → list_all is_pkgname_char text ≡ true
+unfolding positive natural
+posint_named text n is = by (is_number_below (2 ^ 64) digits) refl is
+  where
+    digits : List ℕ
+    digits = without_leading_plus text
+
+    by : (test : Bool) → is_number_below (2 ^ 64) digits ≡ test → option_and_then (λ m. some_if (nat_lt 0 m) m) (some_if test (digits_value 10 digits)) ≡ Some n
+        → list_all is_pkgname_char text ≡ true
+    by true below is = plus_named text (digits_named digits (test_tells (2 ^ 64) digits below).0)
+    by false below is = absurd cc
+
+operator_read : (r : Relop) → relop (relop_text r) ≡ Some r
+operator_read Eq = refl
+operator_read Neq = refl
+operator_read Geq = refl
+operator_read Gt = refl
+operator_read Leq = refl
+operator_read Lt = refl
+
+operator_chars : (r : Relop) → list_all is_operator_char (relop_text r) ≡ true
+operator_chars Eq = refl
+operator_chars Neq = refl
+operator_chars Geq = refl
+operator_chars Gt = refl
+operator_chars Leq = refl
+operator_chars Lt = refl
+
+pub read_spaced : (name gap : List ℕ) (r : Relop) (space number : List ℕ) → is_pkgname name ≡ true → is_blank_text gap ≡ true → is_blank_text space ≡ true
+    → IsReadSpaced name gap r space number
+unfolding is_pkgname
+read_spaced name gap r space number is_name gap_blank space_blank = by (positive number) refl
+  where
+    symbol : List ℕ
+    symbol = relop_text r
+
+    grouped : name ++ gap ++ symbol ++ space ++ number ≡ name ++ (gap ++ (symbol ++ (space ++ number)))
+    grouped = append_assoc (name ++ gap ++ symbol) space number ∙ append_assoc (name ++ gap) symbol (space ++ number) ∙ append_assoc name gap (symbol ++ (space ++ number))
+
+    named : (nat_lt 0 (length name) ≡ true) × (list_all is_pkgname_char name ≡ true)
+    named = and_parts (nat_lt 0 (length name)) (list_all is_pkgname_char name) is_name
+
+    by : (value : Option ℕ) → positive number ≡ value → IfSome value (λ n. vpkg (name ++ gap ++ symbol ++ space ++ number) ≡ Some (with_bound name r n))
+    by None is = tt
+    by (Some n) is =
+        ap vpkg grouped
+        ∙ bounded_vpkg name gap symbol space number r n (record {
+          names = named.1;
+          some = ltb-true 0 (length name) named.0;
+          gap_blank = gap_blank;
+          operators = operator_chars r;
+          operator = operator_read r;
+          space_blank = space_blank;
+          digits = posint_named number n is;
+          value = is;
+        })
+
+-- ---- a part of a list
 
 bounded_part : (before name gap symbol space number behind : List ℕ) (r : Relop) (n : ℕ) → AreParts name gap symbol space number r n
     → list_all is_blank before ≡ true → list_all is_blank behind ≡ true

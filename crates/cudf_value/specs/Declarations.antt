@@ -48,14 +48,11 @@ is_default kind text = if slice_index text 0 == quote_mark
     then option_map_or (λ quoted. is_quotable quoted && takes_quoted kind quoted) (between quote_mark quote_mark text) false
     else not (list_any (λ b. b == quote_mark) text) && is_of_type kind text
 
--- the declaration of a name, a type and a default
-abbrev pub with_default : List ℕ → PlainType → List ℕ → Option PlainDeclaration
-with_default name kind text = some_if (is_default kind text) (record { name = name; kind = kind; default = Some text })
-
 -- the declaration of a name, a type and what stands after them: nothing, or `=` and a default
 abbrev pub with_kind : List ℕ → PlainType → List ℕ → Option PlainDeclaration
-with_kind name kind rest = if length rest == 0 then Some (record { name = name; kind = kind; default = None })
-    else (if slice_index rest 0 == byte "=" then with_default name kind (without_brackets (trim (drop 1 rest))) else None)
+with_kind name kind rest = let text = without_brackets (trim (drop 1 rest)) in
+    if length rest == 0 then Some (record { name = name; kind = kind; default = None })
+    else some_if (slice_index rest 0 == byte "=" && is_default kind text) (record { name = name; kind = kind; default = Some text })
 
 -- a declaration: its name, blanks or none, a colon, blanks or none, and its type with what stands after it
 abbrev pub declaration : List ℕ → Option PlainDeclaration

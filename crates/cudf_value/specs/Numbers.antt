@@ -1,16 +1,12 @@
 -- The types `posint`, `nat` and `int` (the type library).
-use Rattle.std.specs.Prelude.{ℕ, ◌+◌, ◌^◌, ℤ, pos, neg_ℤ, Bool, ◌&&◌, nat_lt, List, length, drop, Option, option_map, option_and_then, if◌then◌else◌}
+use Rattle.std.specs.Prelude.{ℕ, ◌+◌, ◌^◌, ℤ, pos, neg_ℤ, ◌&&◌, nat_lt, List, length, drop, Option, option_map, option_and_then, if◌then◌else◌}
 use Rattle.std.specs.Str.{all_ascii_digits}
 use Rattle.std.specs.Str.Parse.{digits_value, without_leading_plus, starts_with_minus}
 use Rattle.cudf_value.specs.Parts.{some_if}
 
--- one or more digits, zeros at the front too, of a value below the limit (own)
-abbrev pub is_number_below : ℕ → List ℕ → Bool
-is_number_below limit text = all_ascii_digits text && nat_lt 0 (length text) && nat_lt (digits_value 10 text) limit
-
--- the value of such digits
+-- the value of one or more digits, zeros at the front too, where it is below the limit (own)
 abbrev pub number_below : ℕ → List ℕ → Option ℕ
-number_below limit text = some_if (is_number_below limit text) (digits_value 10 text)
+number_below limit text = let value = digits_value 10 text in some_if (all_ascii_digits text && nat_lt 0 (length text) && nat_lt value limit) value
 
 -- the value of a `nat`: a plus or none, then digits
 unfoldable pub natural : List ℕ → Option ℕ

@@ -1,4 +1,4 @@
--- Values made of parts: a text is cut at each separator, and each part has to have a value.
+-- Values made of parts (the type library): a text is cut at each separator, and each part has to have a value.
 use Rattle.std.specs.Prelude.{ℕ, Bool, ◌==◌, List, [], ◌∷◌, length, map, Option, Some, None, option_map, bytes_eq, if◌then◌else◌}
 use Rattle.std.specs.List.{slice_split}
 use Rattle.std.specs.Str.{byte}

@@ -1,4 +1,4 @@
--- How vpkgs, atoms and clauses are printed: spaces round an operator and round `|`, numbers without leading zeros.
+-- How vpkgs, atoms and clauses are printed: spaces round an operator and round `|`, numbers without leading zeros (own).
 use Rattle.std.specs.Prelude.{ℕ, List, [], ◌++◌, Option, Some, None, codes, decimal}
 use Rattle.std.specs.List.{join_by}
 use Rattle.cudf_value.specs.declared.relop.Relop.{Relop}

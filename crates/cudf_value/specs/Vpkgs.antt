@@ -29,15 +29,11 @@ relop text = find (λ r. bytes_eq text (relop_text r)) (Eq ∷ Neq ∷ Geq ∷ G
 abbrev pub bound_of : List ℕ → Option (Relop × ℕ)
 bound_of text = option_and_then (λ r. option_map (λ n. (r, n)) (positive (trim_start (rest_after is_operator_char text)))) (relop (take_while is_operator_char text))
 
--- the vpkg of a name and what stands directly after it: nothing, or a bound, with blanks or none before it
-abbrev pub vpkg_after : List ℕ → List ℕ → Option PlainVpkg
-vpkg_after name rest = if length rest == 0 then Some (record { name = name; bound = None })
-    else option_map (λ b. record { name = name; bound = Some b }) (bound_of (trim_start rest))
-
--- a vpkg begins with its name, the longest there is
+-- a vpkg: the longest name at the front, and behind it nothing, or a bound, with blanks or none before it
 unfoldable pub vpkg : List ℕ → Option PlainVpkg
-vpkg text = if length (take_while is_pkgname_char text) == 0 then None
-    else vpkg_after (take_while is_pkgname_char text) (rest_after is_pkgname_char text)
+vpkg text = let name = take_while is_pkgname_char text in let rest = rest_after is_pkgname_char text in
+    if length name == 0 then None else (if length rest == 0 then Some (record { name = name; bound = None })
+    else option_map (λ b. record { name = name; bound = Some b }) (bound_of (trim_start rest)))
 
 -- no bound, or one by `=`
 abbrev pub is_exact : Option (Relop × ℕ) → Bool

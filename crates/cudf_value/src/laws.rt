@@ -1,7 +1,8 @@
 //! Laws over the definitions alone, each the contract of a function without effect.
 ghost use Rattle.std.specs.Prelude.{IsTrue};
+ghost use Rattle.cudf_text.specs.Chars.{is_blank_text};
 ghost use Rattle.cudf_value.specs.Words.{is_pkgname};
-ghost use Rattle.cudf_value.specs.Promises.Laws.{IsCutAtCommas, IsMadeOfTokens, IsPosintBound, IsQuotableAsMade, IsReadBack, PiecesJoinToText};
+ghost use Rattle.cudf_value.specs.Promises.Laws.{IsCutAtCommas, IsMadeOfTokens, IsPosintBound, IsQuotableAsMade, IsReadBack, IsReadSpaced, PiecesJoinToText};
 
 use crate::relop::Relop;
 
@@ -10,6 +11,14 @@ pub fn read_back(_name: &str, _bound: Option<(Relop, u64)>)
     requires name { IsTrue (is_pkgname _name.now) }
     requires bound { IsPosintBound _bound }
     ensures { IsReadBack _name.now _bound }
+{}
+
+/// A `pkgname`, an operator and a `posint` are a vpkg, with blanks or none between them.
+pub fn spaced(_name: &str, _gap: &str, _relop: Relop, _space: &str, _number: &str)
+    requires name { IsTrue (is_pkgname _name.now) }
+    requires gap { IsTrue (is_blank_text _gap.now) }
+    requires space { IsTrue (is_blank_text _space.now) }
+    ensures { IsReadSpaced _name.now _gap.now _relop _space.now _number.now }
 {}
 
 /// A declaration's pieces, with commas between them, are its text; and a text of characters, quoted texts and texts in

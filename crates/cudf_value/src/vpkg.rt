@@ -2,8 +2,8 @@
 ghost use Rattle.std.specs.Prelude.{◌≡◌, option_map, length, ◌<◌, ◌≤◌, IfSome};
 ghost use Rattle.cudf_text.specs.Chars.{trim};
 ghost use Rattle.cudf_value.specs.Promises.Views.{vpkg_view};
-ghost use Rattle.cudf_value.specs.Vpkgs.{vpkg, veqpkg, vpkg_after, is_exact};
-ghost use Rattle.cudf_value.specs.Working.Rests.{BeginsWith, BoundBegins};
+ghost use Rattle.cudf_value.specs.Vpkgs.{vpkg, veqpkg, is_exact};
+ghost use Rattle.cudf_value.specs.Working.Rests.{BeginsWith, BoundBegins, vpkg_after};
 
 use crate::class::Class;
 use crate::number::posint_of;

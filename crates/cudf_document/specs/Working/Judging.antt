@@ -1,17 +1,19 @@
 -- What is judged of parts of a stanza: of its postmark, its place, or a property's name.
-use Rattle.std.specs.Prelude.{ℕ, Bool, true, false, not, ◌&&◌, List, ◌++◌, Option, Some, None, is_none, bytes_eq, codes, if◌then◌else◌}
+use Rattle.std.specs.Prelude.{ℕ, Bool, true, false, not, ◌&&◌, List, ◌++◌, Option, Some, None, is_none, is_some, find, option_map, bytes_eq, codes, if◌then◌else◌}
 use Rattle.std.specs.List.{list_all}
 use Rattle.std.specs.Option.{option_map_or}
 use Rattle.cudf_text.specs.declared.fault.Fault.{Fault}
 use Rattle.cudf_text.specs.declared.fault.Kind.TheVariants.{E4, E5, E6}
-use Rattle.cudf_text.specs.Stanzas.{PlainProperty}
+use Rattle.cudf_text.specs.Stanzas.{PlainProperty, PlainStanza}
+use Rattle.cudf_value.specs.Formulas.{PlainAtom}
 use Rattle.cudf_value.specs.Declarations.{PlainDeclaration}
 use Rattle.cudf_document.specs.declared.stanza.postmark.Postmark.{Postmark}
 use Rattle.cudf_document.specs.Faults.{fault_if}
-use Rattle.cudf_document.specs.Documents.{is_empty, with_earlier, marks_preamble, marks_package, value_of}
+use Rattle.cudf_document.specs.Documents.{is_request, is_empty, with_earlier, marks_preamble, marks_package, value_of}
 use Rattle.cudf_document.specs.Ids.{Id, id_with}
-use Rattle.cudf_document.specs.Values.{Test, name_value, version_value}
-use Rattle.cudf_document.specs.Preamble.{is_declarable}
+use Rattle.cudf_document.specs.Values.{Test, formula_value, name_value, version_value}
+use Rattle.cudf_document.specs.Preamble.{is_declarable, recommends_in}
+use Rattle.cudf_document.specs.Universe.{PlainRequest, request_of}
 
 -- the name and the version in these properties, where the postmark is a package's
 abbrev pub id_under : Option Postmark → List PlainProperty → Option Id
@@ -28,6 +30,14 @@ faults_or place inner = if is_empty place then inner else place
 
 abbrev pub same_name : PlainProperty → PlainProperty → Bool
 same_name p q = bytes_eq p.name q.name
+
+-- a package's own `recommends`, where that is declared to be a formula
+abbrev pub own_recommends : List PlainDeclaration → List PlainProperty → Option (List (List PlainAtom))
+own_recommends ds ps = if is_some (recommends_in ds) then value_of formula_value (codes "recommends") ps else None
+
+-- what the first request stanza asks for
+abbrev pub request_in : List PlainStanza → Option PlainRequest
+request_in stanzas = option_map request_of (find is_request stanzas)
 
 abbrev pub is_anything : Test
 is_anything text = true

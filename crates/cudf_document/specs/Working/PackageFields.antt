@@ -15,11 +15,11 @@ use Rattle.cudf_document.specs.declared.package.property.PackageProperty.TheVari
 use Rattle.cudf_document.specs.declared.package.fields.PackageFields.{PackageFields}
 use Rattle.cudf_document.specs.Documents.{value_of}
 use Rattle.cudf_document.specs.Preamble.{recommends_in}
-use Rattle.cudf_document.specs.Universe.{PlainPackage, own_recommends}
+use Rattle.cudf_document.specs.Universe.{PlainPackage}
+use Rattle.cudf_document.specs.Working.Judging.{is_anything, own_recommends}
 use Rattle.cudf_document.specs.Promises.Views.{list_view}
 use Rattle.cudf_document.specs.Ids.{Id}
 use Rattle.cudf_document.specs.Values.{Test, formula_value, list_value, exact_list_value, truth_value, keep_value, can_be, declared_test}
-use Rattle.cudf_document.specs.Working.Judging.{is_anything}
 use Rattle.cudf_value.specs.Parts.{look_up}
 
 -- ---- fields

@@ -12,11 +12,11 @@ use Rattle.cudf_document.specs.declared.stanza.postmark.Postmark.TheVariants.{Pr
 use Rattle.cudf_document.specs.Faults.{fault_if}
 use Rattle.cudf_document.specs.Documents.{has_name, line_of}
 use Rattle.cudf_document.specs.Ids.{Id, is_id, is_among, is_known, id_of}
-use Rattle.cudf_document.specs.Working.Judging.{id_under}
+use Rattle.cudf_document.specs.Working.Judging.{request_in, id_under}
 use Rattle.cudf_document.specs.Promises.Packages.{with_id}
 use Rattle.cudf_document.specs.Preamble.{declared_after, is_bad_declaration, declared, recommends_default}
 use Rattle.cudf_document.specs.ProblemFaults.{properties_faults, version_property, lacks_one}
-use Rattle.cudf_document.specs.Universe.{PlainPackage, package_id, package_with, PlainRequest, PlainProblem, no_request, request_of, packages_in, request_in}
+use Rattle.cudf_document.specs.Universe.{PlainPackage, package_id, package_with, PlainRequest, PlainProblem, no_request, request_of, packages_in}
 
 -- what is wrong with a preamble's property: it is a bad declaration, or else it is repeated
 abbrev pub preamble_kind_after : List PlainDeclaration → List (List ℕ) → PlainProperty → Option Kind

@@ -1,11 +1,12 @@
 -- Laws over the definitions alone.
-use Rattle.std.specs.Prelude.{◌≡◌, ℕ, ◌^◌, ◌<◌, true, List, map, Option, Some, IfSome, ◌↔◌}
+use Rattle.std.specs.Prelude.{◌≡◌, ℕ, ◌^◌, ◌<◌, true, List, ◌++◌, map, Option, Some, IfSome, ◌↔◌}
 use Rattle.std.specs.List.{list_all, flat_map, slice_split, join_with_byte}
 use Rattle.std.specs.Str.{byte}
 use Rattle.cudf_value.specs.declared.relop.Relop.{Relop}
 use Rattle.cudf_value.specs.Spots.{pieces, is_quotable}
 use Rattle.cudf_value.specs.Promises.Tokens.{Inner, Token, is_inner, is_token, is_comma, inner_text, text_of}
-use Rattle.cudf_value.specs.Vpkgs.{PlainVpkg, vpkg}
+use Rattle.cudf_value.specs.Numbers.{positive}
+use Rattle.cudf_value.specs.Vpkgs.{PlainVpkg, relop_text, vpkg}
 use Rattle.cudf_value.specs.Printing.{vpkg_text}
 
 -- the number of the bound, if there is one, is a posint
@@ -15,6 +16,11 @@ IsPosintBound bound = IfSome bound (λ b. (0 < b.1) × (b.1 < 2 ^ 64))
 -- what is printed of a vpkg is read back as it
 abbrev pub IsReadBack : List ℕ → Option (Relop × ℕ) → Type 0
 IsReadBack name bound = let v : PlainVpkg = record { name = name; bound = bound } in vpkg (vpkg_text v) ≡ Some v
+
+-- a name, an operator and a posint are a vpkg, with any blanks between them
+abbrev pub IsReadSpaced : List ℕ → List ℕ → Relop → List ℕ → List ℕ → Type 0
+IsReadSpaced name gap r space number = IfSome (positive number) (λ n.
+    let v : PlainVpkg = record { name = name; bound = Some (r, n) } in vpkg (name ++ gap ++ relop_text r ++ space ++ number) ≡ Some v)
 
 -- the pieces, with a comma between each two, are the text
 abbrev pub PiecesJoinToText : List ℕ → Type 0
