@@ -13,6 +13,7 @@ use crate::room::{Room, Texts};
 use crate::text::{Property, PropertyRef};
 use std::alloc::{AllocError, Global};
 use std::borrow::CowStr;
+use std::fmt;
 use std::marker::Model;
 
 /// What a cursor answers.
@@ -106,6 +107,16 @@ impl<'t> Stanzas<'t> {
         keep_properties(alloc, &mut self.others, &mut self.texts, properties)?;
         self.place = place;
         Ok(next)
+    }
+}
+
+/// How far the text was read: how many lines, and the first fault in them.
+impl fmt::Debug for Stanzas<'_> {
+    fn fmt<W: fmt::Write>(&self, f: &mut fmt::Formatter<W>) -> fmt::Result {
+        f.debug_struct("Stanzas")
+            .field("lines", &self.place.lines)
+            .field("fault", &self.place.fault)
+            .finish_non_exhaustive()
     }
 }
 

@@ -4,7 +4,7 @@ ghost use Rattle.std.specs.Cow.{cow_str_bytes};
 
 use std::alloc::{AllocError, Global};
 use std::borrow::CowStr;
-use std::mem;
+use std::{fmt, mem};
 
 /// Room for texts: some of them, and more room.
 #[derive(Drop)]
@@ -20,6 +20,13 @@ impl Room {
             texts: Vec::new(alloc),
             more: None,
         }
+    }
+}
+
+/// Its name alone: what it holds is seen by none but those who read its texts.
+impl fmt::Debug for Room {
+    fn fmt<W: fmt::Write>(&self, f: &mut fmt::Formatter<W>) -> fmt::Result {
+        f.debug_struct("Room").finish_non_exhaustive()
     }
 }
 
