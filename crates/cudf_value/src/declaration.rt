@@ -14,7 +14,7 @@ use cudf_text::{is_ident, trim};
 use std::alloc::{AllocError, Global};
 
 /// The declaration of a package property.
-#[derive(Debug, Drop)]
+#[derive(Clone, Debug, PartialEq, Eq, Drop)]
 pub struct Declaration<'t> {
     /// An `ident`.
     pub name: &'t str,

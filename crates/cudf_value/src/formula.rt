@@ -13,14 +13,14 @@ use cudf_text::trim;
 use std::alloc::{AllocError, Global};
 
 /// A disjunction, of one atom at least in what the readers give.
-#[derive(Debug, Drop)]
+#[derive(Clone, Debug, PartialEq, Eq, Drop)]
 pub struct Clause<'t> {
     /// In the order of the text.
     pub atoms: Vec<Atom<'t>>,
 }
 
 /// A conjunction; without clauses it holds always.
-#[derive(Debug, Drop)]
+#[derive(Clone, Debug, PartialEq, Eq, Drop)]
 pub struct Formula<'t> {
     /// In the order of the text.
     pub clauses: Vec<Clause<'t>>,

@@ -3,7 +3,7 @@ ghost use Rattle.cudf_value.specs.Vpkgs.{relop, meets};
 ghost use Rattle.cudf_value.specs.Printing.{relop_text};
 
 /// A relational operator of the type `vpkg`.
-#[derive(Clone, Copy, Debug, PartialEq, Eq)]
+#[derive(Clone, Copy, Debug, PartialEq, Eq, Hash)]
 pub enum Relop {
     /// `=`
     Eq,

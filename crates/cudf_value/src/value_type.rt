@@ -14,7 +14,7 @@ use cudf_text::{is_ident, trim};
 use std::alloc::{AllocError, Global};
 
 /// A type of CUDF's type library.
-#[derive(Debug, Drop)]
+#[derive(Clone, Debug, PartialEq, Eq, Drop)]
 pub enum ValueType<'t> {
     /// `posint`: 1 to `u64::MAX`.
     Positive,

@@ -12,7 +12,7 @@ use crate::text::{split_run, trim_start};
 use cudf_text::trim;
 
 /// A package or a feature by its name, at the versions that the bound admits, or at all.
-#[derive(Clone, Copy, Debug, PartialEq, Eq)]
+#[derive(Clone, Copy, Debug, PartialEq, Eq, Hash)]
 pub struct Vpkg<'t> {
     /// A `pkgname`.
     pub name: &'t str,
