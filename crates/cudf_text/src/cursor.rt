@@ -63,8 +63,13 @@ impl<'t> Stanzas<'t> {
         }
     }
 
-    /// Reads the next stanza into the list, in place of what was there. Once it has said `End` it
-    /// says so again.
+    /// Reads the next stanza (CUDF 2.0, syntax of stanzas and properties) into the list, in place of
+    /// what was there. Once it has said `End` it says so again, with the list empty.
+    ///
+    /// # Errors
+    ///
+    /// `AllocError` where memory for the list or for a joined value is refused. Then the list is
+    /// empty and nothing is passed over: the next call reads the same stanza.
     pub fn next(
         &mut self,
         alloc: Global,
