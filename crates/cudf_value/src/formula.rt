@@ -19,14 +19,15 @@ pub struct Clause<'t> {
     pub atoms: Vec<Atom<'t>>,
 }
 
-/// A conjunction; without clauses it holds always.
+/// A conjunction; without clauses it holds always (own).
 #[derive(Clone, Debug, PartialEq, Eq, Drop)]
 pub struct Formula<'t> {
     /// In the order of the text.
     pub clauses: Vec<Clause<'t>>,
 }
 
-/// Reads a `vpkgformula`, with blanks or none round it: nothing, or clauses between commas, each of atoms between `|`.
+/// Reads a `vpkgformula` (CUDF 2.0, the type library), with blanks or none round it: nothing, or clauses between commas,
+/// each of atoms between `|`.
 ///
 /// `None` is answered where the whole text is no `vpkgformula`.
 ///
