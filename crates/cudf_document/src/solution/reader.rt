@@ -24,9 +24,11 @@ use crate::stanza::postmark::{Postmark, postmark_of};
 use cudf_text::{Fault, Kind, Next, StanzaRef, Stanzas, Text, lend};
 use std::alloc::{AllocError, Global};
 
-/// Reads a solution of the problem. Of its packages `package`, `version` and `installed` count,
-/// other stanzas are skipped, and a stanza with `installed: false` takes nothing back. Leniently
-/// repeated pairs mean the same pair.
+/// Reads a solution of the problem (CUDF 2.0, installations). Of its packages `package`, `version` and
+/// `installed` count, other stanzas are skipped, and a stanza with `installed: false` takes nothing back
+/// (own). Leniently repeated pairs mean the same pair (own).
+///
+/// The caller sees to it that the text doesn't say `FAIL` (`cudf_text::is_fail`): that proposes no status.
 ///
 /// # Errors
 ///
@@ -70,6 +72,10 @@ pub fn read_solution<'t, 'a, 'p>(
 
 /// Reads a solution of the problem as `read_solution` does, each stanza as it is asked for: of the
 /// text no more than one stanza is held.
+///
+/// It asks nothing of its caller. A text that says `FAIL` is read as any other and has a fault on that
+/// line, E2, or E3 where a blank stands before the word; whoever takes `FAIL` for an answer asks
+/// `cudf_text::is_fail` first.
 ///
 /// # Errors
 ///
