@@ -48,7 +48,7 @@ impl<'t> Model for Stanzas<'t> {
 }
 
 impl<'t> Stanzas<'t> {
-    ghost use Rattle.std.specs.Prelude.{◌≡◌, [], IfOk, IfErr, IsTrue};
+    ghost use Rattle.std.specs.Prelude.{◌≡◌, ◌<◌, ◌^◌, [], length, IfOk, IfErr, IsTrue};
     ghost use Rattle.cudf_text.specs.Stanzas.{plain_text};
     ghost use Rattle.cudf_text.specs.Promises.Cursor.{with_next, is_end};
 
@@ -94,6 +94,13 @@ impl<'t> Stanzas<'t> {
                 Err(error)
             }
         }
+    }
+
+    /// That a `u64` counts the stanzas that are left: a law, and no effect.
+    pub fn are_countable(&self)
+        ensures { length self.now.stanzas < 2 ^ 64 }
+    {
+        let _ = &self.place;
     }
 
     /// Reads the next stanza.

@@ -103,6 +103,7 @@ pub fn solution_of<'a, 'p>(
     ensures fault { IfErr result (IsFirstFault (solution_faults stanzas.entry mode)) }
 {
     let mut stanzas = stanzas;
+    stanzas.are_countable();
     let mut reader = SolutionReader::new(alloc, problem, mode)?;
     let mut stanza = StanzaRef {
         line: 0,
@@ -135,7 +136,7 @@ pub(crate) struct SolutionReader<'a> {
 }
 
 impl<'a> SolutionReader<'a> {
-    ghost use Rattle.std.specs.Prelude.{◌≡◌, List, [], ◌∷◌, ◌++◌, length, IfOk, IfErr, OnOk};
+    ghost use Rattle.std.specs.Prelude.{◌≡◌, ◌+◌, ◌<◌, ◌^◌, List, [], ◌∷◌, ◌++◌, length, IfOk, IfErr, OnOk};
     ghost use Rattle.cudf_text.specs.Stanzas.{PlainStanza, PlainText};
     ghost use Rattle.cudf_text.specs.Promises.Views.{stanza_view};
     ghost use Rattle.cudf_document.specs.Promises.Faults.{IsFirstFault};
@@ -162,7 +163,8 @@ impl<'a> SolutionReader<'a> {
         problem: &Problem<'_>,
         stanza: &StanzaRef<'a>,
     ) -> Result<(), AllocError>
-        requires { length self.old.builder.flags.items ≡ length problem.now.packages }
+        requires flags { length self.old.builder.flags.items ≡ length problem.now.packages }
+        requires countable { self.old.number + 1 < 2 ^ 64 }
         ensures { (mode : Mode) →
             (seen : List PlainStanza) →
             IsSolutionRead problem.now mode seen self.old →
@@ -171,8 +173,7 @@ impl<'a> SolutionReader<'a> {
         let said = read_stanza(stanza);
         self.first = lesser(self.first, said.fault);
         self.pairs.take(said.id, stanza)?;
-        // A text of more stanzas than a number counts is larger than any memory.
-        self.number = self.number.checked_add(1).ok_or(AllocError)?;
+        self.number += 1;
         self.builder
             .add(problem, self.number, stanza.line, said.installed)?;
         Ok(())
