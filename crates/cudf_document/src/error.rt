@@ -6,10 +6,10 @@ use std::alloc::AllocError;
 use thiserror::Error;
 
 /// Why a document has no value.
-#[derive(Debug, Drop, Error)]
+#[derive(Clone, Copy, Debug, PartialEq, Eq, Error)]
 pub enum ReadError {
     /// The document's first fault: by line, then by kind.
-    #[error("line {}: {}", .0.line, .0.kind.text())]
+    #[error("{0}")]
     Fault(Fault),
     /// A growth was refused.
     #[error("out of memory")]

@@ -10,8 +10,8 @@ pub(crate) mod property;
 
 use cudf_value::{Formula, Vpkg};
 
-/// What a request has to keep of an installed package.
-#[derive(Clone, Copy, Debug, PartialEq, Eq)]
+/// What a solution has to keep of an installed package.
+#[derive(Clone, Copy, Debug, PartialEq, Eq, Hash)]
 pub enum Keep {
     /// `version`: this version.
     Version,
@@ -24,7 +24,7 @@ pub enum Keep {
 }
 
 /// A package of the universe. Name and version together identify it.
-#[derive(Debug, Drop)]
+#[derive(Debug, PartialEq, Eq, Drop)]
 pub struct Package<'t> {
     /// The line of its `package` property, from 1.
     pub line: u64,

@@ -10,6 +10,7 @@ use crate::package::Package;
 use crate::package::ids::Ids;
 use crate::request::Request;
 use cudf_value::Formula;
+use std::fmt;
 use std::marker::Model;
 
 /// The packages and the request of a document without fault (CUDF 2.0, universes).
@@ -37,6 +38,16 @@ impl<'t> Model for Problem<'t> {
     } };
 
     ghost invariant = { λ p. (p.ids ≡ map package_id (map package_view p.packages.items)) × (are_distinct p.ids ≡ true) };
+}
+
+impl fmt::Debug for Problem<'_> {
+    fn fmt<W: fmt::Write>(&self, f: &mut fmt::Formatter<W>) -> fmt::Result {
+        f.debug_struct("Problem")
+            .field("packages", &self.packages)
+            .field("request", &self.request)
+            .field("recommends", &self.recommends)
+            .finish_non_exhaustive()
+    }
 }
 
 impl<'t> Problem<'t> {
@@ -85,9 +96,9 @@ impl<'t> Problem<'t> {
         &self.request
     }
 
-    /// What the package at this place of the universe recommends: what it says itself, or else the
-    /// declared default. `None` where neither is there, or where `recommends` isn't declared as
-    /// `vpkgformula`.
+    /// What the package at this place of the universe, from 1 to the number of packages, recommends:
+    /// what it says itself, or else the declared default. `None` where neither is there, or where
+    /// `recommends` isn't declared as `vpkgformula`.
     pub fn recommends(&self, place: u64) -> Option<&Formula<'t>>
         requires from_one { 0 < place }
         requires in_universe { place ≤ length self.now.packages }

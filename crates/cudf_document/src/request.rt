@@ -4,7 +4,7 @@ pub(crate) mod fields;
 use cudf_value::Vpkg;
 
 /// What is asked for; each list is empty by default.
-#[derive(Debug, Drop)]
+#[derive(Debug, PartialEq, Eq, Drop)]
 pub struct Request<'t> {
     /// The line of its `request` property, from 1.
     pub line: u64,

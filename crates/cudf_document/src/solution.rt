@@ -17,7 +17,7 @@ pub struct Solution<'t> {
 }
 
 /// A stanza that installs a pair which isn't in the universe.
-#[derive(Clone, Copy, Debug)]
+#[derive(Clone, Copy, Debug, PartialEq, Eq)]
 pub struct Unknown<'t> {
     /// Its number among all stanzas, from 1.
     pub stanza: u64,

@@ -1,8 +1,9 @@
 //! The vectors of documents: the first fault of a problem, what is installed and what solutions propose; the texts of
 //! errors.
-use crate::table::prints;
+use crate::table::{prints, shows};
 use cudf_document::{
-    Mode, Problem, ReadError, Solution, Unknown, first_fault, initial, read_problem, read_solution,
+    Chosen, Mode, Problem, ReadError, Solution, Unknown, first_fault, initial, read_problem,
+    read_solution,
 };
 use cudf_text::{Fault, Kind, Room, Text, is_fail, read, stanzas};
 use std::alloc::{AllocError, Global};
@@ -210,4 +211,24 @@ fn errors(rt: HostRuntime) {
     let faulty = ReadError::Fault(fault);
     assert!(rt; prints(rt.alloc(), &faulty, "line 12: E13 no request"));
     assert!(rt; prints(rt.alloc(), &ReadError::Memory(AllocError), "out of memory"));
+}
+
+/// What programmers are shown of a problem without packages.
+const SHOWN: &str =
+    "Problem { packages: [], request: Request { line: 1, install: [], remove: [], upgrade: [] }, recommends: None, .. }";
+
+fn is_shown(alloc: Global) -> bool {
+    match read(alloc, b"request: r\n") {
+        Ok(text) => match read_problem(alloc, &text, Mode::Lenient) {
+            Ok(problem) => shows(alloc, &problem, SHOWN),
+            Err(_) => false,
+        },
+        Err(_) => false,
+    }
+}
+
+#[test]
+fn shown(rt: HostRuntime) {
+    assert!(rt; is_shown(rt.alloc()));
+    assert!(rt; shows(rt.alloc(), &Chosen::none(rt.alloc()), "Chosen { .. }"));
 }

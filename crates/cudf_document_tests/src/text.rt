@@ -1,6 +1,6 @@
 //! The vectors of the text of documents, and the texts of its errors.
-use crate::table::prints;
-use cudf_text::{Fault, Kind, Property, Text, TextError, cut_joined, is_fail, read};
+use crate::table::{prints, shows};
+use cudf_text::{Fault, Kind, Property, Room, Text, TextError, cut_joined, is_fail, read, stanzas};
 use std::alloc::{AllocError, Global};
 use std::borrow::CowStr;
 
@@ -104,4 +104,17 @@ fn order_of_faults(rt: HostRuntime) {
         kind: Kind::E1,
     };
     assert!(rt; first < beside && beside < below);
+}
+
+/// What programmers are shown of a room and of a cursor before the first stanza: no clause says it.
+#[test]
+fn shown(rt: HostRuntime) {
+    let mut room = Room::new(rt.alloc());
+    assert!(rt; shows(rt.alloc(), &room, "Room { .. }"));
+    match stanzas(rt.alloc(), b"request: r\n", &mut room) {
+        Ok(left) => {
+            assert!(rt; shows(rt.alloc(), &left, "Stanzas { lines: 0, fault: None, .. }"));
+        }
+        Err(_) => assert!(rt; false),
+    }
 }

@@ -248,3 +248,32 @@ fn types(rt: HostRuntime) {
         assert!(rt; is_of_types(rt.alloc(), row), "{}", row.0);
     }
 }
+
+/// Whether a copy of the formula is equal to it.
+fn is_copied(alloc: Global, text: &str) -> bool {
+    match read_formula(alloc, text) {
+        Ok(Some(formula)) => match formula.clone() {
+            Ok(copy) => copy == formula,
+            Err(_) => false,
+        },
+        _ => false,
+    }
+}
+
+/// Whether a copy of the declarations is equal to them.
+fn are_copied(alloc: Global, text: &str) -> bool {
+    match read_declarations(alloc, text) {
+        Ok(Some(declarations)) => match declarations.clone() {
+            Ok(copies) => copies == declarations,
+            Err(_) => false,
+        },
+        _ => false,
+    }
+}
+
+/// Copies take memory: no clause says that there are any.
+#[test]
+fn copies(rt: HostRuntime) {
+    assert!(rt; is_copied(rt.alloc(), "a | b >= 2, true!"));
+    assert!(rt; are_copied(rt.alloc(), "a: enum[x, y] = [y], b: vpkglist"));
+}

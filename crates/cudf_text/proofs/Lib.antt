@@ -1,3 +1,4 @@
+mod CountLemmas
 mod Examples
 mod IdentLemmas
 mod JoinedLemmas

@@ -1,5 +1,6 @@
--- The kinds of faults as texts (own).
-use Rattle.std.specs.Prelude.{ℕ, List, codes}
+-- The kinds of faults, and faults with their lines, as texts (own).
+use Rattle.std.specs.Prelude.{ℕ, List, ◌++◌, codes, decimal}
+use Rattle.cudf_text.specs.declared.fault.Fault.{Fault}
 use Rattle.cudf_text.specs.declared.fault.Kind.{Kind}
 use Rattle.cudf_text.specs.declared.fault.Kind.TheVariants.{E1, E2, E3, E4, E5, E6, E7, E8, E9, E10, E11, E12, E13, E14, E15}
 
@@ -20,3 +21,7 @@ fault_text E12 = codes "E12 no version"
 fault_text E13 = codes "E13 no request"
 fault_text E14 = codes "E14 declared property missing"
 fault_text E15 = codes "E15 pair repeated"
+
+-- a fault with its line, as `line 3: E9 value is not of its type`
+abbrev pub fault_line : Fault → List ℕ
+fault_line fault = codes "line " ++ decimal fault.line ++ codes ": " ++ fault_text fault.kind

@@ -2,4 +2,5 @@ pub mod Borrows
 pub mod Cursor
 pub mod Joins
 pub mod Laws
+pub mod Rooms
 pub mod Views

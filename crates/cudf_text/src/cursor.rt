@@ -13,6 +13,7 @@ use crate::room::{Room, Texts};
 use crate::text::{Property, PropertyRef};
 use std::alloc::{AllocError, Global};
 use std::borrow::CowStr;
+use std::fmt;
 use std::marker::Model;
 
 /// What a cursor answers.
@@ -47,7 +48,7 @@ impl<'t> Model for Stanzas<'t> {
 }
 
 impl<'t> Stanzas<'t> {
-    ghost use Rattle.std.specs.Prelude.{◌≡◌, [], IfOk, IfErr, IsTrue};
+    ghost use Rattle.std.specs.Prelude.{◌≡◌, ◌<◌, ◌^◌, [], length, IfOk, IfErr, IsTrue};
     ghost use Rattle.cudf_text.specs.Stanzas.{plain_text};
     ghost use Rattle.cudf_text.specs.Promises.Cursor.{with_next, is_end};
 
@@ -62,8 +63,13 @@ impl<'t> Stanzas<'t> {
         }
     }
 
-    /// Reads the next stanza into the list, in place of what was there. Once it has said `End` it
-    /// says so again.
+    /// Reads the next stanza (CUDF 2.0, syntax of stanzas and properties) into the list, in place of
+    /// what was there. Once it has said `End` it says so again, with the list empty.
+    ///
+    /// # Errors
+    ///
+    /// `AllocError` where memory for the list or for a joined value is refused. Then the list is
+    /// empty and nothing is passed over: the next call reads the same stanza.
     pub fn next(
         &mut self,
         alloc: Global,
@@ -90,6 +96,13 @@ impl<'t> Stanzas<'t> {
         }
     }
 
+    /// That a `u64` counts the stanzas that are left: a law, and no effect.
+    pub fn are_countable(&self)
+        ensures { length self.now.stanzas < 2 ^ 64 }
+    {
+        let _ = &self.place;
+    }
+
     /// Reads the next stanza.
     fn read(
         &mut self,
@@ -106,6 +119,16 @@ impl<'t> Stanzas<'t> {
         keep_properties(alloc, &mut self.others, &mut self.texts, properties)?;
         self.place = place;
         Ok(next)
+    }
+}
+
+/// How far the text was read: how many lines, and the first fault in them.
+impl fmt::Debug for Stanzas<'_> {
+    fn fmt<W: fmt::Write>(&self, f: &mut fmt::Formatter<W>) -> fmt::Result {
+        f.debug_struct("Stanzas")
+            .field("lines", &self.place.lines)
+            .field("fault", &self.place.fault)
+            .finish_non_exhaustive()
     }
 }
 

@@ -1,6 +1,8 @@
 ghost use Rattle.std.specs.Prelude.{◌≡◌};
 ghost use Rattle.cudf_text.specs.Faults.{fault_text};
 
+use std::fmt;
+
 /// What is wrong with a document (own), in the order in which faults of one line are reported.
 #[derive(Clone, Copy, Debug, PartialEq, Eq, PartialOrd, Ord, Hash)]
 pub enum Kind {
@@ -68,4 +70,18 @@ pub struct Fault {
     pub line: u64,
     /// What is wrong there.
     pub kind: Kind,
+}
+
+/// What a report says of a fault, as `line 3: E9 value is not of its type`.
+impl fmt::Display for Fault {
+    ghost use Rattle.std.specs.Prelude.{Some};
+    ghost use Rattle.cudf_text.specs.Faults.{fault_line};
+
+    ghost output = { λ fault. Some (fault_line fault) };
+
+    fn fmt<W: fmt::Write>(&self, f: &mut fmt::Formatter<W>) -> fmt::Result {
+        let line = self.line;
+        let what = self.kind.text();
+        write!(f, "line {line}: {what}")
+    }
 }

@@ -7,6 +7,10 @@ use crate::text::{Property, PropertyRef, Stanza, StanzaRef};
 use std::alloc::{AllocError, Global};
 
 /// Makes this the same stanza: its values are those that the other one holds.
+///
+/// # Errors
+///
+/// `AllocError` where memory for the list of properties is refused; what is lent is then unspecified.
 pub fn lend<'t, 'a>(stanza: &'t Stanza<'a>, lent: &mut StanzaRef<'t>) -> Result<(), AllocError>
     ensures { OnOk result (stanza_view lent.new ≡ own_stanza_view stanza.now) }
 {

@@ -14,8 +14,12 @@ use std::alloc::{AllocError, Global};
 use std::str;
 
 /// Reads the stanzas of a document (CUDF 2.0, syntax of stanzas and properties), up to its first
-/// faulty line. `TextError::Fault` is answered exactly where the bytes aren't UTF-8, without
-/// memory: E1, on the line at which their longest UTF-8 prefix ends.
+/// faulty line, which is no error: `Text::fault` has it.
+///
+/// # Errors
+///
+/// `Fault` exactly where the bytes aren't UTF-8: E1, on the line at which their longest UTF-8 prefix
+/// ends; that takes no memory. `Memory` where a growth is refused.
 pub fn read<'a>(alloc: Global, bytes: &'a [u8]) -> Result<Text<'a>, TextError>
     ensures utf8 { IfOk result (λ t. IsUtf8 bytes.now × (t.source.now ≡ bytes.now)) }
     ensures text { IfOk result IsText }
@@ -85,8 +89,12 @@ fn take_all<'a>(
     Ok(taken)
 }
 
-/// The stanzas of a document, each of which is read as it is asked for, or E1 where the bytes
-/// aren't UTF-8. Values that are joined are put into the room. Takes no memory.
+/// The stanzas of a document, each of which is read as it is asked for. Values that are joined are
+/// put into the room. Takes no memory.
+///
+/// # Errors
+///
+/// E1 exactly where the bytes aren't UTF-8, on the line at which their longest UTF-8 prefix ends.
 pub fn stanzas<'t>(alloc: Global, bytes: &'t [u8], room: &'t mut Room) -> Result<Stanzas<'t>, Fault>
     ensures utf8 { IfOk result (λ s. IsUtf8 bytes.now × (s ≡ plain_text bytes.now)) }
     ensures fault { IfErr result (λ f. (¬ (IsUtf8 bytes.now)) × (f ≡ utf8_fault bytes.now)) }
@@ -97,7 +105,11 @@ pub fn stanzas<'t>(alloc: Global, bytes: &'t [u8], room: &'t mut Room) -> Result
     }
 }
 
-/// The bytes as a text, or E1 on the line at which their longest UTF-8 prefix ends. Takes no memory.
+/// The bytes as a text. Takes no memory.
+///
+/// # Errors
+///
+/// E1 exactly where the bytes aren't UTF-8, on the line at which their longest UTF-8 prefix ends.
 pub fn source_of(bytes: &[u8]) -> Result<&str, Fault>
     ensures utf8 { IfOk result (λ source. IsUtf8 bytes.now × (source.now ≡ bytes.now)) }
     ensures fault { IfErr result (λ f. (¬ (IsUtf8 bytes.now)) × (f ≡ utf8_fault bytes.now)) }

@@ -1,10 +1,10 @@
 //! Room for texts that are no part of a source.
-ghost use Rattle.std.specs.Prelude.{◌≡◌, ◌<◌, IfOk, string_bytes};
+ghost use Rattle.std.specs.Prelude.{◌≡◌, ◌<◌, length, is_some, IfOk, IsTrue, OnOk, string_bytes};
 ghost use Rattle.std.specs.Cow.{cow_str_bytes};
 
 use std::alloc::{AllocError, Global};
 use std::borrow::CowStr;
-use std::mem;
+use std::{fmt, mem};
 
 /// Room for texts: some of them, and more room.
 #[derive(Drop)]
@@ -14,12 +14,24 @@ pub struct Room {
 }
 
 impl Room {
-    /// Without texts. Takes no memory.
-    pub fn new(alloc: Global) -> Self {
+    ghost use Rattle.std.specs.Prelude.{◌≡◌, []};
+    ghost use Rattle.cudf_text.specs.Promises.Rooms.{held};
+
+    /// Without texts (own). Takes no memory.
+    pub fn new(alloc: Global) -> Self
+        ensures { held result ≡ [] }
+    {
         Room {
             texts: Vec::new(alloc),
             more: None,
         }
+    }
+}
+
+/// Its name alone: what it holds is seen by none but those who read its texts.
+impl fmt::Debug for Room {
+    fn fmt<W: fmt::Write>(&self, f: &mut fmt::Formatter<W>) -> fmt::Result {
+        f.debug_struct("Room").finish_non_exhaustive()
     }
 }
 
@@ -35,6 +47,8 @@ pub(crate) struct Texts<'t> {
     left: usize,
     /// How many there were.
     count: usize,
+    ghost more: { IsTrue (is_some room) },
+    ghost counted: { left ≡ length places.now },
 }
 
 impl<'t> Texts<'t> {
@@ -62,42 +76,46 @@ impl<'t> Texts<'t> {
     fn put(&mut self, alloc: Global, text: String) -> Result<&'t str, AllocError>
         ensures { IfOk result (λ kept. kept.now ≡ string_bytes text) }
     {
+        self.make_place(alloc)?;
+        let places = mem::take(&mut self.places);
+        let (place, places) = places.split_first_mut().unwrap();
+        self.places = places;
+        self.left -= 1;
+        *place = text;
+        Ok(place.as_str())
+    }
+
+    /// Makes an empty place where there is none.
+    fn make_place(&mut self, alloc: Global) -> Result<(), AllocError>
+        ensures { OnOk result (0 < self.new.left) }
+    {
         if self.left == 0 {
             self.grow(alloc)?;
         }
-        let places = mem::take(&mut self.places);
-        match places.split_first_mut() {
-            Some((place, places)) => {
-                self.places = places;
-                self.left -= 1;
-                *place = text;
-                Ok(place.as_str())
-            }
-            // There is one.
-            None => Err(AllocError),
-        }
+        Ok(())
     }
 
     fn grow(&mut self, alloc: Global) -> Result<(), AllocError>
-        ensures { IfOk result (λ _. 0 < self.new.left) }
+        ensures { OnOk result (0 < self.new.left) }
     {
         let count = self.count.saturating_mul(2).max(1);
         let texts = empty_texts(alloc, count)?;
         let more = Box::new(alloc, Room::new(alloc))?;
-        if let Some(room) = self.room.take() {
-            room.texts = texts;
-            room.more = Some(more);
-            let Room { texts, more } = room;
-            self.places = texts.as_mut_slice();
-            self.room = more.as_deref_mut();
-        }
+        let room = self.room.take().unwrap();
+        room.texts = texts;
+        room.more = Some(more);
+        let Room { texts, more } = room;
+        self.places = texts.as_mut_slice();
+        self.room = more.as_deref_mut();
         self.left = count;
         self.count = count;
         Ok(())
     }
 }
 
-fn empty_texts(alloc: Global, count: usize) -> Result<Vec<String>, AllocError> {
+fn empty_texts(alloc: Global, count: usize) -> Result<Vec<String>, AllocError>
+    ensures { IfOk result (λ texts. length texts.items ≡ count) }
+{
     let mut texts = Vec::with_capacity(alloc, count)?;
     for _ in 0..count {
         texts.push(String::new(alloc))?;

@@ -1,3 +1,6 @@
+ghost use Rattle.std.specs.Prelude.{◌≡◌};
+ghost use Rattle.cudf_text.specs.declared.text.TextError.TheVariants.{Memory};
+
 use crate::fault::Fault;
 use std::alloc::AllocError;
 use std::borrow::CowStr;
@@ -5,7 +8,7 @@ use thiserror::Error;
 
 /// A document as its stanzas (CUDF 2.0, syntax of stanzas and properties), each part with its
 /// line. Reading ends at the first line that is faulty; only `lines` counts those after it.
-#[derive(Debug, Drop)]
+#[derive(Debug, PartialEq, Eq, Drop)]
 pub struct Text<'a> {
     /// The bytes that were read.
     pub source: &'a str,
@@ -18,7 +21,7 @@ pub struct Text<'a> {
 }
 
 /// Properties without a blank line between them, one at least.
-#[derive(Debug, Drop)]
+#[derive(Debug, PartialEq, Eq, Drop)]
 pub struct Stanza<'a> {
     /// The line of the first property, from 1.
     pub line: u64,
@@ -29,7 +32,7 @@ pub struct Stanza<'a> {
 }
 
 /// A name and its value.
-#[derive(Debug, Drop)]
+#[derive(Debug, PartialEq, Eq, Drop)]
 pub struct Property<'a> {
     /// The line of the name, from 1.
     pub line: u64,
@@ -53,7 +56,7 @@ pub struct StanzaRef<'t> {
 }
 
 /// A property of such a stanza.
-#[derive(Clone, Copy, Debug)]
+#[derive(Clone, Copy, Debug, PartialEq, Eq)]
 pub struct PropertyRef<'t> {
     /// The line of the name, from 1.
     pub line: u64,
@@ -65,12 +68,20 @@ pub struct PropertyRef<'t> {
 }
 
 /// Why bytes have no `Text`.
-#[derive(Debug, Drop, Error)]
+#[derive(Clone, Copy, Debug, PartialEq, Eq, Error)]
 pub enum TextError {
     /// Always of kind E1: the bytes aren't UTF-8.
-    #[error("line {}: {}", .0.line, .0.kind.text())]
+    #[error("{0}")]
     Fault(Fault),
     /// A growth was refused.
     #[error("out of memory")]
     Memory(AllocError),
+}
+
+impl From<AllocError> for TextError {
+    ghost from_gives = { λ error result. result ≡ Memory error };
+
+    fn from(error: AllocError) -> TextError {
+        TextError::Memory(error)
+    }
 }

@@ -9,7 +9,7 @@ use crate::vpkg::{Vpkg, vpkg_at, vpkg_of};
 use cudf_text::trim;
 
 /// An atom of a clause.
-#[derive(Clone, Copy, Debug, PartialEq, Eq)]
+#[derive(Clone, Copy, Debug, PartialEq, Eq, Hash)]
 pub enum Atom<'t> {
     /// `true!`
     Yes,

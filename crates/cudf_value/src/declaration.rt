@@ -14,10 +14,10 @@ use crate::value_type::ValueType;
 use cudf_text::{is_ident, trim};
 use std::alloc::{AllocError, Global};
 
-/// The declaration of a package property.
-#[derive(Debug, Drop)]
+/// The declaration of a package property (CUDF 2.0, preamble).
+#[derive(Clone, Debug, PartialEq, Eq, Drop)]
 pub struct Declaration<'t> {
-    /// An `ident`.
+    /// An `ident`, in what the reader gives.
     pub name: &'t str,
     /// The type of the property's values.
     pub kind: ValueType<'t>,
@@ -25,10 +25,12 @@ pub struct Declaration<'t> {
     pub default: Option<&'t str>,
 }
 
-/// Reads the value of a `property`, with blanks or none round it: nothing, or declarations between the commas outside
-/// quotes and brackets, each as `name: type` or `name: type = [default]`.
+/// Reads the value of a `property` (CUDF 2.0, preamble), with blanks or none round it: nothing (own), or declarations
+/// between the commas outside quotes and brackets, each as `name: type`, `name: type = [default]` or
+/// `name: type = default`.
 ///
-/// A name may be declared twice. `None` is answered where a piece of the text is no declaration.
+/// A name may be declared twice. `None` is answered where a quote or a bracket is wrong or isn't closed, or a piece of
+/// the text is no declaration.
 ///
 /// # Errors
 ///

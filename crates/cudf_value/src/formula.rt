@@ -13,20 +13,21 @@ use cudf_text::trim;
 use std::alloc::{AllocError, Global};
 
 /// A disjunction, of one atom at least in what the readers give.
-#[derive(Debug, Drop)]
+#[derive(Clone, Debug, PartialEq, Eq, Drop)]
 pub struct Clause<'t> {
     /// In the order of the text.
     pub atoms: Vec<Atom<'t>>,
 }
 
-/// A conjunction; without clauses it holds always.
-#[derive(Debug, Drop)]
+/// A conjunction; without clauses it holds always (own).
+#[derive(Clone, Debug, PartialEq, Eq, Drop)]
 pub struct Formula<'t> {
     /// In the order of the text.
     pub clauses: Vec<Clause<'t>>,
 }
 
-/// Reads a `vpkgformula`, with blanks or none round it: nothing, or clauses between commas, each of atoms between `|`.
+/// Reads a `vpkgformula` (CUDF 2.0, the type library), with blanks or none round it: nothing, or clauses between commas,
+/// each of atoms between `|`.
 ///
 /// `None` is answered where the whole text is no `vpkgformula`.
 ///

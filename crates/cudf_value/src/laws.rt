@@ -7,10 +7,10 @@ ghost use Rattle.cudf_value.specs.Promises.Laws.{IsCutAtCommas, IsMadeOfTokens, 
 use crate::relop::Relop;
 
 /// What is printed of a vpkg of a `pkgname`, without a bound or with one whose number is at least 1, is read back as it.
-pub fn read_back(_name: &str, _bound: Option<(Relop, u64)>)
-    requires name { IsTrue (is_pkgname _name.now) }
-    requires bound { IsPosintBound _bound }
-    ensures { IsReadBack _name.now _bound }
+pub fn read_back(name: &str, bound: Option<(Relop, u64)>)
+    requires name { IsTrue (is_pkgname name.now) }
+    requires bound { IsPosintBound bound }
+    ensures { IsReadBack name.now bound }
 {}
 
 /// A `pkgname`, an operator and a `posint` are a vpkg, with blanks or none between them.

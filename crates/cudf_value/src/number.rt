@@ -5,7 +5,8 @@ ghost use Rattle.cudf_value.specs.Numbers.{positive, natural, signed};
 
 use cudf_text::trim;
 
-/// Reads a `posint`, with blanks or none round it: an optional `+`, then digits, of a value from 1 to `u64::MAX`.
+/// Reads a `posint` (CUDF 2.0, the type library), with blanks or none round it: an optional `+`, then digits, of a value
+/// from 1 to `u64::MAX` (own range). Leading zeros are accepted (own).
 ///
 /// `None` is answered where the whole text is no `posint`.
 pub fn read_posint(text: &str) -> Option<u64>
@@ -14,7 +15,8 @@ pub fn read_posint(text: &str) -> Option<u64>
     posint_of(trim(text))
 }
 
-/// Reads a `nat`, with blanks or none round it: an optional `+`, then digits, of a value from 0 to `u64::MAX`.
+/// Reads a `nat` (CUDF 2.0, the type library), with blanks or none round it: an optional `+`, then digits, of a value
+/// from 0 to `u64::MAX` (own range). Leading zeros are accepted (own).
 ///
 /// `None` is answered where the whole text is no `nat`.
 pub fn read_nat(text: &str) -> Option<u64>
@@ -23,8 +25,8 @@ pub fn read_nat(text: &str) -> Option<u64>
     nat_of(trim(text))
 }
 
-/// Reads an `int`, with blanks or none round it: an optional `+` or `-`, then digits, of a value from `i64::MIN` to
-/// `i64::MAX`.
+/// Reads an `int` (CUDF 2.0, the type library), with blanks or none round it: an optional `+` or `-`, then digits, of a
+/// value from `i64::MIN` to `i64::MAX` (own range). Leading zeros are accepted (own).
 ///
 /// `None` is answered where the whole text is no `int`.
 pub fn read_int(text: &str) -> Option<i64>

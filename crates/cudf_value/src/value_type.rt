@@ -13,14 +13,14 @@ use crate::word::{bool_of, is_pkgname};
 use cudf_text::{is_ident, trim};
 use std::alloc::{AllocError, Global};
 
-/// A type of CUDF's type library.
-#[derive(Debug, Drop)]
+/// A type of values (CUDF 2.0, the type library).
+#[derive(Clone, Debug, PartialEq, Eq, Drop)]
 pub enum ValueType<'t> {
-    /// `posint`: 1 to `u64::MAX`.
+    /// `posint`: 1 to `u64::MAX` (own range).
     Positive,
-    /// `nat`: 0 to `u64::MAX`.
+    /// `nat`: 0 to `u64::MAX` (own range).
     Natural,
-    /// `int`: `i64::MIN` to `i64::MAX`.
+    /// `int`: `i64::MIN` to `i64::MAX` (own range).
     Signed,
     /// `bool`: `true` and `false`.
     Truth,
@@ -52,7 +52,7 @@ pub fn fits(alloc: Global, kind: &ValueType<'_>, text: &str) -> Result<bool, All
     Ok(is_of_type(kind, trim(text)))
 }
 
-/// Whether the whole text is of the type. Takes no memory.
+/// Whether the whole text, which has no blanks round it, is of the type. `fits` trims first. Takes no memory.
 pub fn is_of_type(kind: &ValueType<'_>, text: &str) -> bool
     ensures { result ≡ is_of_type (type_view kind.now) text.now }
 {

@@ -11,16 +11,17 @@ use crate::relop::Relop;
 use crate::text::{split_run, trim_start};
 use cudf_text::trim;
 
-/// A package or a feature by its name, at the versions that the bound admits, or at all.
-#[derive(Clone, Copy, Debug, PartialEq, Eq)]
+/// A package or a feature by its name, at the versions that the bound admits, or at all (CUDF 2.0, the type library).
+#[derive(Clone, Copy, Debug, PartialEq, Eq, Hash)]
 pub struct Vpkg<'t> {
-    /// A `pkgname`.
+    /// A `pkgname` in what the readers give.
     pub name: &'t str,
     /// The operator and its number, at least 1 in what the readers give.
     pub bound: Option<(Relop, u64)>,
 }
 
-/// Reads a `vpkg`, with blanks or none round it: a `pkgname`, alone or with an operator and a `posint` after it.
+/// Reads a `vpkg` (CUDF 2.0, the type library), with blanks or none round it: a `pkgname`, alone or with an operator and
+/// a `posint` after it, with blanks or none between.
 ///
 /// `None` is answered where the whole text is no `vpkg`.
 pub fn read_vpkg(text: &str) -> Option<Vpkg<'_>>
@@ -29,7 +30,7 @@ pub fn read_vpkg(text: &str) -> Option<Vpkg<'_>>
     vpkg_of(trim(text))
 }
 
-/// Reads a `veqpkg`, with blanks or none round it: a `vpkg` without an operator or with `=`.
+/// Reads a `veqpkg` (CUDF 2.0, the type library), with blanks or none round it: a `vpkg` without an operator or with `=`.
 ///
 /// `None` is answered where the whole text is no `veqpkg`.
 pub fn read_veqpkg(text: &str) -> Option<Vpkg<'_>>

@@ -14,7 +14,7 @@ use crate::vpkg::{Vpkg, is_exact, veqpkg_of, vpkg_at, vpkg_of};
 use cudf_text::trim;
 use std::alloc::{AllocError, Global};
 
-/// Reads a `vpkglist`, with blanks or none round it: nothing, or vpkgs between commas.
+/// Reads a `vpkglist` (CUDF 2.0, the type library), with blanks or none round it: nothing, or vpkgs between commas.
 ///
 /// `None` is answered where the whole text is no `vpkglist`.
 ///
@@ -27,7 +27,7 @@ pub fn read_vpkglist(alloc: Global, text: &str) -> Result<Option<Vec<Vpkg<'_>>>,
     vpkglist_of(alloc, trim(text))
 }
 
-/// Reads a `veqpkglist`, with blanks or none round it: nothing, or veqpkgs between commas.
+/// Reads a `veqpkglist` (CUDF 2.0, the type library), with blanks or none round it: nothing, or veqpkgs between commas.
 ///
 /// `None` is answered where the whole text is no `veqpkglist`.
 ///

@@ -8,7 +8,7 @@ ghost use Rattle.cudf_value.specs.Words.{truth, is_pkgname};
 use crate::class::Class;
 use cudf_text::trim;
 
-/// Reads a `bool`, with blanks or none round it: `true` or `false`.
+/// Reads a `bool` (CUDF 2.0, the type library), with blanks or none round it: `true` or `false`.
 ///
 /// `None` is answered where the whole text is neither.
 pub fn read_bool(text: &str) -> Option<bool>
@@ -28,8 +28,8 @@ pub(crate) fn bool_of(text: &str) -> Option<bool>
     }
 }
 
-/// Whether the whole text, blanks and all, is a `pkgname`: one or more ASCII letters, digits and characters of
-/// `+-./@()%_:~`.
+/// Whether the whole text, blanks and all, is a `pkgname` (CUDF 2.0, the type library): one or more ASCII letters, digits
+/// and characters of `+-./@()%_:~` (own, a superset).
 #[tactic(auto, unfolding(crate::specs::Words::is_pkgname))]
 pub fn is_pkgname(text: &str) -> bool
     ensures { result ≡ is_pkgname text.now }

@@ -3,6 +3,7 @@ use crate::package::ids::Ids;
 use crate::solution::reader::read_stanza;
 use cudf_text::{Next, StanzaRef, Stanzas};
 use std::alloc::{AllocError, Global};
+use std::fmt;
 use std::marker::Model;
 
 /// The names and versions of the packages that a solution installs.
@@ -18,6 +19,12 @@ impl<'a> Model for Chosen<'a> {
     ghost Value = { List Id };
 
     ghost view = { λ c. c.ids };
+}
+
+impl fmt::Debug for Chosen<'_> {
+    fn fmt<W: fmt::Write>(&self, f: &mut fmt::Formatter<W>) -> fmt::Result {
+        f.debug_struct("Chosen").finish_non_exhaustive()
+    }
 }
 
 impl<'a> Chosen<'a> {

@@ -13,7 +13,12 @@ use crate::request::fields::read_request;
 use cudf_text::{Fault, StanzaRef, Stanzas};
 use std::alloc::{AllocError, Global};
 
-/// The first fault of a problem that is read in this mode, if it has one.
+/// The first fault of a problem that is read in this mode, if it has one: by line, then by kind. It is
+/// never E1 or E15, and E14 strictly alone.
+///
+/// # Errors
+///
+/// `AllocError` where memory is refused, whatever the problem says.
 pub fn first_fault(
     alloc: Global,
     stanzas: Stanzas<'_>,

@@ -16,11 +16,12 @@ use crate::problem::walk::Walk;
 use cudf_text::{StanzaRef, Text, lend};
 use std::alloc::{AllocError, Global};
 
-/// Reads a problem.
+/// Reads a problem (CUDF 2.0, syntax of documents).
 ///
 /// # Errors
 ///
-/// The problem's first fault, of any kind but E1, or `Memory` where a growth is refused.
+/// The problem's first fault: by line, then by kind; never E1 or E15, and E14 strictly alone. Or `Memory`
+/// where a growth is refused.
 pub fn read_problem<'t, 'a>(
     alloc: Global,
     text: &'t Text<'a>,

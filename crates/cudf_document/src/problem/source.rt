@@ -16,11 +16,12 @@ use crate::problem::walk::{Walk, walk_all};
 use cudf_text::Stanzas;
 use std::alloc::Global;
 
-/// Reads a problem stanza by stanza: no text is held.
+/// Reads a problem (CUDF 2.0, syntax of documents) stanza by stanza: no text is held.
 ///
 /// # Errors
 ///
-/// The problem's first fault, of any kind but E1, or `Memory` where a growth is refused.
+/// The problem's first fault: by line, then by kind; never E1 or E15, and E14 strictly alone. Or `Memory`
+/// where a growth is refused.
 pub fn problem_of<'t>(
     alloc: Global,
     stanzas: Stanzas<'t>,

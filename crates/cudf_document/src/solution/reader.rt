@@ -24,9 +24,11 @@ use crate::stanza::postmark::{Postmark, postmark_of};
 use cudf_text::{Fault, Kind, Next, StanzaRef, Stanzas, Text, lend};
 use std::alloc::{AllocError, Global};
 
-/// Reads a solution of the problem. Of its packages `package`, `version` and `installed` count,
-/// other stanzas are skipped, and a stanza with `installed: false` takes nothing back. Leniently
-/// repeated pairs mean the same pair.
+/// Reads a solution of the problem (CUDF 2.0, installations). Of its packages `package`, `version` and
+/// `installed` count, other stanzas are skipped, and a stanza with `installed: false` takes nothing back
+/// (own). Leniently repeated pairs mean the same pair (own).
+///
+/// The caller sees to it that the text doesn't say `FAIL` (`cudf_text::is_fail`): that proposes no status.
 ///
 /// # Errors
 ///
@@ -71,6 +73,10 @@ pub fn read_solution<'t, 'a, 'p>(
 /// Reads a solution of the problem as `read_solution` does, each stanza as it is asked for: of the
 /// text no more than one stanza is held.
 ///
+/// It asks nothing of its caller. A text that says `FAIL` is read as any other and has a fault on that
+/// line, E2, or E3 where a blank stands before the word; whoever takes `FAIL` for an answer asks
+/// `cudf_text::is_fail` first.
+///
 /// # Errors
 ///
 /// As those of `read_solution`.
@@ -97,6 +103,7 @@ pub fn solution_of<'a, 'p>(
     ensures fault { IfErr result (IsFirstFault (solution_faults stanzas.entry mode)) }
 {
     let mut stanzas = stanzas;
+    stanzas.are_countable();
     let mut reader = SolutionReader::new(alloc, problem, mode)?;
     let mut stanza = StanzaRef {
         line: 0,
@@ -129,7 +136,7 @@ pub(crate) struct SolutionReader<'a> {
 }
 
 impl<'a> SolutionReader<'a> {
-    ghost use Rattle.std.specs.Prelude.{◌≡◌, List, [], ◌∷◌, ◌++◌, length, IfOk, IfErr, OnOk};
+    ghost use Rattle.std.specs.Prelude.{◌≡◌, ◌+◌, ◌<◌, ◌^◌, List, [], ◌∷◌, ◌++◌, length, IfOk, IfErr, OnOk};
     ghost use Rattle.cudf_text.specs.Stanzas.{PlainStanza, PlainText};
     ghost use Rattle.cudf_text.specs.Promises.Views.{stanza_view};
     ghost use Rattle.cudf_document.specs.Promises.Faults.{IsFirstFault};
@@ -156,7 +163,8 @@ impl<'a> SolutionReader<'a> {
         problem: &Problem<'_>,
         stanza: &StanzaRef<'a>,
     ) -> Result<(), AllocError>
-        requires { length self.old.builder.flags.items ≡ length problem.now.packages }
+        requires flags { length self.old.builder.flags.items ≡ length problem.now.packages }
+        requires countable { self.old.number + 1 < 2 ^ 64 }
         ensures { (mode : Mode) →
             (seen : List PlainStanza) →
             IsSolutionRead problem.now mode seen self.old →
@@ -165,8 +173,7 @@ impl<'a> SolutionReader<'a> {
         let said = read_stanza(stanza);
         self.first = lesser(self.first, said.fault);
         self.pairs.take(said.id, stanza)?;
-        // A text of more stanzas than a number counts is larger than any memory.
-        self.number = self.number.checked_add(1).ok_or(AllocError)?;
+        self.number += 1;
         self.builder
             .add(problem, self.number, stanza.line, said.installed)?;
         Ok(())

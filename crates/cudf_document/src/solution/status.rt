@@ -51,7 +51,8 @@ impl Status {
         })
     }
 
-    /// Whether the package at this place is in the status.
+    /// Whether the package at this place, from 1, is in the status: `false` of 0 and of places behind
+    /// the universe.
     pub fn holds(&self, place: u64) -> bool
         ensures { result ≡ set.contains self.now place }
     {
