@@ -30,10 +30,10 @@ use Rattle.cudf_referee.specs.declared.key.Rule.TheVariants as rule
 use Rattle.cudf_referee.specs.declared.key.Aspect.{Aspect}
 use Rattle.cudf_referee.specs.declared.key.Aspect.TheVariants.{Unsatisfied, Many, Lower}
 use Rattle.cudf_referee.specs.declared.sites.candidate.Candidate.{Candidate}
-use Rattle.cudf_referee.specs.Keys.{PlainKey, part_rank, part_place, fits_part, fits_aspect, is_counted, is_key, rule_rank, aspect_rank, key_ranks}
+use Rattle.cudf_referee.specs.Keys.{PlainKey, package_key, part_rank, part_place, fits_part, fits_aspect, is_counted, is_key, rule_rank, aspect_rank, key_ranks}
 use Rattle.cudf_referee.specs.Promises.Keys.{is_fitting}
 use Rattle.cudf_referee.specs.Proposals.{Proposal}
-use Rattle.cudf_referee.specs.Promises.Sites.{Site, conjunct, conflicts_entry, kept_version, kept_package, kept_feature, install_entry, remove_entry, upgrade_entry, unknown_stanza, site_key, package_key, kept_sites, package_sites, upgrade_sites, request_sites, Stop, at_site, package_end, package_stops, precedes, precedes_end, is_after}
+use Rattle.cudf_referee.specs.Promises.Sites.{Site, conjunct, conflicts_entry, kept_version, kept_package, kept_feature, install_entry, remove_entry, upgrade_entry, unknown_stanza, site_key, kept_sites, package_sites, upgrade_sites, request_sites, Stop, at_site, package_end, package_stops, precedes, precedes_end, is_after}
 use Rattle.cudf_referee.specs.Working.Searches.{unknown_left, package_rest, packages_rest}
 use Rattle.cudf_referee.specs.Working.SiteNumbers.{placed_view, Fits, clauses_of, conflicts_of, kept_of, passed_of, passed_upgrade}
 use Rattle.cudf_referee.proofs.AscentLemmas.{Below, same_first, less_first, Climbs, from_lower, to_higher, climbs-over, site_ranks, sites_climb, package_climbs, packages_climb, entry_climbs, entries_climb, request_climbs}
@@ -206,13 +206,13 @@ entries-after key r view make ys n same is = record {
 abbrev IsOf : PlainKey → Placed → Type 0
 IsOf key p = key.part ≡ part.Package p.0
 
-same_package : (key : PlainKey) (p : Placed) (other : Rule) (k : ℕ) → IsOf key p → precedes key (package_key p other k) ≡ entry_after key other k
+same_package : (key : PlainKey) (p : Placed) (other : Rule) (k : ℕ) → IsOf key p → precedes key (package_key p.0 other k) ≡ entry_after key other k
 same_package key p other k of =
-    ap (λ q. is_lt (slice_cmp nat_cmp (part_rank q ∷ part_place q ∷ rule_rank key.rule ∷ key.place ∷ aspect_rank key.aspect ∷ []) (key_ranks (package_key p other k)))) of
+    ap (λ q. is_lt (slice_cmp nat_cmp (part_rank q ∷ part_place q ∷ rule_rank key.rule ∷ key.place ∷ aspect_rank key.aspect ∷ []) (key_ranks (package_key p.0 other k)))) of
     ∙ ap (λ o. is_lt (ordering_then o (slice_cmp nat_cmp (rule_rank key.rule ∷ key.place ∷ aspect_rank key.aspect ∷ []) (rule_rank other ∷ k ∷ 0 ∷ [])))) (tied_itself nat_cmp_total p.0)
 
 -- what has one place is an entry of its own
-alone_after : (key : PlainKey) (p : Placed) (site : Site) → IsOf key p → site_key site ≡ package_key p rule.Keep 1
+alone_after : (key : PlainKey) (p : Placed) (site : Site) → IsOf key p → site_key site ≡ package_key p.0 rule.Keep 1
     → filter (λ x. precedes key (site_key x)) (site ∷ []) ≡ drop (passed_of key rule.Keep 1) (site ∷ [])
 alone_after key p site of same =
     filter-map (λ x. precedes key (site_key x)) (λ x. site) (enumerate_from 1 (p ∷ []))

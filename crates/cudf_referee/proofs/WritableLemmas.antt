@@ -19,10 +19,10 @@ use Rattle.cudf_referee.specs.declared.key.Aspect.{Aspect}
 use Rattle.cudf_referee.specs.declared.key.Aspect.TheVariants.{Unsatisfied, Many, Lower}
 use Rattle.cudf_referee.specs.Instances.{PlainInstance}
 use Rattle.cudf_referee.specs.Promises.Keys.{IsWritable}
-use Rattle.cudf_referee.specs.Keys.{fits_part, fits_aspect}
+use Rattle.cudf_referee.specs.Keys.{package_key, request_key, fits_part, fits_aspect}
 use Rattle.cudf_referee.specs.Proposals.{Proposal, holds_place}
 use Rattle.cudf_referee.specs.Violations.{listing}
-use Rattle.cudf_referee.specs.Promises.Sites.{Site, conjunct, conflicts_entry, kept_version, kept_package, kept_feature, install_entry, remove_entry, upgrade_entry, unknown_stanza, package_key, request_key, site_key, needed_sites, kept_sites, package_sites, upgrade_sites, request_sites, sites}
+use Rattle.cudf_referee.specs.Promises.Sites.{Site, conjunct, conflicts_entry, kept_version, kept_package, kept_feature, install_entry, remove_entry, upgrade_entry, unknown_stanza, site_key, needed_sites, kept_sites, package_sites, upgrade_sites, request_sites, sites}
 use Rattle.cudf_referee.specs.Working.Judged.{instance_at, is_violated, judged}
 use Rattle.cudf_referee.specs.Working.Numbered.{IsListed, IsNumbered}
 use Rattle.cudf_referee.specs.Working.Places.{stanza_numbers}
@@ -60,7 +60,7 @@ if_written false xs all = All-nil Written
 -- ---- packages
 
 package_written : (p : Placed) (m : ℕ) (r : Rule) → 0 < p.0 → p.0 < 2 ^ 64 → 0 < m → m < 2 ^ 64
-    → ((n : ℕ) → fits_part (part.Package n) r ≡ true) → fits_aspect r None ≡ true → IsWritable (package_key p r m)
+    → ((n : ℕ) → fits_part (part.Package n) r ≡ true) → fits_aspect r None ≡ true → IsWritable (package_key p.0 r m)
 package_written p m r placed low counted small fits plain = record {
   fits = λ i. fits p.0 i && lt-ltb 0 p.0 placed i && lt-ltb 0 m counted i && plain i;
   number = low;
@@ -78,7 +78,7 @@ package_sites_written s p placed low listed =
         (made_written (λ c. conjunct p c.0 c.1) (λ x counted small. package_written p x.0 rule.Depends placed low counted small (λ n. refl) refl) 1 p.1.depends (omega arith) (omega (arith, listed.depends)))
         (made_written (λ v. conflicts_entry p v.0 v.1) (λ x counted small. package_written p x.0 rule.Conflicts placed low counted small (λ n. refl) refl) 1 p.1.conflicts (omega arith) (omega (arith, listed.conflicts)))
 
-    kept_one : IsWritable (package_key p rule.Keep 1)
+    kept_one : IsWritable (package_key p.0 rule.Keep 1)
     kept_one = package_written p 1 rule.Keep placed low (omega arith) (omega arith) (λ n. refl) refl
 
     kept : (k : Keep) → All Written (kept_sites k p)

@@ -1,7 +1,7 @@
 -- Lists of conjuncts or entries, by their places from 1: own.
-use Rattle.std.specs.Prelude.{ℕ, Bool, List, filter}
+use Rattle.std.specs.Prelude.{ℕ, Bool, List, map, filter}
 use Rattle.std.specs.List.{enumerate_from}
 
--- the entries that pass a test, each with its place
-abbrev pub those : {A : Type 0} → (A → Bool) → List A → List (ℕ × A)
-those test xs = filter (λ x. test x.1) (enumerate_from 1 xs)
+-- what is made of the place and the entry, for each entry that passes a test
+abbrev pub at_each : {A B : Type 0} → (ℕ → A → B) → (A → Bool) → List A → List B
+at_each make test entries = map (λ e. make e.0 e.1) (filter (λ e. test e.1) (enumerate_from 1 entries))

@@ -18,6 +18,16 @@ pub record PlainKey : Type 0 where
   pub place : ℕ
   pub aspect : Option Aspect
 
+-- of a package's rule, of one of the request, and of an unknown stanza
+abbrev pub package_key : ℕ → Rule → ℕ → PlainKey
+package_key n rule place = record { part = Package n; rule = rule; place = place; aspect = None }
+
+abbrev pub request_key : Rule → ℕ → Option Aspect → PlainKey
+request_key rule place aspect = record { part = Request; rule = rule; place = place; aspect = aspect }
+
+abbrev pub unknown_key : ℕ → PlainKey
+unknown_key stanza = record { part = Solution; rule = Unknown; place = stanza; aspect = None }
+
 -- ---- which parts fit each other
 
 abbrev pub fits_part : Part → Rule → Bool
