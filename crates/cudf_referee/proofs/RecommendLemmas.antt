@@ -1,5 +1,5 @@
 -- Recommended conjuncts that aren't satisfied, package by package.
-use Rattle.std.proofs.Common.{◌≡◌, ℕ, ◌+◌, ◌-◌, ◌<◌, ◌≤◌, ◌^◌, min, Bool, true, false, not, cond, List, [], ◌∷◌, ◌++◌, length, get_or, take, map, filter, Some, None, refl, ap, sym, ◌∙◌, arith}
+use Rattle.std.proofs.Common.{◌≡◌, ℕ, ◌+◌, ◌-◌, ◌<◌, ◌≤◌, ◌^◌, min, Bool, true, false, not, cond, List, [], ◌∷◌, ◌++◌, length, get_or, take, filter, Some, None, refl, ap, sym, ◌∙◌, arith}
 use Rattle.std.specs.Prelude.{slice_get, unwrap_or, option_and_then, if◌then◌else◌}
 use Rattle.std.specs.Option.{option_or}
 use Rattle.std.specs.List.{flat_map, count_by, enumerate_from}
@@ -14,8 +14,8 @@ use Rattle.cudf_document.specs.Universe.{PlainPackage, PlainProblem, package_at}
 use Rattle.cudf_document.specs.Promises.Packages.{recommends_at}
 use Rattle.cudf_universe.specs.Satisfaction.{Placed, members, satisfies_clause}
 use Rattle.cudf_referee.specs.Criteria.{at_most_max}
-use Rattle.cudf_referee.specs.Entries.{at_each}
 use Rattle.cudf_referee.specs.Proposals.{Proposal, recommended}
+use Rattle.cudf_referee.specs.Violations.{at_each}
 use Rattle.cudf_referee.proofs.EntryLemmas.{enumerate-push}
 
 -- as many pass with their places as without

@@ -10,11 +10,10 @@ use Rattle.cudf_universe.specs.Satisfaction.{Placed, members, without, numbers_o
 use Rattle.cudf_referee.specs.declared.key.Rule.TheVariants as rule
 use Rattle.cudf_referee.specs.declared.key.Aspect.{Aspect}
 use Rattle.cudf_referee.specs.declared.key.Aspect.TheVariants.{Unsatisfied, Many, Lower}
-use Rattle.cudf_referee.specs.Entries.{at_each}
 use Rattle.cudf_document.specs.Documents.{is_empty}
 use Rattle.cudf_referee.specs.Instances.{PlainInstance, upgrade}
 use Rattle.cudf_referee.specs.Proposals.{Proposal, holds_place, proposal}
-use Rattle.cudf_referee.specs.Violations.{has_package, violated_depends, violated_conflicts, violated_keep, package_instances, are_many, are_lower, one_if, at_request, violated_entry, violated_upgrade, violated_install, violated_remove, request_instances, unknown_instance, listing}
+use Rattle.cudf_referee.specs.Violations.{at_each, has_package, violated_depends, violated_conflicts, violated_keep, package_instances, are_many, are_lower, one_if, at_request, violated_entry, violated_upgrade, violated_install, violated_remove, request_instances, unknown_instance, listing}
 use Rattle.cudf_referee.specs.Solutions.{has_its_depends, has_no_conflict, is_kept, are_equal, are_at_least, is_upgraded, is_solution}
 use Rattle.cudf_referee.proofs.ListingLemmas.{package_rules}
 use Rattle.cudf_referee.proofs.ListLemmas.{and_true, and_false, not_not, list_all-same, is_empty-append, is_empty-map, is_empty-flat_map, is_empty-filter, list_all-enumerate, list_all-and, list_all-filter, list_any-none}

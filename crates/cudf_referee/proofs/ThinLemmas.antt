@@ -15,12 +15,11 @@ use Rattle.cudf_universe.specs.Satisfaction.{Placed, members, numbers_of, packag
 use Rattle.cudf_referee.specs.declared.key.Rule.TheVariants as rule
 use Rattle.cudf_referee.specs.declared.key.Aspect.TheVariants.{Unsatisfied, Many, Lower}
 use Rattle.cudf_referee.specs.Criteria.{universe, is_touched, each_once, names_of, versions_of, is_among, is_same_set, greatest, at_most_max, criteria}
-use Rattle.cudf_referee.specs.Entries.{at_each}
 use Rattle.cudf_document.specs.Documents.{is_empty}
 use Rattle.cudf_referee.specs.Instances.{upgrade}
 use Rattle.cudf_referee.specs.Promises.Laws.{ThinIsEnough}
 use Rattle.cudf_referee.specs.Proposals.{Proposal, proposal, holds_place}
-use Rattle.cudf_referee.specs.Violations.{has_package, violated_keep, package_instances, are_many, are_lower, one_if, at_request, violated_install, violated_remove, violated_upgrade, unknown_instance, listing}
+use Rattle.cudf_referee.specs.Violations.{at_each, has_package, violated_keep, package_instances, are_many, are_lower, one_if, at_request, violated_install, violated_remove, violated_upgrade, unknown_instance, listing}
 use Rattle.cudf_referee.proofs.ListLemmas.{filter-map, count-map}
 use Rattle.cudf_referee.proofs.ListingLemmas.{package_rules, rules_of_members}
 use Rattle.cudf_referee.proofs.SolutionLemmas.{solution_is_empty}

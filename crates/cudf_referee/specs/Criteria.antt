@@ -4,9 +4,8 @@ use Rattle.std.specs.Prelude.{ℕ, ◌==◌, Bool, not, ◌&&◌, ◌||◌, List
 use Rattle.std.specs.List.{list_any, list_all, flat_map, count_by, enumerate_from}
 use Rattle.cudf_universe.specs.Satisfaction.{Placed, satisfies_clause}
 use Rattle.cudf_referee.specs.declared.criteria.Criteria.{Criteria}
-use Rattle.cudf_referee.specs.Entries.{at_each}
 use Rattle.cudf_referee.specs.Proposals.{Proposal, holds_place, recommended}
-use Rattle.cudf_referee.specs.Violations.{has_package}
+use Rattle.cudf_referee.specs.Violations.{at_each, has_package}
 
 -- ---- names and versions
 

@@ -10,19 +10,22 @@ use Rattle.cudf_document.specs.declared.package.Keep.TheVariants.{Version, Packa
 use Rattle.cudf_document.specs.Ids.{Id}
 use Rattle.cudf_document.specs.Universe.{PlainRequest}
 use Rattle.cudf_document.specs.Statuses.{PlainUnknown}
-use Rattle.cudf_universe.specs.Satisfaction.{Placed, without, numbers_of, satisfies, satisfies_clause, first_meeting, other_than}
+use Rattle.cudf_universe.specs.Satisfaction.{Placed, without, numbers_of, satisfies, satisfies_clause, first_meeting}
 use Rattle.cudf_referee.specs.declared.key.Part.{Part}
 use Rattle.cudf_referee.specs.declared.key.Part.TheVariants as part
 use Rattle.cudf_referee.specs.declared.key.Rule.{Rule}
 use Rattle.cudf_referee.specs.declared.key.Rule.TheVariants as rule
 use Rattle.cudf_referee.specs.declared.key.Aspect.{Aspect}
 use Rattle.cudf_referee.specs.declared.key.Aspect.TheVariants.{Unsatisfied, Many, Lower}
-use Rattle.cudf_referee.specs.Entries.{at_each}
 use Rattle.cudf_referee.specs.Instances.{PlainWhat, needs, conflicts_with, keep_version, keep_package, keep_feature, install, remove, upgrade, unknown, PlainInstance}
 use Rattle.cudf_referee.specs.Keys.{PlainKey, package_key, request_key, unknown_key, key_cmp}
 use Rattle.cudf_referee.specs.Proposals.{holds_place, Proposal}
 
--- ---- packages
+-- ---- instances
+
+-- what is made of the place and the entry, for each entry that passes a test
+abbrev pub at_each : {A B : Type 0} → (ℕ → A → B) → (A → Bool) → List A → List B
+at_each make test entries = map (λ e. make e.0 e.1) (filter (λ e. test e.1) (enumerate_from 1 entries))
 
 -- an instance, of which the package or pair and what is wrong are told
 abbrev pub instance : PlainKey → ℕ → Option Id → PlainWhat → PlainInstance
@@ -31,6 +34,8 @@ instance key line subject what = record { key = key; line = line; subject = subj
 -- the one instance, where the test holds
 abbrev pub one_if : Bool → PlainInstance → List PlainInstance
 one_if test i = if test then i ∷ [] else []
+
+-- ---- packages
 
 -- an instance of a package's rule at this place
 abbrev pub at_package : Placed → Rule → ℕ → PlainWhat → PlainInstance
@@ -120,17 +125,17 @@ rest key s = filter (λ i. is_lt (key_cmp key i.key)) (listing s)
 
 -- ---- the package that meets an entry
 
--- the place of the package that a part is
-abbrev pub package_place : Part → Option ℕ
-package_place (part.Package n) = Some n
-package_place part.Request = None
-package_place part.Solution = None
+-- a status less the package that a part is
+abbrev pub others : Part → List Placed → List Placed
+others (part.Package n) status = without n status
+others part.Request status = status
+others part.Solution status = status
 
-abbrev pub met_by_what : List Placed → Option ℕ → PlainWhat → Option ℕ
-met_by_what status own (conflicts_with v) = first_meeting (other_than own status) v
+abbrev pub met_by_what : List Placed → Part → PlainWhat → Option ℕ
+met_by_what status own (conflicts_with v) = first_meeting (others own status) v
 met_by_what status own (remove v) = first_meeting status v
 met_by_what status own what = None
 
 -- the first package, other than the instance's own, that alone satisfies what it conflicts with or what is to be removed
 abbrev pub met_by : List Placed → PlainInstance → Option ℕ
-met_by status i = met_by_what status (package_place i.key.part) i.what
+met_by status i = met_by_what status i.key.part i.what

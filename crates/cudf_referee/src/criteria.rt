@@ -24,7 +24,7 @@ pub struct Criteria {
 }
 
 /// A count of `Criteria`, named as its field.
-#[derive(Clone, Copy, Debug, PartialEq, Eq)]
+#[derive(Clone, Copy, Debug, PartialEq, Eq, Hash)]
 pub enum Count {
     Removed,
     New,
