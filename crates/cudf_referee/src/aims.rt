@@ -24,7 +24,9 @@ pub enum Sign {
 /// `-removed,-notuptodate,-unsat_recommends,-new`.
 #[derive(Clone, Copy, Debug, PartialEq, Eq, Hash)]
 pub struct Aim {
+    /// Whether it is to be small or great.
     pub sign: Sign,
+    /// Which count it is.
     pub count: Count,
 }
 

@@ -1,4 +1,7 @@
 //! Violated instances of rules.
+
+mod printing;
+
 use crate::key::{Aspect, Key, Part, Rule};
 use cudf_document::{Package, Request, Unknown};
 use cudf_value::{Clause, Vpkg};

@@ -201,8 +201,9 @@ impl<'p, 't> Referee<'p, 't> {
         self.instances().behind(key)
     }
 
-    /// For an instance of conflicts or remove, the place of the first package of the proposed status, other than the
-    /// instance's own, that alone satisfies the entry. `None` for the other rules.
+    /// For an instance of conflicts or remove, the place (from 1) of the first package of the proposed status, other
+    /// than the instance's own, that alone satisfies the entry. `None` for the other rules, and where no package alone
+    /// satisfies it.
     pub fn met_by(&self, instance: &Instance<'_, '_>) -> Option<u64>
         ensures { result ≡ met_by self.entry.now.proposed (instance_view instance.now) }
     {

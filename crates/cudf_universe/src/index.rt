@@ -35,7 +35,8 @@ use std::fmt;
 use std::marker::Model;
 use tree::{ProvisionTree, trees_of};
 
-/// The packages of a status, to be asked what they give and satisfy.
+/// The packages of a status, to be asked what they give and satisfy. Places are from 1, and the bounds of vpkgs are
+/// taken to be at least 1, as readers give them (CUDF 2.0, installations and features).
 ///
 /// Contracts see each package beside its place in the universe, in the order of the places.
 #[derive(Drop)]
@@ -125,16 +126,16 @@ impl<'p, 't> Index<'p, 't> {
         self.satisfies_clause_counting(clause, &mut Steps::new())
     }
 
-    /// Whether the status satisfies the vpkg without the package at this place and all that it
-    /// provides. A place that the status doesn't hold leaves nothing out.
+    /// Whether the status satisfies the vpkg without the package at this place, from 1, and all that
+    /// it provides. A place that the status doesn't hold leaves nothing out.
     pub fn satisfies_without(&self, vpkg: &Vpkg<'_>, place: u64) -> bool
         ensures { result ≡ satisfies (without place self.now) (vpkg_view vpkg.now) }
     {
         self.satisfies_without_counting(vpkg, place, &mut Steps::new())
     }
 
-    /// The least place of the status, other than `except`, whose package alone satisfies the vpkg.
-    /// `None` where there is no such place.
+    /// The least place of the status, from 1, other than `except`, whose package alone satisfies the
+    /// vpkg. `None` where there is no such place.
     pub fn first_meeting(&self, vpkg: &Vpkg<'_>, except: Option<u64>) -> Option<u64>
         ensures { result ≡ first_meeting (other_than except self.now) (vpkg_view vpkg.now) }
     {
