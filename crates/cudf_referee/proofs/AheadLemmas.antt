@@ -1,5 +1,5 @@
 -- The stops of the walk that come after a key: those behind the number of places that the key has passed.
-use Rattle.std.proofs.Common.{◌≡◌, ℕ, zero, suc, not, ◌==◌, ◌+◌, ◌*◌, ◌-◌, ◌<◌, ◌≤◌, Bool, true, false, ◌&&◌, inl, inr, min, nat_lt, nat_le, List, [], ◌∷◌, ◌++◌, length, map, filter, drop, cond, arith, refl, ap, sym, ◌∙◌, subst, Option, Some, None}
+use Rattle.std.proofs.Common.{◌≡◌, ℕ, zero, suc, not, ◌==◌, ◌+◌, ◌*◌, ◌-◌, ◌<◌, ◌≤◌, Bool, true, false, inl, inr, min, nat_lt, nat_le, List, [], ◌∷◌, ◌++◌, length, map, filter, drop, cond, arith, refl, ap, sym, ◌∙◌, subst, Option, Some, None}
 use Rattle.std.specs.Prelude.{slice_get}
 use Rattle.std.proofs.lemmas.Bool.{cases_lt, ltb-true}
 use Rattle.std.proofs.lemmas.Bool.Decides.{nat_tests}
@@ -30,10 +30,10 @@ use Rattle.cudf_referee.specs.declared.key.Rule.TheVariants as rule
 use Rattle.cudf_referee.specs.declared.key.Aspect.{Aspect}
 use Rattle.cudf_referee.specs.declared.key.Aspect.TheVariants.{Unsatisfied, Many, Lower}
 use Rattle.cudf_referee.specs.declared.sites.candidate.Candidate.{Candidate}
-use Rattle.cudf_referee.specs.Keys.{PlainKey, part_rank, part_place, fits_part, fits_aspect, is_counted, is_key, rule_rank, aspect_rank, key_ranks}
+use Rattle.cudf_referee.specs.Keys.{PlainKey, package_key, part_rank, part_place, fits, is_key, rule_rank, aspect_rank, key_ranks}
 use Rattle.cudf_referee.specs.Promises.Keys.{is_fitting}
 use Rattle.cudf_referee.specs.Proposals.{Proposal}
-use Rattle.cudf_referee.specs.Promises.Sites.{Site, conjunct, conflicts_entry, kept_version, kept_package, kept_feature, install_entry, remove_entry, upgrade_entry, unknown_stanza, site_key, package_key, kept_sites, package_sites, upgrade_sites, request_sites, Stop, at_site, package_end, package_stops, precedes, precedes_end, is_after}
+use Rattle.cudf_referee.specs.Promises.Sites.{Site, conjunct, conflicts_entry, kept_version, kept_package, kept_feature, install_entry, remove_entry, upgrade_entry, unknown_stanza, site_key, kept_sites, package_sites, upgrade_sites, request_sites, Stop, at_site, package_end, package_stops, precedes, precedes_end, is_after}
 use Rattle.cudf_referee.specs.Working.Searches.{unknown_left, package_rest, packages_rest}
 use Rattle.cudf_referee.specs.Working.SiteNumbers.{placed_view, Fits, clauses_of, conflicts_of, kept_of, passed_of, passed_upgrade}
 use Rattle.cudf_referee.proofs.AscentLemmas.{Below, same_first, less_first, Climbs, from_lower, to_higher, climbs-over, site_ranks, sites_climb, package_climbs, packages_climb, entry_climbs, entries_climb, request_climbs}
@@ -206,13 +206,13 @@ entries-after key r view make ys n same is = record {
 abbrev IsOf : PlainKey → Placed → Type 0
 IsOf key p = key.part ≡ part.Package p.0
 
-same_package : (key : PlainKey) (p : Placed) (other : Rule) (k : ℕ) → IsOf key p → precedes key (package_key p other k) ≡ entry_after key other k
+same_package : (key : PlainKey) (p : Placed) (other : Rule) (k : ℕ) → IsOf key p → precedes key (package_key p.0 other k) ≡ entry_after key other k
 same_package key p other k of =
-    ap (λ q. is_lt (slice_cmp nat_cmp (part_rank q ∷ part_place q ∷ rule_rank key.rule ∷ key.place ∷ aspect_rank key.aspect ∷ []) (key_ranks (package_key p other k)))) of
+    ap (λ q. is_lt (slice_cmp nat_cmp (part_rank q ∷ part_place q ∷ rule_rank key.rule ∷ key.place ∷ aspect_rank key.aspect ∷ []) (key_ranks (package_key p.0 other k)))) of
     ∙ ap (λ o. is_lt (ordering_then o (slice_cmp nat_cmp (rule_rank key.rule ∷ key.place ∷ aspect_rank key.aspect ∷ []) (rule_rank other ∷ k ∷ 0 ∷ [])))) (tied_itself nat_cmp_total p.0)
 
 -- what has one place is an entry of its own
-alone_after : (key : PlainKey) (p : Placed) (site : Site) → IsOf key p → site_key site ≡ package_key p rule.Keep 1
+alone_after : (key : PlainKey) (p : Placed) (site : Site) → IsOf key p → site_key site ≡ package_key p.0 rule.Keep 1
     → filter (λ x. precedes key (site_key x)) (site ∷ []) ≡ drop (passed_of key rule.Keep 1) (site ∷ [])
 alone_after key p site of same =
     filter-map (λ x. precedes key (site_key x)) (λ x. site) (enumerate_from 1 (p ∷ []))
@@ -389,12 +389,13 @@ aspects_split place aspect m (suc i) (v ∷ vs) h =
 
 -- numbers are from 1
 place_counted : (p : Part) (r : Rule) (place : ℕ) (aspect : Option Aspect) → is_key p r place aspect ≡ true → 0 < place
-place_counted p r place aspect h = ltb-true 0 place (and_right (fits_part p r && is_counted p) (nat_lt 0 place) (and_left (fits_part p r && is_counted p && nat_lt 0 place) (fits_aspect r aspect) h))
+place_counted p r place aspect h = ltb-true 0 place (and_right (fits p r aspect) (nat_lt 0 place) h)
 
 pub package_counted : (n : ℕ) (r : Rule) (place : ℕ) (aspect : Option Aspect) → is_key (part.Package n) r place aspect ≡ true → 0 < n
-package_counted n r place aspect h =
-    ltb-true 0 n (and_right (fits_part (part.Package n) r) (nat_lt 0 n) (and_left (fits_part (part.Package n) r && nat_lt 0 n) (nat_lt 0 place)
-    (and_left (fits_part (part.Package n) r && nat_lt 0 n && nat_lt 0 place) (fits_aspect r aspect) h)))
+package_counted n rule.Depends place None h = ltb-true 0 n (and_left (nat_lt 0 n) (nat_lt 0 place) h)
+package_counted n rule.Conflicts place None h = ltb-true 0 n (and_left (nat_lt 0 n) (nat_lt 0 place) h)
+package_counted n rule.Keep place None h = ltb-true 0 n (and_left (nat_lt 0 n) (nat_lt 0 place) h)
+package_counted n r place aspect h = absurd (cc h)
 
 upgrades-left : (r : Rule) (place : ℕ) (aspect : Option Aspect) (vs : List PlainVpkg) → is_key part.Request r place aspect ≡ true
     → filter (λ x. precedes (key_of part.Request r place aspect) (site_key x)) (flat_map upgrade_sites (enumerate_from 1 vs))

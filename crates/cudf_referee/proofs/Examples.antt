@@ -1,5 +1,7 @@
--- The definitions of the counts, of lists of aims and of the rest behind a key, at inputs that were reckoned by hand.
+-- The definitions of the counts, of lists of aims, of the rest behind a key and of texts of instances, at inputs that were
+-- reckoned by hand.
 use Rattle.std.proofs.Common.{◌≡◌, ℕ, Bool, false, ◌==◌, ◌||◌, List, [], ◌∷◌, Option, Some, None, map, codes, refl}
+use Rattle.std.specs.Fmt.{digits}
 use Rattle.std.specs.declared.cmp.Ordering.TheVariants.{Less, Equal, Greater}
 use Rattle.cudf_value.specs.Vpkgs.{PlainVpkg}
 use Rattle.cudf_value.specs.Formulas.{PlainAtom, truth_atom, named}
@@ -11,15 +13,16 @@ use Rattle.cudf_referee.specs.declared.criteria.Count.{Count}
 use Rattle.cudf_referee.specs.declared.criteria.Count.TheVariants.{Removed, New, Changed, NotUpToDate, UnsatRecommends, Touched}
 use Rattle.cudf_referee.specs.declared.aims.Sign.TheVariants.{Least, Most}
 use Rattle.cudf_referee.specs.declared.criteria.Criteria.{Criteria}
-use Rattle.cudf_referee.specs.declared.key.Part.TheVariants.{Package, Request}
-use Rattle.cudf_referee.specs.declared.key.Rule.{Rule}
-use Rattle.cudf_referee.specs.declared.key.Rule.TheVariants.{Depends, Install, Remove}
+use Rattle.cudf_referee.specs.declared.key.Rule.TheVariants.{Depends, Conflicts, Install, Remove, Upgrade}
+use Rattle.cudf_referee.specs.declared.key.Aspect.TheVariants.{Lower}
 use Rattle.cudf_referee.specs.Comparing.{compare}
 use Rattle.cudf_referee.specs.Promises.Aims.{criterion}
 use Rattle.cudf_referee.specs.Criteria.{criteria, paranoid, trendy}
-use Rattle.cudf_referee.specs.Keys.{PlainKey}
+use Rattle.cudf_referee.specs.Instances.{conflicts_with, remove, upgrade}
+use Rattle.cudf_referee.specs.Keys.{PlainKey, package_key, request_key}
+use Rattle.cudf_referee.specs.Promises.Texts.{instance_text}
 use Rattle.cudf_referee.specs.Proposals.{Proposal, proposal}
-use Rattle.cudf_referee.specs.Violations.{listing, rest}
+use Rattle.cudf_referee.specs.Violations.{at_package, at_request, unknown_instance, listing, rest}
 
 abbrev vpkg : List ℕ → PlainVpkg
 vpkg name = record { name = name; bound = None }
@@ -45,7 +48,7 @@ abbrev plain : List ℕ → ℕ → PlainPackage
 plain name version = package_with name version [] None
 
 abbrev request_of : List PlainVpkg → List PlainVpkg → PlainRequest
-request_of install remove = record { line = 5; install = install; remove = remove; upgrade = [] }
+request_of wanted others = record { line = 5; install = wanted; remove = others; upgrade = [] }
 
 abbrev problem_with : List PlainPackage → Option (List (List PlainAtom)) → PlainRequest → PlainProblem
 problem_with packages default request = record { packages = packages; request = request; recommends = default }
@@ -254,10 +257,7 @@ abbrev keys_behind : PlainKey → Proposal → List PlainKey
 keys_behind key s = map (λ i. i.key) (rest key s)
 
 abbrev depends_key : ℕ → PlainKey
-depends_key place = record { part = Package 1; rule = Depends; place = place; aspect = None }
-
-abbrev request_key : Rule → ℕ → PlainKey
-request_key rule place = record { part = Request; rule = rule; place = place; aspect = None }
+depends_key place = package_key 1 Depends place
 
 -- a package that needs the same twice
 abbrev twice : Proposal
@@ -275,10 +275,35 @@ behind_last = refl
 abbrev unwanted : Proposal
 unwanted = proposal (problem_with (plain (codes "car") 1 ∷ []) None (request_of (vpkg (codes "x") ∷ vpkg (codes "y") ∷ []) (vpkg (codes "car") ∷ []))) (one 1) (one 1) []
 
-behind_none : keys_behind (request_key Install 7) unwanted ≡ request_key Remove 1 ∷ []
+behind_none : keys_behind (request_key Install 7 None) unwanted ≡ request_key Remove 1 None ∷ []
 unfolding listing
 behind_none = refl
 
-behind_packages : keys_behind (depends_key 9) unwanted ≡ request_key Install 1 ∷ request_key Install 2 ∷ request_key Remove 1 ∷ []
+behind_packages : keys_behind (depends_key 9) unwanted ≡ request_key Install 1 None ∷ request_key Install 2 None ∷ request_key Remove 1 None ∷ []
 unfolding listing
 behind_packages = refl
+
+-- ---- instances alone
+
+abbrev car : PlainVpkg
+car = vpkg (codes "car")
+
+needs_text : map instance_text (listing twice) ≡ codes "p1.depends.1 user 1 line 1: needs a" ∷ codes "p1.depends.2 user 1 line 1: needs a" ∷ []
+unfolding listing digits
+needs_text = refl
+
+conflict_text : instance_text (at_package (12, plain (codes "bus") 7) Conflicts 3 (conflicts_with car)) ≡ codes "p12.conflicts.3 bus 7 line 1: conflicts with car"
+unfolding digits
+conflict_text = refl
+
+remove_text : instance_text (at_request (request_of [] []) Remove 1 None (remove car)) ≡ codes "r.remove.1 line 5: must remove car"
+unfolding digits
+remove_text = refl
+
+lower_text : instance_text (at_request (request_of [] []) Upgrade 2 (Some Lower) (upgrade car)) ≡ codes "r.upgrade.2.lower line 5: upgrade car is lower than before"
+unfolding digits
+lower_text = refl
+
+unknown_text : instance_text (unknown_instance (record { stanza = 4; line = 11; name = codes "car"; version = 9 })) ≡ codes "s.unknown.4 car 9 line 11: not in the universe"
+unfolding digits
+unknown_text = refl

@@ -1,5 +1,5 @@
 -- Packages by what their statuses hold, the counts without unknown stanzas, and numbers from 1.
-use Rattle.std.proofs.Common.{◌≡◌, ℕ, zero, suc, ◌<◌, Bool, true, nat_lt, List, [], ◌∷◌, refl, ap, ◌∙◌, arith}
+use Rattle.std.proofs.Common.{◌≡◌, ℕ, zero, suc, ◌<◌, Bool, true, nat_lt, List, [], ◌∷◌, ◌++◌, cond, refl, ap, ◌∙◌, arith}
 use Rattle.std.specs.List.{All}
 use Rattle.std.proofs.lemmas.Bool.{ltb-true}
 use Rattle.std.specs.List.{flat_map, enumerate_from}
@@ -10,9 +10,13 @@ use Rattle.cudf_referee.specs.Criteria.{criteria}
 use Rattle.cudf_referee.specs.Instances.{PlainInstance}
 use Rattle.cudf_referee.specs.Proposals.{holds_place}
 use Rattle.cudf_referee.specs.Working.Walkers.{put_forward}
-use Rattle.cudf_referee.specs.Violations.{package_rules}
+use Rattle.cudf_referee.specs.Violations.{violated_depends, violated_conflicts, violated_keep}
 use Rattle.cudf_referee.proofs.ListLemmas.{and_left, and_right}
 use Rattle.cudf_referee.proofs.StatusLemmas.{holds-filter, holds-own, flat_map-held}
+
+-- the instances of a package that was installed, and is to be, or not
+abbrev pub package_rules : Bool → Bool → List Placed → Placed → List PlainInstance
+package_rules was is status p = cond is (violated_depends status p ++ violated_conflicts status p) [] ++ cond was (violated_keep status p.1.keep p) []
 
 -- the packages are judged by what their statuses hold
 pub rules_of_members : (was is : ℕ → Bool) (packages : List PlainPackage) (status : List Placed)

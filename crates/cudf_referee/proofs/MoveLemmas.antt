@@ -19,11 +19,12 @@ use Rattle.cudf_referee.specs.Promises.Views.{instance_view}
 use Rattle.cudf_referee.specs.Promises.Walks.{Walking, left, Moves}
 use Rattle.cudf_referee.specs.Working.Judged.{instance_at, is_violated, given_at, all_given}
 use Rattle.cudf_referee.specs.Working.Places.{ahead}
-use Rattle.cudf_referee.specs.Working.Searches.{or_later, first_given, unless_found, sum_to_first, cost_to_first, least_to_first, Finds, Searches}
+use Rattle.cudf_referee.specs.Working.Searches.{or_later, first_given, unless_found, sum_to_first, cost_to_first, least_to_first, Searches}
 use Rattle.cudf_referee.proofs.AheadLemmas.{not_below, kept_above, after-ranks}
 use Rattle.cudf_referee.proofs.ListLemmas.{none_kept, filter-both, weaker_case}
 use Rattle.cudf_referee.proofs.AscentLemmas.{Below, chained, Climbs, from_lower, climbs-filter, walk-climbs}
 use Rattle.cudf_referee.proofs.PositionLemmas.{stop_ranks, is_after-ranks, IsLater, later-key, later-start}
+use Rattle.cudf_referee.proofs.SearchLemmas.{or_later-none, unless_found-zero}
 use Rattle.cudf_referee.proofs.SiteLemmas.{key_at, left-walk}
 
 -- ---- what a stop gives
@@ -184,7 +185,7 @@ ahead_there s old i h =
     sym (filter-both (is_ahead old) (is_after i.key) (walk s))
     ∙ ap (λ test. filter test (walk s)) (λ j x. weaker_case (is_ahead old x) (is_after i.key x) ((found_later s old i h).ahead x) j)
 
-abbrev walking : Proposal → PlainPosition → ℕ → Walking
+abbrev pub walking : Proposal → PlainPosition → ℕ → Walking
 walking s position steps = record { judged = s; position = position; steps = steps }
 
 yields : (s : Proposal) (old : PlainPosition) (n m : ℕ) → ascend_above 0 s.unknown ≡ true → (found : Option PlainInstance) → first_given s (ahead s old) ≡ found
@@ -196,15 +197,18 @@ yields s old n m h (Some i) first =
     ∙ ap (λ is. i ∷ is) (sym (left-walk (at_key i.key) s))
 
 -- so a search of the stops ahead is a move
-moves : (s : Proposal) (old : PlainPosition) (found : Option PlainInstance) (n m : ℕ) → ascend_above 0 s.unknown ≡ true → Finds s (ahead s old) found n m
-    → Moves (walking s old n) found (walking s (at_instance found) m)
-moves s old found n m h finds = record {
-  gives = yields s old n m h found (sym finds.given);
-  position = refl;
-  judged = refl;
-  price = omega (arith, finds.price, cost-first s old h, ap (λ o. cost_between s old (at_instance o)) finds.given);
-  grows = omega (arith, finds.grows, least-first s old h, ap (λ o. least_between s old (at_instance o)) finds.given);
-}
+moves : (old there : Walking) (found : Option PlainInstance) → ascend_above 0 old.judged.unknown ≡ true → Searches old (ahead old.judged old.position) found there
+    → Moves old found (walking old.judged (at_instance found) there.steps)
+moves old there found h searches =
+    let s = old.judged in
+    let first : first_given s (ahead s old.position) ≡ found = searches.given ∙ or_later-none found in
+    record {
+      gives = yields s old.position old.steps there.steps h found first;
+      position = refl;
+      judged = refl;
+      price = omega (arith, searches.price, unless_found-zero found, cost-first s old.position h, ap (λ o. cost_between s old.position (at_instance o)) first);
+      grows = omega (arith, searches.grows, unless_found-zero found, least-first s old.position h, ap (λ o. least_between s old.position (at_instance o)) first);
+    }
 
 -- ---- moves
 
@@ -212,8 +216,7 @@ moves s old found n m h finds = record {
 pub searched : (old there new : Walking) (found : Option PlainInstance) → ascend_above 0 old.judged.unknown ≡ true → Searches old (ahead old.judged old.position) found there
     → new ≡ walking there.judged (at_instance found) there.steps → Moves old found new
 searched old there new found h searches is =
-    subst (λ (w : Walking). Moves old found w) ((λ i. walking (sym searches.judged i) (at_instance found) there.steps) ∙ sym is)
-    (moves old.judged old.position found old.steps there.steps h searches.finds)
+    subst (λ (w : Walking). Moves old found w) ((λ i. walking (sym searches.judged i) (at_instance found) there.steps) ∙ sym is) (moves old there found h searches)
 
 -- what it found is what is given first, as it is judged afterwards
 pub given-there : (old there seen : Walking) (found : Option PlainInstance) → Searches old (ahead old.judged old.position) found there → seen ≡ there
@@ -221,7 +224,7 @@ pub given-there : (old there seen : Walking) (found : Option PlainInstance) → 
 given-there old there seen found searches same =
     let judged = ap (λ (w : Walking). w.judged) same ∙ searches.judged in
     let position = ap (λ (w : Walking). w.position) same ∙ searches.position in
-    searches.finds.given ∙ sym (λ i. first_given (judged i) (ahead (judged i) (position i)))
+    sym (searches.given ∙ or_later-none found) ∙ sym (λ i. first_given (judged i) (ahead (judged i) (position i)))
 
 -- a move makes progress
 pub moved-on : (can : Walking → Type 0) → ((w : Walking) → can w) → (old : Walking) (r : Option Instance) (new : Walking) → Moves old (option_map instance_view r) new

@@ -9,12 +9,11 @@ use Rattle.cudf_document.specs.Universe.{PlainPackage, PlainRequest}
 use Rattle.cudf_document.specs.Statuses.{PlainUnknown}
 use Rattle.cudf_universe.specs.Promises.Prices.{digits_within, digits}
 use Rattle.cudf_universe.specs.Satisfaction.{members}
-use Rattle.cudf_referee.specs.declared.key.Part.TheVariants as part
 use Rattle.cudf_referee.specs.declared.key.Rule.{Rule}
 use Rattle.cudf_referee.specs.declared.key.Rule.TheVariants as rule
 use Rattle.cudf_referee.specs.declared.key.Aspect.{Aspect}
 use Rattle.cudf_referee.specs.declared.key.Aspect.TheVariants.{Unsatisfied}
-use Rattle.cudf_referee.specs.Keys.{PlainKey}
+use Rattle.cudf_referee.specs.Keys.{PlainKey, package_key, request_key, unknown_key}
 use Rattle.cudf_referee.specs.Proposals.{Proposal}
 use Rattle.cudf_referee.specs.Violations.{listing}
 use Rattle.cudf_referee.specs.Promises.Sites.{walk, at_start, at_key, at_end, stops_between, least_between}
@@ -69,10 +68,10 @@ abbrev all : ℕ → Bool
 all place = true
 
 abbrev of_package : ℕ → Rule → ℕ → Option PlainKey
-of_package n r place = Some (record { part = part.Package n; rule = r; place = place; aspect = None })
+of_package n r place = Some (package_key n r place)
 
 abbrev of_request : Rule → ℕ → Option Aspect → Option PlainKey
-of_request r place aspect = Some (record { part = part.Request; rule = r; place = place; aspect = aspect })
+of_request r place aspect = Some (request_key r place aspect)
 
 -- ---- two equal conjuncts that aren't satisfied: 1 step to look up each, and 1 to go by it
 
@@ -195,7 +194,7 @@ unfolding digits_within digits listing walk
 strange_first = refl
 
 -- after a stanza that is known: 2, 1
-strange_between : page_bound strange (Some (record { part = part.Solution; rule = rule.Unknown; place = 2; aspect = None })) 1 ≡ 3
+strange_between : page_bound strange (Some (unknown_key 2)) 1 ≡ 3
 unfolding digits_within digits listing walk
 strange_between = refl
 
@@ -212,12 +211,12 @@ unfolding walk
 twice_least = refl
 
 -- behind the first one: 2 + 1
-twice_left : least_between twice (at_key (record { part = part.Package 1; rule = rule.Depends; place = 1; aspect = None })) at_end ≡ 3
+twice_left : least_between twice (at_key (package_key 1 rule.Depends 1)) at_end ≡ 3
 unfolding walk
 twice_left = refl
 
 -- to it: 2
-twice_to : least_between twice at_start (at_key (record { part = part.Package 1; rule = rule.Depends; place = 1; aspect = None })) ≡ 2
+twice_to : least_between twice at_start (at_key (package_key 1 rule.Depends 1)) ≡ 2
 unfolding walk
 twice_to = refl
 

@@ -1,5 +1,5 @@
 -- Recommended conjuncts that aren't satisfied, package by package.
-use Rattle.std.proofs.Common.{◌≡◌, ℕ, ◌+◌, ◌-◌, ◌<◌, ◌≤◌, ◌^◌, min, Bool, true, false, not, cond, List, [], ◌∷◌, ◌++◌, length, get_or, take, map, filter, Some, None, refl, ap, sym, ◌∙◌, arith}
+use Rattle.std.proofs.Common.{◌≡◌, ℕ, ◌+◌, ◌-◌, ◌<◌, ◌≤◌, ◌^◌, min, Bool, true, false, not, cond, List, [], ◌∷◌, ◌++◌, length, get_or, take, filter, Some, None, refl, ap, sym, ◌∙◌, arith}
 use Rattle.std.specs.Prelude.{slice_get, unwrap_or, option_and_then, if◌then◌else◌}
 use Rattle.std.specs.Option.{option_or}
 use Rattle.std.specs.List.{flat_map, count_by, enumerate_from}
@@ -14,22 +14,22 @@ use Rattle.cudf_document.specs.Universe.{PlainPackage, PlainProblem, package_at}
 use Rattle.cudf_document.specs.Promises.Packages.{recommends_at}
 use Rattle.cudf_universe.specs.Satisfaction.{Placed, members, satisfies_clause}
 use Rattle.cudf_referee.specs.Criteria.{at_most_max}
-use Rattle.cudf_referee.specs.Entries.{those}
 use Rattle.cudf_referee.specs.Proposals.{Proposal, recommended}
+use Rattle.cudf_referee.specs.Violations.{at_each}
 use Rattle.cudf_referee.proofs.EntryLemmas.{enumerate-push}
 
 -- as many pass with their places as without
-length-those : {A : Type 0} (test : A → Bool) (n : ℕ) (xs : List A) → length (filter (λ (x : ℕ × A). test x.1) (enumerate_from n xs)) ≡ count_by test xs
-length-those test n [] = refl
-length-those test n (x ∷ xs) = grind (arith, common_steps, length-those test (n + 1) xs)
+length-passing : {A : Type 0} (test : A → Bool) (n : ℕ) (xs : List A) → length (filter (λ (x : ℕ × A). test x.1) (enumerate_from n xs)) ≡ count_by test xs
+length-passing test n [] = refl
+length-passing test n (x ∷ xs) = grind (arith, common_steps, length-passing test (n + 1) xs)
 
 -- the triples of one package
 abbrev triples : Proposal → Placed → List (List ℕ × ℕ × ℕ)
-triples s p = map (λ c. (p.1.name, p.1.version, c.0)) (those (λ clause. not (satisfies_clause s.proposed clause)) (recommended s p))
+triples s p = at_each (λ place clause. (p.1.name, p.1.version, place)) (λ clause. not (satisfies_clause s.proposed clause)) (recommended s p)
 
 length-triples : (s : Proposal) (p : Placed) → length (triples s p) ≡ count_by (λ clause. not (satisfies_clause s.proposed clause)) (recommended s p)
-length-triples s p = length-map (those (λ clause. not (satisfies_clause s.proposed clause)) (recommended s p)) (λ c. (p.1.name, p.1.version, c.0))
-    ∙ length-those (λ clause. not (satisfies_clause s.proposed clause)) 1 (recommended s p)
+length-triples s p = length-map (filter (λ e. not (satisfies_clause s.proposed e.1)) (enumerate_from 1 (recommended s p))) (λ e. (p.1.name, p.1.version, e.0))
+    ∙ length-passing (λ clause. not (satisfies_clause s.proposed clause)) 1 (recommended s p)
 
 -- those of the packages that the status holds among the first
 abbrev pub counted : Proposal → (ℕ → Bool) → List PlainPackage → ℕ

@@ -50,7 +50,7 @@ needed_given : (s : Proposal) (p : Placed) → filter_map (judged s) (needed_sit
 needed_given s p = filter_map-append (judged s) (map (λ c. conjunct p c.0 c.1) (enumerate_from 1 p.1.depends)) (map (λ v. conflicts_entry p v.0 v.1) (enumerate_from 1 p.1.conflicts))
     ∙ (λ i. of_entries s (λ c. conjunct p c.0 c.1) (enumerate_from 1 p.1.depends) i ++ of_entries s (λ v. conflicts_entry p v.0 v.1) (enumerate_from 1 p.1.conflicts) i)
 
-kept_given : (s : Proposal) (k : Keep) (p : Placed) → filter_map (judged s) (kept_sites k p) ≡ violated_keep (holds_place s.proposed p.0) s.proposed k p
+kept_given : (s : Proposal) (k : Keep) (p : Placed) → filter_map (judged s) (kept_sites k p) ≡ violated_keep s.proposed k p
 kept_given s Version p = one (not (holds_place s.proposed p.0)) (instance_at s (kept_version p))
 kept_given s Package p = one (not (has_package s.proposed p.1.name)) (instance_at s (kept_package p))
 kept_given s Feature p = of_entries s (λ v. kept_feature p v.0 v.1) (enumerate_from 1 p.1.provides)
@@ -62,7 +62,7 @@ package_given s p =
     ∙ (λ i. given_if (judged s) (holds_place s.proposed p.0) (needed_sites p) i ++ given_if (judged s) (holds_place s.initial p.0) (kept_sites p.1.keep p) i)
     ∙ (λ i. cond (holds_place s.proposed p.0) (needed_given s p i) [] ++ cond (holds_place s.initial p.0) (kept_given s p.1.keep p i) [])
 
-upgrade_given : (s : Proposal) (v : ℕ × PlainVpkg) → filter_map (judged s) (upgrade_sites v) ≡ violated_entry s.initial s.proposed s.problem.request v
+upgrade_given : (s : Proposal) (v : ℕ × PlainVpkg) → filter_map (judged s) (upgrade_sites v) ≡ violated_entry s.initial s.proposed s.problem.request v.0 v.1
 upgrade_given s v = three _ _ _ _ _ _
 
 request_given : (s : Proposal) → filter_map (judged s) (request_sites s.problem.request) ≡ request_instances s

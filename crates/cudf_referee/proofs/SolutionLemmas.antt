@@ -1,5 +1,5 @@
 -- A solution is a proposal of which no instance is violated.
-use Rattle.std.proofs.Common.{◌≡◌, ℕ, ◌==◌, Bool, true, false, not, ◌&&◌, nat_lt, nat_le, List, [], ◌∷◌, ◌++◌, map, cond, refl, ap, sym, ◌∙◌}
+use Rattle.std.proofs.Common.{◌≡◌, ℕ, ◌==◌, Bool, true, false, not, ◌&&◌, nat_lt, nat_le, List, [], ◌∷◌, ◌++◌, map, filter, cond, Some, refl, ap, sym, ◌∙◌}
 use Rattle.std.specs.List.{list_all, list_any, flat_map, enumerate_from}
 use Rattle.cudf_value.specs.Vpkgs.{PlainVpkg}
 use Rattle.cudf_document.specs.declared.package.Keep.{Keep}
@@ -7,27 +7,29 @@ use Rattle.cudf_document.specs.declared.package.Keep.TheVariants.{Version, Packa
 use Rattle.cudf_document.specs.Universe.{PlainPackage, PlainRequest, PlainProblem}
 use Rattle.cudf_document.specs.Statuses.{PlainUnknown}
 use Rattle.cudf_universe.specs.Satisfaction.{Placed, members, without, numbers_of, satisfies, satisfies_clause}
+use Rattle.cudf_referee.specs.declared.key.Rule.TheVariants as rule
 use Rattle.cudf_referee.specs.declared.key.Aspect.{Aspect}
 use Rattle.cudf_referee.specs.declared.key.Aspect.TheVariants.{Unsatisfied, Many, Lower}
-use Rattle.cudf_referee.specs.Entries.{those}
 use Rattle.cudf_document.specs.Documents.{is_empty}
+use Rattle.cudf_referee.specs.Instances.{PlainInstance, upgrade}
 use Rattle.cudf_referee.specs.Proposals.{Proposal, holds_place, proposal}
-use Rattle.cudf_referee.specs.Violations.{has_package, violated_depends, violated_conflicts, violated_keep, package_rules, package_instances, are_many, are_lower, upgrade_if, violated_entry, violated_upgrade, violated_install, violated_remove, request_instances, unknown_instance, listing}
+use Rattle.cudf_referee.specs.Violations.{at_each, has_package, violated_depends, violated_conflicts, violated_keep, package_instances, are_many, are_lower, one_if, at_request, violated_entry, violated_upgrade, violated_install, violated_remove, request_instances, unknown_instance, listing}
 use Rattle.cudf_referee.specs.Solutions.{has_its_depends, has_no_conflict, is_kept, are_equal, are_at_least, is_upgraded, is_solution}
+use Rattle.cudf_referee.proofs.ListingLemmas.{package_rules}
 use Rattle.cudf_referee.proofs.ListLemmas.{and_true, and_false, not_not, list_all-same, is_empty-append, is_empty-map, is_empty-flat_map, is_empty-filter, list_all-enumerate, list_all-and, list_all-filter, list_any-none}
 use Rattle.cudf_referee.proofs.StatusLemmas.{holds, holds-filter, holds-own, list_all-held}
 
 -- ---- entries
 
-none_of : {A B : Type 0} (make : ℕ × A → B) (test : A → Bool) (xs : List A) → is_empty (map make (those test xs)) ≡ list_all (λ x. not (test x)) xs
-none_of make test xs = is_empty-map make (those test xs) ∙ is_empty-filter (λ x. test x.1) (enumerate_from 1 xs) ∙ list_all-enumerate (λ x. not (test x)) 1 xs
+none_of : {A B : Type 0} (make : ℕ → A → B) (test : A → Bool) (xs : List A) → is_empty (at_each make test xs) ≡ list_all (λ x. not (test x)) xs
+none_of make test xs = is_empty-map (λ e. make e.0 e.1) (filter (λ e. test e.1) (enumerate_from 1 xs)) ∙ is_empty-filter (λ x. test x.1) (enumerate_from 1 xs) ∙ list_all-enumerate (λ x. not (test x)) 1 xs
 
-all_of : {A B : Type 0} (make : ℕ × A → B) (test : A → Bool) (xs : List A) → is_empty (map make (those (λ x. not (test x)) xs)) ≡ list_all test xs
+all_of : {A B : Type 0} (make : ℕ → A → B) (test : A → Bool) (xs : List A) → is_empty (at_each make (λ x. not (test x)) xs) ≡ list_all test xs
 all_of make test xs = none_of make (λ x. not (test x)) xs ∙ list_all-same (λ x. not (not (test x))) test (λ x. not_not (test x)) xs
 
-one_if : {A : Type 0} (test : Bool) (x : A) → is_empty (cond test (x ∷ []) []) ≡ not test
-one_if true x = refl
-one_if false x = refl
+one_or_none : (test : Bool) (i : PlainInstance) → is_empty (one_if test i) ≡ not test
+one_or_none true i = refl
+one_or_none false i = refl
 
 part_if : {A : Type 0} (test : Bool) (xs : List A) (rest : Bool) → is_empty xs ≡ rest → is_empty (cond test xs []) ≡ cond test rest true
 part_if true xs rest h = h
@@ -35,11 +37,11 @@ part_if false xs rest h = refl
 
 -- ---- packages
 
-keeps : (is_installed : Bool) (status : List Placed) (k : Keep) (p : Placed) → is_empty (violated_keep is_installed status k p) ≡ is_kept is_installed status k p
-keeps is_installed status Version p = one_if (not is_installed) _ ∙ not_not is_installed
-keeps is_installed status Package p = one_if (not (has_package status p.1.name)) _ ∙ not_not (has_package status p.1.name)
-keeps is_installed status Feature p = all_of _ (satisfies status) p.1.provides
-keeps is_installed status Nothing p = refl
+keeps : (status : List Placed) (k : Keep) (p : Placed) → is_empty (violated_keep status k p) ≡ is_kept status k p
+keeps status Version p = one_or_none (not (holds_place status p.0)) _ ∙ not_not (holds_place status p.0)
+keeps status Package p = one_or_none (not (has_package status p.1.name)) _ ∙ not_not (has_package status p.1.name)
+keeps status Feature p = all_of _ (satisfies status) p.1.provides
+keeps status Nothing p = refl
 
 depends_empty : (status : List Placed) (p : Placed) → is_empty (violated_depends status p) ≡ has_its_depends status p
 depends_empty status p = all_of _ (satisfies_clause status) p.1.depends
@@ -52,11 +54,11 @@ needs_nothing status p = is_empty-append (violated_depends status p) (violated_c
     ∙ (λ i. depends_empty status p i && conflicts_empty status p i)
 
 package_rules_empty : (was_installed is_installed : Bool) (status : List Placed) (p : Placed) → is_empty (package_rules was_installed is_installed status p)
-    ≡ (cond is_installed (has_its_depends status p && has_no_conflict status p) true && cond was_installed (is_kept is_installed status p.1.keep p) true)
+    ≡ (cond is_installed (has_its_depends status p && has_no_conflict status p) true && cond was_installed (is_kept status p.1.keep p) true)
 package_rules_empty was_installed is_installed status p =
-    is_empty-append (cond is_installed (violated_depends status p ++ violated_conflicts status p) []) (cond was_installed (violated_keep is_installed status p.1.keep p) [])
+    is_empty-append (cond is_installed (violated_depends status p ++ violated_conflicts status p) []) (cond was_installed (violated_keep status p.1.keep p) [])
     ∙ (λ i. part_if is_installed (violated_depends status p ++ violated_conflicts status p) (has_its_depends status p && has_no_conflict status p) (needs_nothing status p) i
-    && part_if was_installed (violated_keep is_installed status p.1.keep p) (is_kept is_installed status p.1.keep p) (keeps is_installed status p.1.keep p) i)
+    && part_if was_installed (violated_keep status p.1.keep p) (is_kept status p.1.keep p) (keeps status p.1.keep p) i)
 
 -- a test of the packages of a universe that a status holds is one of the packages of the status
 of_members : (t : ℕ → Bool) (q : Placed → Bool) (packages : List PlainPackage)
@@ -70,11 +72,11 @@ of_members t q packages = let all = enumerate_from 1 packages in
 packages_empty : (s : Proposal) (was_installed is_installed : ℕ → Bool) → s.initial ≡ members was_installed s.problem.packages → s.proposed ≡ members is_installed s.problem.packages
     → is_empty (flat_map (package_instances s) (enumerate_from 1 s.problem.packages))
     ≡ ((list_all (has_its_depends s.proposed) s.proposed && list_all (has_no_conflict s.proposed) s.proposed)
-    && list_all (λ p. is_kept (holds_place s.proposed p.0) s.proposed p.1.keep p) s.initial)
+    && list_all (λ p. is_kept s.proposed p.1.keep p) s.initial)
 packages_empty s was_installed is_installed initial_is proposed_is =
     let all = enumerate_from 1 s.problem.packages in
     let needs = λ (p : Placed). has_its_depends s.proposed p && has_no_conflict s.proposed p in
-    let kept = λ (p : Placed). is_kept (holds_place s.proposed p.0) s.proposed p.1.keep p in
+    let kept = λ (p : Placed). is_kept s.proposed p.1.keep p in
     is_empty-flat_map (package_instances s) all
     ∙ list_all-same (λ p. is_empty (package_instances s p)) (λ p. cond (holds_place s.proposed p.0) (needs p) true && cond (holds_place s.initial p.0) (kept p) true)
     (λ p. package_rules_empty (holds_place s.initial p.0) (holds_place s.proposed p.0) s.proposed p) all
@@ -99,25 +101,23 @@ not_lower before ns = list_any-none (λ n. list_any (λ m. nat_lt n m) before) n
     not-lt : (n m : ℕ) → not (nat_lt n m) ≡ nat_le m n
     not-lt n m = grind (Rattle.std.proofs.Common.arith, Rattle.std.proofs.lemmas.Bool.Decides.nat_tests)
 
-aspect_empty : (test : Bool) (r : PlainRequest) (v : ℕ × PlainVpkg) (aspect : Aspect) → is_empty (upgrade_if test r v aspect) ≡ not test
-aspect_empty test r v aspect = one_if test _
-
-entry_empty : (before status : List Placed) (r : PlainRequest) (v : ℕ × PlainVpkg) → is_empty (violated_entry before status r v) ≡ is_upgraded before status v.1
-entry_empty before status r v =
-    let numbers = numbers_of v.1.name status in
-    let old = numbers_of v.1.name before in
-    let unsatisfied = upgrade_if (not (satisfies status v.1)) r v Unsatisfied in
-    let many = upgrade_if (are_many numbers) r v Many in
-    let lower = upgrade_if (are_lower old numbers) r v Lower in
+entry_empty : (before status : List Placed) (r : PlainRequest) (place : ℕ) (v : PlainVpkg) → is_empty (violated_entry before status r place v) ≡ is_upgraded before status v
+entry_empty before status r place v =
+    let numbers = numbers_of v.name status in
+    let old = numbers_of v.name before in
+    let at = λ (aspect : Aspect). at_request r rule.Upgrade place (Some aspect) (upgrade v) in
+    let unsatisfied = one_if (not (satisfies status v)) (at Unsatisfied) in
+    let many = one_if (are_many numbers) (at Many) in
+    let lower = one_if (are_lower old numbers) (at Lower) in
     is_empty-append (unsatisfied ++ many) lower
     ∙ ap (λ b. b && is_empty lower) (is_empty-append unsatisfied many)
-    ∙ (λ i. ((aspect_empty (not (satisfies status v.1)) r v Unsatisfied ∙ not_not (satisfies status v.1)) i
-    && (aspect_empty (are_many numbers) r v Many ∙ not_many numbers) i)
-    && (aspect_empty (are_lower old numbers) r v Lower ∙ not_lower old numbers) i)
+    ∙ (λ i. ((one_or_none (not (satisfies status v)) (at Unsatisfied) ∙ not_not (satisfies status v)) i
+    && (one_or_none (are_many numbers) (at Many) ∙ not_many numbers) i)
+    && (one_or_none (are_lower old numbers) (at Lower) ∙ not_lower old numbers) i)
 
 upgrade_empty : (before status : List Placed) (r : PlainRequest) → is_empty (violated_upgrade before status r) ≡ list_all (is_upgraded before status) r.upgrade
-upgrade_empty before status r = is_empty-flat_map (violated_entry before status r) (enumerate_from 1 r.upgrade)
-    ∙ list_all-same (λ v. is_empty (violated_entry before status r v)) (λ v. is_upgraded before status v.1) (λ v. entry_empty before status r v) (enumerate_from 1 r.upgrade)
+upgrade_empty before status r = is_empty-flat_map (λ e. violated_entry before status r e.0 e.1) (enumerate_from 1 r.upgrade)
+    ∙ list_all-same (λ e. is_empty (violated_entry before status r e.0 e.1)) (λ e. is_upgraded before status e.1) (λ e. entry_empty before status r e.0 e.1) (enumerate_from 1 r.upgrade)
     ∙ list_all-enumerate (is_upgraded before status) 1 r.upgrade
 
 install_empty : (status : List Placed) (r : PlainRequest) → is_empty (violated_install status r) ≡ list_all (satisfies status) r.install
@@ -149,7 +149,7 @@ solution_is_empty problem was_installed is_installed unknown =
     let s = proposal problem was_installed is_installed unknown in
     let ps = flat_map (package_instances s) (enumerate_from 1 s.problem.packages) in
     shuffle (is_empty s.unknown) (list_all (has_its_depends s.proposed) s.proposed) (list_all (has_no_conflict s.proposed) s.proposed)
-    (list_all (λ p. is_kept (holds_place s.proposed p.0) s.proposed p.1.keep p) s.initial)
+    (list_all (λ p. is_kept s.proposed p.1.keep p) s.initial)
     (list_all (satisfies s.proposed) s.problem.request.install) (list_all (λ v. not (satisfies s.proposed v)) s.problem.request.remove) (list_all (is_upgraded s.initial s.proposed) s.problem.request.upgrade)
     ∙ sym (is_empty-append (ps ++ request_instances s) (map unknown_instance s.unknown)
     ∙ ap (λ b. b && is_empty (map unknown_instance s.unknown)) (is_empty-append ps (request_instances s))

@@ -12,15 +12,16 @@ use Rattle.cudf_document.specs.Promises.Thin.{thinned, thin_package, thin_proble
 use Rattle.cudf_document.specs.Universe.{PlainPackage, PlainProblem, PlainRequest, package_at, package_id}
 use Rattle.cudf_document.proofs.ListLemmas.{list_any-map}
 use Rattle.cudf_universe.specs.Satisfaction.{Placed, members, numbers_of, package_pairs, satisfies, satisfies_clause}
+use Rattle.cudf_referee.specs.declared.key.Rule.TheVariants as rule
 use Rattle.cudf_referee.specs.declared.key.Aspect.TheVariants.{Unsatisfied, Many, Lower}
 use Rattle.cudf_referee.specs.Criteria.{universe, is_touched, each_once, names_of, versions_of, is_among, is_same_set, greatest, at_most_max, criteria}
-use Rattle.cudf_referee.specs.Entries.{those}
 use Rattle.cudf_document.specs.Documents.{is_empty}
+use Rattle.cudf_referee.specs.Instances.{upgrade}
 use Rattle.cudf_referee.specs.Promises.Laws.{ThinIsEnough}
 use Rattle.cudf_referee.specs.Proposals.{Proposal, proposal, holds_place}
-use Rattle.cudf_referee.specs.Violations.{has_package, violated_keep, package_rules, package_instances, are_many, are_lower, upgrade_if, violated_install, violated_remove, violated_upgrade, unknown_instance, listing}
+use Rattle.cudf_referee.specs.Violations.{at_each, has_package, violated_keep, package_instances, are_many, are_lower, one_if, at_request, violated_install, violated_remove, violated_upgrade, unknown_instance, listing}
 use Rattle.cudf_referee.proofs.ListLemmas.{filter-map, count-map}
-use Rattle.cudf_referee.proofs.ListingLemmas.{rules_of_members}
+use Rattle.cudf_referee.proofs.ListingLemmas.{package_rules, rules_of_members}
 use Rattle.cudf_referee.proofs.SolutionLemmas.{solution_is_empty}
 
 -- ---- lists
@@ -101,18 +102,18 @@ proposed_same k is n (x ∷ xs) covers = proposed_step (is n) n (thin_package k 
 -- ---- the listing
 
 -- keep asks nothing of what a package needs
-keep_same : (k : Id → Bool) (is : Bool) (status : List Placed) (keep : Keep) (n : ℕ) (x : PlainPackage)
-    → violated_keep is status keep (n, thin_package k x) ≡ violated_keep is status keep (n, x)
-keep_same k is status Version n x = refl
-keep_same k is status Package n x = refl
-keep_same k is status Feature n x = refl
-keep_same k is status Nothing n x = refl
+keep_same : (k : Id → Bool) (status : List Placed) (keep : Keep) (n : ℕ) (x : PlainPackage)
+    → violated_keep status keep (n, thin_package k x) ≡ violated_keep status keep (n, x)
+keep_same k status Version n x = refl
+keep_same k status Package n x = refl
+keep_same k status Feature n x = refl
+keep_same k status Nothing n x = refl
 
 -- the rules of a package ask for what it needs only where it is proposed
 rules_same : (k : Id → Bool) (was is : Bool) (status : List Placed) (n : ℕ) (x : PlainPackage) → (is ≡ true → k (package_id x) ≡ true)
     → package_rules was is status (n, thin_package k x) ≡ package_rules was is status (n, x)
 rules_same k was true status n x kept = ap (λ y. package_rules was true status (n, y)) (kept_whole k x (kept refl))
-rules_same k was false status n x kept = ap (λ vs. cond was vs []) (keep_same k false status x.keep n x)
+rules_same k was false status n x kept = ap (λ vs. cond was vs []) (keep_same k status x.keep n x)
 
 all_rules_same : (k : Id → Bool) (was is : ℕ → Bool) (status : List Placed) (n : ℕ) (xs : List PlainPackage) → Covers k is n xs
     → flat_map (λ p. package_rules (was p.0) (is p.0) status p) (enumerate_from n (map (thin_package k) xs))
@@ -126,17 +127,18 @@ all_rules_same k was is status n (x ∷ xs) covers =
 upgrade_same : (old before status : List Placed) (r : PlainRequest) → ((name : List ℕ) → numbers_of name old ≡ numbers_of name before)
     → violated_upgrade old status r ≡ violated_upgrade before status r
 upgrade_same old before status r same =
-    λ i. flat_map (λ v. upgrade_if (not (satisfies status v.1)) r v Unsatisfied ++ upgrade_if (are_many (numbers_of v.1.name status)) r v Many
-    ++ upgrade_if (are_lower (same v.1.name i) (numbers_of v.1.name status)) r v Lower) (enumerate_from 1 r.upgrade)
+    λ i. flat_map (λ v. one_if (not (satisfies status v.1)) (at_request r rule.Upgrade v.0 (Some Unsatisfied) (upgrade v.1))
+    ++ one_if (are_many (numbers_of v.1.name status)) (at_request r rule.Upgrade v.0 (Some Many) (upgrade v.1))
+    ++ one_if (are_lower (same v.1.name i) (numbers_of v.1.name status)) (at_request r rule.Upgrade v.0 (Some Lower) (upgrade v.1))) (enumerate_from 1 r.upgrade)
 
 -- proposals of the same proposed status for the same request are listed alike, where their packages are and where the upgrades are
 listing_same : (s t : Proposal) → s.problem.request ≡ t.problem.request → s.proposed ≡ t.proposed → s.unknown ≡ t.unknown
     → flat_map (package_instances s) (enumerate_from 1 s.problem.packages) ≡ flat_map (package_instances t) (enumerate_from 1 t.problem.packages)
     → violated_upgrade s.initial s.proposed s.problem.request ≡ violated_upgrade t.initial t.proposed t.problem.request → listing s ≡ listing t
 unfolding listing
-listing_same s t request proposed unknown packages upgrade =
+listing_same s t request proposed unknown packages upgrades =
     λ i. packages i
-    ++ (violated_install (proposed i) (request i) ++ violated_remove (proposed i) (request i) ++ upgrade i)
+    ++ (violated_install (proposed i) (request i) ++ violated_remove (proposed i) (request i) ++ upgrades i)
     ++ map unknown_instance (unknown i)
 
 -- ---- the counts
@@ -164,8 +166,8 @@ criteria_same s t proposed recommends has versions all names touched = λ i. rec
   changed = at_most_max (count_by (λ name. not (is_same_set (versions name i) (versions_of name (proposed i)))) (names i));
   notuptodate = at_most_max (count_by (λ name. has_package (proposed i) name
       && not (is_among (versions_of name (proposed i)) (greatest (all name i)))) (names i));
-  unsat_recommends = at_most_max (length {A = List ℕ × ℕ × ℕ} (flat_map (λ p. map (λ c. (p.1.name, p.1.version, c.0))
-      (those (λ clause. not (satisfies_clause (proposed i) clause)) (unwrap_or (option_or p.1.recommends (recommends i)) []))) (proposed i)));
+  unsat_recommends = at_most_max (length {A = List ℕ × ℕ × ℕ} (flat_map (λ p. at_each (λ place clause. (p.1.name, p.1.version, place))
+      (λ clause. not (satisfies_clause (proposed i) clause)) (unwrap_or (option_or p.1.recommends (recommends i)) [])) (proposed i)));
   touched = at_most_max (touched i);
 }
 
@@ -195,10 +197,10 @@ thin_is_enough problem k was is unknown covers =
     ∙ ap (λ status. flat_map (λ p. package_rules (was p.0) (is p.0) status p) (enumerate_from 1 thin.problem.packages)) proposed
     ∙ all_rules_same k was is whole.proposed 1 ps covered
     ∙ sym (rules_of_members was is ps whole.proposed) in
-    let upgrade : violated_upgrade thin.initial thin.proposed thin.problem.request ≡ violated_upgrade whole.initial whole.proposed whole.problem.request
+    let upgrades : violated_upgrade thin.initial thin.proposed thin.problem.request ≡ violated_upgrade whole.initial whole.proposed whole.problem.request
     = (λ i. violated_upgrade thin.initial (proposed i) problem.request)
     ∙ upgrade_same thin.initial whole.initial whole.proposed problem.request (λ name. ap (numbers_of name) initial ∙ numbers_same k name whole.initial) in
-    let listing_is = listing_same thin whole refl proposed refl packages upgrade in
+    let listing_is = listing_same thin whole refl proposed refl packages upgrades in
     record {
       proposed_are = proposed;
       listing_is = listing_is;

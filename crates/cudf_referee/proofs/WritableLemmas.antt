@@ -1,5 +1,5 @@
 -- The keys of the listing can be written, where the places in lists and the numbers of stanzas are those of a `u64`.
-use Rattle.std.proofs.Common.{◌≡◌, ℕ, ◌+◌, ◌<◌, ◌≤◌, ◌^◌, Bool, true, false, ◌&&◌, nat_lt, List, [], ◌∷◌, ◌++◌, length, get_or, map, cond, Option, Some, None, arith, refl, sym, subst}
+use Rattle.std.proofs.Common.{◌≡◌, ℕ, ◌+◌, ◌<◌, ◌≤◌, ◌^◌, Bool, true, false, ◌&&◌, ◌∙◌, nat_lt, List, [], ◌∷◌, ◌++◌, length, get_or, map, cond, Option, Some, None, arith, refl, sym, subst}
 use Rattle.std.specs.Prelude.{All, filter_map}
 use Rattle.std.specs.List.{flat_map, enumerate_from, cons_option}
 use Rattle.std.proofs.lemmas.Bool.{ltb-true, lt-ltb}
@@ -19,10 +19,10 @@ use Rattle.cudf_referee.specs.declared.key.Aspect.{Aspect}
 use Rattle.cudf_referee.specs.declared.key.Aspect.TheVariants.{Unsatisfied, Many, Lower}
 use Rattle.cudf_referee.specs.Instances.{PlainInstance}
 use Rattle.cudf_referee.specs.Promises.Keys.{IsWritable}
-use Rattle.cudf_referee.specs.Keys.{fits_part, fits_aspect}
+use Rattle.cudf_referee.specs.Keys.{package_key, request_key, fits}
 use Rattle.cudf_referee.specs.Proposals.{Proposal, holds_place}
 use Rattle.cudf_referee.specs.Violations.{listing}
-use Rattle.cudf_referee.specs.Promises.Sites.{Site, conjunct, conflicts_entry, kept_version, kept_package, kept_feature, install_entry, remove_entry, upgrade_entry, unknown_stanza, package_key, request_key, site_key, needed_sites, kept_sites, package_sites, upgrade_sites, request_sites, sites}
+use Rattle.cudf_referee.specs.Promises.Sites.{Site, conjunct, conflicts_entry, kept_version, kept_package, kept_feature, install_entry, remove_entry, upgrade_entry, unknown_stanza, site_key, needed_sites, kept_sites, package_sites, upgrade_sites, request_sites, sites}
 use Rattle.cudf_referee.specs.Working.Judged.{instance_at, is_violated, judged}
 use Rattle.cudf_referee.specs.Working.Numbered.{IsListed, IsNumbered}
 use Rattle.cudf_referee.specs.Working.Places.{stanza_numbers}
@@ -60,9 +60,9 @@ if_written false xs all = All-nil Written
 -- ---- packages
 
 package_written : (p : Placed) (m : ℕ) (r : Rule) → 0 < p.0 → p.0 < 2 ^ 64 → 0 < m → m < 2 ^ 64
-    → ((n : ℕ) → fits_part (part.Package n) r ≡ true) → fits_aspect r None ≡ true → IsWritable (package_key p r m)
-package_written p m r placed low counted small fits plain = record {
-  fits = λ i. fits p.0 i && lt-ltb 0 p.0 placed i && lt-ltb 0 m counted i && plain i;
+    → ((n : ℕ) → fits (part.Package n) r None ≡ nat_lt 0 n) → IsWritable (package_key p.0 r m)
+package_written p m r placed low counted small fit = record {
+  fits = λ i. (fit p.0 ∙ lt-ltb 0 p.0 placed) i && lt-ltb 0 m counted i;
   number = low;
   place = small;
 }
@@ -75,24 +75,24 @@ package_sites_written s p placed low listed =
   where
     needed : All Written (needed_sites p)
     needed = All-append Written (map (λ c. conjunct p c.0 c.1) (enumerate_from 1 p.1.depends)) (map (λ v. conflicts_entry p v.0 v.1) (enumerate_from 1 p.1.conflicts))
-        (made_written (λ c. conjunct p c.0 c.1) (λ x counted small. package_written p x.0 rule.Depends placed low counted small (λ n. refl) refl) 1 p.1.depends (omega arith) (omega (arith, listed.depends)))
-        (made_written (λ v. conflicts_entry p v.0 v.1) (λ x counted small. package_written p x.0 rule.Conflicts placed low counted small (λ n. refl) refl) 1 p.1.conflicts (omega arith) (omega (arith, listed.conflicts)))
+        (made_written (λ c. conjunct p c.0 c.1) (λ x counted small. package_written p x.0 rule.Depends placed low counted small (λ n. refl)) 1 p.1.depends (omega arith) (omega (arith, listed.depends)))
+        (made_written (λ v. conflicts_entry p v.0 v.1) (λ x counted small. package_written p x.0 rule.Conflicts placed low counted small (λ n. refl)) 1 p.1.conflicts (omega arith) (omega (arith, listed.conflicts)))
 
-    kept_one : IsWritable (package_key p rule.Keep 1)
-    kept_one = package_written p 1 rule.Keep placed low (omega arith) (omega arith) (λ n. refl) refl
+    kept_one : IsWritable (package_key p.0 rule.Keep 1)
+    kept_one = package_written p 1 rule.Keep placed low (omega arith) (omega arith) (λ n. refl)
 
     kept : (k : Keep) → All Written (kept_sites k p)
     kept Version = All-cons Written (kept_version p) [] kept_one (All-nil Written)
     kept Package = All-cons Written (kept_package p) [] kept_one (All-nil Written)
-    kept Feature = made_written (λ v. kept_feature p v.0 v.1) (λ x counted small. package_written p x.0 rule.Keep placed low counted small (λ n. refl) refl) 1 p.1.provides (omega arith) (omega (arith, listed.provides))
+    kept Feature = made_written (λ v. kept_feature p v.0 v.1) (λ x counted small. package_written p x.0 rule.Keep placed low counted small (λ n. refl)) 1 p.1.provides (omega arith) (omega (arith, listed.provides))
     kept Nothing = All-nil Written
 
 -- ---- the request
 
 request_written : (m : ℕ) (r : Rule) (a : Option Aspect) → 0 < m → m < 2 ^ 64
-    → fits_part part.Request r ≡ true → fits_aspect r a ≡ true → IsWritable (request_key r m a)
-request_written m r a counted small fits aspect = record {
-  fits = λ i. fits i && true && lt-ltb 0 m counted i && aspect i;
+    → fits part.Request r a ≡ true → IsWritable (request_key r m a)
+request_written m r a counted small fit = record {
+  fits = λ i. fit i && lt-ltb 0 m counted i;
   number = omega arith;
   place = small;
 }
@@ -107,14 +107,14 @@ entry_written v counted small any =
     (All-cons Written (upgrade_entry v.0 v.1 Lower) [] (aspect Lower) (All-nil Written)))
   where
     aspect : (a : Aspect) → IsWritable (request_key rule.Upgrade v.0 (Some a))
-    aspect a = request_written v.0 rule.Upgrade (Some a) counted small refl refl
+    aspect a = request_written v.0 rule.Upgrade (Some a) counted small refl
 
 request_sites_written : (s : Proposal) → IsNumbered s → All Written (request_sites s.problem.request)
 request_sites_written s n =
     All-append Written (wanted ++ unwanted) (flat_map upgrade_sites (enumerate_from 1 s.problem.request.upgrade))
     (All-append Written wanted unwanted
-    (made_written (λ v. install_entry v.0 v.1) (λ x counted small. request_written x.0 rule.Install None counted small refl refl) 1 s.problem.request.install (omega arith) (omega (arith, n.install)))
-    (made_written (λ v. remove_entry v.0 v.1) (λ x counted small. request_written x.0 rule.Remove None counted small refl refl) 1 s.problem.request.remove (omega arith) (omega (arith, n.remove))))
+    (made_written (λ v. install_entry v.0 v.1) (λ x counted small. request_written x.0 rule.Install None counted small refl) 1 s.problem.request.install (omega arith) (omega (arith, n.install)))
+    (made_written (λ v. remove_entry v.0 v.1) (λ x counted small. request_written x.0 rule.Remove None counted small refl) 1 s.problem.request.remove (omega arith) (omega (arith, n.remove))))
     (flat_written Any upgrade_sites entry_written 1 s.problem.request.upgrade (omega arith) (omega (arith, n.upgrade)) (λ k d inside. tt))
   where
     wanted : List Site
@@ -133,7 +133,7 @@ unknown_written n [] ascends small = All-nil Written
 unknown_written n (u ∷ us) ascends small =
     All-cons Written (unknown_stanza u) (map unknown_stanza us)
     (record {
-      fits = λ i. true && true && lt-ltb 0 u.stanza (omega (arith, ltb-true n u.stanza (and_left (nat_lt n u.stanza) (ascend_above u.stanza us) ascends))) i && true;
+      fits = lt-ltb 0 u.stanza (omega (arith, ltb-true n u.stanza (and_left (nat_lt n u.stanza) (ascend_above u.stanza us) ascends)));
       number = omega arith;
       place = All-head IsSmall u us small;
     })

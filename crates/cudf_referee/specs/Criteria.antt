@@ -4,9 +4,8 @@ use Rattle.std.specs.Prelude.{ℕ, ◌==◌, Bool, not, ◌&&◌, ◌||◌, List
 use Rattle.std.specs.List.{list_any, list_all, flat_map, count_by, enumerate_from}
 use Rattle.cudf_universe.specs.Satisfaction.{Placed, satisfies_clause}
 use Rattle.cudf_referee.specs.declared.criteria.Criteria.{Criteria}
-use Rattle.cudf_referee.specs.Entries.{those}
 use Rattle.cudf_referee.specs.Proposals.{Proposal, holds_place, recommended}
-use Rattle.cudf_referee.specs.Violations.{has_package}
+use Rattle.cudf_referee.specs.Violations.{at_each, has_package}
 
 -- ---- names and versions
 
@@ -63,7 +62,7 @@ is_not_up_to_date s name =
 -- that the proposed status doesn't satisfy
 abbrev pub unsatisfied_recommends : Proposal → List (List ℕ × ℕ × ℕ)
 unsatisfied_recommends s =
-    flat_map (λ p. map (λ c. (p.1.name, p.1.version, c.0)) (those (λ clause. not (satisfies_clause s.proposed clause)) (recommended s p))) s.proposed
+    flat_map (λ p. at_each (λ place clause. (p.1.name, p.1.version, place)) (λ clause. not (satisfies_clause s.proposed clause)) (recommended s p)) s.proposed
 
 -- packages that are in one of the two statuses and not in the other; the name is own
 abbrev pub is_touched : Proposal → Placed → Bool

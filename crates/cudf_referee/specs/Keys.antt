@@ -18,32 +18,32 @@ pub record PlainKey : Type 0 where
   pub place : ℕ
   pub aspect : Option Aspect
 
+-- of a package's rule, of one of the request, and of an unknown stanza
+abbrev pub package_key : ℕ → Rule → ℕ → PlainKey
+package_key n rule place = record { part = Package n; rule = rule; place = place; aspect = None }
+
+abbrev pub request_key : Rule → ℕ → Option Aspect → PlainKey
+request_key rule place aspect = record { part = Request; rule = rule; place = place; aspect = aspect }
+
+abbrev pub unknown_key : ℕ → PlainKey
+unknown_key stanza = record { part = Solution; rule = Unknown; place = stanza; aspect = None }
+
 -- ---- which parts fit each other
 
-abbrev pub fits_part : Part → Rule → Bool
-fits_part (Package n) Depends = true
-fits_part (Package n) Conflicts = true
-fits_part (Package n) Keep = true
-fits_part Request Install = true
-fits_part Request Remove = true
-fits_part Request Upgrade = true
-fits_part Solution Unknown = true
-fits_part part rule = false
+-- a package's number is from 1, and upgrade alone has an aspect
+abbrev pub fits : Part → Rule → Option Aspect → Bool
+fits (Package n) Depends None = nat_lt 0 n
+fits (Package n) Conflicts None = nat_lt 0 n
+fits (Package n) Keep None = nat_lt 0 n
+fits Request Install None = true
+fits Request Remove None = true
+fits Request Upgrade (Some aspect) = true
+fits Solution Unknown None = true
+fits part rule aspect = false
 
--- upgrade alone has an aspect
-abbrev pub fits_aspect : Rule → Option Aspect → Bool
-fits_aspect Upgrade (Some aspect) = true
-fits_aspect Upgrade None = false
-fits_aspect rule None = true
-fits_aspect rule (Some aspect) = false
-
--- numbers are from 1
-abbrev pub is_counted : Part → Bool
-is_counted (Package n) = nat_lt 0 n
-is_counted part = true
-
+-- places are from 1
 abbrev pub is_key : Part → Rule → ℕ → Option Aspect → Bool
-is_key part rule place aspect = fits_part part rule && is_counted part && nat_lt 0 place && fits_aspect rule aspect
+is_key part rule place aspect = fits part rule aspect && nat_lt 0 place
 
 -- ---- order
 

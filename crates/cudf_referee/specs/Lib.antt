@@ -1,7 +1,6 @@
 pub mod Aims
 pub mod Comparing
 pub mod Criteria
-pub mod Entries
 pub mod Instances
 pub mod KeyViews
 pub mod Keys

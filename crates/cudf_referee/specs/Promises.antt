@@ -4,5 +4,6 @@ pub mod Laws
 pub mod Pages
 pub mod PositionViews
 pub mod Sites
+pub mod Texts
 pub mod Views
 pub mod Walks

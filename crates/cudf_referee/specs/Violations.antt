@@ -7,85 +7,78 @@ use Rattle.std.specs.Ordering.{is_lt}
 use Rattle.cudf_value.specs.Vpkgs.{PlainVpkg}
 use Rattle.cudf_document.specs.declared.package.Keep.{Keep}
 use Rattle.cudf_document.specs.declared.package.Keep.TheVariants.{Version, Package, Feature, Nothing}
+use Rattle.cudf_document.specs.Ids.{Id}
 use Rattle.cudf_document.specs.Universe.{PlainRequest}
 use Rattle.cudf_document.specs.Statuses.{PlainUnknown}
-use Rattle.cudf_universe.specs.Satisfaction.{Placed, without, numbers_of, satisfies, satisfies_clause, first_meeting, other_than}
+use Rattle.cudf_universe.specs.Satisfaction.{Placed, without, numbers_of, satisfies, satisfies_clause, first_meeting}
 use Rattle.cudf_referee.specs.declared.key.Part.{Part}
 use Rattle.cudf_referee.specs.declared.key.Part.TheVariants as part
 use Rattle.cudf_referee.specs.declared.key.Rule.{Rule}
 use Rattle.cudf_referee.specs.declared.key.Rule.TheVariants as rule
 use Rattle.cudf_referee.specs.declared.key.Aspect.{Aspect}
 use Rattle.cudf_referee.specs.declared.key.Aspect.TheVariants.{Unsatisfied, Many, Lower}
-use Rattle.cudf_referee.specs.Entries.{those}
 use Rattle.cudf_referee.specs.Instances.{PlainWhat, needs, conflicts_with, keep_version, keep_package, keep_feature, install, remove, upgrade, unknown, PlainInstance}
-use Rattle.cudf_referee.specs.Keys.{PlainKey, key_cmp}
+use Rattle.cudf_referee.specs.Keys.{PlainKey, package_key, request_key, unknown_key, key_cmp}
 use Rattle.cudf_referee.specs.Proposals.{holds_place, Proposal}
+
+-- ---- instances
+
+-- what is made of the place and the entry, for each entry that passes a test
+abbrev pub at_each : {A B : Type 0} → (ℕ → A → B) → (A → Bool) → List A → List B
+at_each make test entries = map (λ e. make e.0 e.1) (filter (λ e. test e.1) (enumerate_from 1 entries))
+
+-- an instance, of which the package or pair and what is wrong are told
+abbrev pub instance : PlainKey → ℕ → Option Id → PlainWhat → PlainInstance
+instance key line subject what = record { key = key; line = line; subject = subject; what = what }
+
+-- the one instance, where the test holds
+abbrev pub one_if : Bool → PlainInstance → List PlainInstance
+one_if test i = if test then i ∷ [] else []
 
 -- ---- packages
 
 -- an instance of a package's rule at this place
 abbrev pub at_package : Placed → Rule → ℕ → PlainWhat → PlainInstance
-at_package p rule place what = record {
-  key = record { part = part.Package p.0; rule = rule; place = place; aspect = None };
-  line = p.1.line;
-  subject = Some (p.1.name, p.1.version);
-  what = what;
-}
+at_package p rule place what = instance (package_key p.0 rule place) p.1.line (Some (p.1.name, p.1.version)) what
 
 -- depends: a conjunct that the status doesn't satisfy
 abbrev pub violated_depends : List Placed → Placed → List PlainInstance
-violated_depends status p = map (λ c. at_package p rule.Depends c.0 (needs c.1)) (those (λ clause. not (satisfies_clause status clause)) p.1.depends)
+violated_depends status p = at_each (λ place clause. at_package p rule.Depends place (needs clause)) (λ clause. not (satisfies_clause status clause)) p.1.depends
 
 -- conflicts: an entry that the status without the package satisfies
 abbrev pub violated_conflicts : List Placed → Placed → List PlainInstance
-violated_conflicts status p = map (λ v. at_package p rule.Conflicts v.0 (conflicts_with v.1)) (those (satisfies (without p.0 status)) p.1.conflicts)
+violated_conflicts status p = at_each (λ place v. at_package p rule.Conflicts place (conflicts_with v)) (satisfies (without p.0 status)) p.1.conflicts
 
 -- the status has a package of this name
 abbrev pub has_package : List Placed → List ℕ → Bool
 has_package status name = list_any (λ p. bytes_eq p.1.name name) status
 
--- the one instance of keep, where the test holds
-abbrev pub keep_if : Bool → Placed → PlainWhat → List PlainInstance
-keep_if test p what = if test then at_package p rule.Keep 1 what ∷ [] else []
-
--- an entry of the package's `provides` that the status doesn't satisfy
-abbrev pub violated_features : List Placed → Placed → List PlainInstance
-violated_features status p = map (λ v. at_package p rule.Keep v.0 (keep_feature v.1)) (those (λ v. not (satisfies status v)) p.1.provides)
-
 -- keep: the package isn't installed, no package of its name is, or an entry of its `provides` isn't satisfied
-abbrev pub violated_keep : Bool → List Placed → Keep → Placed → List PlainInstance
-violated_keep is_installed status Version p = keep_if (not is_installed) p keep_version
-violated_keep is_installed status Package p = keep_if (not (has_package status p.1.name)) p keep_package
-violated_keep is_installed status Feature p = violated_features status p
-violated_keep is_installed status Nothing p = []
+abbrev pub violated_keep : List Placed → Keep → Placed → List PlainInstance
+violated_keep status Version p = one_if (not (holds_place status p.0)) (at_package p rule.Keep 1 keep_version)
+violated_keep status Package p = one_if (not (has_package status p.1.name)) (at_package p rule.Keep 1 keep_package)
+violated_keep status Feature p = at_each (λ place v. at_package p rule.Keep place (keep_feature v)) (λ v. not (satisfies status v)) p.1.provides
+violated_keep status Nothing p = []
 
 -- the instances of one package: depends and conflicts where it is to be installed, keep where it was
-abbrev pub package_rules : Bool → Bool → List Placed → Placed → List PlainInstance
-package_rules was_installed is_installed status p =
-    (if is_installed then violated_depends status p ++ violated_conflicts status p else [])
-    ++ (if was_installed then violated_keep is_installed status p.1.keep p else [])
-
 abbrev pub package_instances : Proposal → Placed → List PlainInstance
-package_instances s p = package_rules (holds_place s.initial p.0) (holds_place s.proposed p.0) s.proposed p
+package_instances s p =
+    (if holds_place s.proposed p.0 then violated_depends s.proposed p ++ violated_conflicts s.proposed p else [])
+    ++ (if holds_place s.initial p.0 then violated_keep s.proposed p.1.keep p else [])
 
 -- ---- the request
 
 -- an instance of a rule of the request at this place
 abbrev pub at_request : PlainRequest → Rule → ℕ → Option Aspect → PlainWhat → PlainInstance
-at_request request rule place aspect what = record {
-  key = record { part = part.Request; rule = rule; place = place; aspect = aspect };
-  line = request.line;
-  subject = None;
-  what = what;
-}
+at_request request rule place aspect what = instance (request_key rule place aspect) request.line None what
 
 -- install: an entry that the status doesn't satisfy
 abbrev pub violated_install : List Placed → PlainRequest → List PlainInstance
-violated_install status r = map (λ v. at_request r rule.Install v.0 None (install v.1)) (those (λ v. not (satisfies status v)) r.install)
+violated_install status r = at_each (λ place v. at_request r rule.Install place None (install v)) (λ v. not (satisfies status v)) r.install
 
 -- remove: an entry that it satisfies
 abbrev pub violated_remove : List Placed → PlainRequest → List PlainInstance
-violated_remove status r = map (λ v. at_request r rule.Remove v.0 None (remove v.1)) (those (satisfies status) r.remove)
+violated_remove status r = at_each (λ place v. at_request r rule.Remove place None (remove v)) (satisfies status) r.remove
 
 -- two of the numbers are different
 abbrev pub are_many : List ℕ → Bool
@@ -95,19 +88,15 @@ are_many numbers = list_any (λ m. list_any (λ n. not (m == n)) numbers) number
 abbrev pub are_lower : List ℕ → List ℕ → Bool
 are_lower before numbers = list_any (λ n. list_any (λ m. nat_lt n m) before) numbers
 
--- the instance of one aspect of an entry, where the test holds
-abbrev pub upgrade_if : Bool → PlainRequest → ℕ × PlainVpkg → Aspect → List PlainInstance
-upgrade_if test r v aspect = if test then at_request r rule.Upgrade v.0 (Some aspect) (upgrade v.1) ∷ [] else []
-
 -- upgrade: an entry that isn't satisfied, whose name has several numbers, or one that is lower than before
-abbrev pub violated_entry : List Placed → List Placed → PlainRequest → ℕ × PlainVpkg → List PlainInstance
-violated_entry before status r v =
-    upgrade_if (not (satisfies status v.1)) r v Unsatisfied
-    ++ upgrade_if (are_many (numbers_of v.1.name status)) r v Many
-    ++ upgrade_if (are_lower (numbers_of v.1.name before) (numbers_of v.1.name status)) r v Lower
+abbrev pub violated_entry : List Placed → List Placed → PlainRequest → ℕ → PlainVpkg → List PlainInstance
+violated_entry before status r place v =
+    one_if (not (satisfies status v)) (at_request r rule.Upgrade place (Some Unsatisfied) (upgrade v))
+    ++ one_if (are_many (numbers_of v.name status)) (at_request r rule.Upgrade place (Some Many) (upgrade v))
+    ++ one_if (are_lower (numbers_of v.name before) (numbers_of v.name status)) (at_request r rule.Upgrade place (Some Lower) (upgrade v))
 
 abbrev pub violated_upgrade : List Placed → List Placed → PlainRequest → List PlainInstance
-violated_upgrade before status r = flat_map (violated_entry before status r) (enumerate_from 1 r.upgrade)
+violated_upgrade before status r = flat_map (λ e. violated_entry before status r e.0 e.1) (enumerate_from 1 r.upgrade)
 
 abbrev pub request_instances : Proposal → List PlainInstance
 request_instances s =
@@ -119,12 +108,7 @@ request_instances s =
 
 -- an unknown stanza
 abbrev pub unknown_instance : PlainUnknown → PlainInstance
-unknown_instance u = record {
-  key = record { part = part.Solution; rule = rule.Unknown; place = u.stanza; aspect = None };
-  line = u.line;
-  subject = Some (u.name, u.version);
-  what = unknown;
-}
+unknown_instance u = instance (unknown_key u.stanza) u.line (Some (u.name, u.version)) unknown
 
 -- ---- all of them
 
@@ -141,17 +125,17 @@ rest key s = filter (λ i. is_lt (key_cmp key i.key)) (listing s)
 
 -- ---- the package that meets an entry
 
--- the place of the package that a part is
-abbrev pub package_place : Part → Option ℕ
-package_place (part.Package n) = Some n
-package_place part.Request = None
-package_place part.Solution = None
+-- a status less the package that a part is
+abbrev pub others : Part → List Placed → List Placed
+others (part.Package n) status = without n status
+others part.Request status = status
+others part.Solution status = status
 
-abbrev pub met_by_what : List Placed → Option ℕ → PlainWhat → Option ℕ
-met_by_what status own (conflicts_with v) = first_meeting (other_than own status) v
+abbrev pub met_by_what : List Placed → Part → PlainWhat → Option ℕ
+met_by_what status own (conflicts_with v) = first_meeting (others own status) v
 met_by_what status own (remove v) = first_meeting status v
 met_by_what status own what = None
 
 -- the first package, other than the instance's own, that alone satisfies what it conflicts with or what is to be removed
 abbrev pub met_by : List Placed → PlainInstance → Option ℕ
-met_by status i = met_by_what status (package_place i.key.part) i.what
+met_by status i = met_by_what status i.key.part i.what

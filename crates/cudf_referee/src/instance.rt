@@ -1,4 +1,7 @@
 //! Violated instances of rules.
+
+mod printing;
+
 use crate::key::{Aspect, Key, Part, Rule};
 use cudf_document::{Package, Request, Unknown};
 use cudf_value::{Clause, Vpkg};
@@ -41,9 +44,10 @@ pub enum What<'p, 't> {
 }
 
 impl<'p, 't> Instance<'p, 't> {
-    ghost use Rattle.std.specs.Prelude.{◌≡◌, ◌<◌, IsTrue};
+    ghost use Rattle.std.specs.Prelude.{◌≡◌, ◌<◌, None, IsTrue};
     ghost use Rattle.cudf_document.specs.Promises.Views.{package_view, request_view, unknown_view};
-    ghost use Rattle.cudf_referee.specs.Promises.Keys.{is_package_rule, fits_request};
+    ghost use Rattle.cudf_referee.specs.declared.key.Part.TheVariants as part;
+    ghost use Rattle.cudf_referee.specs.Keys.{fits};
     ghost use Rattle.cudf_referee.specs.Violations.{at_package, at_request, unknown_instance};
     ghost use Rattle.cudf_referee.specs.Promises.Views.{instance_view, what_view};
 
@@ -55,9 +59,8 @@ impl<'p, 't> Instance<'p, 't> {
         number: u64,
         what: What<'p, 't>,
     ) -> Self
-        requires placed { 0 < place }
         requires counted { 0 < number }
-        requires fits { IsTrue (is_package_rule rule) }
+        requires fits { IsTrue (fits (part.Package place) rule None) }
 
         ensures { instance_view result ≡ at_package (place, package_view «package».now) rule number (what_view what.entry) }
     {
@@ -78,7 +81,7 @@ impl<'p, 't> Instance<'p, 't> {
         what: What<'p, 't>,
     ) -> Self
         requires counted { 0 < number }
-        requires fits { IsTrue (fits_request rule aspect) }
+        requires fits { IsTrue (fits part.Request rule aspect) }
 
         ensures { instance_view result ≡ at_request (request_view request.now) rule number aspect (what_view what.entry) }
     {

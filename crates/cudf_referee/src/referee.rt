@@ -1,8 +1,10 @@
 //! The referee of a proposed status: its verdict and its counts, and the walk over the violated instances.
-ghost use Rattle.std.specs.Prelude.{◌≡◌, map, IfOk};
+ghost use Rattle.std.specs.Prelude.{◌≡◌, List, map, IfOk};
 ghost use Rattle.cudf_document.specs.Promises.Views.{package_view};
 ghost use Rattle.cudf_document.specs.Documents.{is_empty};
-ghost use Rattle.cudf_referee.specs.Violations.{package_place};
+ghost use Rattle.cudf_universe.specs.Promises.Members.{other_than};
+ghost use Rattle.cudf_universe.specs.Satisfaction.{Placed};
+ghost use Rattle.cudf_referee.specs.Violations.{others};
 ghost use Rattle.cudf_referee.specs.Working.Named.{has_kept_name};
 ghost use Rattle.cudf_referee.specs.Promises.Walks.{left};
 
@@ -20,6 +22,7 @@ use cudf_universe::Index;
 pub use instances::Instances;
 use numbered::keys_can_be_written;
 use std::alloc::{AllocError, Global};
+use std::fmt;
 use std::marker::Model;
 
 /// The referee of a proposed status for a problem. Contracts see what it judges.
@@ -57,6 +60,16 @@ impl<'p, 't> Model for Referee<'p, 't> {
         × IsNumbered (put_forward r.problem.now r.now (map unknown_view r.solution.now.unknown.items)) };
 }
 
+/// The verdict and the counts.
+impl fmt::Debug for Referee<'_, '_> {
+    fn fmt<W: fmt::Write>(&self, f: &mut fmt::Formatter<W>) -> fmt::Result {
+        f.debug_struct("Referee")
+            .field("is_solution", &self.verdict)
+            .field("criteria", &self.criteria)
+            .finish_non_exhaustive()
+    }
+}
+
 /// For each package of the universe, whether its name is to be kept, and the status has a package of it.
 fn named_in(
     alloc: Global,
@@ -83,7 +96,7 @@ fn has_kept_name(package: &Package<'_>, status: &Index<'_, '_>) -> bool
 
 /// The place of the package that the part is.
 fn own_place(part: Part) -> Option<u64>
-    ensures { result ≡ package_place part }
+    ensures { (status : List Placed) → other_than result status ≡ others part status }
 {
     match part {
         Part::Package(place) => Some(place),
@@ -188,8 +201,9 @@ impl<'p, 't> Referee<'p, 't> {
         self.instances().behind(key)
     }
 
-    /// For an instance of conflicts or remove, the place of the first package of the proposed status, other than the
-    /// instance's own, that alone satisfies the entry. `None` for the other rules.
+    /// For an instance of conflicts or remove, the place (from 1) of the first package of the proposed status, other
+    /// than the instance's own, that alone satisfies the entry. `None` for the other rules, and where no package alone
+    /// satisfies it.
     pub fn met_by(&self, instance: &Instance<'_, '_>) -> Option<u64>
         ensures { result ≡ met_by self.entry.now.proposed (instance_view instance.now) }
     {

@@ -6,7 +6,8 @@ use Rattle.std.proofs.lemmas.List.Folds.{list_all-append}
 use Rattle.std.specs.Option.{IfSome}
 use Rattle.std.proofs.lemmas.Bool.{true≢false, or_cases, and_parts, or_left, or_right}
 use Rattle.cudf_value.specs.Vpkgs.{PlainVpkg}
-use Rattle.cudf_universe.specs.Satisfaction.{Placed, other_than, meets_alone, is_met_by, satisfies, without}
+use Rattle.cudf_universe.specs.Promises.Members.{other_than}
+use Rattle.cudf_universe.specs.Satisfaction.{Placed, meets_alone, is_met_by, satisfies, without}
 use Rattle.cudf_universe.specs.Working.Members.{entry_meets, provision_meets, is_other}
 use Rattle.cudf_universe.specs.Working.Kept.{names_given, places_of, IsSole}
 use Rattle.cudf_universe.specs.Working.Gathering.{sole_place}

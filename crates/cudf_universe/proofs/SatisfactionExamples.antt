@@ -6,7 +6,8 @@ use Rattle.cudf_value.specs.Vpkgs.{PlainVpkg}
 use Rattle.cudf_value.specs.Formulas.{truth_atom, falsehood_atom, named}
 use Rattle.cudf_document.specs.declared.package.Keep.TheVariants.{Nothing}
 use Rattle.cudf_document.specs.Universe.{PlainPackage}
-use Rattle.cudf_universe.specs.Satisfaction.{Placed, members, without, gives, gives_all_versions, numbers_of, satisfies, satisfies_clause, first_meeting, other_than}
+use Rattle.cudf_universe.specs.Satisfaction.{Placed, members, without, gives, gives_all_versions, numbers_of, satisfies, satisfies_clause, first_meeting}
+use Rattle.cudf_universe.specs.Promises.Members.{other_than}
 
 -- a vpkg without a bound, and with one
 abbrev every : List ℕ → PlainVpkg

@@ -9,7 +9,8 @@ use Rattle.std.proofs.lemmas.List.Folds.{find-append}
 use Rattle.cudf_value.specs.declared.relop.Relop.{Relop}
 use Rattle.cudf_value.specs.Vpkgs.{PlainVpkg, meets}
 use Rattle.cudf_document.proofs.ListLemmas.{find_none}
-use Rattle.cudf_universe.specs.Satisfaction.{Placed, other_than, meets_alone, first_meeting, is_met_by, is_below_one}
+use Rattle.cudf_universe.specs.Promises.Members.{other_than}
+use Rattle.cudf_universe.specs.Satisfaction.{Placed, meets_alone, first_meeting, is_met_by, is_below_one}
 use Rattle.cudf_universe.specs.Working.Gathering.{provisions_of, own_entry, given_by, given_of, sole_place, Completes}
 use Rattle.cudf_universe.specs.Working.Members.{entry_meets, provision_meets, is_other}
 use Rattle.cudf_universe.specs.Working.FirstPlaces.{number_meets, meets_beside, first_place_of, is_sole, may_meet}

@@ -85,8 +85,3 @@ meets_alone v p = satisfies (p ∷ []) v
 -- the least place of a status whose package alone satisfies the vpkg
 abbrev pub first_meeting : List Placed → PlainVpkg → Option ℕ
 first_meeting status v = option_map (λ p. p.0) (find (meets_alone v) status)
-
--- a status less the package at a place, if one is named
-abbrev pub other_than : Option ℕ → List Placed → List Placed
-other_than None status = status
-other_than (Some place) status = without place status

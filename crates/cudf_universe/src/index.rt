@@ -5,8 +5,8 @@ ghost use Rattle.std.specs.FinSet as set;
 ghost use Rattle.cudf_value.specs.Promises.Views.{atom_view, clause_view, vpkg_view};
 ghost use Rattle.cudf_value.specs.Vpkgs.{meets};
 ghost use Rattle.cudf_universe.specs.Promises.Prices.{digits, search_cost, atom_cost, atom_lookups, clause_cost, clause_lookups, own_cost};
-ghost use Rattle.cudf_universe.specs.Satisfaction.{members, satisfies, satisfies_atom, satisfies_clause, without, first_meeting, other_than, numbers_of, gives_all_versions};
-ghost use Rattle.cudf_universe.specs.Promises.Members.{IsLeast, IsGreatest};
+ghost use Rattle.cudf_universe.specs.Satisfaction.{members, satisfies, satisfies_atom, satisfies_clause, without, first_meeting, numbers_of, gives_all_versions};
+ghost use Rattle.cudf_universe.specs.Promises.Members.{IsLeast, IsGreatest, other_than};
 ghost use Rattle.cudf_universe.specs.Working.Gathering.{row_of, given_of};
 ghost use Rattle.cudf_universe.specs.Working.Kept.{Keeps};
 ghost use Rattle.cudf_universe.specs.Working.Members.{member_view};
@@ -31,10 +31,12 @@ use member::Member;
 use metered::Metered;
 use share::{Share, shares_of};
 use std::alloc::{AllocError, Global};
+use std::fmt;
 use std::marker::Model;
 use tree::{ProvisionTree, trees_of};
 
-/// The packages of a status, to be asked what they give and satisfy.
+/// The packages of a status, to be asked what they give and satisfy. Places are from 1, and the bounds of vpkgs are
+/// taken to be at least 1, as readers give them (CUDF 2.0, installations and features).
 ///
 /// Contracts see each package beside its place in the universe, in the order of the places.
 #[derive(Drop)]
@@ -64,6 +66,15 @@ impl<'p, 't> Model for Index<'p, 't> {
     ghost view = { λ i. members (set.contains i.status) i.problem.now.packages };
 
     ghost invariant = { λ i. ((name : List ℕ) → (Keeps name (members (set.contains i.status) i.problem.now.packages) (found (λ k. bytes_eq name k.now) i.names.keys i.entries.items)) × (tree_items (found (λ k. bytes_eq name k.now) i.names.keys i.trees.items) ≡ given_of name (members (set.contains i.status) i.problem.now.packages))) × AreShares (members (set.contains i.status) i.problem.now.packages) i.shares.items };
+}
+
+/// Its status: all else that it keeps follows from that and the problem.
+impl fmt::Debug for Index<'_, '_> {
+    fn fmt<W: fmt::Write>(&self, f: &mut fmt::Formatter<W>) -> fmt::Result {
+        f.debug_struct("Index")
+            .field("status", &self.status)
+            .finish_non_exhaustive()
+    }
 }
 
 impl<'p, 't> Index<'p, 't> {
@@ -115,16 +126,16 @@ impl<'p, 't> Index<'p, 't> {
         self.satisfies_clause_counting(clause, &mut Steps::new())
     }
 
-    /// Whether the status satisfies the vpkg without the package at this place and all that it
-    /// provides. A place that the status doesn't hold leaves nothing out.
+    /// Whether the status satisfies the vpkg without the package at this place, from 1, and all that
+    /// it provides. A place that the status doesn't hold leaves nothing out.
     pub fn satisfies_without(&self, vpkg: &Vpkg<'_>, place: u64) -> bool
         ensures { result ≡ satisfies (without place self.now) (vpkg_view vpkg.now) }
     {
         self.satisfies_without_counting(vpkg, place, &mut Steps::new())
     }
 
-    /// The least place of the status, other than `except`, whose package alone satisfies the vpkg.
-    /// `None` where there is no such place.
+    /// The least place of the status, from 1, other than `except`, whose package alone satisfies the
+    /// vpkg. `None` where there is no such place.
     pub fn first_meeting(&self, vpkg: &Vpkg<'_>, except: Option<u64>) -> Option<u64>
         ensures { result ≡ first_meeting (other_than except self.now) (vpkg_view vpkg.now) }
     {

@@ -1,5 +1,5 @@
 -- Where instances may stand, what judging each of these places costs, and the walk over them (own).
-use Rattle.std.specs.Prelude.{ℕ, Bool, true, false, not, ◌&&◌, ◌+◌, nat_le, List, [], ◌∷◌, ◌++◌, length, map, filter, sum_by, Option, Some, None, if◌then◌else◌}
+use Rattle.std.specs.Prelude.{ℕ, Bool, true, false, not, ◌&&◌, ◌+◌, nat_le, List, [], ◌∷◌, ◌++◌, length, map, filter, sum_by, Some, None, if◌then◌else◌}
 use Rattle.std.specs.List.{flat_map, enumerate_from}
 use Rattle.std.specs.Ordering.{is_lt}
 use Rattle.cudf_value.specs.Vpkgs.{PlainVpkg}
@@ -12,11 +12,10 @@ use Rattle.cudf_universe.specs.Promises.Prices.{search_cost, clause_cost, clause
 use Rattle.cudf_universe.specs.Satisfaction.{Placed}
 use Rattle.cudf_referee.specs.declared.key.Part.{Part}
 use Rattle.cudf_referee.specs.declared.key.Part.TheVariants as part
-use Rattle.cudf_referee.specs.declared.key.Rule.{Rule}
 use Rattle.cudf_referee.specs.declared.key.Rule.TheVariants as rule
 use Rattle.cudf_referee.specs.declared.key.Aspect.{Aspect}
 use Rattle.cudf_referee.specs.declared.key.Aspect.TheVariants.{Unsatisfied, Many, Lower}
-use Rattle.cudf_referee.specs.Keys.{PlainKey, key_cmp}
+use Rattle.cudf_referee.specs.Keys.{PlainKey, package_key, request_key, unknown_key, key_cmp}
 use Rattle.cudf_referee.specs.Proposals.{holds_place, Proposal}
 
 -- ---- sites
@@ -33,23 +32,17 @@ pub data Site : Type 0 where
   upgrade_entry : ℕ → PlainVpkg → Aspect → Site
   unknown_stanza : PlainUnknown → Site
 
-abbrev pub package_key : Placed → Rule → ℕ → PlainKey
-package_key p rule place = record { part = part.Package p.0; rule = rule; place = place; aspect = None }
-
-abbrev pub request_key : Rule → ℕ → Option Aspect → PlainKey
-request_key rule place aspect = record { part = part.Request; rule = rule; place = place; aspect = aspect }
-
 -- the key of the instance that may stand there
 abbrev pub site_key : Site → PlainKey
-site_key (conjunct p place clause) = package_key p rule.Depends place
-site_key (conflicts_entry p place v) = package_key p rule.Conflicts place
-site_key (kept_version p) = package_key p rule.Keep 1
-site_key (kept_package p) = package_key p rule.Keep 1
-site_key (kept_feature p place v) = package_key p rule.Keep place
+site_key (conjunct p place clause) = package_key p.0 rule.Depends place
+site_key (conflicts_entry p place v) = package_key p.0 rule.Conflicts place
+site_key (kept_version p) = package_key p.0 rule.Keep 1
+site_key (kept_package p) = package_key p.0 rule.Keep 1
+site_key (kept_feature p place v) = package_key p.0 rule.Keep place
 site_key (install_entry place v) = request_key rule.Install place None
 site_key (remove_entry place v) = request_key rule.Remove place None
 site_key (upgrade_entry place v aspect) = request_key rule.Upgrade place (Some aspect)
-site_key (unknown_stanza u) = record { part = part.Solution; rule = rule.Unknown; place = u.stanza; aspect = None }
+site_key (unknown_stanza u) = unknown_key u.stanza
 
 -- ---- what judging them costs, in a proposed status
 
@@ -92,16 +85,19 @@ look_ups status (unknown_stanza u) = 0
 
 -- ---- the sites of a proposal, in key order
 
+-- one of each entry, with its place
+abbrev numbered : {A : Type 0} → (ℕ → A → Site) → List A → List Site
+numbered make entries = map (λ e. make e.0 e.1) (enumerate_from 1 entries)
+
 -- of a package that is to be installed
 abbrev pub needed_sites : Placed → List Site
-needed_sites p = map (λ c. conjunct p c.0 c.1) (enumerate_from 1 p.1.depends)
-    ++ map (λ v. conflicts_entry p v.0 v.1) (enumerate_from 1 p.1.conflicts)
+needed_sites p = numbered (conjunct p) p.1.depends ++ numbered (conflicts_entry p) p.1.conflicts
 
 -- of a package that was installed
 abbrev pub kept_sites : Keep → Placed → List Site
 kept_sites Version p = kept_version p ∷ []
 kept_sites Package p = kept_package p ∷ []
-kept_sites Feature p = map (λ v. kept_feature p v.0 v.1) (enumerate_from 1 p.1.provides)
+kept_sites Feature p = numbered (kept_feature p) p.1.provides
 kept_sites Nothing p = []
 
 abbrev pub package_sites : Proposal → Placed → List Site
@@ -114,9 +110,7 @@ abbrev pub upgrade_sites : ℕ × PlainVpkg → List Site
 upgrade_sites v = upgrade_entry v.0 v.1 Unsatisfied ∷ upgrade_entry v.0 v.1 Many ∷ upgrade_entry v.0 v.1 Lower ∷ []
 
 abbrev pub request_sites : PlainRequest → List Site
-request_sites r = map (λ v. install_entry v.0 v.1) (enumerate_from 1 r.install)
-    ++ map (λ v. remove_entry v.0 v.1) (enumerate_from 1 r.remove)
-    ++ flat_map upgrade_sites (enumerate_from 1 r.upgrade)
+request_sites r = numbered install_entry r.install ++ numbered remove_entry r.remove ++ flat_map upgrade_sites (enumerate_from 1 r.upgrade)
 
 unfoldable pub sites : Proposal → List Site
 sites s = flat_map (package_sites s) (enumerate_from 1 s.problem.packages) ++ request_sites s.problem.request ++ map unknown_stanza s.unknown

@@ -44,28 +44,18 @@ cost_to_first s stops = sum_to_first (stop_cost s.proposed) s stops
 abbrev pub least_to_first : Proposal → List Stop → ℕ
 least_to_first s stops = sum_to_first (least_cost s.proposed) s stops
 
--- a search of these stops found this, and its steps went from one number to another
-pub record Finds (s : Proposal) (stops : List Stop) (found : Option PlainInstance) (old new : ℕ) : Type 0 where
-  pub given : found ≡ first_given s stops
-  pub price : new ≤ old + cost_to_first s stops
-  pub grows : old + least_to_first s stops ≤ new
-
--- a search of all these stops has come to the ones that are left: those before gave nothing, and are paid for
-pub record Passes (s : Proposal) (all left : List Stop) (old now : ℕ) : Type 0 where
-  pub given : first_given s all ≡ first_given s left
-  pub price : now + cost_to_first s left ≤ old + cost_to_first s all
-  pub grows : old + least_to_first s all ≤ now + least_to_first s left
-
--- a walk does so, and stays where it is
-pub record Searches (old : Walking) (stops : List Stop) (found : Option PlainInstance) (new : Walking) : Type 0 where
+-- a walk through all these stops found this, or else has come to the ones that are left: those before gave nothing, and are
+-- paid for. It stays where it is
+pub record Goes (old : Walking) (all : List Stop) (found : Option PlainInstance) (left : List Stop) (new : Walking) : Type 0 where
   pub judged : new.judged ≡ old.judged
   pub position : new.position ≡ old.position
-  pub finds : Finds old.judged stops found old.steps new.steps
+  pub given : first_given old.judged all ≡ or_later found (first_given old.judged left)
+  pub price : new.steps + unless_found found (cost_to_first old.judged left) ≤ old.steps + cost_to_first old.judged all
+  pub grows : old.steps + least_to_first old.judged all ≤ new.steps + unless_found found (least_to_first old.judged left)
 
-pub record Goes (old : Walking) (all left : List Stop) (new : Walking) : Type 0 where
-  pub judged : new.judged ≡ old.judged
-  pub position : new.position ≡ old.position
-  pub passes : Passes old.judged all left old.steps new.steps
+-- it has come to its end
+abbrev pub Searches : Walking → List Stop → Option PlainInstance → Walking → Type 0
+Searches old stops found new = Goes old stops found [] new
 
 -- ---- what is left
 

@@ -1,7 +1,7 @@
 //! Keys that are read from their texts.
 ghost use Rattle.std.specs.Prelude.{◌≡◌, ℕ, ◌<◌, ◌^◌, ◌++◌, ◌∷◌, ◌&&◌, List, Option, Some, None, IfSome, IsSomeAnd, IsTrue, option_map, decimal, if◌then◌else◌};
 ghost use Rattle.cudf_referee.specs.KeyViews.{key_view};
-ghost use Rattle.cudf_referee.specs.Keys.{PlainKey, is_key, is_counted, fits_part, fits_aspect, part_place, part_text, rule_text, aspect_word, aspect_text, key_text};
+ghost use Rattle.cudf_referee.specs.Keys.{PlainKey, fits, is_key, part_place, part_text, rule_text, aspect_word, aspect_text, key_text};
 ghost use Rattle.cudf_referee.specs.Promises.Keys.{IsWritable};
 ghost use Rattle.cudf_referee.specs.Working.KeyTexts.{has_no_point};
 
@@ -27,7 +27,7 @@ impl Key {
         ensures { option_map key_view result ≡ (if is_key part rule place aspect
             then Some (record { part = part; rule = rule; place = place; aspect = aspect }) else None) }
     {
-        if part.is_counted() && part.has_rule(rule) && place > 0 && rule.has_aspect(aspect) {
+        if part.fits(rule, aspect) && place > 0 {
             Some(Key::new(part, rule, place, aspect))
         } else {
             None
@@ -47,24 +47,21 @@ impl Part {
         }
     }
 
-    /// Whether its number, if it has one, is at least 1.
-    fn is_counted(self) -> bool
-        ensures { result ≡ is_counted self }
+    /// Whether the rule is one of this part and has an aspect if it is upgrade, and the number of a package is at least 1.
+    fn fits(self, rule: Rule, aspect: Option<Aspect>) -> bool
+        ensures { result ≡ fits self rule aspect }
     {
         match self {
-            Part::Package(place) => place > 0,
-            Part::Request | Part::Solution => true,
-        }
-    }
-
-    /// Whether the rule is one of this part.
-    fn has_rule(self, rule: Rule) -> bool
-        ensures { result ≡ fits_part self rule }
-    {
-        match rule {
-            Rule::Depends | Rule::Conflicts | Rule::Keep => matches!(self, Part::Package(_)),
-            Rule::Install | Rule::Remove | Rule::Upgrade => matches!(self, Part::Request),
-            Rule::Unknown => matches!(self, Part::Solution),
+            Part::Package(number) => match rule {
+                Rule::Depends | Rule::Conflicts | Rule::Keep => number > 0 && aspect.is_none(),
+                _ => false,
+            },
+            Part::Request => match rule {
+                Rule::Install | Rule::Remove => aspect.is_none(),
+                Rule::Upgrade => aspect.is_some(),
+                _ => false,
+            },
+            Part::Solution => rule == Rule::Unknown && aspect.is_none(),
         }
     }
 }
@@ -83,16 +80,6 @@ impl Rule {
             "upgrade" => Some(Rule::Upgrade),
             "unknown" => Some(Rule::Unknown),
             _ => None,
-        }
-    }
-
-    /// Whether upgrade has an aspect, or another rule has none.
-    fn has_aspect(self, aspect: Option<Aspect>) -> bool
-        ensures { result ≡ fits_aspect self aspect }
-    {
-        match self {
-            Rule::Upgrade => aspect.is_some(),
-            _ => aspect.is_none(),
         }
     }
 }

@@ -18,6 +18,7 @@ use crate::sites::{
 };
 use cudf_document::{Package, Problem, Solution};
 use cudf_universe::{Index, Metered, Steps};
+use std::fmt;
 use std::marker::Model;
 
 /// The walk over the violated instances, in key order. It holds none of them: each call of `next`
@@ -60,6 +61,15 @@ impl<'r, 'p, 't> Model for Instances<'r, 'p, 't> {
         Agrees i.problem.now (set.contains i.solution.now.status) i.before.now i.now.status i.named.now (map unknown_view i.solution.now.unknown.items)
         × IsFitting (position_view i.position)
         × BeginsAt (position_view i.position) (map unknown_view i.solution.now.unknown.items) i.unknown };
+}
+
+/// Where it stands.
+impl fmt::Debug for Instances<'_, '_, '_> {
+    fn fmt<W: fmt::Write>(&self, f: &mut fmt::Formatter<W>) -> fmt::Result {
+        f.debug_struct("Instances")
+            .field("position", &self.position)
+            .finish_non_exhaustive()
+    }
 }
 
 impl<'r, 'p, 't> Instances<'r, 'p, 't> {

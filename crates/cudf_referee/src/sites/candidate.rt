@@ -28,11 +28,11 @@ pub(crate) struct Candidate<'p, 't> {
 }
 
 impl<'p, 't> Candidate<'p, 't> {
-    ghost use Rattle.std.specs.Prelude.{◌≡◌, ◌<◌, ◌^◌, IsTrue, [], length, filter, drop, slice_get, if◌then◌else◌};
+    ghost use Rattle.std.specs.Prelude.{◌≡◌, ◌<◌, ◌^◌, IsTrue, None, [], length, filter, drop, slice_get, if◌then◌else◌};
     ghost use Rattle.cudf_referee.specs.declared.key.Part.TheVariants as part;
     ghost use Rattle.cudf_referee.specs.KeyViews.{key_view};
+    ghost use Rattle.cudf_referee.specs.Keys.{fits};
     ghost use Rattle.cudf_referee.specs.Proposals.{Proposal};
-    ghost use Rattle.cudf_referee.specs.Promises.Keys.{is_package_rule};
     ghost use Rattle.cudf_referee.specs.Promises.Sites.{package_sites, precedes, site_key};
     ghost use Rattle.cudf_referee.specs.Promises.Views.{instance_view, what_view};
     ghost use Rattle.cudf_referee.specs.Violations.{at_package};
@@ -150,7 +150,7 @@ impl<'p, 't> Candidate<'p, 't> {
     /// The instance of a rule at an entry's place.
     fn of_rule(self, rule: Rule, number: u64, what: What<'p, 't>) -> Instance<'p, 't>
         requires counted { 0 < number }
-        requires fits { IsTrue (is_package_rule rule) }
+        requires fits { IsTrue (fits (part.Package self.place) rule None) }
         ensures { instance_view result ≡ at_package (placed_view self.entry) rule number (what_view what.entry) }
     {
         Instance::of_package(self.place, self.package, rule, number, what)

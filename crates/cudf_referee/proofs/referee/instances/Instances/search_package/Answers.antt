@@ -3,7 +3,7 @@ use Rattle.std.specs.Prelude.{slice_get}
 use Rattle.cudf_referee.specs.Proposals.{Proposal}
 use Rattle.cudf_referee.specs.Promises.Sites.{Site, package_sites, at_site, package_end}
 use Rattle.cudf_referee.specs.Working.SiteNumbers.{placed_view, Fits}
-use Rattle.cudf_referee.proofs.SearchLemmas.{goes-start, goes-last, sites-more, sites-found, sites-end}
+use Rattle.cudf_referee.proofs.SearchLemmas.{goes-start, part-last, sites-more, sites-found, sites-end}
 use Rattle.cudf_referee.proofs.SiteNumberLemmas.{candidate-sites}
 use Rattle.cudf_referee.proofs.referee.instances.Instances.search_package.Goals as goal
 
@@ -32,5 +32,5 @@ pub returns : goal.returns
 returns c =
     let s = c.args.self.now.judged in
     let p = placed_view c.args.candidate in
-    goes-last _ _ _ _ _ _ (sites-end _ _ _ (λ (l : List Site). map at_site l ++ package_end p.0 ∷ []) (package_sites s p) c.loop-index.index
+    part-last _ _ _ _ (λ s. package_end p.0 ∷ []) _ (sites-end _ _ _ (λ (l : List Site). map at_site l ++ package_end p.0 ∷ []) (package_sites s p) c.loop-index.index
     (omega (arith, c.loop-index-test.false, ap length (candidate-sites s c.args.candidate c.requires))) c.loop-index.invariant) (c.pass_end.ensures p.0)

@@ -5,7 +5,7 @@ use Rattle.cudf_referee.specs.Promises.Sites.{request_sites, at_site}
 use Rattle.cudf_referee.specs.Promises.Walks.{Walking}
 use Rattle.cudf_referee.specs.Proposals.{Proposal}
 use Rattle.cudf_referee.specs.Working.SiteNumbers.{StandsIn}
-use Rattle.cudf_referee.proofs.SearchLemmas.{goes-start, goes-end, sites-more, sites-found, sites-end}
+use Rattle.cudf_referee.proofs.SearchLemmas.{goes-start, sites-more, sites-found, sites-end}
 use Rattle.cudf_referee.proofs.referee.instances.Instances.search_request.Goals as goal
 
 pub loop-index-init : goal.loop-index-init
@@ -36,5 +36,5 @@ pub returns : goal.returns
 returns c =
     let s = c.args.self.now.judged in
     let same = c.request-request.ensures ∙ ap (λ (w : Walking). w.judged.problem.request) c.self.view_is in
-    goes-end _ _ _ (sites-end _ _ _ (map at_site) (request_sites s.problem.request) c.loop-index.index
-    (omega (arith, c.loop-index-test.false, c.count_requested-index-end.ensures, ap (λ r. length (request_sites r)) same)) c.loop-index.invariant)
+    sites-end _ _ _ (map at_site) (request_sites s.problem.request) c.loop-index.index
+    (omega (arith, c.loop-index-test.false, c.count_requested-index-end.ensures, ap (λ r. length (request_sites r)) same)) c.loop-index.invariant
