@@ -99,10 +99,10 @@ static inline const uint8_t *cudf_check_bytes(const void *bytes)
     return bytes ? (const uint8_t *)bytes : &none;
 }
 
-static inline uint8_t *cudf_check_room(uint8_t *report)
+static inline uint8_t *cudf_check_room(void *report)
 {
     static uint8_t none;
-    return report ? report : &none;
+    return report ? (uint8_t *)report : &none;
 }
 
 static inline cudf_check_text cudf_check_text_of(const void *bytes, size_t length)

@@ -27,8 +27,9 @@ leaves more goals of a clause open than the body as it stands does; an edit that
 where that one leaves none open. Else it says little, which fails the run as a missed one does: change a value of which a
 clause without an answer speaks, or plant it in what is called. What is required by a call that the edit adds counts nowhere.
 
-Each check starts from hard links to what a check of the crate as it stands proved and kept in out/incremental:
-rattle replaces such files, and doesn't write into them. Behind a passed rt ci (--behind-ci, as .ci/run says) the
+Each check starts from hard links to what a check of the crate as it stands proved and kept in out/incremental: rattle
+replaces such files, and doesn't write into them. That check is of the functions that the edits change and of what these
+call; of the whole crate where an edit is none of one function, or where rattle knows a function by another name. Behind a passed rt ci (--behind-ci, as .ci/run says) the
 libraries below are those that rt ci proved and left in out/rlib, as for its own must-fail edits; else they are built.
 Beside an rt ci that runs (--beside PID, as gate.py says) they are waited for, and a check begins where that one leaves a
 processor and 4 GB of memory.
@@ -263,21 +264,22 @@ class Edit:
 
 
 def bodies(text):
-    """The functions of a laid out file: each name under its type's, and where its body begins and ends. A const fn,
-    which a check may compute with, isn't among them."""
-    owner, head, begin, place = (-1, ""), None, None, 0
+    """The functions of a laid out file: each name under its type's, whether a trait's impl has it, and where its body begins
+    and ends. A const fn, which a check may compute with, isn't among them."""
+    owner, head, begin, place = (-1, "", False), None, None, 0
     for line in text.splitlines(keepends=True):
         bare = line.rstrip()
         column = len(line) - len(line.lstrip())
         if head and begin is not None:
             if bare == " " * head[0] + "}":
                 if not head[2]:
-                    yield head[1], begin, place
+                    yield head[1], owner[2], begin, place
                 head = begin = None
         elif found := IMPL.match(line):
-            owner, head = (len(found[1]), "".join(it.split("::")[-1] for it in (found[3], found[2] or ""))), None
+            name = "".join(it.split("::")[-1] for it in (found[3], found[2] or ""))
+            owner, head = (len(found[1]), name, bool(found[2])), None
         elif bare == " " * owner[0] + "}":
-            owner, head = (-1, ""), None
+            owner, head = (-1, "", False), None
         elif found := FUNCTION.match(line):
             indent, name = len(found[1]), found[3]
             head = (indent, f"{owner[1]}::{name}" if owner[0] >= 0 and indent > owner[0] else name, found[2])
@@ -293,27 +295,55 @@ def change_of(before, after):
     return start, len(before) - same, after[start:len(after) - same]
 
 
-def located(crate, path, names):
-    """The edit, with the function whose body it changes where rattle's names tell which."""
+@dataclass
+class Change:
+    """A change of one function's body."""
+    module: list
+    # the function's name in its file, and whether a trait's impl has it
+    name: str
+    is_of_trait: bool
+    before: str
+    after: str
+    # in the file's text: where the body begins and ends
+    body: tuple
+    # the file, from where to where, and the new text
+    edit: tuple
+
+    def only(self):
+        """A path that names the function for rattle: of a trait's impl, the file's module."""
+        return "::".join(self.module if self.is_of_trait else [*self.module, self.name])
+
+
+def changed(crate, path):
+    """What an edit changes, if that is the body of one function."""
     texts, _ = rt.read_edit(str(path), crate.folder)
     if not texts or len(texts) != 1:
-        return Edit(path)
+        return None
     (file, after), = texts.items()
     before = Path(crate.folder, file).read_text(encoding="utf-8")
     start, end, new = change_of(before, after)
     module = [it for it in Path(file).with_suffix("").parts[1:] if it not in ("lib", "main", "mod")]
-    for name, begin, close in bodies(before):
+    for name, is_of_trait, begin, close in bodies(before):
         if begin <= start and end <= close:
-            # an impl's name may go on with its trait's arguments
-            whole = re.escape("::".join([crate.name, *module, name]))
-            whole = re.compile(whole.replace("::", r"\w*::") if "::" in name else whole)
-            found = [it for it in names if "::fn::" not in it and whole.fullmatch(it)]
-            if len(found) == 1:
-                adds_branch = len(BRANCH.findall(after)) > len(BRANCH.findall(before))
-                calls = Counter(CALL.findall(before[begin:close]))
-                added = Counter(CALL.findall(after)) - Counter(CALL.findall(before))
-                return Edit(path, found[0], (file, start, end, new), adds_branch, tuple(added), tuple(calls))
-    return Edit(path)
+            return Change(module, name, is_of_trait, before, after, (begin, close), (file, start, end, new))
+    return None
+
+
+def located(crate, path, names):
+    """The edit, with the function whose body it changes where rattle's names tell which."""
+    its = changed(crate, path)
+    if its is None:
+        return Edit(path)
+    # an impl's name may go on with its trait's arguments
+    whole = re.escape("::".join([crate.name, *its.module, its.name]))
+    whole = re.compile(whole.replace("::", r"\w*::") if "::" in its.name else whole)
+    found = [it for it in names if "::fn::" not in it and whole.fullmatch(it)]
+    if len(found) != 1:
+        return Edit(path)
+    adds_branch = len(BRANCH.findall(its.after)) > len(BRANCH.findall(its.before))
+    calls = Counter(CALL.findall(its.before[slice(*its.body)]))
+    added = Counter(CALL.findall(its.after)) - Counter(CALL.findall(its.before))
+    return Edit(path, found[0], its.edit, adds_branch, tuple(added), tuple(calls))
 
 
 def plant(edits, folder):
@@ -438,16 +468,25 @@ class Trial:
         self.needed = {}
 
     def begin(self, jobs):
-        """Proves the crate as it stands, over what is kept, finds the edits' functions, and returns the groups to try."""
+        """Proves what the edits change as it stands, over what is kept, finds their functions, and returns the groups to try."""
         os.makedirs(f"{self.crate.folder}/out", exist_ok=True)
-        ran = check(self.crate, self.crate.folder, "out/incremental", "--jobs", str(jobs))
-        self.runs["of crates as they stand"] += 1
-        names = [name for name, why in STATUS.findall(ran.stdout) if why == "proved"]
+        only = [it and it.only() for it in (changed(self.crate, path) for path in self.paths)]
+        # (rt judges an edit that is tried alone by the whole crate)
+        only = [word for it in dict.fromkeys(only) for word in ("--only", it)] if all(only) else []
+        ran, names = self.as_it_stands(jobs, only)
+        if only and (ran.returncode or not all(located(self.crate, it, names).function for it in self.paths)):
+            ran, names = self.as_it_stands(jobs, [])
         if ran.returncode or not names:
             print(ran.stdout[-3000:])
             stop(f"{self.crate.name} isn't proved as it stands, or rattle words it otherwise, so no edit of it can be tried")
         self.edits = [located(self.crate, it, names) for it in self.paths]
         return [partial(self.settle, it) for it in grouped(self.edits)]
+
+    def as_it_stands(self, jobs, only):
+        """A check of the crate, or of these functions alone, and the names of what it proved."""
+        ran = check(self.crate, self.crate.folder, "out/incremental", "--jobs", str(jobs), *only)
+        self.runs["of functions as they stand" if only else "of crates as they stand"] += 1
+        return ran, [name for name, why in STATUS.findall(ran.stdout) if why == "proved"]
 
     def tried(self, edits, functions, is_bare):
         """What a check of these functions says with the edits planted, if it says anything: with or without their answers."""

@@ -1,1 +1,3 @@
+mod ArithmeticLemmas
+mod DocumentLemmas
 mod ReadLemmas

@@ -1,56 +1,73 @@
--- What a run reads of texts, and its report.
-use Rattle.std.proofs.Common.{◌≡◌, ℕ, List, [], ◌∷◌, map, length, suc, Some, refl, ap, ◌∙◌, subst, arith}
-use Rattle.std.proofs.lemmas.Grind.{common_steps}
-use Rattle.cudf_document.specs.declared.mode.Mode.{Mode}
-use Rattle.cudf_check.specs.Device.{SourceState}
+-- A run on documents in memory has their report, or ends where one of them is too long or memory ran out.
+use Rattle.std.proofs.Common.{◌≡◌, ◌⊎◌, inl, inr, ℕ, List, ◌∷◌, map, Result, Ok, Err, IsErr, IsErrAnd, MatchResult, refl, sym, ap, ◌∙◌, subst}
+use Rattle.std.proofs.lemmas.List.Elements.{All-cons}
+use Rattle.std.specs.List.{All}
+use Rattle.std.specs.Io.KnownBytes.{Appends}
+use Rattle.cudf_check.specs.Device.{SourceState, SinkState}
 use Rattle.cudf_check.specs.ManyRuns.{LeavesBehind, changes}
-use Rattle.cudf_check.specs.Readers.{Change, OfEach, ReadsAll}
-use Rattle.cudf_check.specs.Report.{Report, report}
-use Rattle.cudf_check.specs.Runs.{OfReport, job_report, read_for}
-use Rattle.cudf_check.specs.declared.job.Job.{Job}
-use Rattle.cudf_check.specs.declared.job.Job.TheVariants.{Lint, Check, Score}
+use Rattle.cudf_check.specs.Readers.{Change, IsTooLong, IsUnfinished, OfEach, OfOne}
+use Rattle.cudf_check.specs.Report.{Report}
+use Rattle.cudf_check.specs.Runs.{Runs}
+use Rattle.cudf_check.specs.declared.outcome.Outcome.{Outcome}
+use Rattle.cudf_check.specs.declared.outcome.RunError.{RunError}
+use Rattle.cudf_check.specs.declared.outcome.RunError.TheVariants as errors
+use Rattle.cudf_c.specs.Calls.{IsLong, IsShort}
+use Rattle.cudf_c.specs.Working.Documents.{IsNew, document_state}
+use Rattle.cudf_c.specs.Working.Made.{IsUnmade}
+use Rattle.cudf_c.specs.Working.Stops.{stop_of}
+use Rattle.cudf_c.specs.declared.document.Document.{Document}
+use Rattle.cudf_c.specs.declared.made.Made.{Made}
+use Rattle.cudf_c.specs.declared.stop.Stop.{Stop}
+use Rattle.cudf_c.proofs.DocumentLemmas.{OfDocument, of_documents, all_short, all_whole, none_unfinished, one_long}
 
--- what is read of a text is the text
-pub read_text : (reader : Change SourceState) (text bytes : List ℕ) → reader.before.remaining ≡ Some text → ReadsAll reader bytes → bytes ≡ text
-read_text reader text bytes is h = grind (arith, common_steps)
+-- the report was written, and no document is too long
+pub record Done (documents : List (List ℕ)) (report : Report) (out : Change SinkState) (outcome : Outcome) : Type 0 where
+  pub written : Appends out.before.contents out.after.contents report.text
+  pub answered : outcome ≡ report.outcome
+  pub short : All IsShort documents
 
--- the same of one that is read alone
-read_one : (reader : Change SourceState) (text : List ℕ) → reader.before.remaining ≡ Some text → (texts : List (List ℕ)) → OfEach ReadsAll (reader ∷ []) texts → texts ≡ text ∷ []
-read_one reader text is [] h = absurd h
-read_one reader text is (bytes ∷ []) h = ap (λ t. t ∷ []) (read_text reader text bytes is h.0)
-read_one reader text is (bytes ∷ other ∷ texts) h = absurd h.1
+module _ (answer : List ℕ → List (List ℕ) → Report) (problem : List ℕ) (others : List (List ℕ)) (first : Change SourceState) (readers : List (Change SourceState)) (out : Change SinkState)
+    (of_first : OfDocument problem first) (of_others : OfEach OfDocument others readers) where
+  -- one of them gave too many bytes
+  is_long : IsTooLong first ⊎ OfOne IsTooLong readers → OfOne IsLong (problem ∷ others)
+  is_long (inl here) = inl (of_first.long here)
+  is_long (inr there) = inr (one_long others readers of_others there)
 
--- a run on a problem's text and a solution's has their report
-pub pair_read : (job : Job) (mode : Mode) (problem solution : List ℕ) (first second : Change SourceState) (P : Report → Type 0)
-    → OfReport (job_report job mode) first (read_for job (Some second)) P
-    → first.before.remaining ≡ Some problem → second.before.remaining ≡ Some solution → P (report job mode problem (Some solution))
-unfolding report
-pair_read Lint mode problem solution first second P h one two =
-    subst (λ t. P (report Lint mode t (Some solution))) (read_text first problem h.text one h.first_read) h.holds
-pair_read (Check after limit) mode problem solution first second P h one two =
-    subst (λ t. P (job_report (Check after limit) mode t (solution ∷ []))) (read_text first problem h.text one h.first_read)
-    (subst (λ ts. P (job_report (Check after limit) mode h.text ts)) (read_one second solution two h.texts h.others_read) h.holds)
-pair_read (Score aims) mode problem solution first second P h one two =
-    subst (λ t. P (job_report (Score aims) mode t (solution ∷ []))) (read_text first problem h.text one h.first_read)
-    (subst (λ ts. P (job_report (Score aims) mode h.text ts)) (read_one second solution two h.texts h.others_read) h.holds)
+  -- none was left unfinished
+  none_left : IsUnfinished first ⊎ OfOne IsUnfinished readers → ⊥
+  none_left (inl here) = of_first.finished here
+  none_left (inr there) = none_unfinished others readers of_others there
 
--- as many are returned as were lent
-same_length : {D : Type 0} (P : D → D → Type 0) (olds news : List D) → LeavesBehind P olds news → length news ≡ length olds
-same_length P [] [] m = refl
-same_length P [] (new ∷ news) m = absurd m
-same_length P (old ∷ olds) [] m = absurd m
-same_length P (old ∷ olds) (new ∷ news) m = ap suc (same_length P olds news m.1)
+  pub run_done : (outcome : Outcome) → Runs answer first readers out (Ok outcome) → Done (problem ∷ others) (answer problem others) out outcome
+  run_done outcome runs =
+      let done = runs.done in
+      let few : IsTooLong first ⊎ OfOne IsTooLong readers → ⊥ = λ more. absurd (cc (runs.too_long.1 more)) in
+      let holds = subst (λ ts. Appends out.before.contents out.after.contents (answer problem ts).text × (outcome ≡ (answer problem ts).outcome))
+      (all_whole others readers done.texts of_others done.others_read)
+      (subst (λ t. Appends out.before.contents out.after.contents (answer t done.texts).text × (outcome ≡ (answer t done.texts).outcome))
+      (of_first.whole done.text done.first_read) done.holds) in
+      record {
+        written = holds.0;
+        answered = holds.1;
+        short = All-cons IsShort problem others (of_first.short done.text done.first_read (λ more. few (inl more)))
+            (all_short others readers done.texts of_others done.others_read (λ more. few (inr more)));
+      }
 
--- what is read of texts in a row is the texts
-pub read_each : {D : Type 0} (state : D → SourceState) (left : D → List ℕ) → ((d : D) → (state d).remaining ≡ Some (left d)) → (P : D → D → Type 0) (olds news : List D)
-    (read : List (List ℕ)) → LeavesBehind P olds news → OfEach ReadsAll (changes state olds news) read → read ≡ map left olds
-read_each {D = D} state left is P olds news read behind h = go olds news read (same_length P olds news behind) h
-  where
-    go : (olds news : List D) (read : List (List ℕ)) → length news ≡ length olds → OfEach ReadsAll (changes state olds news) read → read ≡ map left olds
-    go [] news [] same h = refl
-    go [] news (b ∷ read) same h = absurd h
-    go (old ∷ olds) [] read same h = absurd (omega (arith, same))
-    go (old ∷ olds) (new ∷ news) [] same h = absurd h
-    go (old ∷ olds) (new ∷ news) (b ∷ read) same h =
-        ap (λ x. x ∷ read) (read_text (record { before = state old; after = state new }) (left old) b (is old) h.0)
-        ∙ ap (λ xs. left old ∷ xs) (go olds news read (omega (arith, same)) h.1)
+  pub run_stopped : (error : RunError) → Runs answer first readers out (Err error) → IsUnmade (problem ∷ others) (stop_of error)
+  run_stopped errors.Read runs = absurd (none_left (runs.read.0 refl))
+  run_stopped errors.TooLong runs = inl (refl, is_long (runs.too_long.0 refl))
+  run_stopped errors.Write runs = inr refl
+  run_stopped errors.Memory runs = inr refl
+
+-- the documents of a ranking, as their readers are returned
+pub of_others : (texts : List (List ℕ)) (lent olds news : List Document) (P : Document → Document → Type 0) → olds ≡ lent → map (λ d. d.rest.now) lent ≡ texts → All IsNew lent
+    → LeavesBehind P olds news → OfEach OfDocument texts (changes document_state olds news)
+of_others texts lent olds news P value is new behind =
+    subst (λ ts. OfEach OfDocument ts (changes document_state olds news)) (ap (map (λ d. d.rest.now)) value ∙ is)
+    (of_documents P olds news behind (subst (All IsNew) (sym value) new))
+
+-- a call ends as its run did
+pub refused : (documents : List (List ℕ)) (P : Made → Type 0) (error : RunError) (result : Result Made Stop) → IsUnmade documents (stop_of error)
+    → IsErr result × IsErrAnd result (λ stop. stop ≡ stop_of error) → MatchResult result P (IsUnmade documents)
+refused documents P error (Ok made) unmade is = absurd (cc is.0)
+refused documents P error (Err stop) unmade is = subst (IsUnmade documents) (sym is.1) unmade

@@ -1,6 +1,9 @@
 -- What a call of the library leaves. Own.
-use Rattle.std.specs.Prelude.{◌≡◌, ◌⊎◌, ◌++◌, ℕ, List, length, take, drop, Bool, if◌then◌else◌}
+use Rattle.std.specs.Prelude.{◌≡◌, ◌<◌, ◌≤◌, ◌⊎◌, ◌++◌, ℕ, List, length, take, drop, Bool, if◌then◌else◌}
+use Rattle.std.specs.List.{All}
+use Rattle.cudf_check.specs.Limits.{most_bytes}
 use Rattle.cudf_check.specs.Outcome.{outcome_status}
+use Rattle.cudf_check.specs.Readers.{OfOne}
 use Rattle.cudf_check.specs.Report.{Report}
 use Rattle.cudf_document.specs.declared.mode.Mode.{Mode}
 use Rattle.cudf_document.specs.declared.mode.Mode.TheVariants.{Lenient, Strict}
@@ -29,25 +32,35 @@ pub record ShowsNothing (call : Left) : Type 0 where
   pub length_is : call.told ≡ 0
   pub kept : call.new ≡ call.old
 
--- the report, and its outcome's status
-pub record Tells (answer : Report) (call : Left) : Type 0 where
+-- a document is as long as a run reads
+abbrev pub IsShort : List ℕ → Type 0
+IsShort text = length text ≤ most_bytes
+
+-- it is longer
+abbrev pub IsLong : List ℕ → Type 0
+IsLong text = most_bytes < length text
+
+-- the report, and its outcome's status; none of the documents is too long
+pub record Tells (documents : List (List ℕ)) (answer : Report) (call : Left) : Type 0 where
   pub status_is : call.status ≡ outcome_status answer.outcome
   pub shows : Shows answer.text call
+  pub short : All IsShort documents
 
 -- a word of the call says nothing that can be done
 pub record Refuses (call : Left) : Type 0 where
   pub status_is : call.status ≡ 4
   pub nothing : ShowsNothing call
 
--- a document is longer than a run reads, or memory ran out
-pub record BreaksOff (call : Left) : Type 0 where
-  pub status_is : (call.status ≡ 5) ⊎ (call.status ≡ 6)
+-- why there is no report: 5 where one of the documents is too long, 6 where memory ran out
+pub record BreaksOff (documents : List (List ℕ)) (call : Left) : Type 0 where
+  pub status_is : ((call.status ≡ 5) × OfOne IsLong documents) ⊎ (call.status ≡ 6)
   pub nothing : ShowsNothing call
 
--- the report, where there is memory for it
-abbrev pub Answers : Report → Left → Type 0
-Answers answer call = Tells answer call ⊎ BreaksOff call
+-- the report on these documents, where none is too long and there is memory for it
+abbrev pub Answers : List (List ℕ) → Report → Left → Type 0
+Answers documents answer call = Tells documents answer call ⊎ BreaksOff documents call
 
 -- the report of what the call's words ask for, or a refusal where they ask for nothing
-abbrev pub AnswersAsked : {A : Type 0} → (A → Type 0) → Type 0 → (A → Report) → Left → Type 0
-AnswersAsked {A = A} IsAsked IsNothing answer call = ((asked : A) × IsAsked asked × Tells (answer asked) call) ⊎ ((IsNothing × Refuses call) ⊎ BreaksOff call)
+abbrev pub AnswersAsked : {A : Type 0} → (A → Type 0) → Type 0 → List (List ℕ) → (A → Report) → Left → Type 0
+AnswersAsked {A = A} IsAsked IsNothing documents answer call =
+    ((asked : A) × IsAsked asked × Tells documents (answer asked) call) ⊎ ((IsNothing × Refuses call) ⊎ BreaksOff documents call)

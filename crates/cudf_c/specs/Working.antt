@@ -1,2 +1,4 @@
+pub mod Documents
+pub mod Given
 pub mod Made
 pub mod Stops

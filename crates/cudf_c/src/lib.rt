@@ -6,19 +6,20 @@
 //! is 0. Nothing is kept between calls, so any number of threads may call at once. Own.
 #![tactic(auto)]
 
-ghost use Rattle.std.specs.Prelude.{◌≡◌, Some, None, codes, map};
+ghost use Rattle.std.specs.Prelude.{◌≡◌, [], ◌∷◌, Some, None, codes, map};
 ghost use Rattle.cudf_check.specs.RankReport.{rank_report};
 ghost use Rattle.cudf_check.specs.Report.{report};
 ghost use Rattle.cudf_check.specs.declared.job.Job.TheVariants.{Lint};
 ghost use Rattle.cudf_c.specs.Calls.{Answers, AnswersAsked, Shows, left, mode_of};
 ghost use Rattle.cudf_c.specs.Words.{IsAims, IsNoKey, IsNoList, IsPage, IsScore};
 
+mod document;
 mod made;
 mod stop;
 mod words;
 
-use cudf_check::{Job, Mode};
-use made::{copy_front, judged, ranked, refuse, show};
+use cudf_check::Mode;
+use made::{copy_front, judged, linted, ranked, refuse, show};
 use std::alloc::Global;
 use words::{aims, page, score};
 
@@ -39,9 +40,9 @@ pub extern "C" fn cudf_check_lint(
     room: &mut [u8],
     length: &mut usize,
 ) -> u8
-    ensures { Answers (report Lint (mode_of strict) problem.now None) (left room.old room.new length.new result) }
+    ensures { Answers (problem.now ∷ []) (report Lint (mode_of strict) problem.now None) (left room.old room.new length.new result) }
 {
-    let report = judged(alloc, &Job::Lint, mode(strict), problem, None);
+    let report = linted(alloc, mode(strict), problem);
     show(report, room, length)
 }
 
@@ -58,12 +59,12 @@ pub extern "C" fn cudf_check_check(
     room: &mut [u8],
     length: &mut usize,
 ) -> u8
-    ensures { AnswersAsked (IsPage after.now limit) (IsNoKey after.now)
+    ensures { AnswersAsked (IsPage after.now limit) (IsNoKey after.now) (problem.now ∷ solution.now ∷ [])
         (λ job. report job (mode_of strict) problem.now (Some solution.now)) (left room.old room.new length.new result) }
 {
     match page(after, limit) {
         Ok(page) => {
-            let report = judged(alloc, &page, mode(strict), problem, Some(solution));
+            let report = judged(alloc, &page, mode(strict), problem, solution);
             show(report, room, length)
         }
         Err(stop) => refuse(stop, length),
@@ -82,12 +83,12 @@ pub extern "C" fn cudf_check_score(
     room: &mut [u8],
     length: &mut usize,
 ) -> u8
-    ensures { AnswersAsked (IsScore criteria.now) (IsNoList criteria.now)
+    ensures { AnswersAsked (IsScore criteria.now) (IsNoList criteria.now) (problem.now ∷ solution.now ∷ [])
         (λ job. report job (mode_of strict) problem.now (Some solution.now)) (left room.old room.new length.new result) }
 {
     match score(alloc, criteria) {
         Ok(score) => {
-            let report = judged(alloc, &score, mode(strict), problem, Some(solution));
+            let report = judged(alloc, &score, mode(strict), problem, solution);
             show(report, room, length)
         }
         Err(stop) => refuse(stop, length),
@@ -106,7 +107,7 @@ pub extern "C" fn cudf_check_rank(
     room: &mut [u8],
     length: &mut usize,
 ) -> u8
-    ensures { AnswersAsked (IsAims criteria.now) (IsNoList criteria.now)
+    ensures { AnswersAsked (IsAims criteria.now) (IsNoList criteria.now) (problem.now ∷ map (λ text. text.bytes.now) solutions.now)
         (λ aims. rank_report aims (mode_of strict) problem.now (map (λ text. text.bytes.now) solutions.now)) (left room.old room.new length.new result) }
 {
     match aims(alloc, criteria) {

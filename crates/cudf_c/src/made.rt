@@ -1,12 +1,16 @@
 //! Reports that are made in memory, and how a caller's buffer gets one.
-ghost use Rattle.std.specs.Prelude.{◌≡◌, ◌⊎◌, ◌++◌, IfErr, IfOk, MatchResult, drop, length, map, option_map, take};
+ghost use Rattle.std.specs.Prelude.{◌≡◌, ◌≢◌, ◌++◌, [], ◌∷◌, IfErr, IfOk, MatchResult, None, Some, drop, length, map, take};
+ghost use Rattle.std.specs.List.{All};
 ghost use Rattle.cudf_check.specs.RankReport.{rank_report};
 ghost use Rattle.cudf_check.specs.Report.{report};
+ghost use Rattle.cudf_check.specs.declared.job.Job.TheVariants.{Lint};
 ghost use Rattle.cudf_c.specs.Calls.{left};
-ghost use Rattle.cudf_c.specs.Working.Made.{IsMade, IsStopped, IsTold, IsUnmade, device_text};
+ghost use Rattle.cudf_c.specs.Working.Documents.{IsNew};
+ghost use Rattle.cudf_c.specs.Working.Made.{IsMade, IsStopped, IsTold, IsUnmade};
 ghost use Rattle.cudf_c.specs.Working.Stops.{stop_status};
 
 use crate::Text;
+use crate::document::Document;
 use crate::stop::Stop;
 use cudf_check::{Aim, Device, Job, Mode, Outcome, rank, run};
 use std::alloc::{AllocError, Global};
@@ -34,29 +38,34 @@ impl Made {
     }
 }
 
-/// The report of a job on a problem, and on a solution where there is one.
+/// The report on a problem alone.
+pub(crate) fn linted(alloc: Global, mode: Mode, problem: &[u8]) -> Result<Made, Stop>
+    ensures { MatchResult result (IsMade (problem.now ∷ []) (report Lint mode problem.now None)) (IsUnmade (problem.now ∷ [])) }
+{
+    let mut first = Document::new(problem);
+    let mut out = Device::new(Vec::new(alloc));
+    let outcome = run::<_, Document<'_>, _>(alloc, &Job::Lint, mode, &mut first, None, &mut out)?;
+    Ok(Made::of(outcome, out))
+}
+
+/// The report of a job on a problem and a solution.
 pub(crate) fn judged(
     alloc: Global,
     job: &Job,
     mode: Mode,
     problem: &[u8],
-    solution: Option<&[u8]>,
+    solution: &[u8],
 ) -> Result<Made, Stop>
-    ensures { MatchResult result (IsMade (report job.now mode problem.now (option_map (λ s. s.now) solution.entry))) IsUnmade }
+    requires { job.now ≢ Lint }
+
+    ensures { MatchResult result (IsMade (problem.now ∷ solution.now ∷ []) (report job.now mode problem.now (Some solution.now)))
+        (IsUnmade (problem.now ∷ solution.now ∷ [])) }
 {
-    let mut first = Device::new(problem);
+    let mut first = Document::new(problem);
+    let mut second = Document::new(solution);
     let mut out = Device::new(Vec::new(alloc));
-    match solution {
-        Some(solution) => {
-            let mut second = Device::new(solution);
-            let outcome = run(alloc, job, mode, &mut first, Some(&mut second), &mut out)?;
-            Ok(Made::of(outcome, out))
-        }
-        None => {
-            let outcome = run::<_, Device<&[u8]>, _>(alloc, job, mode, &mut first, None, &mut out)?;
-            Ok(Made::of(outcome, out))
-        }
-    }
+    let outcome = run(alloc, job, mode, &mut first, Some(&mut second), &mut out)?;
+    Ok(Made::of(outcome, out))
 }
 
 /// The report of a ranking of solutions of a problem.
@@ -67,24 +76,27 @@ pub(crate) fn ranked(
     problem: &[u8],
     solutions: &[Text<'_>],
 ) -> Result<Made, Stop>
-    ensures { MatchResult result (IsMade (rank_report aims.now mode problem.now (map (λ text. text.bytes.now) solutions.now))) IsUnmade }
+    ensures { MatchResult result
+        (IsMade (problem.now ∷ map (λ text. text.bytes.now) solutions.now) (rank_report aims.now mode problem.now (map (λ text. text.bytes.now) solutions.now)))
+        (IsUnmade (problem.now ∷ map (λ text. text.bytes.now) solutions.now)) }
 {
-    let mut first = Device::new(problem);
-    let mut others = readers(alloc, solutions)?;
+    let mut first = Document::new(problem);
+    let mut others = documents(alloc, solutions)?;
     let mut out = Device::new(Vec::new(alloc));
     let outcome = rank(alloc, aims, mode, &mut first, &mut others, &mut out)?;
     Ok(Made::of(outcome, out))
 }
 
-/// A reader for each text.
-fn readers<'t>(alloc: Global, texts: &[Text<'t>]) -> Result<Vec<Device<&'t [u8]>>, AllocError>
-    ensures { IfOk result (λ readers. map device_text readers.items ≡ map (λ text. text.bytes.now) texts.now) }
+/// A document for each text.
+fn documents<'t>(alloc: Global, texts: &[Text<'t>]) -> Result<Vec<Document<'t>>, AllocError>
+    ensures texts { IfOk result (λ documents. map (λ d. d.rest.now) documents.items ≡ map (λ text. text.bytes.now) texts.now) }
+    ensures new { IfOk result (λ documents. All IsNew documents.items) }
 {
-    let mut readers = Vec::new(alloc);
+    let mut documents = Vec::new(alloc);
     for text in texts {
-        readers.push(Device::new(text.bytes))?;
+        documents.push(Document::new(text.bytes))?;
     }
-    Ok(readers)
+    Ok(documents)
 }
 
 /// Gives a caller the report, or nothing, and answers the status.

@@ -1,5 +1,6 @@
 //! What the texts of a call say beside its documents.
-ghost use Rattle.std.specs.Prelude.{◌≡◌, ◌⊎◌, ℕ, List, MatchResult, option_map};
+ghost use Rattle.std.specs.Prelude.{◌≡◌, ◌≢◌, ◌⊎◌, ℕ, IfOk, List, MatchResult, option_map};
+ghost use Rattle.cudf_check.specs.declared.job.Job.TheVariants.{Lint};
 ghost use Rattle.cudf_c.specs.Words.{IsAims, IsKey, IsList, IsNoKey, IsNoList, IsPage, IsScore, limit_of};
 ghost use Rattle.cudf_c.specs.declared.stop.Stop.TheVariants.{Memory, Refused};
 
@@ -9,7 +10,8 @@ use std::alloc::Global;
 
 /// The page of a check behind the key that `after` says, of `limit` lines at most.
 pub(crate) fn page(after: &[u8], limit: u64) -> Result<Job, Stop>
-    ensures { MatchResult result (IsPage after.now limit) (λ stop. (stop ≡ Refused) × IsNoKey after.now) }
+    ensures judges { IfOk result (λ job. job ≢ Lint) }
+    ensures asked { MatchResult result (IsPage after.now limit) (λ stop. (stop ≡ Refused) × IsNoKey after.now) }
 {
     let after = key(after)?;
     let limit = if limit > 0 { Some(limit) } else { None };
@@ -18,7 +20,8 @@ pub(crate) fn page(after: &[u8], limit: u64) -> Result<Job, Stop>
 
 /// The counts of the list that `criteria` says.
 pub(crate) fn score(alloc: Global, criteria: &[u8]) -> Result<Job, Stop>
-    ensures { MatchResult result (IsScore criteria.now) (λ stop. (stop ≡ Memory) ⊎ ((stop ≡ Refused) × IsNoList criteria.now)) }
+    ensures judges { IfOk result (λ job. job ≢ Lint) }
+    ensures asked { MatchResult result (IsScore criteria.now) (λ stop. (stop ≡ Memory) ⊎ ((stop ≡ Refused) × IsNoList criteria.now)) }
 {
     let aims = list(alloc, criteria)?;
     Ok(Job::Score { aims })

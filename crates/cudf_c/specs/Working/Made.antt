@@ -1,28 +1,24 @@
 -- A report that was made in memory, for proofs.
 use Rattle.std.specs.Prelude.{◌≡◌, ◌⊎◌, List, ℕ}
-use Rattle.std.specs.Borrow.{Bor}
-use Rattle.cudf_check.specs.DeviceInside.{device_inner}
+use Rattle.std.specs.List.{All}
+use Rattle.cudf_check.specs.Readers.{OfOne}
 use Rattle.cudf_check.specs.Report.{Report}
-use Rattle.cudf_check.specs.declared.device.Device.{Device}
 use Rattle.cudf_check.specs.Outcome.{outcome_status}
-use Rattle.cudf_c.specs.Calls.{Left, Shows, ShowsNothing}
+use Rattle.cudf_c.specs.Calls.{IsLong, IsShort, Left, Shows, ShowsNothing}
 use Rattle.cudf_c.specs.Working.Stops.{stop_status}
 use Rattle.cudf_c.specs.declared.made.Made.{Made}
 use Rattle.cudf_c.specs.declared.stop.Stop.{Stop}
 use Rattle.cudf_c.specs.declared.stop.Stop.TheVariants.{TooLong, Memory}
 
--- the text that a device reads
-abbrev pub device_text : Device (Bor (List ℕ)) → List ℕ
-device_text d = (device_inner d).now
-
--- it is this report
-pub record IsMade (answer : Report) (made : Made) : Type 0 where
+-- it is this report, on documents of which none is too long
+pub record IsMade (documents : List (List ℕ)) (answer : Report) (made : Made) : Type 0 where
   pub text_is : made.text.items ≡ answer.text
   pub outcome_is : made.outcome ≡ answer.outcome
+  pub short : All IsShort documents
 
 -- a document is too long, or memory ran out
-abbrev pub IsUnmade : Stop → Type 0
-IsUnmade stop = (stop ≡ TooLong) ⊎ (stop ≡ Memory)
+abbrev pub IsUnmade : List (List ℕ) → Stop → Type 0
+IsUnmade documents stop = ((stop ≡ TooLong) × OfOne IsLong documents) ⊎ (stop ≡ Memory)
 
 -- a call tells this report
 pub record IsTold (made : Made) (call : Left) : Type 0 where
