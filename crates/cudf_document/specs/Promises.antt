@@ -1,3 +1,4 @@
+pub mod Errors
 pub mod Faults
 pub mod Laws
 pub mod Packages

@@ -3,18 +3,34 @@ ghost use Rattle.cudf_document.specs.declared.error.ReadError.TheVariants.{Memor
 
 use cudf_text::Fault;
 use std::alloc::AllocError;
-use thiserror::Error;
+use std::error::Error;
+use std::fmt;
 
 /// Why a document has no value.
-#[derive(Clone, Copy, Debug, PartialEq, Eq, Error)]
+#[derive(Clone, Copy, Debug, PartialEq, Eq)]
 pub enum ReadError {
     /// The document's first fault: by line, then by kind.
-    #[error("{0}")]
     Fault(Fault),
     /// A growth was refused.
-    #[error("out of memory")]
     Memory(AllocError),
 }
+
+/// As `line 12: E13 no request`, or `out of memory`.
+impl fmt::Display for ReadError {
+    ghost use Rattle.std.specs.Prelude.{Some};
+    ghost use Rattle.cudf_document.specs.Promises.Errors.{error_text};
+
+    ghost output = { λ error. Some (error_text error) };
+
+    fn fmt<W: fmt::Write>(&self, f: &mut fmt::Formatter<W>) -> fmt::Result {
+        match self {
+            ReadError::Fault(fault) => write!(f, "{fault}"),
+            ReadError::Memory(_) => write!(f, "out of memory"),
+        }
+    }
+}
+
+impl Error for ReadError {}
 
 impl From<AllocError> for ReadError {
     ghost from_gives = { λ error result. result ≡ Memory error };

@@ -1,5 +1,6 @@
 pub mod Borrows
 pub mod Cursor
+pub mod Errors
 pub mod Joins
 pub mod Laws
 pub mod Rooms

@@ -4,7 +4,8 @@ ghost use Rattle.cudf_text.specs.declared.text.TextError.TheVariants.{Memory};
 use crate::fault::Fault;
 use std::alloc::AllocError;
 use std::borrow::CowStr;
-use thiserror::Error;
+use std::error::Error;
+use std::fmt;
 
 /// A document as its stanzas (CUDF 2.0, syntax of stanzas and properties), each part with its
 /// line. Reading ends at the first line that is faulty; only `lines` counts those after it.
@@ -68,15 +69,30 @@ pub struct PropertyRef<'t> {
 }
 
 /// Why bytes have no `Text`.
-#[derive(Clone, Copy, Debug, PartialEq, Eq, Error)]
+#[derive(Clone, Copy, Debug, PartialEq, Eq)]
 pub enum TextError {
     /// Always of kind E1: the bytes aren't UTF-8.
-    #[error("{0}")]
     Fault(Fault),
     /// A growth was refused.
-    #[error("out of memory")]
     Memory(AllocError),
 }
+
+/// As `line 2: E1 not UTF-8`, or `out of memory`.
+impl fmt::Display for TextError {
+    ghost use Rattle.std.specs.Prelude.{Some};
+    ghost use Rattle.cudf_text.specs.Promises.Errors.{error_text};
+
+    ghost output = { λ error. Some (error_text error) };
+
+    fn fmt<W: fmt::Write>(&self, f: &mut fmt::Formatter<W>) -> fmt::Result {
+        match self {
+            TextError::Fault(fault) => write!(f, "{fault}"),
+            TextError::Memory(_) => write!(f, "out of memory"),
+        }
+    }
+}
+
+impl Error for TextError {}
 
 impl From<AllocError> for TextError {
     ghost from_gives = { λ error result. result ≡ Memory error };
