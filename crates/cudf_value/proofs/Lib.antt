@@ -13,3 +13,4 @@ pub mod ReadBack
 mod TokenLemmas
 pub mod TypeLemmas
 pub mod VpkgLemmas
+pub mod DeclarationLemmas

@@ -27,7 +27,7 @@ use Rattle.cudf_value.proofs.ReadBack.{prefix_through, cut_at_name}
 -- ---- the characters of each class
 
 -- what is so of a space and of a tab is so of each blank
-blank_is : (test : ℕ → Bool) (x : Bool) → test 32 ≡ x → test 9 ≡ x → (b : ℕ) → is_blank b ≡ true → test b ≡ x
+pub blank_is : (test : ℕ → Bool) (x : Bool) → test 32 ≡ x → test 9 ≡ x → (b : ℕ) → is_blank b ≡ true → test b ≡ x
 blank_is test x space tab b is = elim (or_cases (b == 32) (b == 9) is) [ inl e ↦ ap test (eqb-true b 32 e) ∙ space | inr e ↦ ap test (eqb-true b 9 e) ∙ tab ]
 
 -- what is so of a comma and of a bar is so of what ends an atom
@@ -46,7 +46,7 @@ operator_is test x bang below equal above b is = by (33 == b) (60 == b) (61 == b
     by false false false false e f g h = let never : false ≡ true = rw (e, f, g, h) at is in absurd cc
 
 -- of two tests that no character passes both
-apart : (one other : ℕ → Bool) → ((b : ℕ) → one b ≡ true → other b ≡ false) → (b : ℕ) → other b ≡ true → one b ≡ false
+pub apart : (one other : ℕ → Bool) → ((b : ℕ) → one b ≡ true → other b ≡ false) → (b : ℕ) → other b ≡ true → one b ≡ false
 apart one other fails b is = false_from_ne_true (one b) (λ h. true≢false (sym is ∙ fails b h))
 
 pub blank_no_name : (b : ℕ) → is_blank b ≡ true → is_pkgname_char b ≡ false
@@ -111,13 +111,13 @@ run_inside : (test : ℕ → Bool) → ((b : ℕ) → test b ≡ true → is_ins
 run_inside test inside text part all = both_pass is_inside (run test text) part (all_pass test is_inside inside (run test text) (run_passes test text)) all
 
 -- no run begins with characters that fail
-none_passes : (test other : ℕ → Bool) → ((b : ℕ) → other b ≡ true → test b ≡ false) → (xs ys : List ℕ) → 0 < length xs → list_all other xs ≡ true → prefix_len test (xs ++ ys) ≡ 0
+pub none_passes : (test other : ℕ → Bool) → ((b : ℕ) → other b ≡ true → test b ≡ false) → (xs ys : List ℕ) → 0 < length xs → list_all other xs ≡ true → prefix_len test (xs ++ ys) ≡ 0
 none_passes test other fails [] ys some all = absurd (omega (arith, some))
 none_passes test other fails (x ∷ xs) ys some all = rw (fails x (and_parts (other x) (list_all other xs) all).0) refl
 
 -- ---- trimming
 
-blanks_off : (blanks rest : List ℕ) → list_all is_blank blanks ≡ true → trim_start (blanks ++ rest) ≡ trim_start rest
+pub blanks_off : (blanks rest : List ℕ) → list_all is_blank blanks ≡ true → trim_start (blanks ++ rest) ≡ trim_start rest
 blanks_off [] rest all = refl
 blanks_off (b ∷ blanks) rest all =
     let each = and_parts (is_blank b) (list_all is_blank blanks) all in
@@ -196,7 +196,7 @@ some_digits [] n is = absurd cc
 some_digits (b ∷ number) n is = omega arith
 
 -- no run begins with blanks, and then with characters that fail
-blanks_then : (test : ℕ → Bool) → ((b : ℕ) → is_blank b ≡ true → test b ≡ false) → (blanks rest : List ℕ) → list_all is_blank blanks ≡ true → prefix_len test rest ≡ 0
+pub blanks_then : (test : ℕ → Bool) → ((b : ℕ) → is_blank b ≡ true → test b ≡ false) → (blanks rest : List ℕ) → list_all is_blank blanks ≡ true → prefix_len test rest ≡ 0
     → prefix_len test (blanks ++ rest) ≡ 0
 blanks_then test fails [] rest all none = none
 blanks_then test fails (b ∷ blanks) rest all none = none_passes test is_blank fails (b ∷ blanks) rest (omega arith) all

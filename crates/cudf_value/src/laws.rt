@@ -1,8 +1,11 @@
 //! Laws over the definitions alone, each the contract of a function without effect.
-ghost use Rattle.std.specs.Prelude.{IsTrue};
-ghost use Rattle.cudf_text.specs.Chars.{is_blank_text};
+ghost use Rattle.std.specs.Prelude.{not, is_some, slice_index, IsTrue};
+ghost use Rattle.std.specs.Char.{is_ascii_alphabetic};
+ghost use Rattle.cudf_text.specs.Chars.{is_blank_text, is_ident};
+ghost use Rattle.cudf_value.specs.Parts.{look_up};
+ghost use Rattle.cudf_value.specs.Types.{types};
 ghost use Rattle.cudf_value.specs.Words.{is_pkgname};
-ghost use Rattle.cudf_value.specs.Promises.Laws.{IsCutAtCommas, IsMadeOfTokens, IsPosintBound, IsQuotableAsMade, IsReadBack, IsReadSpaced, PiecesJoinToText};
+ghost use Rattle.cudf_value.specs.Promises.Laws.{IsCutAtCommas, IsMadeOfTokens, IsDeclaredSpaced, IsPosintBound, IsQuotableAsMade, IsReadBack, IsReadSpaced, PiecesJoinToText};
 
 use crate::relop::Relop;
 
@@ -19,6 +22,17 @@ pub fn spaced(_name: &str, _gap: &str, _relop: Relop, _space: &str, _number: &st
     requires gap { IsTrue (is_blank_text _gap.now) }
     requires space { IsTrue (is_blank_text _space.now) }
     ensures { IsReadSpaced _name.now _gap.now _relop _space.now _number.now }
+{}
+
+/// An `ident`, a colon and a type's word declare the ident of this type, with blanks or none round the colon; what stands
+/// behind the word is read as nothing or a default.
+pub fn declared(_name: &str, _gap: &str, _space: &str, _word: &str, _rest: &str)
+    requires name { IsTrue (is_ident _name.now) }
+    requires gap { IsTrue (is_blank_text _gap.now) }
+    requires space { IsTrue (is_blank_text _space.now) }
+    requires word { IsTrue (is_some (look_up _word.now types)) }
+    requires rest { IsTrue (not (is_ascii_alphabetic (slice_index _rest.now 0))) }
+    ensures { IsDeclaredSpaced _name.now _gap.now _space.now _word.now _rest.now }
 {}
 
 /// A declaration's pieces, with commas between them, are its text; and a text of characters, quoted texts and texts in

@@ -1,8 +1,11 @@
 -- Laws over the definitions alone.
-use Rattle.std.specs.Prelude.{◌≡◌, ℕ, ◌^◌, ◌<◌, true, List, ◌++◌, map, Option, Some, IfSome, ◌↔◌}
+use Rattle.std.specs.Prelude.{◌≡◌, ℕ, ◌^◌, ◌<◌, true, List, ◌++◌, codes, map, Option, Some, IfSome, ◌↔◌}
 use Rattle.std.specs.List.{list_all, flat_map, slice_split, join_with_byte}
 use Rattle.std.specs.Str.{byte}
 use Rattle.cudf_value.specs.declared.relop.Relop.{Relop}
+use Rattle.cudf_text.specs.Chars.{trim_start}
+use Rattle.cudf_value.specs.Types.{word_type}
+use Rattle.cudf_value.specs.Declarations.{with_kind, declaration}
 use Rattle.cudf_value.specs.Spots.{pieces, is_quotable}
 use Rattle.cudf_value.specs.Promises.Tokens.{Inner, Token, is_inner, is_token, is_comma, inner_text, text_of}
 use Rattle.cudf_value.specs.Numbers.{positive}
@@ -21,6 +24,12 @@ IsReadBack name bound = let v : PlainVpkg = record { name = name; bound = bound 
 abbrev pub IsReadSpaced : List ℕ → List ℕ → Relop → List ℕ → List ℕ → Type 0
 IsReadSpaced name gap r space number = IfSome (positive number) (λ n.
     let v : PlainVpkg = record { name = name; bound = Some (r, n) } in vpkg (name ++ gap ++ relop_text r ++ space ++ number) ≡ Some v)
+
+-- a name, a colon and a type's word, with any blanks round the colon, declare the name of this type; what stands behind
+-- the word is read as nothing or a default
+abbrev pub IsDeclaredSpaced : List ℕ → List ℕ → List ℕ → List ℕ → List ℕ → Type 0
+IsDeclaredSpaced name gap space word rest =
+    declaration (name ++ gap ++ codes ":" ++ space ++ word ++ rest) ≡ with_kind name (word_type word) (trim_start rest)
 
 -- the pieces, with a comma between each two, are the text
 abbrev pub PiecesJoinToText : List ℕ → Type 0
