@@ -44,7 +44,7 @@ OPEN_ERRORS = (
     (-40, "Too many levels of symbolic links (os error 40)"),
 )
 RANKED = ranked("2 yes -removed 1", "1 no", "3 FAIL")
-# a word that asks for each report, the report and its status; {} stands where an option may stand
+# words, the status and the report
 REPORTS = (
     ("lint p", 0, "problem ok\n"), ("check p bad", 1, UNMET), ("score p good", 0, outermost.SCORED),
     ("check p faulty", 2, outermost.FAULTY_SOLUTION), ("lint faulty", 2, FAULTY),
@@ -180,8 +180,9 @@ def slow_reads(watch):
                 rules = [text for name in names for text in (
                     rule("read", name, first, last, INTERRUPTED, step), always("read", name, most))]
                 ran, calls = watch.calls(words, *rules)
-                read = [given(calls, name) == len(FILES[name]) for name in names]
-                watch.same(f"{words}, by {most} bytes, interrupted {first, last, step}", (ran, all(read)), ((status, report, ""), True))
+                is_read = all(given(calls, name) == len(FILES[name]) for name in names)
+                name = f"{words}, by {most} bytes, interrupted {first, last, step}"
+                watch.same(name, (ran, is_read), ((status, report, ""), True))
 
 
 def failing_reads(watch):
@@ -206,6 +207,15 @@ def failing_reads(watch):
             ran, _ = watch.calls(words, rule("read", "0", at, at, -5), always("read", "0", 9), data=data)
             told = unread("standard input", "Input/output error (os error 5)")
             watch.same(f"{words}: read {at} of standard input", ran, (5, "", told))
+
+
+def too_long(watch):
+    """Behind an input that is too long none is read."""
+    with open("huge", "wb") as file:
+        os.truncate(file.fileno(), outermost.GREATEST_INPUT + 1)
+    for words in ("check huge bad", "rank --criteria=-new huge good bad", "rank --criteria=-new p huge bad"):
+        ran, calls = watch.calls(words)
+        watch.same(words, (ran, of(calls, "read", "bad")), ((5, "", outermost.long("huge")), []))
 
 
 def reads_of(text, most):
@@ -258,8 +268,10 @@ def in_turn(calls):
 
 def unopened(watch):
     """Words that aren't understood, help and the version open and read nothing."""
-    for words in ("--help", "--version", "rank --help", "check - - --limit 0", "check p bad --after x", "score - -", "lint p bad",
-                  "rank p good", "rank --criteria +new p good", "judge p", "rank --criteria=-new p - -"):
+    for words in (
+        "--help", "--version", "rank --help", "check - - --limit 0", "check p bad --after x", "score - -", "lint p bad",
+        "rank p good", "rank --criteria +new p good", "judge p", "rank --criteria=-new p - -",
+    ):
         calls = watch.calls(words)[1]
         watch.same(f"{words}: files", [it for it in calls if it[0] != "write"], [])
 
@@ -302,7 +314,7 @@ def is_refused(watch, words, growth, later, ample, has_files, texts):
     watch.same(f"{words}: growth {growth}, {later}", (status, output, is_told or errors), (6, "", True))
     return True
 
-ROWS = (writes, errors_aside, long_reports, slow_reads, failing_reads, failing_opens, orders, unopened, refused_growths)
+ROWS = (writes, errors_aside, long_reports, slow_reads, failing_reads, too_long, failing_opens, orders, unopened, refused_growths)
 
 
 def main(path):
