@@ -127,7 +127,9 @@ def given(calls, name):
 
 
 def writes(watch):
-    """Each write fails in turn, in three ways, where the others take few bytes: it ends the run, and is the last one."""
+    """Each write fails in turn, in some ways, where the others take few bytes: it ends the run, and is the last one.
+
+    What help prints where all is well is compared by command_lines.py."""
     rows = [(words, status, report, UNWRITTEN, BYTES_A_CALL) for words, status, report in REPORTS]
     rows += [(words, 0, watch.run(words.split())[1], "", HELP_BYTES_A_CALL) for words in HELP]
     for words, status, report, told, most in rows:

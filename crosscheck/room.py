@@ -225,6 +225,7 @@ CASES = (
     Case("many short clauses", 100_000, lambda n: one_package(f"depends: {entries(n, 'a', ',')}")),
     Case("clauses that aren't met", 50_000, missing),
     Case("a value of many lines", 100_000, lambda n: one_package("depends: a" + ",\n a" * n)),
+    Case("a value of long lines", 50_000, lambda n: lint("request:\nnote:\n" + (" " + "x" * 100 + "\n") * n)),
     Case("a long first line, continued", 100_000, lambda n: one_package(f"depends: {entries(n)},\n a")),
     Case("a distribution", 20_000, lambda n: check(*distribution(n))),
     Case("a distribution in one input", 20_000, lambda n: joined(*distribution(n))),
