@@ -3,19 +3,22 @@
 
 usage: refusals.py PROGRAM [TESTS]
 
-PROGRAM runs on the documents of examples/, and on a package that gives 80 entries. Growth 1, growth 2 and so on is refused, until none is: each in two runs of
-its own, in the second one with all later ones. Where a growth is refused the program has to end with status 6 and nothing
-on standard output; where memory that was to be given back is refused alone, the report is right as well.
+PROGRAM runs on the documents of examples/, and on a package that gives 80 entries. Growth 1, growth 2 and so on is
+refused, until none is: each in two runs of its own, in the second one with all later ones. Where a growth is refused the
+program has to end with status 6 and nothing on standard output; where memory that was to be given back is refused alone,
+the report is right as well.
 
 TESTS is the executable of the tests of cudf_run_tests (`rt test` leaves it in out/). Its tests in `memory` make the calls
 that take memory, and say where one told that a growth was refused; the same is done with them, and printed for each of them
 is how many growths were refused. `memory::none` runs with every growth refused.
 
-Each run ends within a minute. Needs gcc and glibc; Python's standard library alone.
+Each run ends within a minute. Where gcc isn't there all runs are left out, and this is told. For glibc; Python's standard
+library alone.
 """
 import collections
 import itertools
 import os
+import shutil
 import subprocess
 import sys
 import tempfile
@@ -139,6 +142,9 @@ def calls(refuser, tests):
 
 
 def main(program, tests=None):
+    if not shutil.which("gcc"):
+        print("left out: refusals: gcc isn't there")
+        return 0
     with tempfile.TemporaryDirectory() as folder:
         refuser = Refuser(folder)
         programs(refuser, program, folder)
