@@ -149,7 +149,6 @@ def versions(trial):
     number = r"\b\d+\.\d+\.\d+\b"
     for name, pattern in (
         (HEADER, number), ("crates/cudf_c/src/lib.rt", number), ("crates/cudf_program/src/grammar.rt", number),
-        ("crates/cudf_program/src/tests/usage.rt", rf"cudf_check ({number})"),
         ("crosscheck/outermost.py", rf"cudf_check ({number})"), ("cudf_check.1", number),
     ):
         trial.note(f"version in {name}", set(re.findall(pattern, text_of(name))), {trial.version})

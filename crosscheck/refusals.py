@@ -3,19 +3,22 @@
 
 usage: refusals.py PROGRAM [TESTS]
 
-PROGRAM runs on the documents of examples/, and on a package that gives 80 entries. Growth 1, growth 2 and so on is refused, until none is: each in two runs of
-its own, in the second one with all later ones. Where a growth is refused the program has to end with status 6 and nothing
-on standard output; where memory that was to be given back is refused alone, the report is right as well.
+PROGRAM runs on the documents of examples/, and on a package that gives 80 entries. Growth 1, growth 2 and so on is
+refused, until none is: each in two runs of its own, in the second one with all later ones. Where a growth is refused the
+program has to end with status 6 and nothing on standard output; where memory that was to be given back is refused alone,
+the report is right as well.
 
-TESTS is the executable of the tests of cudf_run_tests (`rt test` leaves it in out/). Its tests in `memory` call one
-function each, and say whether a growth was refused in the call or in what was made before it; the same is done with them,
-and printed for each of them is how many growths were refused there. Those in `memory::none` run with every growth refused.
+TESTS is the executable of the tests of cudf_run_tests (`rt test` leaves it in out/). Its tests in `memory` make the calls
+that take memory, and say where one told that a growth was refused; the same is done with them, and printed for each of them
+is how many growths were refused. `memory::none` runs with every growth refused.
 
-Each run ends within a minute. Needs gcc and glibc; Python's standard library alone.
+Each run ends within a minute. Where gcc isn't there all runs are left out, and this is told. For glibc; Python's standard
+library alone.
 """
 import collections
 import itertools
 import os
+import shutil
 import subprocess
 import sys
 import tempfile
@@ -50,7 +53,8 @@ JOBS += [["check", *MADE], ["score", *MADE]]
 # the statuses of a report
 REPORTED = range(4)
 NO_MEMORY = (6, b"")
-IN_CALL, BEFORE_CALL = b"refused in the call", b"refused before the call"
+IN_CALL = b"refused in the call"
+NO_MEMORY_TAKEN = "memory::none"
 ALWAYS = 10**6
 
 
@@ -122,15 +126,15 @@ def calls(refuser, tests):
     listed = subprocess.run([tests, "--list"], capture_output=True, text=True, check=True).stdout.split()
     names = sorted({name.rstrip(":") for name in listed if name.startswith("memory::")})
     for name in names:
-        if name.startswith("memory::none::"):
+        if name == NO_MEMORY_TAKEN:
             status, _, errors, marks = refuser.run([tests, name], 1, "1")
             refuser.note([name, status, errors[-200:]], False, status == 0)
             print(f"{name}: every growth refused, {len(marks)} asked for")
             continue
         told = collections.Counter()
         for growth, later, (status, _, errors, marks) in in_turn(refuser, [tests, name]):
-            where = "in the call" if IN_CALL in errors else "before it" if BEFORE_CALL in errors else "given back"
-            is_answered = where != "given back"
+            is_answered = IN_CALL in errors
+            where = "in a call" if is_answered else "given back"
             is_fine = is_answered or b"g" not in marks and status == 0
             refuser.note([name, growth, later, status, errors[-200:]], is_answered, is_fine)
             told[where] += later == "0" and marks != b""
@@ -138,6 +142,9 @@ def calls(refuser, tests):
 
 
 def main(program, tests=None):
+    if not shutil.which("gcc"):
+        print("left out: refusals: gcc isn't there")
+        return 0
     with tempfile.TemporaryDirectory() as folder:
         refuser = Refuser(folder)
         programs(refuser, program, folder)

@@ -3,8 +3,8 @@
 
 usage: room.py PROGRAM [TESTS]
 
-Each run of PROGRAM has a stack of 128 KB, and must give its whole answer. In it are counted the growths (each time that memory was
-asked for), the most bytes that were held at once, and the calls of read. Wanted is:
+Each run of PROGRAM has a stack of 128 KB, and must give its whole answer. In it are counted the growths (each time that
+memory was asked for), the most bytes that were held at once, and the calls of read. Wanted is:
 
 - at most as many growths as the input has bytes, and 500 more; for twice the input, at most 2.2 times as many, and 500
   more;
@@ -17,17 +17,19 @@ asked for), the most bytes that were held at once, and the calls of read. Wanted
 An input of exactly 268435456 bytes is answered, with at most three bytes of memory for each of its own, and one byte
 more is told as too long, with status 5.
 
-TESTS is the executable of the tests of cudf_run_tests (`rt test` leaves it in out/). Each of those in `memory` makes one
-call of the library, some of them `run`, and must hold no more blocks at its end than those do that take no memory. They
-have the usual stack.
+TESTS is the executable of the tests of cudf_run_tests (`rt test` leaves it in out/). Each of those in `memory` makes calls
+of the library, and must hold no more blocks at its end than `memory::none` does, which takes no memory. They have the usual
+stack.
 
 Each case is printed with what was measured of the larger size, and what isn't as wanted behind `WRONG`. The status is 1
-where something is wrong. For Linux; needs gcc and glibc; Python's standard library alone.
+where something is wrong. Where gcc isn't there all cases are left out, and this is told. For Linux and glibc; Python's
+standard library alone.
 """
 import collections
 import fcntl
 import os
 import resource
+import shutil
 import struct
 import subprocess
 import sys
@@ -91,6 +93,44 @@ def versions(numbers):
     names = {"name": "a", "version": "{}"}
     problem = packages(numbers, lambda number: f"depends: a >= {number}\n", **names) + "request:\n"
     return check(problem, installed(numbers, **names))
+
+
+def versions_beside_a_user(count):
+    """All versions of one name, and a package that needs others of them: the last one, one below 1, and a later one."""
+    user = f"package: user\nversion: 1\ndepends: a > {count - 1}, a < 1, a > {count}\n\nrequest: r\n"
+    line = f"user 1 line {3 * count + 1}"
+    told = [f"p{count + 1}.depends.2 {line}: needs a < 1\n", f"p{count + 1}.depends.3 {line}: needs a > {count}\n"]
+    names = {"name": "a", "version": "{}"}
+    numbers = range(1, count + 1)
+    solution = installed(numbers, **names) + "\npackage: user\nversion: 1\ninstalled: true\n"
+    return check(packages(numbers, **names) + user, solution, "".join(told) + NO)
+
+
+def repeated(count):
+    """A package for each number, and the last one once more."""
+    problem = packages(range(1, count + 1)) + f"package: p{count}\nversion: 1\n\nrequest:\n"
+    return Task("lint", [problem], f"problem line {3 * count + 2}: E11 package repeated\n", 2)
+
+
+def property_repeated(count):
+    """A stanza with a property for each number; of two that are alike the second is found."""
+    lines = "".join(f"e{number}: x\n" for number in range(count))
+    return Task("lint", ["request:\n" + lines + "e0: y\n"], f"problem line {count + 2}: E7 property repeated\n", 2)
+
+
+def last_page(count):
+    """A line of clauses that aren't met: the page behind the last but one."""
+    task = one_package(f"depends: {entries(count, 'x', ',')}", f"p1.depends.{count} a 1 line 1: needs x\n" + NO)
+    return task._replace(job=f"check --after=p1.depends.{count - 1}")
+
+
+def met_own_version(count):
+    """A package that gives a feature in all numbers and conflicts with each, beside one that gives it in the middle one."""
+    text, half = entries(count, "f = {}"), count // 2
+    own = f"package: a\nversion: 1\nprovides: {text}\nconflicts: {text}\n\n"
+    problem = own + f"package: b\nversion: 1\nprovides: f = {half}\n\nrequest:\n"
+    told = f"p1.conflicts.{half} a 1 line 1: conflicts with f = {half}, met by b 1\n"
+    return check(problem, installed(["a", "b"], name="{}"), told + NO)
 
 
 def provisions(count, order=1):
@@ -170,6 +210,11 @@ def enum(count):
 CASES = (
     Case("versions of one name, ascending", 20_000, lambda n: versions(range(1, n + 1))),
     Case("versions of one name, descending", 20_000, lambda n: versions(range(n, 0, -1))),
+    Case("versions of one name, beside a user", 20_000, versions_beside_a_user),
+    Case("a package repeated behind many", 50_000, repeated),
+    Case("a property repeated behind many", 50_000, property_repeated),
+    Case("the last page of a long line", 100_000, last_page),
+    Case("one of many own provisions met by another", 20_000, met_own_version),
     Case("provisions of one name, ascending", 50_000, provisions),
     Case("provisions of one name, descending", 50_000, lambda n: provisions(n, -1)),
     Case("provisions of many names", 50_000, names_of_features),
@@ -180,6 +225,7 @@ CASES = (
     Case("many short clauses", 100_000, lambda n: one_package(f"depends: {entries(n, 'a', ',')}")),
     Case("clauses that aren't met", 50_000, missing),
     Case("a value of many lines", 100_000, lambda n: one_package("depends: a" + ",\n a" * n)),
+    Case("a value of long lines", 50_000, lambda n: lint("request:\nnote:\n" + (" " + "x" * 100 + "\n") * n)),
     Case("a long first line, continued", 100_000, lambda n: one_package(f"depends: {entries(n)},\n a")),
     Case("a distribution", 20_000, lambda n: check(*distribution(n))),
     Case("a distribution in one input", 20_000, lambda n: joined(*distribution(n))),
@@ -293,7 +339,7 @@ class Trials:
             names.append(os.path.join(self.folder, f"{size}-{place}"))
             with open(names[-1], "w", encoding="ascii") as file:
                 file.write(text)
-        return [self.path, task.job] + names
+        return [self.path] + task.job.split() + names
 
     def try_case(self, case, is_slow=False):
         runs, faults = [], []
@@ -346,7 +392,7 @@ class Trials:
         listed = subprocess.run([tests, "--list"], capture_output=True, text=True, check=True).stdout.split()
         names = sorted({name.rstrip(":") for name in listed if name.startswith("memory::")})
         held = {name: self.runner.counted([tests, name], limit=None) for name in names}
-        bare = max((held[name][3].blocks for name in names if name.startswith("memory::none::")), default=0)
+        bare = max((held[name][3].blocks for name in names if name == "memory::none"), default=0)
         for name, (status, _, errors, counts) in held.items():
             faults = [] if status == 0 else [f"status {status}: {errors[-200:]}"]
             if counts.blocks > bare:
@@ -393,6 +439,9 @@ def told_of(counts, size, ratio, seconds):
 
 
 def main(path, tests=None):
+    if not shutil.which("gcc"):
+        print("left out: room: gcc isn't there")
+        return 0
     with tempfile.TemporaryDirectory() as folder:
         trials = Trials(path, folder)
         for case in CASES:

@@ -132,9 +132,10 @@ def table_cells(path, heading):
 
 
 def is_test(name):
-    """Whether `FILE FUNCTION` names a test."""
+    """Whether `FILE FUNCTION` names a test, or what makes rows for the program in a script of crosscheck/."""
     path, _, function = name.partition(" ")
-    return os.path.isfile(os.path.join(rows.TOP, path)) and f"#[test]\nfn {function}(" in rows.read(path)
+    head = f"def {function}(" if path.endswith(".py") else f"#[test]\nfn {function}("
+    return os.path.isfile(os.path.join(rows.TOP, path)) and head in rows.read(path)
 
 
 def wrong_section(path, heading, lines, names):

@@ -20,7 +20,7 @@ use std::alloc::{AllocError, Global};
 use std::fmt;
 
 /// A file as the words name it.
-#[derive(Clone, Copy, Debug, PartialEq, Eq)]
+#[derive(Clone, Copy, PartialEq, Eq)]
 pub(crate) enum FileName<'w> {
     /// The file at a path.
     Path(&'w str),
@@ -49,7 +49,7 @@ impl fmt::Display for FileName<'_> {
 }
 
 /// What the words ask for.
-#[derive(Debug, PartialEq, Eq, Drop)]
+#[derive(Drop)]
 pub(crate) struct Order<'w> {
     /// What to do with the files.
     pub work: Work,
@@ -62,7 +62,7 @@ pub(crate) struct Order<'w> {
 }
 
 /// What to do with the files.
-#[derive(Debug, PartialEq, Eq, Drop)]
+#[derive(Drop)]
 pub(crate) enum Work {
     /// One run.
     Run(Job),

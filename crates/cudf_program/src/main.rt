@@ -15,8 +15,6 @@ mod grammar;
 mod output;
 mod refusal;
 mod stop;
-#[cfg(test)]
-mod tests;
 mod topic;
 mod usage;
 

@@ -2,7 +2,7 @@
 use std::fmt;
 
 /// Why the words of a command ask for no run.
-#[derive(Clone, Copy, Debug, PartialEq, Eq)]
+#[derive(Clone, Copy)]
 pub(crate) enum Refusal<'w> {
     /// A word is missing.
     Missing,

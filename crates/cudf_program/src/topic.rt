@@ -2,7 +2,7 @@
 use crate::grammar::{CHECK, LINT, RANK, SCORE};
 
 /// A command, or the program where the words name none.
-#[derive(Clone, Copy, Debug, PartialEq, Eq)]
+#[derive(Clone, Copy)]
 pub(crate) enum Topic {
     /// The program.
     Program,

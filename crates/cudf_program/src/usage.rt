@@ -12,7 +12,7 @@ use std::alloc::{AllocError, Global};
 use std::io::{self, Write};
 
 /// Why the words start no run.
-#[derive(Debug, Drop)]
+#[derive(Drop)]
 pub(crate) enum Usage<'w> {
     /// Help or the version was asked for; this is its text.
     Told(String),

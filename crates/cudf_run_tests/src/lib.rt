@@ -1,9 +1,10 @@
-//! Tests of how runs end, of large inputs, and of each call that takes memory, as an outside user sees them. Expected
-//! values come from the format's own rules, never from what the program printed.
+//! Tests of runs on devices of a user's own, at the limits, and of each call that takes memory, as an outside user sees
+//! them. Expected values come from the format's own rules, never from what the program printed. What the built program
+//! shows of devices, memory and sizes is tried by `crosscheck/devices.py`, `room.py` and `embedding.py`.
 #![tactic(auto)]
 
 #[cfg(test)]
-mod large;
+mod devices;
 #[cfg(test)]
 mod memory;
 #[cfg(test)]

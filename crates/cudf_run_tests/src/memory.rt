@@ -1,39 +1,195 @@
-//! Each call that takes memory, on an input of its own, and those that take none. The tests pass with ample memory;
-//! `crosscheck/refusals.py` runs each of them with each growth refused in turn, and reads from what they say whether it
-//! was refused in the call or before it.
-
-mod calls;
-mod none;
-mod rankings;
-mod runs;
-
+//! Each call that takes memory, and a test of calls that take none. The tests pass with ample memory;
+//! `crosscheck/refusals.py` runs each of them with each growth refused in turn: then a call says so, or all is right.
+use cudf_referee::{Key, Referee, read_criterion};
+use cudf_text::{Fault, Room, TextError, cut_joined, is_fail, read, stanzas};
+use cudf_universe::{
+    Chosen, Index, Mode, Problem, ReadError, first_fault, initial, problem_for, problem_of,
+    read_problem, read_solution, solution_of,
+};
+use cudf_value::{
+    ValueType, fits, read_declarations, read_formula, read_posint, read_veqpkglist, read_vpkg,
+    read_vpkglist,
+};
+use std::alloc::{AllocError, Global};
 use std::process::Abort;
 
-/// Where a growth was refused.
+/// Why a call gave no value.
 #[derive(Clone, Copy)]
-enum Refused {
-    /// In what the call needs.
-    Before,
-    /// In the call, which said so.
-    Here,
+enum Ended {
+    Refused,
+    Faulty,
 }
 
-/// Whether the call gave the right answer, or where a growth was refused.
-type Answer = Result<bool, Refused>;
-
-/// What was made before the call.
-fn made<T, E: Drop>(made: Result<T, E>) -> Result<T, Refused> {
-    match made {
-        Ok(value) => Ok(value),
-        Err(_) => Err(Refused::Before),
+impl From<AllocError> for Ended {
+    fn from(_error: AllocError) -> Ended {
+        Ended::Refused
     }
 }
 
-/// Asserts that the call of this name gave the right answer, and says which other one it gave.
-fn expect(rt: &impl Abort, name: &str, answer: Answer) {
+impl From<Fault> for Ended {
+    fn from(_fault: Fault) -> Ended {
+        Ended::Faulty
+    }
+}
+
+impl From<TextError> for Ended {
+    fn from(error: TextError) -> Ended {
+        match error {
+            TextError::Memory(_) => Ended::Refused,
+            TextError::Fault(_) => Ended::Faulty,
+        }
+    }
+}
+
+impl From<ReadError> for Ended {
+    fn from(error: ReadError) -> Ended {
+        match error {
+            ReadError::Memory(_) => Ended::Refused,
+            ReadError::Fault(_) => Ended::Faulty,
+        }
+    }
+}
+
+/// Asserts that the calls gave the right answers, and says where a growth was refused.
+fn expect(rt: &impl Abort, answer: Result<bool, Ended>) {
     match answer {
-        Ok(is_right) => assert!(rt; is_right, "{name}: wrong"),
-        Err(Refused::Before) => assert!(rt; false, "{name}: refused before the call"),
-        Err(Refused::Here) => assert!(rt; false, "{name}: refused in the call"),
+        Ok(is_right) => assert!(rt; is_right, "wrong"),
+        Err(Ended::Faulty) => assert!(rt; false, "faulty"),
+        Err(Ended::Refused) => assert!(rt; false, "refused in the call"),
     }
+}
+
+const ENTRIES: &str = "a, b, c, d, e, f, g, h, i, j, k = 2";
+
+const FORMULA: &str = "a | b | c | d | e, f > 2, true!, g, h, i | j";
+
+const DECLARATIONS: &str = "a: int, b: vpkglist = [x, y], c: enum[red, green] = [red]";
+
+const AIMS: &str = "-removed,-notuptodate,-unsat_recommends,-new,+touched,-changed,+new,-new,+new";
+
+/// Whether the value was read, and has so many parts.
+fn has<T: Drop>(value: Option<Vec<T>>, count: usize) -> bool {
+    match value {
+        Some(parts) => parts.len() == count,
+        None => false,
+    }
+}
+
+fn reads_values(alloc: Global) -> Result<bool, Ended> {
+    let has_lists = has(read_vpkglist(alloc, ENTRIES)?, 11)
+        && has(read_veqpkglist(alloc, ENTRIES)?, 11);
+    let has_clauses = match read_formula(alloc, FORMULA)? {
+        Some(formula) => formula.clauses.len() == 6,
+        None => false,
+    };
+    Ok(
+        has_lists
+            && has_clauses
+            && has(read_declarations(alloc, DECLARATIONS)?, 3)
+            && has(read_criterion(alloc, AIMS)?, 9)
+            && fits(alloc, &ValueType::List, ENTRIES)?,
+    )
+}
+
+/// Two packages that conflict by their names and by what they give, and a value on several lines.
+const PROBLEM: &[u8] =
+    b"preamble:\nproperty: colour: enum[red, green] = [red], size: nat\n\npackage: g\nversion: 1\nprovides: e,\n# c\n g = 1\nconflicts: e, g\ncolour: green\n\npackage: g\nversion: 2\nprovides: e, g = 1\nconflicts: e, g\ninstalled: true\n\nrequest: r\n";
+
+/// Both of them, and one that the problem doesn't have.
+const SOLUTION: &[u8] =
+    b"package: g\nversion: 1\ninstalled: true\n\npackage: g\nversion: 2\ninstalled: true\n\npackage: ghost\nversion: 9\ninstalled: true\n";
+
+/// Reads the documents stanza by stanza: alone, and the problem for what the solution installs.
+fn reads_stanzas(alloc: Global) -> Result<bool, Ended> {
+    let mut room = Room::new(alloc);
+    let fault = first_fault(alloc, stanzas(alloc, PROBLEM, &mut room)?, Mode::Lenient)?;
+    let mut room_of_problem = Room::new(alloc);
+    let problem = problem_of(
+        alloc,
+        stanzas(alloc, PROBLEM, &mut room_of_problem)?,
+        Mode::Lenient,
+    )?;
+    let mut room_of_solution = Room::new(alloc);
+    let solution = solution_of(
+        alloc,
+        stanzas(alloc, SOLUTION, &mut room_of_solution)?,
+        &problem,
+        Mode::Strict,
+    )?;
+    Ok(fault.is_none() && solution.unknown.len() == 1 && reads_chosen(alloc)?)
+}
+
+fn reads_chosen(alloc: Global) -> Result<bool, Ended> {
+    let mut room_of_chosen = Room::new(alloc);
+    let chosen = Chosen::of(alloc, stanzas(alloc, SOLUTION, &mut room_of_chosen)?)?;
+    let mut room = Room::new(alloc);
+    let problem = problem_for(
+        alloc,
+        stanzas(alloc, PROBLEM, &mut room)?,
+        &chosen,
+        Mode::Lenient,
+    )?;
+    Ok(problem.packages().len() == 2)
+}
+
+/// Reads the documents whole, and asks an index and a referee, which take no memory more.
+fn judges(alloc: Global) -> Result<bool, Ended> {
+    let text = read(alloc, PROBLEM)?;
+    let problem = read_problem(alloc, &text, Mode::Lenient)?;
+    Ok(is_indexed(alloc, &problem)? && is_judged(alloc, &problem)?)
+}
+
+fn is_indexed(alloc: Global, problem: &Problem<'_>) -> Result<bool, Ended> {
+    let status = initial(alloc, problem)?;
+    let index = Index::build(alloc, problem, &status)?;
+    let is_met = match read_vpkg("e = 7") {
+        Some(vpkg) => index.satisfies(&vpkg),
+        None => false,
+    };
+    Ok(is_met && (index.least("g"), index.greatest("g")) == (Some(1), Some(2)))
+}
+
+fn is_judged(alloc: Global, problem: &Problem<'_>) -> Result<bool, Ended> {
+    let proposed = read(alloc, SOLUTION)?;
+    if is_fail(proposed.source) {
+        return Ok(false);
+    }
+    let solution = read_solution(alloc, &proposed, problem, Mode::Lenient)?;
+    let referee = Referee::new(alloc, problem, &solution)?;
+    Ok(answers(&referee) && !referee.is_solution())
+}
+
+/// Whether its listing from the start and behind a key, and its counts are right.
+fn answers(referee: &Referee<'_, '_>) -> bool {
+    let behind = match Key::parse("p1.conflicts.2") {
+        Some(key) => referee.after(key).take(9).count(),
+        None => 0,
+    };
+    let criteria = referee.criteria();
+    (referee.instances().take(9).count(), behind) == (5, 3)
+        && criteria.paranoid() == [0, 1]
+        && criteria.trendy() == [0, 0, 0, 0]
+}
+
+#[test]
+fn values(rt: HostRuntime) {
+    expect(&rt, reads_values(rt.alloc()));
+}
+
+#[test]
+fn documents(rt: HostRuntime) {
+    expect(&rt, reads_stanzas(rt.alloc()));
+}
+
+#[test]
+fn referees(rt: HostRuntime) {
+    expect(&rt, judges(rt.alloc()));
+}
+
+/// Takes no memory, and holds none.
+#[test]
+fn none(rt: HostRuntime) {
+    let (problem, solution) = cut_joined(b"request: r\r\n\t\nFAIL");
+    assert!(rt; problem == b"request: r\r\n\t\n".as_slice() && solution == b"FAIL".as_slice());
+    assert_eq!(rt; read_posint("+007"), Some(7));
 }

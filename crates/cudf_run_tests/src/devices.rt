@@ -6,23 +6,23 @@ use cudf_check::{Sink, Source, Trouble};
 use cudf_universe::Steps;
 
 /// An interruption that never ends.
-pub(super) const FOREVER: u32 = u32::MAX;
+pub(crate) const FOREVER: u32 = u32::MAX;
 
 /// Gives `length` bytes: those of `bytes`, the last one repeated, at most `per_call` a call.
 #[derive(Drop)]
-pub(super) struct Giver<'a> {
-    pub(super) bytes: &'a [u8],
-    pub(super) length: usize,
-    pub(super) per_call: usize,
+pub(crate) struct Giver<'a> {
+    pub(crate) bytes: &'a [u8],
+    pub(crate) length: usize,
+    pub(crate) per_call: usize,
     /// So many of the first calls are interrupted.
-    pub(super) interruptions: u32,
+    pub(crate) interruptions: u32,
     /// Each call that is neither interrupted nor fails has had an interrupted one before it.
-    pub(super) is_restless: bool,
+    pub(crate) is_restless: bool,
     /// The call that fails, from 1, and 0 where none does.
-    pub(super) failing_call: u32,
+    pub(crate) failing_call: u32,
     /// The bytes and the calls so far.
-    pub(super) position: usize,
-    pub(super) turn: u32,
+    pub(crate) position: usize,
+    pub(crate) turn: u32,
     calls: Steps,
     failures: Steps,
     ends: Steps,
@@ -30,7 +30,7 @@ pub(super) struct Giver<'a> {
 }
 
 impl<'a> Giver<'a> {
-    pub(super) fn new(bytes: &'a [u8]) -> Giver<'a> {
+    pub(crate) fn new(bytes: &'a [u8]) -> Giver<'a> {
         Giver {
             bytes,
             length: bytes.len(),
@@ -95,7 +95,7 @@ impl Source for Giver<'_> {
 
 /// How a `Taker` refuses a byte.
 #[derive(Clone, Copy)]
-pub(super) enum Refusal {
+pub(crate) enum Refusal {
     Failed,
     Interrupted,
     NoByte,
@@ -103,17 +103,17 @@ pub(super) enum Refusal {
 
 /// Takes at most `per_call` bytes a call and `room` in all, and then refuses.
 #[derive(Drop)]
-pub(super) struct Taker {
-    pub(super) taken: Vec<u8>,
-    pub(super) per_call: usize,
-    pub(super) room: usize,
-    pub(super) refusal: Refusal,
+pub(crate) struct Taker {
+    pub(crate) taken: Vec<u8>,
+    pub(crate) per_call: usize,
+    pub(crate) room: usize,
+    pub(crate) refusal: Refusal,
     failures: Steps,
 }
 
 impl Taker {
     /// A sink whose bytes go into `taken`.
-    pub(super) fn new(taken: Vec<u8>, per_call: usize, room: usize, refusal: Refusal) -> Taker {
+    pub(crate) fn new(taken: Vec<u8>, per_call: usize, room: usize, refusal: Refusal) -> Taker {
         Taker {
             taken,
             per_call,
