@@ -140,13 +140,13 @@ class Laws(Copy):
 
 
 class Types(Copy):
-    MODEL = ("impl Model for LexState {\n    ghost use Rattle.cudf_value.specs.Working.Rests.{rest};\n\n"
-             "    ghost view = { rest };\n}\n\nimpl LexState {")
+    MODEL = ("impl Model for Postmark {\n    ghost use Rattle.cudf_document.specs.Working.Judging.{rest};\n\n"
+             "    ghost view = { rest };\n}\n\nfn mark_named(")
 
     def test_crate_private_type(self):
-        self.plant("cudf_value/src/lex_state.rt", "impl LexState {", self.MODEL)
-        self.assertIn("pub(crate) enum LexState", (self.root / "crates/cudf_value/src/lex_state.rt").read_text())
-        self.assert_refused(1, "the headline rests on crates/cudf_value/specs/Working/Rests.antt")
+        self.plant("cudf_document/src/stanza/postmark.rt", "fn mark_named(", self.MODEL)
+        self.assertIn("pub(crate) enum Postmark", (self.root / "crates/cudf_document/src/stanza/postmark.rt").read_text())
+        self.assert_refused(1, "the headline rests on crates/cudf_document/specs/Working/Judging.antt")
 
     def test_type_of_a_field(self):
         # (what a cursor shows is a view over working state)
