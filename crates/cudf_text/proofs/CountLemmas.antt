@@ -7,11 +7,9 @@ use Rattle.std.proofs.lemmas.List.FromFn.{length-enumerate_from}
 use Rattle.std.proofs.lemmas.List.Sums.{length-filter, count_by-le-length}
 use Rattle.cudf_text.specs.declared.cursor.Place.{Place}
 use Rattle.cudf_text.specs.declared.fault.Fault.{Fault}
-use Rattle.cudf_text.specs.Lines.{Class, blank, class, line_text, lines, raw_lines, is_lf, is_no_comment, NumberedLine}
-use Rattle.cudf_text.specs.LineFaults.{line_fault}
-use Rattle.cudf_text.specs.Stanzas.{is_blank_line}
+use Rattle.cudf_text.specs.Lines.{Class, blank, class, line_text, lines, raw_lines, is_lf, is_blank_line, is_no_comment, NumberedLine}
 use Rattle.cudf_text.specs.Working.Left.{numbered_from, left, text_left, IsCounted}
-use Rattle.cudf_text.specs.Working.Reading.{read_after}
+use Rattle.cudf_text.specs.Working.Reading.{line_fault, read_after}
 use Rattle.cudf_text.specs.Working.Tracked.{TrackedStanza, stanza_of, stanzas_of, plain_stanza, plain_of}
 
 -- ---- lines of bytes
