@@ -27,11 +27,11 @@ use Rattle.cudf_referee.specs.Proposals.{holds_place, Proposal}
 abbrev pub at_each : {A B : Type 0} → (ℕ → A → B) → (A → Bool) → List A → List B
 at_each make test entries = map (λ e. make e.0 e.1) (filter (λ e. test e.1) (enumerate_from 1 entries))
 
--- an instance, of which the package or pair and what is wrong are told
+-- an instance by its parts: its key, the line of its stanza, the package or pair that it is about, and what is wrong
 abbrev pub instance : PlainKey → ℕ → Option Id → PlainWhat → PlainInstance
 instance key line subject what = record { key = key; line = line; subject = subject; what = what }
 
--- the one instance, where the test holds
+-- this instance alone, where the test holds
 abbrev pub one_if : Bool → PlainInstance → List PlainInstance
 one_if test i = if test then i ∷ [] else []
 
