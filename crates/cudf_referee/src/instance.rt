@@ -7,7 +7,7 @@ use cudf_document::{Package, Request, Unknown};
 use cudf_value::{Clause, Vpkg};
 
 /// One violated instance of a rule. Own.
-#[derive(Clone, Copy, Debug)]
+#[derive(Clone, Copy, Debug, PartialEq, Eq)]
 pub struct Instance<'p, 't> {
     /// Its name.
     pub key: Key,
@@ -21,7 +21,7 @@ pub struct Instance<'p, 't> {
 }
 
 /// What an instance says is wrong. Own.
-#[derive(Clone, Copy, Debug)]
+#[derive(Clone, Copy, Debug, PartialEq, Eq)]
 pub enum What<'p, 't> {
     /// The status doesn't satisfy this conjunct.
     Needs(&'p Clause<'t>),
