@@ -1,10 +1,11 @@
 -- What a run reads of texts, and its report.
 use Rattle.std.proofs.Common.{◌≡◌, ℕ, List, [], ◌∷◌, map, length, suc, Some, refl, ap, ◌∙◌, subst, arith}
+use Rattle.std.specs.List.{AllZip}
 use Rattle.std.proofs.lemmas.Grind.{common_steps}
 use Rattle.cudf_document.specs.declared.mode.Mode.{Mode}
 use Rattle.cudf_check.specs.Device.{SourceState}
-use Rattle.cudf_check.specs.ManyRuns.{LeavesBehind, changes}
-use Rattle.cudf_check.specs.Readers.{Change, OfEach, ReadsAll}
+use Rattle.cudf_check.specs.ManyRuns.{LeavesBehind}
+use Rattle.cudf_check.specs.Readers.{Change, ReadsAll, changes}
 use Rattle.cudf_check.specs.Report.{Report, report}
 use Rattle.cudf_check.specs.Runs.{OfReport, job_report, read_for}
 use Rattle.cudf_check.specs.declared.job.Job.{Job}
@@ -15,7 +16,7 @@ pub read_text : (reader : Change SourceState) (text bytes : List ℕ) → reader
 read_text reader text bytes is h = grind (arith, common_steps)
 
 -- the same of one that is read alone
-read_one : (reader : Change SourceState) (text : List ℕ) → reader.before.remaining ≡ Some text → (texts : List (List ℕ)) → OfEach ReadsAll (reader ∷ []) texts → texts ≡ text ∷ []
+read_one : (reader : Change SourceState) (text : List ℕ) → reader.before.remaining ≡ Some text → (texts : List (List ℕ)) → AllZip ReadsAll (reader ∷ []) texts → texts ≡ text ∷ []
 read_one reader text is [] h = absurd h
 read_one reader text is (bytes ∷ []) h = ap (λ t. t ∷ []) (read_text reader text bytes is h.0)
 read_one reader text is (bytes ∷ other ∷ texts) h = absurd h.1
@@ -43,10 +44,10 @@ same_length P (old ∷ olds) (new ∷ news) m = ap suc (same_length P olds news 
 
 -- what is read of texts in a row is the texts
 pub read_each : {D : Type 0} (state : D → SourceState) (left : D → List ℕ) → ((d : D) → (state d).remaining ≡ Some (left d)) → (P : D → D → Type 0) (olds news : List D)
-    (read : List (List ℕ)) → LeavesBehind P olds news → OfEach ReadsAll (changes state olds news) read → read ≡ map left olds
+    (read : List (List ℕ)) → LeavesBehind P olds news → AllZip ReadsAll (changes state olds news) read → read ≡ map left olds
 read_each {D = D} state left is P olds news read behind h = go olds news read (same_length P olds news behind) h
   where
-    go : (olds news : List D) (read : List (List ℕ)) → length news ≡ length olds → OfEach ReadsAll (changes state olds news) read → read ≡ map left olds
+    go : (olds news : List D) (read : List (List ℕ)) → length news ≡ length olds → AllZip ReadsAll (changes state olds news) read → read ≡ map left olds
     go [] news [] same h = refl
     go [] news (b ∷ read) same h = absurd h
     go (old ∷ olds) [] read same h = absurd (omega (arith, same))

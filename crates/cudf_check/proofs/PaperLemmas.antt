@@ -1,5 +1,5 @@
 -- Printing one text after another.
-use Rattle.std.proofs.Common.{◌≡◌, ◌<◌, ◌≤◌, ◌+◌, ℕ, zero, suc, Bool, true, false, List, [], ◌∷◌, ◌++◌, length, get_or, take, Result, Ok, Err, OnOk, refl, ap, subst, sym, ◌∙◌, append_assoc, append-nil, is_err, arith}
+use Rattle.std.proofs.Common.{◌≡◌, ◌<◌, ◌≤◌, ◌+◌, ℕ, zero, suc, Bool, true, false, List, [], ◌∷◌, ◌++◌, length, get_or, take, Result, Ok, Err, refl, ap, subst, sym, ◌∙◌, append_assoc, append-nil, is_err, arith}
 use Rattle.std.specs.Io.KnownBytes.{Appends}
 use Rattle.std.specs.List.{flat_map, enumerate_from}
 use Rattle.std.proofs.KnownBytes.{Appends-nil, Appends-trans}
@@ -110,7 +110,7 @@ broke start a b p before text (Ok x) failed w m = absurd (cc failed)
 broke start a b p before text (Err e) failed w m = torn start b before text (cut_off start a b p before e w m)
 
 -- all that waited was written, and then a text, or a prefix of it
-pub wrote : (start a b c : SinkState) (p q before text : List ℕ) (first second : Result (Unit {0}) RunError) → is_err first ≡ false → Writes a b first p → OnOk first (q ≡ [])
+pub wrote : (start a b c : SinkState) (p q before text : List ℕ) (first second : Result (Unit {0}) RunError) → is_err first ≡ false → Writes a b first p → q ≡ []
     → Writes b c second text → IsTaken start a p before → IsSaid (is_err second) start c q (before ++ text)
 wrote start a b c p q before text (Err e) second calm w empty v m = absurd (cc calm)
 wrote start a b c p q before text (Ok x) second calm w empty v m =

@@ -1,5 +1,5 @@
 -- The report of a ranking: a function of the aims, the problem and its solutions to a text and an outcome. Own.
-use Rattle.std.specs.Prelude.{ℕ, Bool, ◌==◌, List, [], ◌∷◌, ◌++◌, map, codes, decimal, Option, option_map, if◌then◌else◌}
+use Rattle.std.specs.Prelude.{ℕ, Bool, ◌==◌, List, [], ◌∷◌, ◌++◌, map, codes, decimal, Option, option_map, IsTrue, if◌then◌else◌}
 use Rattle.std.specs.List.{flat_map, filter_map, list_any, enumerate_from}
 use Rattle.cudf_document.specs.declared.mode.Mode.{Mode}
 use Rattle.cudf_text.specs.declared.fault.Fault.{Fault}
@@ -12,7 +12,7 @@ use Rattle.cudf_referee.specs.Proposals.{Proposal}
 use Rattle.cudf_referee.specs.Solutions.{is_solution}
 use Rattle.cudf_referee.specs.declared.aims.Aim.{Aim}
 use Rattle.cudf_referee.specs.declared.criteria.Criteria.{Criteria}
-use Rattle.cudf_check.specs.Ranking.{class, ranking}
+use Rattle.cudf_check.specs.Ranking.{class, have_own_places, ranking}
 use Rattle.cudf_check.specs.Report.{Report, line, faulty, faulty_or, problem_fault, solution_fault, proposal_of}
 use Rattle.cudf_check.specs.declared.outcome.Outcome.{Outcome}
 use Rattle.cudf_check.specs.declared.outcome.Outcome.TheVariants.{Yes, No, Fail}
@@ -98,3 +98,9 @@ unfoldable pub rank_report : List Aim → Mode → List ℕ → List (List ℕ) 
 rank_report aims mode problem solutions =
     faulty_or (codes "problem") (problem_fault mode problem)
     (first_faulty_or (placed_faults mode solutions) (ranked_report aims (standings (plain_problem (plain_text problem)) solutions)))
+
+-- ---- what makes the laws over rankings hold of it
+
+-- among the solutions of a problem no place stands twice
+abbrev pub StandingsHaveOwnPlaces : Type 0
+StandingsHaveOwnPlaces = (problem : PlainProblem) (solutions : List (List ℕ)) → IsTrue (have_own_places (standings problem solutions))

@@ -1,6 +1,6 @@
 pub mod Answering
 pub mod Chosen
-pub mod Findings
+pub mod Found
 pub mod InTurn
 pub mod Judged
 pub mod Pages

@@ -1,5 +1,5 @@
 //! What follows from the definitions alone.
-ghost use Rattle.cudf_check.specs.RankLaws.{StandingsHaveOwnPlaces};
+ghost use Rattle.cudf_check.specs.RankReport.{StandingsHaveOwnPlaces};
 ghost use Rattle.cudf_check.specs.Ranking.{RankingPermutes, RankingAscends, RankingIsAlone};
 
 /// The ranking of solutions is their list in another order. Where no place stands twice, each precedes all that are ranked

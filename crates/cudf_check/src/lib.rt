@@ -2,12 +2,12 @@
 //! reports each rule that a solution breaks, `rank` compares several solutions of one problem.
 #![tactic(auto)]
 
-ghost use Rattle.std.specs.Prelude.{◌≡◌, [], Some, IfSome};
+ghost use Rattle.std.specs.Prelude.{◌≡◌};
 ghost use Rattle.std.specs.List.{All};
-ghost use Rattle.cudf_check.specs.ManyRuns.{changes, LeavesBehind};
+ghost use Rattle.cudf_check.specs.ManyRuns.{LeavesBehind};
 ghost use Rattle.cudf_check.specs.RankReport.{rank_report};
-ghost use Rattle.cudf_check.specs.Readers.{change, IsStopped, IsWithinTurns};
-ghost use Rattle.cudf_check.specs.Runs.{change_of_lent, job_report, lent, read_for, returned, Runs, SkipsSolution};
+ghost use Rattle.cudf_check.specs.Readers.{change, IsStopped, IsWithinTurns, changes};
+ghost use Rattle.cudf_check.specs.Runs.{job_report, lent, read_for, returned, Runs, SkipsSolution};
 
 mod buffer;
 mod device;
@@ -64,20 +64,28 @@ pub fn run<R: Source, S: Source, W: Sink>(
     out: &mut W,
 ) -> Result<Outcome, RunError>
     ensures runs { Runs (job_report job.now mode) (change R.state input.old input.new)
-        (read_for job.now (change_of_lent S.state (lent solution.entry) (returned solution.exit)))
+        (read_for job.now (changes S.state (lent solution.entry) (returned solution.exit)))
         (change W.state out.old out.new) result }
 
     // No reader is called more often than an input may take.
     ensures turns { IsWithinTurns (change R.state input.old input.new) }
-    ensures solution_turns { IfSome (change_of_lent S.state (lent solution.entry) (returned solution.exit)) IsWithinTurns }
+    ensures solution_turns { All IsWithinTurns (changes S.state (lent solution.entry) (returned solution.exit)) }
 
     // Where the solution isn't read, it is returned as it was lent.
     ensures unread { SkipsSolution job.now (change R.state input.old input.new) → returned solution.exit ≡ lent solution.entry }
 {
     let setting = Setting { alloc, mode };
-    match solution {
-        Some(solution) => run_two(setting, job, input, solution, out),
-        None => run_one(setting, job, input, out),
+    let Some(solution) = solution else {
+        let first = read_all(alloc, input)?;
+        return answer_job(setting, job, &first, None, out);
+    };
+    let first = read_all(alloc, input)?;
+    match job {
+        Job::Lint => answer_job(setting, job, &first, None, out),
+        Job::Check { .. } | Job::Score { .. } => {
+            let second = read_all(alloc, solution)?;
+            answer_job(setting, job, &first, Some(&second), out)
+        }
     }
 }
 
@@ -129,42 +137,4 @@ pub fn rank<R: Source, S: Source, W: Sink>(
     let first = read_all(alloc, problem)?;
     let others = read_each(alloc, solutions)?;
     answer_ranking(Setting { alloc, mode }, aims, &first, &others, out)
-}
-
-/// The run on one input.
-fn run_one<R: Source, W: Sink>(
-    setting: Setting,
-    job: &Job,
-    input: &mut R,
-    out: &mut W,
-) -> Result<Outcome, RunError>
-    ensures runs { Runs (job_report job.now setting.mode) (change R.state input.old input.new) [] (change W.state out.old out.new) result }
-    ensures turns { IsWithinTurns (change R.state input.old input.new) }
-{
-    let bytes = read_all(setting.alloc, input)?;
-    answer_job(setting, job, &bytes, None, out)
-}
-
-/// The run on two inputs. The second isn't read where the job judges no solution.
-fn run_two<R: Source, S: Source, W: Sink>(
-    setting: Setting,
-    job: &Job,
-    input: &mut R,
-    solution: &mut S,
-    out: &mut W,
-) -> Result<Outcome, RunError>
-    ensures runs { Runs (job_report job.now setting.mode) (change R.state input.old input.new)
-        (read_for job.now (Some (change S.state solution.old solution.new))) (change W.state out.old out.new) result }
-    ensures turns { IsWithinTurns (change R.state input.old input.new) }
-    ensures solution_turns { IsWithinTurns (change S.state solution.old solution.new) }
-    ensures unread { SkipsSolution job.now (change R.state input.old input.new) → solution.new ≡ solution.old }
-{
-    let first = read_all(setting.alloc, input)?;
-    match job {
-        Job::Lint => answer_job(setting, job, &first, None, out),
-        Job::Check { .. } | Job::Score { .. } => {
-            let second = read_all(setting.alloc, solution)?;
-            answer_job(setting, job, &first, Some(&second), out)
-        }
-    }
 }

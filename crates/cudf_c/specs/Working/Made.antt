@@ -4,7 +4,7 @@ use Rattle.std.specs.Borrow.{Bor}
 use Rattle.cudf_check.specs.DeviceInside.{device_inner}
 use Rattle.cudf_check.specs.Report.{Report}
 use Rattle.cudf_check.specs.declared.device.Device.{Device}
-use Rattle.cudf_check.specs.Outcome.{outcome_status}
+use Rattle.cudf_check.specs.Runs.{outcome_status}
 use Rattle.cudf_c.specs.Calls.{Left, Shows, ShowsNothing}
 use Rattle.cudf_c.specs.Working.Stops.{stop_status}
 use Rattle.cudf_c.specs.declared.made.Made.{Made}

@@ -1,8 +1,7 @@
 use Rattle.std.proofs.Common.{map, subst, sym}
 use Rattle.cudf_check.specs.DeviceInside.{source_state}
 use Rattle.cudf_check.specs.RankReport.{rank_report}
-use Rattle.cudf_check.specs.ManyRuns.{changes}
-use Rattle.cudf_check.specs.Readers.{IsStopped, change}
+use Rattle.cudf_check.specs.Readers.{IsStopped, change, changes}
 use Rattle.cudf_check.specs.Runs.{Runs}
 use Rattle.cudf_program.specs.Program.{Did, bytes_left, left_of}
 use Rattle.cudf_program.proofs.FileLemmas.{did_ranking, same_length}
