@@ -20,7 +20,7 @@ use Rattle.cudf_check.specs.declared.outcome.Outcome.TheVariants.{Fail}
 use Rattle.cudf_check.specs.Report.{alone, faulty_or, problem_fault, solution_fault, proposal_of, judged_report, pair_report}
 use Rattle.cudf_check.specs.Working.Chosen.{ReportsAlike}
 use Rattle.cudf_check.specs.Working.Found.{found_text}
-use Rattle.cudf_check.specs.Working.Refusals.{IsFaultOf}
+use Rattle.cudf_check.specs.Working.Unjudged.{IsFaultOf}
 
 -- ---- what a result says
 

@@ -5,5 +5,5 @@ pub mod InTurn
 pub mod Judged
 pub mod Pages
 pub mod Paper
-pub mod Refusals
+pub mod Unjudged
 pub mod Writing

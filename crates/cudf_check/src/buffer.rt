@@ -36,8 +36,8 @@ impl ReportBuffer {
         }
     }
 
-    /// Keeps `text` behind what waits, where there is room for it.
-    pub(crate) fn keep(&mut self, text: &[u8]) -> bool
+    /// Puts `text` behind what waits, where there is room for it.
+    pub(crate) fn add(&mut self, text: &[u8]) -> bool
         ensures { self.new ≡ (if result then self.old ++ text.now else self.old) }
     {
         if text.len() > SIZE - self.waiting.len() {

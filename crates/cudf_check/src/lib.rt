@@ -1,5 +1,5 @@
-//! Checks proposed solutions of a CUDF 2.0 problem: two calls, from readers of the documents to the written report. `run`
-//! reports each rule that a solution breaks, `rank` compares several solutions of one problem.
+//! Checks proposed solutions of a CUDF 2.0 problem: two calls, from readers of the documents to the written report.
+//! `run` reports each rule that a solution breaks, `rank` compares several solutions of one problem.
 #![tactic(auto)]
 
 ghost use Rattle.std.specs.Prelude.{◌≡◌};
@@ -42,8 +42,8 @@ use std::alloc::Global;
 /// mode, answers the job and writes its report to `out`.
 ///
 /// Without a `solution` a job that judges one takes both documents from `input`: the problem goes through the first
-/// blank line behind the line that begins with `request:`, and the rest is the solution. For `Lint` the whole `input` is
-/// the problem.
+/// blank line behind the line that begins with `request:`, and the rest is the solution. For `Lint` the whole `input`
+/// is the problem.
 ///
 /// # Errors
 ///
@@ -72,7 +72,8 @@ pub fn run<R: Source, S: Source, W: Sink>(
     ensures solution_turns { All IsWithinTurns (changes S.state (lent solution.entry) (returned solution.exit)) }
 
     // Where the solution isn't read, it is returned as it was lent.
-    ensures unread { SkipsSolution job.now (change R.state input.old input.new) → returned solution.exit ≡ lent solution.entry }
+    ensures unread { SkipsSolution job.now (change R.state input.old input.new)
+        → returned solution.exit ≡ lent solution.entry }
 {
     let setting = Setting { alloc, mode };
     let Some(solution) = solution else {
@@ -92,12 +93,12 @@ pub fn run<R: Source, S: Source, W: Sink>(
 /// Reads `problem` to its end, and then each of the `solutions` in order; reads the documents in this mode, judges and
 /// ranks the solutions by the `aims`, and writes their ranking to `out`. Own.
 ///
-/// The ranking has a line for each solution, the best first: its rank from 1, its place among the solutions from 1, and
-/// what was found of it, as `2 solution 5 yes -changed 1 -touched 1`, `4 solution 3 no` or `5 solution 1 FAIL`. Solutions
-/// come first, the better one by [`compare`](cudf_referee::compare) before the other; then those that are none; then those
-/// that say FAIL. Where these tie, the order is that of their places: without `aims` these alone decide between two
-/// solutions. The outcome is `Yes` where one is a solution, or else `No` where one doesn't say FAIL, or else `Fail`. Without
-/// `solutions` the ranking is empty, and the outcome `Fail`.
+/// The ranking has a line for each solution, the best first: its rank from 1, its place among the solutions from 1,
+/// and what was found of it, as `2 solution 5 yes -changed 1 -touched 1`, `4 solution 3 no` or `5 solution 1 FAIL`.
+/// Solutions come first, the better one by [`compare`](cudf_referee::compare) before the other; then those that are
+/// none; then those that say FAIL. Where these tie, the order is that of their places: without `aims` these alone
+/// decide between two solutions. The outcome is `Yes` where one is a solution, or else `No` where one doesn't say
+/// FAIL, or else `Fail`. Without `solutions` the ranking is empty, and the outcome `Fail`.
 ///
 /// Where a document is faulty, a single line says so, and the outcome is `Faulty`: the problem's first fault, as
 /// `problem line 3: E9 value is not of its type`; or else the first fault of the first solution that has one, as
@@ -112,8 +113,8 @@ pub fn run<R: Source, S: Source, W: Sink>(
 ///   prefix of the report.
 /// - `Memory`: a growth was refused.
 ///
-/// After `Read`, `TooLong` and `Memory` nothing was written. The readers behind one whose reading ended in an error aren't
-/// called.
+/// After `Read`, `TooLong` and `Memory` nothing was written. The readers behind one whose reading ended in an error
+/// aren't called.
 pub fn rank<R: Source, S: Source, W: Sink>(
     alloc: Global,
     aims: &[Aim],
@@ -122,8 +123,8 @@ pub fn rank<R: Source, S: Source, W: Sink>(
     solutions: &mut [S],
     out: &mut W,
 ) -> Result<Outcome, RunError>
-    ensures runs { Runs (rank_report aims.now mode) (change R.state problem.old problem.new) (changes S.state solutions.old solutions.new)
-        (change W.state out.old out.new) result }
+    ensures runs { Runs (rank_report aims.now mode) (change R.state problem.old problem.new)
+        (changes S.state solutions.old solutions.new) (change W.state out.old out.new) result }
 
     // No reader is called more often than an input may take.
     ensures turns { IsWithinTurns (change R.state problem.old problem.new) }

@@ -42,7 +42,7 @@ impl<'w, W: Sink> Paper<'w, W> {
             return;
         }
         let bytes = text.as_bytes();
-        if self.waiting.keep(bytes) {
+        if self.waiting.add(bytes) {
             return;
         }
         if write_all(self.out, self.waiting.bytes()).is_err() {

@@ -11,13 +11,13 @@ ghost use Rattle.cudf_check.specs.declared.outcome.Outcome.TheVariants.{Fail, Ye
 ghost use Rattle.cudf_check.specs.Report.{Report, alone, faulty_or, problem_fault, solution_fault, judged_report, pair_report, inputs_report, report};
 ghost use Rattle.cudf_check.specs.Working.Answering.{Answers};
 ghost use Rattle.cudf_check.specs.Working.Found.{found_text};
-ghost use Rattle.cudf_check.specs.Working.Refusals.{IsFaultOf, IsRefused};
+ghost use Rattle.cudf_check.specs.Working.Unjudged.{IsFaultOf, IsUnjudged};
 
 use crate::device::Sink;
 use crate::job::Job;
 use crate::lines::{answer, answer_fault, answer_judged};
 use crate::outcome::{Outcome, RunError};
-use crate::readings::{Refusal, problem_beside, proposed_in, sound_in};
+use crate::readings::{Unjudged, problem_beside, proposed_in, sound_in};
 use crate::setting::Setting;
 use cudf_document::{Problem, ReadError, Solution};
 use cudf_referee::Referee;
@@ -26,7 +26,7 @@ use cudf_text::{Room, cut_joined};
 use std::alloc::Global;
 
 /// Answers a document that isn't judged.
-pub(crate) fn answer_refusal<W: Sink>(
+pub(crate) fn answer_unread<W: Sink>(
     alloc: Global,
     out: &mut W,
     whose: &'static str,
@@ -45,14 +45,14 @@ pub(crate) fn answer_refusal<W: Sink>(
 fn answer_unjudged<W: Sink>(
     alloc: Global,
     out: &mut W,
-    refusal: Refusal,
+    reason: Unjudged,
 ) -> Result<Outcome, RunError>
-    ensures { (mode : Mode) → (bytes : List ℕ) → (report : Report) → IsRefused mode bytes refusal
+    ensures { (mode : Mode) → (bytes : List ℕ) → (report : Report) → IsUnjudged mode bytes reason
         → Answers (W.state out.old) (W.state out.new) (faulty_or (codes "solution") (solution_fault mode bytes) (if is_fail bytes then alone (codes "solution FAIL") Fail else report)) result }
 {
-    match refusal {
-        Refusal::SaysFail => answer(alloc, out, "solution FAIL", Outcome::Fail),
-        Refusal::Unread(error) => answer_refusal(alloc, out, "solution", error),
+    match reason {
+        Unjudged::SaysFail => answer(alloc, out, "solution FAIL", Outcome::Fail),
+        Unjudged::Unread(error) => answer_unread(alloc, out, "solution", error),
     }
 }
 
@@ -90,11 +90,11 @@ fn check<W: Sink>(
     let mut solution_room = Room::new(alloc);
     let problem = match problem_beside(setting, problem, &mut problem_room, solution) {
         Ok(problem) => problem,
-        Err(error) => return answer_refusal(alloc, out, "problem", error),
+        Err(error) => return answer_unread(alloc, out, "problem", error),
     };
     let solution = match proposed_in(setting, solution, &mut solution_room, &problem) {
         Ok(solution) => solution,
-        Err(refusal) => return answer_unjudged(alloc, out, refusal),
+        Err(reason) => return answer_unjudged(alloc, out, reason),
     };
     answer_proposal(alloc, out, job, &problem, &solution)
 }
@@ -105,7 +105,7 @@ fn lint<W: Sink>(setting: Setting, out: &mut W, problem: &[u8]) -> Result<Outcom
 {
     match sound_in(setting, problem) {
         Ok(()) => answer(setting.alloc, out, "problem ok", Outcome::Yes),
-        Err(error) => answer_refusal(setting.alloc, out, "problem", error),
+        Err(error) => answer_unread(setting.alloc, out, "problem", error),
     }
 }
 

@@ -17,7 +17,7 @@ pub returns-in-Err : goal.returns-in-Err
 returns-in-Err g c =
     let mode = c.args.setting.mode in
     let solution = c.args.solution.now in
-    c.answer_refusal.ensures (problem_fault mode c.args.problem.now)
+    c.answer_unread.ensures (problem_fault mode c.args.problem.now)
     (faulty_or (codes "solution") (solution_fault mode solution) (if is_fail solution then alone (codes "solution FAIL") Fail
     else judged_report (found_text c.args.job.now) (proposal_of (plain_problem (plain_text c.args.problem.now)) (plain_text solution))))
     c.in-Err.ensures.fault

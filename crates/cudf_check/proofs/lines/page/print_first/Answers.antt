@@ -6,7 +6,7 @@ use Rattle.cudf_check.specs.Working.Pages.{HasSpent, end_key}
 use Rattle.cudf_check.specs.Report.{instance_line}
 use Rattle.cudf_check.proofs.PageLemmas.{step, last_of_more, take-further, drop-further, ended}
 use Rattle.cudf_check.proofs.PaperLemmas.{Says-as, ◌▸◌, Says-front, texts-step}
-use Rattle.cudf_check.proofs.WalkLemmas.{spent-more, price-within, price-ended}
+use Rattle.cudf_check.proofs.PagePriceLemmas.{spent-more, price-within, price-ended}
 use Rattle.cudf_check.proofs.lines.page.print_first.Goals as goal
 
 pub loop-turn-preserved : goal.loop-turn-preserved

@@ -6,7 +6,7 @@ use Rattle.cudf_check.specs.Report.{instance_line, listed, more_text, check_text
 use Rattle.cudf_check.specs.Working.Pages.{IsPageEnd, IsEnded, more_behind}
 use Rattle.cudf_check.proofs.PageLemmas.{left_listed, more-none, more-line, more-key, more-no-key}
 use Rattle.cudf_check.proofs.PaperLemmas.{Says-as, ◌▸◌, Says-end}
-use Rattle.cudf_check.proofs.WalkLemmas.{price-page, price-whole}
+use Rattle.cudf_check.proofs.PagePriceLemmas.{price-page, price-whole}
 use Rattle.cudf_check.proofs.lines.page.print_page.Goals as goal
 
 pub returns-in_default-clause-printed : goal.returns-in_default-clause-printed
