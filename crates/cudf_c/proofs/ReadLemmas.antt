@@ -23,7 +23,7 @@ read_one reader text is (bytes ∷ other ∷ texts) h = absurd h.1
 
 -- a run on a problem's text and a solution's has their report
 pub pair_read : (job : Job) (mode : Mode) (problem solution : List ℕ) (first second : Change SourceState) (P : Report → Type 0)
-    → OfReport (job_report job mode) first (read_for job (Some second)) P
+    → OfReport (job_report job mode) first (read_for job (second ∷ [])) P
     → first.before.remaining ≡ Some problem → second.before.remaining ≡ Some solution → P (report job mode problem (Some solution))
 unfolding report
 pair_read Lint mode problem solution first second P h one two =

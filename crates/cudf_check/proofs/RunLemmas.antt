@@ -1,5 +1,5 @@
 -- A run: how it ends where its reading does, and where that went well.
-use Rattle.std.proofs.Common.{◌≡◌, ◌↔◌, ◌⊎◌, inl, inr, ℕ, zero, suc, ◌<◌, List, [], ◌∷◌, Option, Some, Vec, Global, Result, Ok, Err, IsErr, IsErrAnd, IsErrOf, refl, sym, ap, ◌∙◌, length, arith}
+use Rattle.std.proofs.Common.{◌≡◌, ◌↔◌, ◌⊎◌, inl, inr, ℕ, zero, suc, List, [], ◌∷◌, Option, Vec, Global, Result, Ok, Err, IsErr, IsErrAnd, IsErrOf, refl, sym, ap, ◌∙◌, arith}
 use Rattle.std.specs.List.{All, AllZip}
 use Rattle.std.proofs.KnownBytes.{Keeps-refl}
 use Rattle.cudf_referee.specs.declared.aims.Aim.{Aim}
