@@ -1,15 +1,15 @@
 -- Files in a row: the words that name them, the devices over them, and the bytes that these give.
-use Rattle.std.proofs.Common.{◌≡◌, ◌+◌, ◌<◌, ◌≤◌, ℕ, Bool, zero, suc, true, false, cond, List, [], ◌∷◌, ◌++◌, map, take, get_or, Vec, Global, length, slice_get, slice_index_or, count_by, bytes_eq, nat_lt, codes, Option, Some, None, Result, Ok, Err, MatchResult, inl, refl, sym, ap, ◌∙◌, subst, arith}
+use Rattle.std.proofs.Common.{◌≡◌, ◌+◌, ◌<◌, ◌≤◌, ℕ, Bool, zero, suc, true, false, cond, List, [], ◌∷◌, ◌++◌, map, take, get_or, Vec, Global, length, slice_index_or, count_by, bytes_eq, nat_lt, codes, Option, Some, None, Result, Ok, Err, MatchResult, inl, refl, sym, ap, ◌∙◌, subst, arith}
 use Rattle.std.proofs.lemmas.Grind.{common_steps}
 use Rattle.std.proofs.lemmas.List.{map-id}
 use Rattle.std.specs.List.{fold, AllZip}
+use Rattle.std.specs.Option.{option_to_list}
 use Rattle.cudf_document.proofs.NameLemmas.{same_bytes}
 use Rattle.cudf_check.specs.ManyRuns.{LeavesBehind}
 use Rattle.cudf_check.specs.Readers.{Change, ReadsAll, change, changes}
-use Rattle.cudf_check.specs.Runs.{AppendsPrefix}
+use Rattle.cudf_check.specs.Runs.{AppendsPrefix, Runs, job_report, read_for}
 use Rattle.cudf_check.specs.RankReport.{rank_report}
 use Rattle.cudf_check.specs.Report.{Report, report}
-use Rattle.cudf_check.specs.Runs.{Runs, job_report, read_for}
 use Rattle.cudf_check.specs.declared.job.Job.{Job}
 use Rattle.cudf_check.specs.declared.job.Job.TheVariants.{Lint, Check, Score}
 use Rattle.std.specs.Io.KnownBytes.{Appends, Consumes, Keeps}
@@ -153,16 +153,20 @@ read_alone job mode text reader (bytes ∷ []) rest h = (bytes ∷ map filling r
 read_alone job mode text reader (bytes ∷ other ∷ texts) rest h = absurd h.1
 
 others_of : (job : Job) (mode : Mode) (text : List ℕ) (solution : Option (Change SourceState)) (texts : List (List ℕ)) (rest : List (Option (List ℕ)))
-    → AllZip ReadsAll (read_for job solution) texts → HasOthers job mode text texts (knowns solution rest)
+    → AllZip ReadsAll (read_for job (option_to_list solution)) texts → HasOthers job mode text texts (knowns solution rest)
 unfolding report
-others_of job mode text None [] rest h = ([], tt, refl)
-others_of job mode text None (bytes ∷ texts) rest h = absurd h
+others_of Lint mode text None [] rest h = ([], tt, refl)
+others_of Lint mode text None (bytes ∷ texts) rest h = absurd h
+others_of (Check after limit) mode text None [] rest h = ([], tt, refl)
+others_of (Check after limit) mode text None (bytes ∷ texts) rest h = absurd h
+others_of (Score aims) mode text None [] rest h = ([], tt, refl)
+others_of (Score aims) mode text None (bytes ∷ texts) rest h = absurd h
 others_of Lint mode text (Some reader) texts rest h = (map filling (knowns (Some reader) rest), filled (knowns (Some reader) rest), refl)
 others_of (Check after limit) mode text (Some reader) texts rest h = read_alone (Check after limit) mode text reader texts rest h
 others_of (Score aims) mode text (Some reader) texts rest h = read_alone (Score aims) mode text reader texts rest h
 
 of_run : (P : Report → Type 0) (job : Job) (mode : Mode) (input : Change SourceState) (solution : Option (Change SourceState)) (rest : List (Option (List ℕ)))
-    (text : List ℕ) (texts : List (List ℕ)) → ReadsAll input text → AllZip ReadsAll (read_for job solution) texts → P (job_report job mode text texts)
+    (text : List ℕ) (texts : List (List ℕ)) → ReadsAll input text → AllZip ReadsAll (read_for job (option_to_list solution)) texts → P (job_report job mode text texts)
     → OfReport (RunOf job) mode input.before.remaining (knowns solution rest) P
 of_run P job mode input solution rest text texts first_read others_read holds =
     let o : HasOthers job mode text texts (knowns solution rest) = others_of job mode text solution texts rest others_read in
@@ -170,7 +174,7 @@ of_run P job mode input solution rest text texts first_read others_read holds =
 
 -- a run on a problem, and on the first solution where there is one
 pub did_run : (job : Job) (mode : Mode) (input : Change SourceState) (solution : Option (Change SourceState)) (rest : List (Option (List ℕ)))
-    (out : Change SinkState) (result : Result Outcome RunError) → Runs (job_report job mode) input (read_for job solution) out result
+    (out : Change SinkState) (result : Result Outcome RunError) → Runs (job_report job mode) input (read_for job (option_to_list solution)) out result
     → Did (RunOf job) mode input.before.remaining (knowns solution rest) out.before out.after result
 did_run job mode input solution rest out result runs = record {
   done = IfOk-weaker result _ _ (λ outcome h. of_run (λ r. Appends out.before.contents out.after.contents r.text × (outcome ≡ r.outcome)) job mode input solution rest h.text h.texts h.first_read h.others_read h.holds) runs.done;
@@ -185,7 +189,7 @@ first_item d (old ∷ olds) some is = (olds, ap (λ first. first ∷ olds) (sym 
 
 -- a run where there is no device of a solution
 pub did_alone : {D : Type 0} (state : D → SourceState) (job : Job) (mode : Mode) (input : Change SourceState) (olds : List D)
-    (out : Change SinkState) (result : Result Outcome RunError) → length olds ≤ 0 → Runs (job_report job mode) input (read_for job None) out result
+    (out : Change SinkState) (result : Result Outcome RunError) → length olds ≤ 0 → Runs (job_report job mode) input (read_for job []) out result
     → Did (RunOf job) mode input.before.remaining (map (λ d. (state d).remaining) olds) out.before out.after result
 did_alone state job mode input [] out result none runs = did_run job mode input None [] out result runs
 did_alone state job mode input (old ∷ olds) out result none runs = absurd (omega arith)
@@ -193,7 +197,7 @@ did_alone state job mode input (old ∷ olds) out result none runs = absurd (ome
 -- a run on the first of these devices
 pub did_first : {D : Type 0} (state : D → SourceState) (job : Job) (mode : Mode) (input : Change SourceState) (olds : List D) (old : D) (reader : Change SourceState)
     (out : Change SinkState) (result : Result Outcome RunError) → true ≡ nat_lt 0 (length olds) → old ≡ slice_index_or olds 0 old → reader.before ≡ state old
-    → Runs (job_report job mode) input (read_for job (Some reader)) out result
+    → Runs (job_report job mode) input (read_for job (reader ∷ [])) out result
     → Did (RunOf job) mode input.before.remaining (map (λ d. (state d).remaining) olds) out.before out.after result
 did_first state job mode input olds old reader out result some is first runs =
     let more = first_item old olds some is in

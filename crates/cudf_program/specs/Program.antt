@@ -7,10 +7,9 @@ use Rattle.std.specs.declared.io.Error.{Error}
 use Rattle.cudf_document.specs.declared.mode.Mode.{Mode}
 use Rattle.cudf_check.specs.Device.{SinkState}
 use Rattle.cudf_check.specs.DeviceInside.{device_inner}
-use Rattle.cudf_check.specs.Runs.{AppendsPrefix}
+use Rattle.cudf_check.specs.Runs.{AppendsPrefix, job_report}
 use Rattle.cudf_check.specs.RankReport.{rank_report}
 use Rattle.cudf_check.specs.Report.{Report}
-use Rattle.cudf_check.specs.Runs.{job_report}
 use Rattle.cudf_check.specs.declared.device.Device.{Device}
 use Rattle.cudf_check.specs.declared.outcome.Outcome.{Outcome}
 use Rattle.cudf_check.specs.declared.outcome.RunError.{RunError}
