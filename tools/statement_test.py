@@ -58,7 +58,7 @@ class Unchanged(Copy):
 
 
 class Entry(Copy):
-    PLACE = "/// The run on one input.\n"
+    PLACE = "/// Reads `problem` to its end,"
 
     def test_second(self):
         self.plant("cudf_check/src/lib.rt", self.PLACE, "pub fn run_again<W: Sink>(out: &mut W) {}\n\n" + self.PLACE)
@@ -165,7 +165,7 @@ class Types(Copy):
 
 
 class Uses(Copy):
-    LINE = "use Rattle.cudf_check.specs.Prefix.{AppendsPrefix}"
+    LINE = "use Rattle.cudf_check.specs.Report.{Report, report}"
     WORKING = "use Rattle.cudf_check.specs.Working.Pages.{page}"
 
     def assert_follows(self, line):
@@ -189,8 +189,8 @@ class Uses(Copy):
         self.assert_follows("use Rattle.cudf_check.specs.Working.Pages as pages -- all of them")
 
     def test_comment_behind_in_rust(self):
-        self.plant("cudf_check/src/lib.rt", "Runs.{change_of_lent, job_report, lent, read_for, returned, Runs, SkipsSolution};",
-                   "Working.Pages.{change_of_lent, job_report, lent, read_for, returned, Runs, SkipsSolution}; // a run")
+        self.plant("cudf_check/src/lib.rt", "Runs.{job_report, lent, read_for, returned, Runs, SkipsSolution};",
+                   "Working.Pages.{job_report, lent, read_for, returned, Runs, SkipsSolution}; // a run")
         self.assert_refused(1, "the headline rests on crates/cudf_check/specs/Working/Pages.antt")
 
     def test_everything(self):

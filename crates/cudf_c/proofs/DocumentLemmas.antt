@@ -2,10 +2,10 @@
 use Rattle.std.proofs.Common.{◌≡◌, ◌+◌, ◌<◌, ◌≤◌, inl, inr, ℕ, List, [], ◌∷◌, map, length, suc, refl, sym, ap, ◌∙◌, subst, arith}
 use Rattle.std.proofs.lemmas.Grind.{common_steps}
 use Rattle.std.proofs.lemmas.List.Elements.{All-nil, All-cons, All-head, All-tail}
-use Rattle.std.specs.List.{All}
+use Rattle.std.specs.List.{All, AllZip}
 use Rattle.cudf_check.specs.Device.{SourceState}
-use Rattle.cudf_check.specs.ManyRuns.{LeavesBehind, changes}
-use Rattle.cudf_check.specs.Readers.{Change, change, IsTooLong, IsUnfinished, OfEach, OfOne, ReadsAll}
+use Rattle.cudf_check.specs.ManyRuns.{LeavesBehind}
+use Rattle.cudf_check.specs.Readers.{Change, change, IsTooLong, IsUnfinished, OfOne, ReadsAll, changes}
 use Rattle.cudf_c.specs.Calls.{IsLong, IsShort}
 use Rattle.cudf_c.specs.Working.Documents.{IsNew, IsUnread, document_state}
 use Rattle.cudf_c.specs.Working.Given.{given_before}
@@ -57,31 +57,31 @@ same_length P (old ∷ olds) (new ∷ news) m = ap suc (same_length P olds news 
 
 -- the same of documents in a row
 pub of_documents : (P : Document → Document → Type 0) (olds news : List Document) → LeavesBehind P olds news → All IsNew olds
-    → OfEach OfDocument (map (λ d. d.rest.now) olds) (changes document_state olds news)
+    → AllZip OfDocument (map (λ d. d.rest.now) olds) (changes document_state olds news)
 of_documents P olds news behind new = go olds news (same_length P olds news behind) new
   where
-    go : (olds news : List Document) → length news ≡ length olds → All IsNew olds → OfEach OfDocument (map (λ d. d.rest.now) olds) (changes document_state olds news)
+    go : (olds news : List Document) → length news ≡ length olds → All IsNew olds → AllZip OfDocument (map (λ d. d.rest.now) olds) (changes document_state olds news)
     go [] news same new = tt
     go (old ∷ olds) [] same new = absurd (omega (arith, same))
     go (old ∷ olds) (now ∷ news) same new = (of_document old.rest.now old now (All-head IsNew old olds new), go olds news (omega (arith, same)) (All-tail IsNew old olds new))
 
 -- ---- documents of which each has its reader
 
-pub none_unfinished : (texts : List (List ℕ)) (readers : List (Change SourceState)) → OfEach OfDocument texts readers → OfOne IsUnfinished readers → ⊥
+pub none_unfinished : (texts : List (List ℕ)) (readers : List (Change SourceState)) → AllZip OfDocument texts readers → OfOne IsUnfinished readers → ⊥
 none_unfinished [] [] each one = one
 none_unfinished [] (r ∷ readers) each one = absurd each
 none_unfinished (t ∷ texts) [] each one = one
 none_unfinished (t ∷ texts) (r ∷ readers) each (inl here) = each.0.finished here
 none_unfinished (t ∷ texts) (r ∷ readers) each (inr there) = none_unfinished texts readers each.1 there
 
-pub one_long : (texts : List (List ℕ)) (readers : List (Change SourceState)) → OfEach OfDocument texts readers → OfOne IsTooLong readers → OfOne IsLong texts
+pub one_long : (texts : List (List ℕ)) (readers : List (Change SourceState)) → AllZip OfDocument texts readers → OfOne IsTooLong readers → OfOne IsLong texts
 one_long [] [] each one = one
 one_long [] (r ∷ readers) each one = absurd each
 one_long (t ∷ texts) [] each one = absurd one
 one_long (t ∷ texts) (r ∷ readers) each (inl here) = inl (each.0.long here)
 one_long (t ∷ texts) (r ∷ readers) each (inr there) = inr (one_long texts readers each.1 there)
 
-pub all_whole : (texts : List (List ℕ)) (readers : List (Change SourceState)) (read : List (List ℕ)) → OfEach OfDocument texts readers → OfEach ReadsAll readers read → read ≡ texts
+pub all_whole : (texts : List (List ℕ)) (readers : List (Change SourceState)) (read : List (List ℕ)) → AllZip OfDocument texts readers → AllZip ReadsAll readers read → read ≡ texts
 all_whole [] [] [] each all = refl
 all_whole [] [] (b ∷ read) each all = absurd all
 all_whole [] (r ∷ readers) read each all = absurd each
@@ -90,7 +90,7 @@ all_whole (t ∷ texts) (r ∷ readers) [] each all = absurd all
 all_whole (t ∷ texts) (r ∷ readers) (b ∷ read) each all =
     ap (λ x. x ∷ read) (each.0.whole b all.0) ∙ ap (λ xs. t ∷ xs) (all_whole texts readers read each.1 all.1)
 
-pub all_short : (texts : List (List ℕ)) (readers : List (Change SourceState)) (read : List (List ℕ)) → OfEach OfDocument texts readers → OfEach ReadsAll readers read
+pub all_short : (texts : List (List ℕ)) (readers : List (Change SourceState)) (read : List (List ℕ)) → AllZip OfDocument texts readers → AllZip ReadsAll readers read
     → (OfOne IsTooLong readers → ⊥) → All IsShort texts
 all_short [] readers read each all few = All-nil IsShort
 all_short (t ∷ texts) [] read each all few = absurd each

@@ -1,11 +1,11 @@
 -- A run on documents in memory has their report, or ends where one of them is too long or memory ran out.
 use Rattle.std.proofs.Common.{◌≡◌, ◌⊎◌, inl, inr, ℕ, List, ◌∷◌, map, Result, Ok, Err, IsErr, IsErrAnd, MatchResult, refl, sym, ap, ◌∙◌, subst}
 use Rattle.std.proofs.lemmas.List.Elements.{All-cons}
-use Rattle.std.specs.List.{All}
+use Rattle.std.specs.List.{All, AllZip}
 use Rattle.std.specs.Io.KnownBytes.{Appends}
 use Rattle.cudf_check.specs.Device.{SourceState, SinkState}
-use Rattle.cudf_check.specs.ManyRuns.{LeavesBehind, changes}
-use Rattle.cudf_check.specs.Readers.{Change, IsTooLong, IsUnfinished, OfEach, OfOne}
+use Rattle.cudf_check.specs.ManyRuns.{LeavesBehind}
+use Rattle.cudf_check.specs.Readers.{Change, IsTooLong, IsUnfinished, OfOne, changes}
 use Rattle.cudf_check.specs.Report.{Report}
 use Rattle.cudf_check.specs.Runs.{Runs}
 use Rattle.cudf_check.specs.declared.outcome.Outcome.{Outcome}
@@ -27,7 +27,7 @@ pub record Done (documents : List (List ℕ)) (report : Report) (out : Change Si
   pub short : All IsShort documents
 
 module _ (answer : List ℕ → List (List ℕ) → Report) (problem : List ℕ) (others : List (List ℕ)) (first : Change SourceState) (readers : List (Change SourceState)) (out : Change SinkState)
-    (of_first : OfDocument problem first) (of_others : OfEach OfDocument others readers) where
+    (of_first : OfDocument problem first) (of_others : AllZip OfDocument others readers) where
   -- one of them gave too many bytes
   is_long : IsTooLong first ⊎ OfOne IsTooLong readers → OfOne IsLong (problem ∷ others)
   is_long (inl here) = inl (of_first.long here)
@@ -61,9 +61,9 @@ module _ (answer : List ℕ → List (List ℕ) → Report) (problem : List ℕ)
 
 -- the documents of a ranking, as their readers are returned
 pub of_others : (texts : List (List ℕ)) (lent olds news : List Document) (P : Document → Document → Type 0) → olds ≡ lent → map (λ d. d.rest.now) lent ≡ texts → All IsNew lent
-    → LeavesBehind P olds news → OfEach OfDocument texts (changes document_state olds news)
+    → LeavesBehind P olds news → AllZip OfDocument texts (changes document_state olds news)
 of_others texts lent olds news P value is new behind =
-    subst (λ ts. OfEach OfDocument ts (changes document_state olds news)) (ap (map (λ d. d.rest.now)) value ∙ is)
+    subst (λ ts. AllZip OfDocument ts (changes document_state olds news)) (ap (map (λ d. d.rest.now)) value ∙ is)
     (of_documents P olds news behind (subst (All IsNew) (sym value) new))
 
 -- a call ends as its run did

@@ -1,9 +1,8 @@
 -- What a call of the library leaves. Own.
 use Rattle.std.specs.Prelude.{◌≡◌, ◌<◌, ◌≤◌, ◌⊎◌, ◌++◌, ℕ, List, length, take, drop, Bool, if◌then◌else◌}
 use Rattle.std.specs.List.{All}
-use Rattle.cudf_check.specs.Limits.{most_bytes}
-use Rattle.cudf_check.specs.Outcome.{outcome_status}
-use Rattle.cudf_check.specs.Readers.{OfOne}
+use Rattle.cudf_check.specs.Runs.{outcome_status}
+use Rattle.cudf_check.specs.Readers.{OfOne, most_bytes}
 use Rattle.cudf_check.specs.Report.{Report}
 use Rattle.cudf_document.specs.declared.mode.Mode.{Mode}
 use Rattle.cudf_document.specs.declared.mode.Mode.TheVariants.{Lenient, Strict}

@@ -6,7 +6,7 @@ use Rattle.cudf_check.specs.declared.outcome.Outcome.{Outcome}
 use Rattle.cudf_check.specs.declared.outcome.RunError.{RunError}
 use Rattle.cudf_check.specs.declared.outcome.RunError.TheVariants.{Write, Memory}
 use Rattle.cudf_check.specs.Device.{SinkState}
-use Rattle.cudf_check.specs.Prefix.{AppendsPrefix}
+use Rattle.cudf_check.specs.Runs.{AppendsPrefix}
 use Rattle.cudf_check.specs.Report.{Report}
 use Rattle.cudf_check.specs.Working.Answering.{Answers}
 use Rattle.cudf_check.proofs.CommonLemmas.{none_below}

@@ -1,11 +1,11 @@
 -- Readers in a row, read one after another.
 use Rattle.std.proofs.Common.{◌≡◌, ◌↔◌, inl, inr, ℕ, zero, suc, ◌+◌, ◌<◌, ◌≤◌, List, [], ◌∷◌, ◌++◌, length, get_or, set, take, drop, Result, Ok, Err, IsErr, IsErrAnd, IsErrOf, refl, sym, ap, ◌∙◌, subst, arith}
-use Rattle.std.specs.List.{All}
+use Rattle.std.specs.List.{All, AllZip}
 use Rattle.cudf_check.specs.declared.outcome.RunError.{RunError}
 use Rattle.cudf_check.specs.declared.outcome.RunError.TheVariants.{Read, TooLong, Write, Memory}
 use Rattle.cudf_check.specs.Device.{SourceState}
-use Rattle.cudf_check.specs.ManyRuns.{changes, LeavesBehind}
-use Rattle.cudf_check.specs.Readers.{Change, change, ReadsAll, IsUnfinished, IsTooLong, IsStopped, IsWithinTurns, OfOne, OfEach}
+use Rattle.cudf_check.specs.ManyRuns.{LeavesBehind}
+use Rattle.cudf_check.specs.Readers.{Change, change, ReadsAll, IsUnfinished, IsTooLong, IsStopped, IsWithinTurns, OfOne, changes}
 use Rattle.cudf_check.specs.Working.InTurn.{ReadsInTurn}
 use Rattle.cudf_check.proofs.CommonLemmas.{same_error}
 
@@ -69,7 +69,7 @@ each_within (r ∷ readers) none (suc k) d below = each_within readers (λ h. no
 
 -- the first readers were read, and the others are as they were lent
 pub record ReadSoFar {D : Type 0} (state : D → SourceState) (olds news : List D) (n : ℕ) (texts : List (List ℕ)) : Type 0 where
-  pub texts_are : OfEach WasRead (changes state (take n olds) (take n news)) texts
+  pub texts_are : AllZip WasRead (changes state (take n olds) (take n news)) texts
   pub rest : drop n news ≡ drop n olds
   pub same_length : length news ≡ length olds
 
@@ -86,9 +86,9 @@ still_lent zero (old ∷ olds) (new ∷ news) d below same is = cc
 still_lent (suc n) (old ∷ olds) (new ∷ news) d below same is = still_lent n olds news d (omega arith) (omega arith) is
 
 texts_more : {D : Type 0} (state : D → SourceState) (n : ℕ) (olds news : List D) (texts : List (List ℕ)) (x d : D) (bytes : List ℕ)
-    → n < length olds → length news ≡ length olds → OfEach WasRead (changes state (take n olds) (take n news)) texts
+    → n < length olds → length news ≡ length olds → AllZip WasRead (changes state (take n olds) (take n news)) texts
     → WasRead (change state (get_or olds n d) x) bytes
-    → OfEach WasRead (changes state (take (suc n) olds) (take (suc n) (set news n x))) (texts ++ bytes ∷ [])
+    → AllZip WasRead (changes state (take (suc n) olds) (take (suc n) (set news n x))) (texts ++ bytes ∷ [])
 texts_more state n [] news texts x d bytes below same m w = absurd (omega arith)
 texts_more state n (old ∷ olds) [] texts x d bytes below same m w = absurd (omega arith)
 texts_more state zero (old ∷ olds) (new ∷ news) [] x d bytes below same m w = (w, tt)
@@ -132,7 +132,7 @@ none_still state Q f (x ∷ xs) (inl q) = f.not_still x q
 none_still state Q f (x ∷ xs) (inr h) = none_still state Q f xs h
 
 none_stopped : {D : Type 0} (state : D → SourceState) (Q : Change SourceState → Type 0) → IsFailure state Q → (n : ℕ) (olds news : List D) (texts : List (List ℕ))
-    → OfEach WasRead (changes state (take n olds) (take n news)) texts → drop n news ≡ drop n olds → OfOne Q (changes state olds news) → ⊥
+    → AllZip WasRead (changes state (take n olds) (take n news)) texts → drop n news ≡ drop n olds → OfOne Q (changes state olds news) → ⊥
 none_stopped state Q f zero olds news texts m is h = none_still state Q f olds (subst (λ xs. OfOne Q (changes state olds xs)) is h)
 none_stopped state Q f (suc n) [] news texts m is h = absurd h
 none_stopped state Q f (suc n) (old ∷ olds) [] texts m is h = absurd h
@@ -140,7 +140,7 @@ none_stopped state Q f (suc n) (old ∷ olds) (new ∷ news) [] m is h = absurd 
 none_stopped state Q f (suc n) (old ∷ olds) (new ∷ news) (t ∷ texts) m is (inl q) = f.not_read (change state old new) t m.0 q
 none_stopped state Q f (suc n) (old ∷ olds) (new ∷ news) (t ∷ texts) m is (inr h) = none_stopped state Q f n olds news texts m.1 is h
 
-all_read : (readers : List (Change SourceState)) (texts : List (List ℕ)) → OfEach WasRead readers texts → OfEach ReadsAll readers texts
+all_read : (readers : List (Change SourceState)) (texts : List (List ℕ)) → AllZip WasRead readers texts → AllZip ReadsAll readers texts
 all_read [] [] m = tt
 all_read [] (t ∷ texts) m = absurd m
 all_read (r ∷ readers) [] m = absurd m
@@ -157,7 +157,7 @@ behind_still state [] = tt
 behind_still state (x ∷ xs) = ((λ h. refl), behind_still state xs)
 
 nothing_left : {D : Type 0} (state : D → SourceState) (n : ℕ) (olds news : List D) (texts : List (List ℕ))
-    → OfEach WasRead (changes state (take n olds) (take n news)) texts → drop n news ≡ drop n olds → length news ≡ length olds
+    → AllZip WasRead (changes state (take n olds) (take n news)) texts → drop n news ≡ drop n olds → length news ≡ length olds
     → LeavesBehind (λ old new. IsStopped (change state old new)) olds news
 nothing_left state zero olds news texts m is same = subst (λ xs. LeavesBehind (λ old new. IsStopped (change state old new)) olds xs) (sym is) (behind_still state olds)
 nothing_left state (suc n) [] [] texts m is same = tt
@@ -172,9 +172,9 @@ pub read_to_the_end : {D T : Type 0} (state : D → SourceState) (n : ℕ) (olds
     → length news ≤ n → ReadSoFar state olds news n (texts v) → ReadsInTurn state olds news texts (Ok v)
 read_to_the_end state n olds news texts v end m =
     let old_end : length olds ≤ n = omega (arith, m.same_length) in
-    let all : OfEach WasRead (changes state olds news) (texts v)
-    = subst (λ xs. OfEach WasRead (changes state xs news) (texts v)) (take-all olds n old_end)
-    (subst (λ xs. OfEach WasRead (changes state (take n olds) xs) (texts v)) (take-all news n end) m.texts_are) in
+    let all : AllZip WasRead (changes state olds news) (texts v)
+    = subst (λ xs. AllZip WasRead (changes state xs news) (texts v)) (take-all olds n old_end)
+    (subst (λ xs. AllZip WasRead (changes state (take n olds) xs) (texts v)) (take-all news n end) m.texts_are) in
     record {
       all = all_read (changes state olds news) (texts v) all;
       too_long = (λ e. absurd (cc e), λ h. absurd (none_stopped state IsTooLong (too_long_fails state) n olds news (texts v) m.texts_are m.rest h));
@@ -205,7 +205,7 @@ no_room_left state n olds news read texts m = record {
 -- ---- a reader stopped the reading
 
 one_of : {D : Type 0} (state : D → SourceState) (Q : Change SourceState → Type 0) → IsFailure state Q → (n : ℕ) (olds news : List D) (texts : List (List ℕ)) (x d : D)
-    → n < length olds → length news ≡ length olds → OfEach WasRead (changes state (take n olds) (take n news)) texts → drop n news ≡ drop n olds
+    → n < length olds → length news ≡ length olds → AllZip WasRead (changes state (take n olds) (take n news)) texts → drop n news ≡ drop n olds
     → OfOne Q (changes state olds (set news n x)) ↔ Q (change state (get_or news n d) x)
 one_of state Q f n [] news texts x d below same m is = absurd (omega arith)
 one_of state Q f n (old ∷ olds) [] texts x d below same m is = absurd (omega arith)
@@ -228,7 +228,7 @@ one_of state Q f (suc n) (old ∷ olds) (new ∷ news) (t ∷ texts) x d below s
     there more (inr h) = more.0 h
 
 left_behind : {D : Type 0} (state : D → SourceState) (n : ℕ) (olds news : List D) (texts : List (List ℕ)) (x : D)
-    → n < length olds → length news ≡ length olds → OfEach WasRead (changes state (take n olds) (take n news)) texts → drop n news ≡ drop n olds
+    → n < length olds → length news ≡ length olds → AllZip WasRead (changes state (take n olds) (take n news)) texts → drop n news ≡ drop n olds
     → LeavesBehind (λ old new. IsStopped (change state old new)) olds (set news n x)
 left_behind state n [] news texts x below same m is = absurd (omega arith)
 left_behind state n (old ∷ olds) [] texts x below same m is = absurd (omega arith)

@@ -6,26 +6,26 @@ use Rattle.cudf_text.specs.declared.fault.Fault.{Fault}
 use Rattle.cudf_document.specs.declared.error.ReadError.{ReadError}
 use Rattle.cudf_document.specs.declared.error.ReadError.TheVariants as read_error
 use Rattle.cudf_document.specs.Universe.{PlainProblem}
-use Rattle.cudf_check.specs.RankReport.{placed_fault, placed_faults, standing_of, standings, first_faulty_or}
+use Rattle.cudf_check.specs.RankReport.{placed_fault, placed_faults, entrant_of, entrants, first_faulty_or}
 use Rattle.cudf_check.specs.Report.{Report, faulty, solution_fault}
 use Rattle.cudf_check.specs.Working.Judged.{IsJudged, AreJudged, IsFaultAt}
-use Rattle.cudf_check.specs.Working.Refusals.{IsFaultOf}
+use Rattle.cudf_check.specs.Working.Unjudged.{IsFaultOf}
 use Rattle.cudf_check.specs.declared.ranking.Judgement.{Judgement}
-use Rattle.cudf_check.specs.declared.ranking.Standing.{Standing}
+use Rattle.cudf_check.specs.declared.ranking.Entrant.{Entrant}
 
 -- those that are left, with their places
 abbrev pub left : {A : Type 0} → (A → List ℕ) → List A → ℕ → List (ℕ × List ℕ)
 left view xs n = enumerate_from (n + 1) (map view (drop n xs))
 
--- those so far have no fault, and these are their standings
-pub record JudgedSoFar {A : Type 0} (mode : Mode) (problem : PlainProblem) (view : A → List ℕ) (xs : List A) (n : ℕ) (ss : List Standing) : Type 0 where
-  pub found : ss ++ map (standing_of problem) (left view xs n) ≡ standings problem (map view xs)
+-- those so far have no fault, and these are their entrants
+pub record JudgedSoFar {A : Type 0} (mode : Mode) (problem : PlainProblem) (view : A → List ℕ) (xs : List A) (n : ℕ) (ss : List Entrant) : Type 0 where
+  pub found : ss ++ map (entrant_of problem) (left view xs n) ≡ entrants problem (map view xs)
   pub sound : placed_faults mode (map view xs) ≡ filter_map (placed_fault mode) (left view xs n)
 
 pub none_judged : {A : Type 0} (mode : Mode) (problem : PlainProblem) (view : A → List ℕ) (xs : List A) → JudgedSoFar mode problem view xs 0 []
 none_judged mode problem view xs = record { found = refl; sound = refl }
 
-module _ {A : Type 0} (mode : Mode) (problem : PlainProblem) (view : A → List ℕ) (xs : List A) (n : ℕ) (d : A) (ss : List Standing) (below : n < length xs) (m : JudgedSoFar mode problem view xs n ss) where
+module _ {A : Type 0} (mode : Mode) (problem : PlainProblem) (view : A → List ℕ) (xs : List A) (n : ℕ) (d : A) (ss : List Entrant) (below : n < length xs) (m : JudgedSoFar mode problem view xs n ss) where
   -- the one at the turn, and those behind it
   behind : left view xs n ≡ (n + 1, view (get_or xs n d)) ∷ left view xs (n + 1)
   behind = ap (λ ys. enumerate_from (n + 1) (map view ys)) (left_is xs n d below ∙ (λ k. get_or xs n d ∷ drop (next k) xs))
@@ -38,26 +38,26 @@ module _ {A : Type 0} (mode : Mode) (problem : PlainProblem) (view : A → List 
       left_is (x ∷ xs) zero d below = refl
       left_is (x ∷ xs) (suc n) d below = left_is xs n d (omega arith)
 
-  pub judged_more : (j : Judgement) (new : List Standing) (place : ℕ) → place ≡ n + 1 → IsJudged mode problem (view (get_or xs n d)) j
+  pub judged_more : (j : Judgement) (new : List Entrant) (place : ℕ) → place ≡ n + 1 → IsJudged mode problem (view (get_or xs n d)) j
       → new ≡ ss ++ (record { place = place; judgement = j }) ∷ [] → JudgedSoFar mode problem view xs (n + 1) new
   judged_more j new place at is pushed = record {
     found =
-        ap (λ ys. ys ++ map (standing_of problem) (left view xs (n + 1))) (pushed ∙ (λ k. ss ++ (record { place = at k; judgement = is.found k }) ∷ []))
-        ∙ append_assoc ss (standing_of problem (n + 1, view (get_or xs n d)) ∷ []) (map (standing_of problem) (left view xs (n + 1)))
-        ∙ ap (λ ys. ss ++ map (standing_of problem) ys) (sym behind) ∙ m.found;
+        ap (λ ys. ys ++ map (entrant_of problem) (left view xs (n + 1))) (pushed ∙ (λ k. ss ++ (record { place = at k; judgement = is.found k }) ∷ []))
+        ∙ append_assoc ss (entrant_of problem (n + 1, view (get_or xs n d)) ∷ []) (map (entrant_of problem) (left view xs (n + 1)))
+        ∙ ap (λ ys. ss ++ map (entrant_of problem) ys) (sym behind) ∙ m.found;
     sound = m.sound ∙ ap (filter_map (placed_fault mode)) behind
         ∙ ap (λ f. cons_option (option_map (λ f. (n + 1, f)) f) (filter_map (placed_fault mode) (left view xs (n + 1)))) is.sound;
   }
 
-  pub refused_here : (place : ℕ) → place ≡ n + 1 → (f : Fault) → solution_fault mode (view (get_or xs n d)) ≡ Some f
+  pub faulty_here : (place : ℕ) → place ≡ n + 1 → (f : Fault) → solution_fault mode (view (get_or xs n d)) ≡ Some f
       → slice_get (placed_faults mode (map view xs)) 0 ≡ Some (place, f)
-  refused_here place at f is = ap (λ fs. slice_get fs 0) (m.sound ∙ ap (filter_map (placed_fault mode)) behind
+  faulty_here place at f is = ap (λ fs. slice_get fs 0) (m.sound ∙ ap (filter_map (placed_fault mode)) behind
       ∙ ap (λ o. cons_option (option_map (λ f. (n + 1, f)) o) (filter_map (placed_fault mode) (left view xs (n + 1)))) is) ∙ (λ k. Some (sym at k, f))
 
-pub all_judged : {A : Type 0} (mode : Mode) (problem : PlainProblem) (view : A → List ℕ) (xs : List A) (n : ℕ) (ss : List Standing) → length xs ≤ n
+pub all_judged : {A : Type 0} (mode : Mode) (problem : PlainProblem) (view : A → List ℕ) (xs : List A) (n : ℕ) (ss : List Entrant) → length xs ≤ n
     → JudgedSoFar mode problem view xs n ss → AreJudged mode problem (map view xs) ss
 all_judged mode problem view xs n ss end m = record {
-  found = sym (append-nil ss) ∙ ap (λ ys. ss ++ map (standing_of problem) (enumerate_from (n + 1) (map view ys))) (sym (none_left xs n end)) ∙ m.found;
+  found = sym (append-nil ss) ∙ ap (λ ys. ss ++ map (entrant_of problem) (enumerate_from (n + 1) (map view ys))) (sym (none_left xs n end)) ∙ m.found;
   sound = m.sound ∙ ap (λ ys. filter_map (placed_fault mode) (enumerate_from (n + 1) (map view ys))) (none_left xs n end);
 }
   where
@@ -73,10 +73,10 @@ pub first_is : (faults : List (ℕ × Fault)) (report : Report) (place : ℕ) (f
 first_is [] report place f is = absurd (cc is)
 first_is (first ∷ others) report place f is = let same : first ≡ (place, f) = cc in ap (λ x. faulty (codes "solution " ++ decimal x.0) x.1) (sym same)
 
--- ---- the first that is refused
+-- ---- the first that is faulty
 
-pub refused_at : {A : Type 0} (mode : Mode) (problem : PlainProblem) (view : A → List ℕ) (xs : List A) (n : ℕ) (d : A) (ss : List Standing) → n < length xs → JudgedSoFar mode problem view xs n ss
+pub faulty_at : {A : Type 0} (mode : Mode) (problem : PlainProblem) (view : A → List ℕ) (xs : List A) (n : ℕ) (d : A) (ss : List Entrant) → n < length xs → JudgedSoFar mode problem view xs n ss
     → (bytes : List ℕ) → bytes ≡ view (get_or xs n d) → (e : ReadError) → IsFaultOf (solution_fault mode bytes) e → IsFaultAt mode (map view xs) (n + 1) e
-refused_at mode problem view xs n d ss below m bytes same (read_error.Memory e) first = tt
-refused_at mode problem view xs n d ss below m bytes same (read_error.Fault f) first =
-    refused_here mode problem view xs n d ss below m (n + 1) refl f (ap (solution_fault mode) (sym same) ∙ first)
+faulty_at mode problem view xs n d ss below m bytes same (read_error.Memory e) first = tt
+faulty_at mode problem view xs n d ss below m bytes same (read_error.Fault f) first =
+    faulty_here mode problem view xs n d ss below m (n + 1) refl f (ap (solution_fault mode) (sym same) ∙ first)

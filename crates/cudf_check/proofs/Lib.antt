@@ -5,6 +5,7 @@ pub mod InputsLemmas
 pub mod JudgingLemmas
 pub mod OutputLemmas
 pub mod PageLemmas
+pub mod PagePriceLemmas
 pub mod PaperLemmas
 pub mod RankExamples
 pub mod RankingLawLemmas
@@ -12,4 +13,3 @@ pub mod RankingLemmas
 pub mod ReadingLemmas
 pub mod RunLemmas
 pub mod ThinLemmas
-pub mod WalkLemmas

@@ -4,7 +4,7 @@ use Rattle.std.proofs.lemmas.List.{take_rest}
 use Rattle.std.specs.Io.KnownBytes.{Appends}
 use Rattle.std.proofs.KnownBytes.{Appends-trans}
 use Rattle.cudf_check.specs.Device.{failed_writes}
-use Rattle.cudf_check.specs.Prefix.{AppendsPrefix}
+use Rattle.cudf_check.specs.Runs.{AppendsPrefix}
 
 -- of `all` the writer took a prefix, and `left` is still to be written
 pub record Moved (old new : Option (List ℕ)) (all left : List ℕ) : Type 0 where

@@ -1,6 +1,6 @@
 -- What of the listing lies behind the last key of a page.
 use Rattle.std.proofs.Common.{◌≡◌, inl, inr, ℕ, zero, suc, ◌+◌, Bool, true, false, ◌&&◌, cond, List, [], ◌∷◌, ◌++◌, map, filter, length, get_or, take, drop, ◌-◌, ◌<◌, ◌≤◌, arith, drop-cons, Option, Some, None, option_map, refl, sym, ap, ◌∙◌, append_assoc, append-nil, add-one, take-append-drop, codes, if◌then◌else◌}
-use Rattle.std.specs.List.{flat_map}
+use Rattle.std.specs.List.{flat_map, last_or}
 use Rattle.std.specs.Ordering.{is_lt, ordering_reverse}
 use Rattle.std.proofs.lemmas.Bool.{true≢false}
 use Rattle.std.proofs.lemmas.Cmp.{nat_list_cmp_total}
@@ -12,10 +12,10 @@ use Rattle.cudf_document.specs.Documents.{is_empty}
 use Rattle.cudf_referee.specs.KeyViews.{key_view}
 use Rattle.cudf_referee.specs.Proposals.{Proposal}
 use Rattle.cudf_referee.specs.Violations.{listing, rest}
-use Rattle.cudf_check.specs.Report.{line, instance_line, listed, limited, last_key, more_text, check_text}
+use Rattle.cudf_check.specs.Report.{line, instance_line, listed, limited, more_text, check_text}
 use Rattle.cudf_referee.specs.Promises.Pages as pages
 use Rattle.cudf_referee.specs.Promises.Walks.{Walking, left}
-use Rattle.cudf_check.specs.Working.Pages.{Ascends, IsPageEnd, IsEnded, more_behind}
+use Rattle.cudf_check.specs.Working.Pages.{Ascends, IsPageEnd, IsEnded, end_key, more_after, more_behind}
 use Rattle.cudf_check.proofs.CommonLemmas.{and_left, and_right, is_less}
 
 -- ---- the order of keys
@@ -62,14 +62,14 @@ behind-all key (i ∷ is) h =
 
 -- the first of several comes before the last one
 before_last : (first key : PlainKey) (i : PlainInstance) (front back : List PlainInstance) → precedes_all first (map (λ j. j.key) ((i ∷ front) ++ back)) ≡ true
-    → last_key (i ∷ front) ≡ Some key → precedes first key ≡ true
+    → end_key (i ∷ front) ≡ Some key → precedes first key ≡ true
 before_last first key i [] back h last =
     ap (precedes first) (sym (some_of last)) ∙ and_left (precedes first i.key) (precedes_all first (map (λ j. j.key) back)) h
 before_last first key i (j ∷ front) back h last =
     before_last first key j front back (and_right (precedes first i.key) (precedes_all first (map (λ k. k.key) ((j ∷ front) ++ back))) h) last
 
 -- behind the last key of a front lies what follows the front
-pub behind-front : (key : PlainKey) (front back : List PlainInstance) → ascend (map (λ i. i.key) (front ++ back)) ≡ true → last_key front ≡ Some key
+pub behind-front : (key : PlainKey) (front back : List PlainInstance) → ascend (map (λ i. i.key) (front ++ back)) ≡ true → end_key front ≡ Some key
     → behind key (front ++ back) ≡ back
 behind-front key [] back h last = absurd (none_is_some last)
 behind-front key (i ∷ []) back h last =
@@ -117,7 +117,7 @@ is_cut key (i ∷ is) up = cut_case key i is (precedes key i.key) refl up
     (is_cut key is (and_right (precedes_all i.key (map (λ j. j.key) is)) (ascend (map (λ j. j.key) is)) up))
 
 -- the last key of two lists is that of the second, where that has one
-last_of_both : (front : List PlainInstance) (is : List PlainInstance) (key : PlainKey) → last_key is ≡ Some key → last_key (front ++ is) ≡ Some key
+last_of_both : (front : List PlainInstance) (is : List PlainInstance) (key : PlainKey) → end_key is ≡ Some key → end_key (front ++ is) ≡ Some key
 last_of_both [] is key h = h
 last_of_both (i ∷ []) [] key h = absurd (none_is_some h)
 last_of_both (i ∷ []) (j ∷ is) key h = h
@@ -125,7 +125,7 @@ last_of_both (i ∷ j ∷ front) is key h = last_of_both (j ∷ front) is key h
 
 -- behind the last key of a page of what lies behind a key is what follows the page
 pub behind-page : (after key : PlainKey) (is page left : List PlainInstance) → ascend (map (λ i. i.key) is) ≡ true → behind after is ≡ page ++ left
-    → last_key page ≡ Some key → behind key is ≡ left
+    → end_key page ≡ Some key → behind key is ≡ left
 behind-page after key is page left up parts last =
     let cut = is_cut after is up in
     let whole : (cut.front ++ page) ++ left ≡ is = append_assoc cut.front page left ∙ ap (λ js. cut.front ++ js) (sym parts) ∙ cut.whole in
@@ -135,7 +135,7 @@ behind-page after key is page left up parts last =
 -- ---- one instance more
 
 -- the last key behind one instance more
-pub last_of_more : (is : List PlainInstance) (i : PlainInstance) → last_key (is ++ i ∷ []) ≡ Some i.key
+pub last_of_more : (is : List PlainInstance) (i : PlainInstance) → end_key (is ++ i ∷ []) ≡ Some i.key
 last_of_more [] i = refl
 last_of_more (j ∷ []) i = refl
 last_of_more (j ∷ k ∷ is) i = last_of_more (k ∷ is) i
@@ -189,7 +189,7 @@ ended limit old new true none = tt
 ended limit old new false none = inr none
 
 -- the end of a page at its limit
-pub page_end : (limit : ℕ) (old new : List PlainInstance) (last : Option Key) → option_map key_view last ≡ last_key (take limit old) → new ≡ drop limit old
+pub page_end : (limit : ℕ) (old new : List PlainInstance) (last : Option Key) → option_map key_view last ≡ end_key (take limit old) → new ≡ drop limit old
     → IsPageEnd limit old new last
 page_end limit old new None h left = inl (sym h)
 page_end limit old new (Some key) h left = (sym h, left)
@@ -201,22 +201,27 @@ abbrev pub more_line : Option PlainKey → List ℕ
 more_line None = []
 more_line (Some key) = line (codes "more after " ++ key_text key)
 
-left_of : (s : Proposal) (after : Option PlainKey) (key : PlainKey) (page left : List PlainInstance) → Ascends s → listed after s ≡ page ++ left → last_key page ≡ Some key
+left_of : (s : Proposal) (after : Option PlainKey) (key : PlainKey) (page left : List PlainInstance) → Ascends s → listed after s ≡ page ++ left → end_key page ≡ Some key
     → rest key s ≡ left
 left_of s None key page left up parts last = ap (behind key) parts ∙ behind-front key page left (ap (λ js. ascend (map (λ i. i.key) js)) (sym parts) ∙ up) last
 left_of s (Some after) key page left up parts last = behind-page after key (listing s) page left up parts last
 
+-- it is told of the last instance as of its key
+more_of : (s : Proposal) (last : Option PlainInstance) → more_text s last ≡ more_after s (option_map (λ i. i.key) last)
+more_of s None = refl
+more_of s (Some i) = refl
+
 -- where nothing follows a page there is no such line
-none_more : (s : Proposal) (after : Option PlainKey) (page : List PlainInstance) (last : Option PlainKey) → Ascends s → listed after s ≡ page ++ [] → last_key page ≡ last
-    → more_text s last ≡ []
+none_more : (s : Proposal) (after : Option PlainKey) (page : List PlainInstance) (last : Option PlainKey) → Ascends s → listed after s ≡ page ++ [] → end_key page ≡ last
+    → more_after s last ≡ []
 none_more s after page None up parts h = refl
 none_more s after page (Some key) up parts h = ap (λ is. if is_empty is then [] else line (codes "more after " ++ key_text key)) (left_of s after key page [] up parts h)
 
-pub more-none : (s : Proposal) (after : Option PlainKey) → Ascends s → more_text s (last_key (listed after s)) ≡ []
-more-none s after up = none_more s after (listed after s) (last_key (listed after s)) up (sym (append-nil (listed after s))) refl
+pub more-none : (s : Proposal) (after : Option PlainKey) → Ascends s → more_text s (last_or None (listed after s)) ≡ []
+more-none s after up = more_of s (last_or None (listed after s)) ∙ none_more s after (listed after s) (end_key (listed after s)) up (sym (append-nil (listed after s))) refl
 
 some_more : (s : Proposal) (key : PlainKey) (new : List PlainInstance) (last : Option Key) → last ≡ last → rest key s ≡ new
-    → more_text s (Some key) ≡ (if is_empty new then [] else more_line (Some key))
+    → more_after s (Some key) ≡ (if is_empty new then [] else more_line (Some key))
 some_more s key new last same h = ap (λ is. if is_empty is then [] else line (codes "more after " ++ key_text key)) h
 
 chosen : (new : List PlainInstance) (last : Option Key) → (if is_empty new then [] else more_line (option_map key_view last)) ≡ more_line (option_map key_view (if is_empty new then None else last))
@@ -231,16 +236,16 @@ more-no-key (i ∷ new) = refl
 -- the line behind a page is that of the key after which the next page begins
 pub more-line : (s : Proposal) (after : Option PlainKey) (limit : ℕ) (new : List PlainInstance) (last : Option Key) → Ascends s
     → IsPageEnd limit (listed after s) new last
-    → more_text s (last_key (take limit (listed after s))) ≡ more_line (option_map key_view (if is_empty new then None else last))
+    → more_text s (last_or None (take limit (listed after s))) ≡ more_line (option_map key_view (if is_empty new then None else last))
 more-line s after limit new (Some key) up (last, left) =
     let parts : listed after s ≡ take limit (listed after s) ++ drop limit (listed after s) = sym (take-append-drop limit (listed after s)) in
-    ap (more_text s) last
+    more_of s (last_or None (take limit (listed after s))) ∙ ap (more_after s) last
     ∙ some_more s (key_view key) new None refl (left_of s after (key_view key) (take limit (listed after s)) (drop limit (listed after s)) up parts last ∙ sym left)
     ∙ chosen new (Some key)
-more-line s after limit new None up (inl none) = ap (more_text s) none ∙ sym (more-no-key new)
+more-line s after limit new None up (inl none) = more_of s (last_or None (take limit (listed after s))) ∙ ap (more_after s) none ∙ sym (more-no-key new)
 more-line s after limit new None up (inr left) =
     let parts : listed after s ≡ take limit (listed after s) ++ [] = sym (take-append-drop limit (listed after s)) ∙ ap (λ is. take limit (listed after s) ++ is) left in
-    none_more s after (take limit (listed after s)) (last_key (take limit (listed after s))) up parts refl ∙ sym (more-no-key new)
+    more_of s (last_or None (take limit (listed after s))) ∙ none_more s after (take limit (listed after s)) (end_key (take limit (listed after s))) up parts refl ∙ sym (more-no-key new)
 
 -- with the key of the last instance it is told where one is left
 pub more-key : (new : List PlainInstance) (key : Key) → more_line (option_map key_view (if is_empty new then None else Some key)) ≡ more_behind new (key_view key)
@@ -271,4 +276,4 @@ nothing_limited (Some limit) is none = take-nothing limit is none
 
 -- no page of it has a text, after any key and up to any limit
 pub no-page : (s : Proposal) (after : Option PlainKey) (limit : Option ℕ) → is_empty (listing s) ≡ true → check_text after limit s ≡ []
-no-page s after limit h = ap (λ page. flat_map (instance_line s) page ++ more_text s (last_key page)) (nothing_limited limit (listed after s) (nothing_listed s after (nothing_in (listing s) h)))
+no-page s after limit h = ap (λ page. flat_map (instance_line s) page ++ more_text s (last_or None page)) (nothing_limited limit (listed after s) (nothing_listed s after (nothing_in (listing s) h)))

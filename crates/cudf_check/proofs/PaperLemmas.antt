@@ -1,5 +1,5 @@
 -- Printing one text after another.
-use Rattle.std.proofs.Common.{◌≡◌, ◌<◌, ◌≤◌, ◌+◌, ℕ, zero, suc, Bool, true, false, List, [], ◌∷◌, ◌++◌, length, get_or, take, Result, Ok, Err, OnOk, refl, ap, subst, sym, ◌∙◌, append_assoc, append-nil, is_err, arith}
+use Rattle.std.proofs.Common.{◌≡◌, ◌<◌, ◌≤◌, ◌+◌, ℕ, zero, suc, Bool, true, false, List, [], ◌∷◌, ◌++◌, length, get_or, take, Result, Ok, Err, refl, ap, subst, sym, ◌∙◌, append_assoc, append-nil, is_err, arith}
 use Rattle.std.specs.Io.KnownBytes.{Appends}
 use Rattle.std.specs.List.{flat_map, enumerate_from}
 use Rattle.std.proofs.KnownBytes.{Appends-nil, Appends-trans}
@@ -70,8 +70,8 @@ pub blank : (start : SinkState) (p : List ℕ) → p ≡ [] → IsTaken start st
 blank start p is = record { taken = []; whole = is; appended = Appends-nil start.contents; calm = refl }
 
 -- a text waits behind what waited
-pub kept : (start a : SinkState) (p q before text : List ℕ) → q ≡ p ++ text → IsTaken start a p before → IsTaken start a q (before ++ text)
-kept start a p q before text is m = record {
+pub added : (start a : SinkState) (p q before text : List ℕ) → q ≡ p ++ text → IsTaken start a p before → IsTaken start a q (before ++ text)
+added start a p q before text is m = record {
   taken = m.taken;
   whole = ap (λ x. m.taken ++ x) is ∙ sym (append_assoc m.taken p text) ∙ ap (λ x. x ++ text) m.whole;
   appended = m.appended;
@@ -110,12 +110,12 @@ broke start a b p before text (Ok x) failed w m = absurd (cc failed)
 broke start a b p before text (Err e) failed w m = torn start b before text (cut_off start a b p before e w m)
 
 -- all that waited was written, and then a text, or a prefix of it
-pub wrote : (start a b c : SinkState) (p q before text : List ℕ) (first second : Result (Unit {0}) RunError) → is_err first ≡ false → Writes a b first p → OnOk first (q ≡ [])
+pub wrote : (start a b c : SinkState) (p q before text : List ℕ) (first second : Result (Unit {0}) RunError) → is_err first ≡ false → Writes a b first p → q ≡ []
     → Writes b c second text → IsTaken start a p before → IsSaid (is_err second) start c q (before ++ text)
 wrote start a b c p q before text (Err e) second calm w empty v m = absurd (cc calm)
 wrote start a b c p q before text (Ok x) second calm w empty v m =
     subst (λ waits. IsSaid (is_err second) start c waits (before ++ text)) (sym empty)
-    (by second v (kept start b [] text before text refl (written start a b p before w m)))
+    (by second v (added start b [] text before text refl (written start a b p before w m)))
   where
     by : (result : Result (Unit {0}) RunError) → Writes b c result text → IsTaken start b text (before ++ text) → IsSaid (is_err result) start c [] (before ++ text)
     by (Ok y) n k = written start b c text (before ++ text) n k

@@ -1,4 +1,4 @@
--- The ranking has all standings, and each precedes all later ones.
+-- The ranking has all entrants, and each precedes all later ones.
 use Rattle.std.proofs.Common.{◌≡◌, ◌+◌, ◌<◌, ℕ, Bool, true, false, not, ◌&&◌, ◌==◌, cond, if◌then◌else◌, List, [], ◌∷◌, ◌++◌, ◌⊎◌, inl, inr, Some, find, map, IsTrue, IsPermutation, refl, sym, ap, ◌∙◌, subst, append-nil, eqb-true, arith}
 use Rattle.std.proofs.lemmas.Bool.{eq-eqb, and_from as both}
 use Rattle.std.proofs.lemmas.Cmp.{ranked, tied_itself, nat_cmp_total, on_total, then_total, back_total}
@@ -18,10 +18,10 @@ use Rattle.cudf_referee.specs.declared.aims.Sign.{Sign}
 use Rattle.cudf_referee.specs.declared.aims.Sign.TheVariants.{Least, Most}
 use Rattle.cudf_referee.specs.declared.criteria.Criteria.{Criteria}
 use Rattle.cudf_check.specs.Ranking.{class, compare_counts, precedes, put, put_all, ranking, have_own_places, ascend}
-use Rattle.cudf_check.specs.RankReport.{standing_of}
+use Rattle.cudf_check.specs.RankReport.{entrant_of}
 use Rattle.cudf_check.specs.declared.ranking.Judgement.{Judgement}
 use Rattle.cudf_check.specs.declared.ranking.Judgement.TheVariants.{Solution, NoSolution, SaysFail}
-use Rattle.cudf_check.specs.declared.ranking.Standing.{Standing}
+use Rattle.cudf_check.specs.declared.ranking.Entrant.{Entrant}
 use Rattle.cudf_check.proofs.CommonLemmas.{and_left, and_right, is_less}
 use Rattle.cudf_check.proofs.RankingLemmas.{inserted}
 
@@ -65,7 +65,7 @@ compare_total : (aims : List Aim) → IsTotalOrder (compare aims)
 compare_total [] = record { antisymm = λ c d. refl; trans = λ c d e h k. h; congr = λ c d e h. refl }
 compare_total (aim ∷ aims) = subst IsTotalOrder (λ i c d. sym (compare_first aim aims c d) i) (then_total (aim_total aim) (compare_total aims))
 
--- ---- standings
+-- ---- entrants
 
 no_counts : Criteria
 no_counts = record { removed = 0; new = 0; changed = 0; notuptodate = 0; unsat_recommends = 0; touched = 0 }
@@ -76,15 +76,15 @@ counts_of NoSolution = no_counts
 counts_of SaysFail = no_counts
 
 -- by class, then by the counts, then by place, as if all had counts
-rank_cmp : List Aim → Standing → Standing → Ordering
+rank_cmp : List Aim → Entrant → Entrant → Ordering
 rank_cmp aims = then_cmp (on (λ s. class s.judgement) nat_cmp) (then_cmp (on (λ s. counts_of s.judgement) (compare aims)) (on (λ s. s.place) nat_cmp))
 
 rank_total : (aims : List Aim) → IsTotalOrder (rank_cmp aims)
 unfolding rank_cmp
-rank_total aims = then_total (on_total (λ (s : Standing). class s.judgement) nat_cmp_total)
-    (then_total (on_total (λ (s : Standing). counts_of s.judgement) (compare_total aims)) (on_total (λ (s : Standing). s.place) nat_cmp_total))
+rank_total aims = then_total (on_total (λ (s : Entrant). class s.judgement) nat_cmp_total)
+    (then_total (on_total (λ (s : Entrant). counts_of s.judgement) (compare_total aims)) (on_total (λ (s : Entrant). s.place) nat_cmp_total))
 
-precedes_is : (aims : List Aim) (x y : Standing) → precedes aims x y ≡ is_lt (rank_cmp aims x y)
+precedes_is : (aims : List Aim) (x y : Entrant) → precedes aims x y ≡ is_lt (rank_cmp aims x y)
 unfolding rank_cmp
 precedes_is aims x y = by x.judgement y.judgement
   where
@@ -112,7 +112,7 @@ then_equal Equal p h = h
 then_equal Greater p h = absurd (cc h)
 
 -- of two at different places one precedes the other
-pub one_precedes : (aims : List Aim) (x y : Standing) → (x.place ≡ y.place → ⊥) → precedes aims x y ≡ false → precedes aims y x ≡ true
+pub one_precedes : (aims : List Aim) (x y : Entrant) → (x.place ≡ y.place → ⊥) → precedes aims x y ≡ false → precedes aims y x ≡ true
 unfolding rank_cmp
 one_precedes aims x y apart behind = precedes_is aims y x ∙ ap is_lt ((rank_total aims).antisymm y x) ∙ by (rank_cmp aims x y) refl
   where
@@ -123,7 +123,7 @@ one_precedes aims x y apart behind = precedes_is aims y x ∙ ap is_lt ((rank_to
     by Greater is = ap (λ o. is_lt (ordering_reverse o)) is
 
 -- what precedes one that precedes a third precedes the third
-pub precedes_on : (aims : List Aim) (x y z : Standing) → precedes aims x y ≡ true → precedes aims y z ≡ true → precedes aims x z ≡ true
+pub precedes_on : (aims : List Aim) (x y z : Entrant) → precedes aims x y ≡ true → precedes aims y z ≡ true → precedes aims x z ≡ true
 precedes_on aims x y z h k = precedes_is aims x z ∙ ap is_lt ((rank_total aims).trans x y z
     (is_less (rank_cmp aims x y) (sym (precedes_is aims x y) ∙ h)) (is_less (rank_cmp aims y z) (sym (precedes_is aims y z) ∙ k)))
 
@@ -139,7 +139,7 @@ all_both p q r implies (x ∷ xs) h k = both (r x) (list_all r xs) (implies x (a
     (all_both p q r implies xs (and_right (p x) (list_all p xs) h) (and_right (q x) (list_all q xs) k))
 
 -- what holds of one and of the others holds of all where the one is put in
-all_put : (p : Standing → Bool) (aims : List Aim) (x : Standing) (ys : List Standing) → p x ≡ true → list_all p ys ≡ true → list_all p (put aims x ys) ≡ true
+all_put : (p : Entrant → Bool) (aims : List Aim) (x : Entrant) (ys : List Entrant) → p x ≡ true → list_all p ys ≡ true → list_all p (put aims x ys) ≡ true
 all_put p aims x [] h k = both (p x) true h refl
 all_put p aims x (y ∷ ys) h k = by (precedes aims x y) (all_put p aims x ys h (and_right (p y) (list_all p ys) k))
   where
@@ -150,20 +150,20 @@ all_put p aims x (y ∷ ys) h k = by (precedes aims x y) (all_put p aims x ys h 
 -- ---- one more is put in
 
 -- at another place
-abbrev is_apart : Standing → Standing → Bool
+abbrev is_apart : Entrant → Entrant → Bool
 is_apart x y = not (x.place == y.place)
 
-apart : (x y : Standing) → is_apart x y ≡ true → x.place ≡ y.place → ⊥
+apart : (x y : Entrant) → is_apart x y ≡ true → x.place ≡ y.place → ⊥
 apart x y other same = clash (is_apart x y) other (ap not (eq-eqb x.place y.place same))
 
-apart_back : (x y : Standing) → is_apart x y ≡ true → is_apart y x ≡ true
+apart_back : (x y : Entrant) → is_apart x y ≡ true → is_apart y x ≡ true
 apart_back x y h = by (y.place == x.place) refl
   where
     by : (b : Bool) → (y.place == x.place) ≡ b → not b ≡ true
     by true is = absurd (apart x y h (sym (eqb-true y.place x.place is)))
     by false is = refl
 
-put_ascends : (aims : List Aim) (x : Standing) (ys : List Standing) → list_all (is_apart x) ys ≡ true → ascend aims ys ≡ true → ascend aims (put aims x ys) ≡ true
+put_ascends : (aims : List Aim) (x : Entrant) (ys : List Entrant) → list_all (is_apart x) ys ≡ true → ascend aims ys ≡ true → ascend aims (put aims x ys) ≡ true
 put_ascends aims x [] far h = refl
 put_ascends aims x (y ∷ ys) far h = by (precedes aims x y) refl
     (put_ascends aims x ys (and_right (is_apart x y) (list_all (is_apart x) ys) far) (and_right (list_all (precedes aims y) ys) (ascend aims ys) h))
@@ -177,12 +177,12 @@ put_ascends aims x (y ∷ ys) far h = by (precedes aims x y) refl
     by false is rest = both (list_all (precedes aims y) (put aims x ys)) (ascend aims (put aims x ys))
         (all_put (precedes aims y) aims x ys (one_precedes aims x y (apart x y (and_left (is_apart x y) (list_all (is_apart x) ys) far)) is) below) rest
 
-put_permutes : (aims : List Aim) (x : Standing) (ys : List Standing) → IsPermutation (x ∷ ys) (put aims x ys)
+put_permutes : (aims : List Aim) (x : Entrant) (ys : List Entrant) → IsPermutation (x ∷ ys) (put aims x ys)
 put_permutes aims x ys = subst (IsPermutation (x ∷ ys)) (inserted aims x ys) (IsPermutation-insert ys (position_or_len (precedes aims x) ys) x)
 
 -- ---- all are put in
 
-all_ascend : (aims : List Aim) (done xs : List Standing) → list_all (λ x. list_all (is_apart x) done) xs ≡ true → have_own_places xs ≡ true
+all_ascend : (aims : List Aim) (done xs : List Entrant) → list_all (λ x. list_all (is_apart x) done) xs ≡ true → have_own_places xs ≡ true
     → ascend aims done ≡ true → ascend aims (put_all aims done xs) ≡ true
 all_ascend aims done [] far own h = h
 all_ascend aims done (x ∷ xs) far own h = all_ascend aims (put aims x done) xs
@@ -193,57 +193,57 @@ all_ascend aims done (x ∷ xs) far own h = all_ascend aims (put aims x done) xs
     (and_right (list_all (is_apart x) xs) (have_own_places xs) own)
     (put_ascends aims x done (and_left (list_all (is_apart x) done) (list_all (λ z. list_all (is_apart z) done) xs) far) h)
 
-all_permute : (aims : List Aim) (done xs : List Standing) → IsPermutation (done ++ xs) (put_all aims done xs)
+all_permute : (aims : List Aim) (done xs : List Entrant) → IsPermutation (done ++ xs) (put_all aims done xs)
 all_permute aims done [] = subst (λ ys. IsPermutation ys done) (sym (append-nil done)) (IsPermutation-refl done)
 all_permute aims done (x ∷ xs) = IsPermutation-trans _ _ _ (IsPermutation-middle done x xs)
     (IsPermutation-trans _ _ _ (IsPermutation-append_left xs (x ∷ done) (put aims x done) (put_permutes aims x done)) (all_permute aims (put aims x done) xs))
 
-none_before : (xs : List Standing) → list_all (λ x. list_all (is_apart x) []) xs ≡ true
+none_before : (xs : List Entrant) → list_all (λ x. list_all (is_apart x) []) xs ≡ true
 none_before [] = refl
 none_before (x ∷ xs) = none_before xs
 
 -- ---- no other list
 
 -- it stands in the list
-abbrev Among : Standing → List Standing → Type 0
+abbrev Among : Entrant → List Entrant → Type 0
 Among w [] = ⊥
 Among w (x ∷ xs) = (w ≡ x) ⊎ Among w xs
 
 -- all of these stand in the list
-abbrev Within : List Standing → List Standing → Type 0
+abbrev Within : List Entrant → List Entrant → Type 0
 Within ys zs = AllByRecursion (λ w. Among w zs) ys
 
-further : (x : Standing) (xs ys : List Standing) → Within ys xs → Within ys (x ∷ xs)
+further : (x : Entrant) (xs ys : List Entrant) → Within ys xs → Within ys (x ∷ xs)
 further x xs [] h = tt
 further x xs (y ∷ ys) h = (inr h.0, further x xs ys h.1)
 
-within_itself : (xs : List Standing) → Within xs xs
+within_itself : (xs : List Entrant) → Within xs xs
 within_itself [] = tt
 within_itself (x ∷ xs) = (inl refl, further x xs xs (within_itself xs))
 
--- lists of the same standings stand in each other
-permuted_within : (xs ys : List Standing) → IsPermutation xs ys → Within ys xs
+-- lists of the same entrants stand in each other
+permuted_within : (xs ys : List Entrant) → IsPermutation xs ys → Within ys xs
 permuted_within xs ys h = recursion_from_All (λ w. Among w xs) ys (All-permutation (λ w. Among w xs) xs ys h (All-from_recursion (λ w. Among w xs) xs (within_itself xs)))
 
 -- what holds of all holds of each
-among_all : (p : Standing → Bool) (w : Standing) (xs : List Standing) → list_all p xs ≡ true → Among w xs → p w ≡ true
+among_all : (p : Entrant → Bool) (w : Entrant) (xs : List Entrant) → list_all p xs ≡ true → Among w xs → p w ≡ true
 among_all p w [] h in_list = absurd in_list
 among_all p w (x ∷ xs) h (inl same) = ap p same ∙ and_left (p x) (list_all p xs) h
 among_all p w (x ∷ xs) h (inr in_list) = among_all p w xs (and_right (p x) (list_all p xs) h) in_list
 
 -- none precedes itself
-not_itself : (aims : List Aim) (x : Standing) → precedes aims x x ≡ true → ⊥
+not_itself : (aims : List Aim) (x : Entrant) → precedes aims x x ≡ true → ⊥
 not_itself aims x h = clash (precedes aims x x) h (precedes_is aims x x ∙ ap is_lt (tied_itself (rank_total aims) x))
 
 -- where each is among others, they begin with the same
-first_same : (aims : List Aim) (y z : Standing) (ys zs : List Standing) → (y ≡ z) ⊎ Among y zs → (z ≡ y) ⊎ Among z ys
+first_same : (aims : List Aim) (y z : Entrant) (ys zs : List Entrant) → (y ≡ z) ⊎ Among y zs → (z ≡ y) ⊎ Among z ys
     → list_all (precedes aims y) ys ≡ true → list_all (precedes aims z) zs ≡ true → y ≡ z
 first_same aims y z ys zs (inl same) b h k = same
 first_same aims y z ys zs (inr a) (inl same) h k = sym same
 first_same aims y z ys zs (inr a) (inr b) h k = absurd (not_itself aims y (precedes_on aims y z y (among_all (precedes aims y) z ys h b) (among_all (precedes aims z) y zs k a)))
 
 -- those behind the first are among the others behind the first
-rest_within : (aims : List Aim) (y z : Standing) (ys zs : List Standing) → y ≡ z → list_all (precedes aims y) ys ≡ true → Within ys (z ∷ zs) → Within ys zs
+rest_within : (aims : List Aim) (y z : Entrant) (ys zs : List Entrant) → y ≡ z → list_all (precedes aims y) ys ≡ true → Within ys (z ∷ zs) → Within ys zs
 rest_within aims y z [] zs same h a = tt
 rest_within aims y z (w ∷ ys) zs same h a = (behind a.0, rest_within aims y z ys zs same (and_right (precedes aims y w) (list_all (precedes aims y) ys) h) a.1)
   where
@@ -251,7 +251,7 @@ rest_within aims y z (w ∷ ys) zs same h a = (behind a.0, rest_within aims y z 
     behind (inl first) = absurd (not_itself aims y (ap (precedes aims y) (same ∙ sym first) ∙ and_left (precedes aims y w) (list_all (precedes aims y) ys) h))
     behind (inr later) = later
 
-ascend_same : (aims : List Aim) (ys zs : List Standing) → Within ys zs → Within zs ys → ascend aims ys ≡ true → ascend aims zs ≡ true → ys ≡ zs
+ascend_same : (aims : List Aim) (ys zs : List Entrant) → Within ys zs → Within zs ys → ascend aims ys ≡ true → ascend aims zs ≡ true → ys ≡ zs
 ascend_same aims [] [] a b h k = refl
 ascend_same aims [] (z ∷ zs) a b h k = absurd b.0
 ascend_same aims (y ∷ ys) [] a b h k = absurd a.0
@@ -265,15 +265,15 @@ ascend_same aims (y ∷ ys) (z ∷ zs) a b h k =
 
 -- ---- the laws
 
-pub ranking_permutes : (aims : List Aim) (xs : List Standing) → IsPermutation xs (ranking aims xs)
+pub ranking_permutes : (aims : List Aim) (xs : List Entrant) → IsPermutation xs (ranking aims xs)
 unfolding ranking
 ranking_permutes aims xs = all_permute aims [] xs
 
-pub ranking_ascends : (aims : List Aim) (xs : List Standing) → IsTrue (have_own_places xs) → IsTrue (ascend aims (ranking aims xs))
+pub ranking_ascends : (aims : List Aim) (xs : List Entrant) → IsTrue (have_own_places xs) → IsTrue (ascend aims (ranking aims xs))
 unfolding ranking
 ranking_ascends aims xs own = all_ascend aims [] xs (none_before xs) own refl
 
-pub ranking_alone : (aims : List Aim) (xs ys : List Standing) → IsTrue (have_own_places xs) → IsPermutation xs ys → IsTrue (ascend aims ys) → ys ≡ ranking aims xs
+pub ranking_alone : (aims : List Aim) (xs ys : List Entrant) → IsTrue (have_own_places xs) → IsPermutation xs ys → IsTrue (ascend aims ys) → ys ≡ ranking aims xs
 ranking_alone aims xs ys own same h =
     let all = ranking_permutes aims xs in
     ascend_same aims ys (ranking aims xs) (permuted_within _ _ (IsPermutation-trans _ _ _ (IsPermutation-sym _ _ all) same))
@@ -281,16 +281,16 @@ ranking_alone aims xs ys own same h =
 
 -- ---- the places of a problem's solutions
 
-later_places : (problem : PlainProblem) (m n : ℕ) (solutions : List (List ℕ)) → m < n → list_all (λ y. not (m == y.place)) (map (standing_of problem) (enumerate_from n solutions)) ≡ true
+later_places : (problem : PlainProblem) (m n : ℕ) (solutions : List (List ℕ)) → m < n → list_all (λ y. not (m == y.place)) (map (entrant_of problem) (enumerate_from n solutions)) ≡ true
 later_places problem m n [] below = refl
-later_places problem m n (bytes ∷ more) below = both (not (m == n)) (list_all (λ y. not (m == y.place)) (map (standing_of problem) (enumerate_from (n + 1) more))) (by (m == n) refl)
+later_places problem m n (bytes ∷ more) below = both (not (m == n)) (list_all (λ y. not (m == y.place)) (map (entrant_of problem) (enumerate_from (n + 1) more))) (by (m == n) refl)
     (later_places problem m (n + 1) more (omega arith))
   where
     by : (b : Bool) → (m == n) ≡ b → not b ≡ true
     by true is = let same = eqb-true m n is in absurd (omega (arith, same))
     by false is = refl
 
-pub standings_own : (problem : PlainProblem) (n : ℕ) (solutions : List (List ℕ)) → have_own_places (map (standing_of problem) (enumerate_from n solutions)) ≡ true
-standings_own problem n [] = refl
-standings_own problem n (bytes ∷ more) = both (list_all (λ y. not (n == y.place)) (map (standing_of problem) (enumerate_from (n + 1) more))) (have_own_places (map (standing_of problem) (enumerate_from (n + 1) more)))
-    (later_places problem n (n + 1) more (omega arith)) (standings_own problem (n + 1) more)
+pub entrants_own : (problem : PlainProblem) (n : ℕ) (solutions : List (List ℕ)) → have_own_places (map (entrant_of problem) (enumerate_from n solutions)) ≡ true
+entrants_own problem n [] = refl
+entrants_own problem n (bytes ∷ more) = both (list_all (λ y. not (n == y.place)) (map (entrant_of problem) (enumerate_from (n + 1) more))) (have_own_places (map (entrant_of problem) (enumerate_from (n + 1) more)))
+    (later_places problem n (n + 1) more (omega arith)) (entrants_own problem (n + 1) more)

@@ -1,12 +1,12 @@
--- Putting one more standing in its place.
+-- Putting one more entrant in its place.
 use Rattle.std.proofs.Common.{◌≡◌, ℕ, zero, suc, ◌+◌, ◌<◌, ◌≤◌, Bool, true, false, not, cond, if◌then◌else◌, List, [], ◌∷◌, length, drop, get_or, refl, ap, ◌∙◌, arith}
 use Rattle.std.specs.List.{position_or_len, insert}
 use Rattle.cudf_referee.specs.declared.aims.Aim.{Aim}
-use Rattle.cudf_check.specs.declared.ranking.Standing.{Standing}
+use Rattle.cudf_check.specs.declared.ranking.Entrant.{Entrant}
 use Rattle.cudf_check.specs.Ranking.{precedes, put, put_all}
 
 -- to insert before the first that it precedes is to put in place
-pub inserted : (aims : List Aim) (x : Standing) (ys : List Standing) → insert ys (position_or_len (precedes aims x) ys) x ≡ put aims x ys
+pub inserted : (aims : List Aim) (x : Entrant) (ys : List Entrant) → insert ys (position_or_len (precedes aims x) ys) x ≡ put aims x ys
 inserted aims x [] = refl
 inserted aims x (y ∷ ys) = here (precedes aims x y) (inserted aims x ys)
   where
@@ -20,14 +20,14 @@ inserted aims x (y ∷ ys) = here (precedes aims x y) (inserted aims x ys)
     here true below = refl
     here false below = ap (λ m. insert (y ∷ ys) m x) next ∙ ap (λ zs. y ∷ zs) below
 
--- one more of the standings was put in place
-put_next : (aims : List Aim) (ranked xs : List Standing) (i : ℕ) (d : Standing) → i < length xs
+-- one more of the entrants was put in place
+put_next : (aims : List Aim) (ranked xs : List Entrant) (i : ℕ) (d : Entrant) → i < length xs
     → put_all aims (put aims (get_or xs i d) ranked) (drop (suc i) xs) ≡ put_all aims ranked (drop i xs)
 put_next aims ranked [] i d below = absurd (omega arith)
 put_next aims ranked (x ∷ xs) zero d below = refl
 put_next aims ranked (x ∷ xs) (suc i) d below = put_next aims ranked xs i d (omega arith)
 
-put_more : (aims : List Aim) (ranked xs : List Standing) (i : ℕ) (d : Standing) → i < length xs
+put_more : (aims : List Aim) (ranked xs : List Entrant) (i : ℕ) (d : Entrant) → i < length xs
     → put_all aims (put aims (get_or xs i d) ranked) (drop (i + 1) xs) ≡ put_all aims ranked (drop i xs)
 put_more aims ranked xs i d below = (λ k. put_all aims (put aims (get_or xs i d) ranked) (drop (next k) xs)) ∙ put_next aims ranked xs i d below
   where
@@ -63,7 +63,7 @@ found_nowhere p (x ∷ xs) zero end = absurd (omega arith)
 found_nowhere p (x ∷ xs) (suc i) end = found_nowhere p xs i (omega arith)
 
 -- and where it stands among what is left
-pub ranked_more : (aims : List Aim) (ranked shown new xs : List Standing) (i place : ℕ) (d : Standing) → i < length xs → shown ≡ ranked
+pub ranked_more : (aims : List Aim) (ranked shown new xs : List Entrant) (i place : ℕ) (d : Entrant) → i < length xs → shown ≡ ranked
     → place ≡ position_or_len (precedes aims (get_or xs i d)) shown → new ≡ insert ranked place (get_or xs i d)
     → put_all aims ranked (drop i xs) ≡ put_all aims [] xs → put_all aims new (drop (i + 1) xs) ≡ put_all aims [] xs
 ranked_more aims ranked shown new xs i place d below same at is so_far =

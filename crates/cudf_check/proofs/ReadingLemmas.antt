@@ -15,12 +15,12 @@ use Rattle.cudf_document.specs.SolutionFaults.{solution_faults}
 use Rattle.cudf_document.specs.Promises.Faults.{IsFirstFault}
 use Rattle.cudf_document.specs.Universe.{PlainProblem, plain_problem}
 use Rattle.cudf_referee.specs.Proposals.{Proposal}
-use Rattle.cudf_check.specs.declared.lines.judged.Findings.{Findings}
+use Rattle.cudf_check.specs.declared.job.Job.{Job}
 use Rattle.cudf_check.specs.declared.outcome.Outcome.TheVariants.{Fail}
 use Rattle.cudf_check.specs.Report.{alone, faulty_or, problem_fault, solution_fault, proposal_of, judged_report, pair_report}
 use Rattle.cudf_check.specs.Working.Chosen.{ReportsAlike}
-use Rattle.cudf_check.specs.Working.Findings.{found_text}
-use Rattle.cudf_check.specs.Working.Refusals.{IsFaultOf}
+use Rattle.cudf_check.specs.Working.Found.{found_text}
+use Rattle.cudf_check.specs.Working.Unjudged.{IsFaultOf}
 
 -- ---- what a result says
 
@@ -76,11 +76,11 @@ module _ (mode : Mode) (bytes : List ℕ) where
 -- ---- the report
 
 -- neither document has a fault, and the solution doesn't say FAIL
-pub pair_judged : (mode : Mode) (found : Findings) (problem solution : List ℕ) (thin : PlainProblem) (s : Proposal)
+pub pair_judged : (mode : Mode) (job : Job) (problem solution : List ℕ) (thin : PlainProblem) (s : Proposal)
     → problem_fault mode problem ≡ None → solution_fault mode solution ≡ None → is_fail solution ≡ false → is_utf8 solution ≡ true
     → ReportsAlike solution thin (plain_problem (plain_text problem)) → s ≡ proposal_of thin (plain_text solution)
-    → judged_report (found_text found) s ≡ pair_report mode (found_text found) problem solution
-pair_judged mode found problem solution thin s none sound goes_on utf8 alike is =
-    ap (judged_report (found_text found)) is ∙ alike utf8 found
+    → judged_report (found_text job) s ≡ pair_report mode (found_text job) problem solution
+pair_judged mode job problem solution thin s none sound goes_on utf8 alike is =
+    ap (judged_report (found_text job)) is ∙ alike utf8 job
     ∙ (λ k. faulty_or (codes "problem") (sym none k) (faulty_or (codes "solution") (sym sound k)
-    (if sym goes_on k then alone (codes "solution FAIL") Fail else judged_report (found_text found) (proposal_of (plain_problem (plain_text problem)) (plain_text solution)))))
+    (if sym goes_on k then alone (codes "solution FAIL") Fail else judged_report (found_text job) (proposal_of (plain_problem (plain_text problem)) (plain_text solution)))))

@@ -1,15 +1,16 @@
 -- A run: how it ends where its reading does, and where that went well.
-use Rattle.std.proofs.Common.{◌≡◌, ◌↔◌, ◌⊎◌, inl, inr, ℕ, List, [], ◌∷◌, Option, Some, Vec, Global, Result, Ok, Err, IsErr, IsErrAnd, IsErrOf, refl, sym, ap, ◌∙◌}
+use Rattle.std.proofs.Common.{◌≡◌, ◌↔◌, ◌⊎◌, inl, inr, ℕ, zero, suc, List, [], ◌∷◌, Option, Vec, Global, Result, Ok, Err, IsErr, IsErrAnd, IsErrOf, refl, sym, ap, ◌∙◌, arith}
+use Rattle.std.specs.List.{All, AllZip}
 use Rattle.std.proofs.KnownBytes.{Keeps-refl}
 use Rattle.cudf_referee.specs.declared.aims.Aim.{Aim}
 use Rattle.cudf_referee.specs.declared.key.Key.{Key}
 use Rattle.cudf_check.specs.declared.job.Job.{Job}
-use Rattle.cudf_check.specs.declared.job.Job.TheVariants.{Check, Score}
+use Rattle.cudf_check.specs.declared.job.Job.TheVariants.{Lint, Check, Score}
 use Rattle.cudf_check.specs.declared.outcome.Outcome.{Outcome}
 use Rattle.cudf_check.specs.declared.outcome.RunError.{RunError}
 use Rattle.cudf_check.specs.declared.outcome.RunError.TheVariants.{Read, TooLong, Write, Memory}
 use Rattle.cudf_check.specs.Device.{SourceState, SinkState}
-use Rattle.cudf_check.specs.Readers.{Change, ReadsAll, IsUnfinished, IsTooLong, IsWithinTurns, OfOne, OfEach}
+use Rattle.cudf_check.specs.Readers.{Change, ReadsAll, IsUnfinished, IsTooLong, IsWithinTurns, OfOne}
 use Rattle.cudf_check.specs.Report.{Report}
 use Rattle.cudf_check.specs.Runs.{OfReport, Runs, read_for}
 use Rattle.cudf_check.specs.Working.Answering.{Answers}
@@ -45,9 +46,36 @@ first_stopped answer first others out reading e (Err y) none_long none_unfinishe
     long_back error (inl h) = ap Err (error ∙ same_error (sym is ∙ too_long.1 h))
     long_back error (inr h) = absurd (none_long h)
 
+-- the reading of a second input ended in an error, and so did the run
+pub second_stopped : {T : Type 0} (answer : List ℕ → List (List ℕ) → Report) (first : Change SourceState) (text : List ℕ) (second : Change SourceState) (out : SinkState)
+    (reading : Result T RunError) (e : RunError) (result : Result Outcome RunError) → WasRead first text → reading ≡ Err e
+    → (IsErrOf reading TooLong ↔ IsTooLong second) → (IsErrOf reading Read ↔ IsUnfinished second) → (reading ≡ Err Write → ⊥)
+    → IsErr result × IsErrAnd result (λ y. y ≡ e) → Runs answer first (second ∷ []) (still out) result
+second_stopped answer first text second out reading e (Ok outcome) was is too_long unfinished no_write same = absurd same.1
+second_stopped answer first text second out reading e (Err y) was is too_long unfinished no_write same =
+    let error : y ≡ e = same.1 in
+    record {
+      done = tt;
+      cut_short = λ h. absurd (no_write (is ∙ ap Err (sym error ∙ same_error h)));
+      untouched = λ other. Keeps-refl out.contents;
+      read = (λ h. inr (inl (unfinished.0 (is ∙ ap Err (sym error ∙ same_error h)))), read_back error);
+      too_long = (λ h. inr (inl (too_long.0 (is ∙ ap Err (sym error ∙ same_error h)))), long_back error);
+      write = (λ h. absurd (no_write (is ∙ ap Err (sym error ∙ same_error h))), λ below. absurd (none_below out.failures out.failures refl below));
+    }
+  where
+    read_back : y ≡ e → IsUnfinished first ⊎ OfOne IsUnfinished (second ∷ []) → IsErrOf {T = Outcome} (Err y) Read
+    read_back error (inl h) = absurd (was.finished h)
+    read_back error (inr (inl h)) = ap Err (error ∙ same_error (sym is ∙ unfinished.1 h))
+    read_back error (inr (inr h)) = absurd h
+
+    long_back : y ≡ e → IsTooLong first ⊎ OfOne IsTooLong (second ∷ []) → IsErrOf {T = Outcome} (Err y) TooLong
+    long_back error (inl h) = absurd (was.short h)
+    long_back error (inr (inl h)) = ap Err (error ∙ same_error (sym is ∙ too_long.1 h))
+    long_back error (inr (inr h)) = absurd h
+
 -- readers that were read to their ends, none of them with an error
 pub record WereRead (others : List (Change SourceState)) (texts : List (List ℕ)) : Type 0 where
-  pub all : OfEach ReadsAll others texts
+  pub all : AllZip ReadsAll others texts
   pub finished : OfOne IsUnfinished others → ⊥
   pub short : OfOne IsTooLong others → ⊥
 
@@ -119,8 +147,19 @@ one_behind reader bytes was = record { all = (was.all, tt); finished = finished;
     short (inr h) = absurd h
 
 -- a job that judges a solution reads it
-pub reads_it : (job : Job) (solution : Change SourceState)
+pub reads_it : (job : Job) (solutions : List (Change SourceState))
     → ((after : Option Key) × (limit : Option ℕ) × (job ≡ Check after limit)) ⊎ ((aims : Option (Vec Aim Global)) × (job ≡ Score aims))
-    → read_for job (Some solution) ≡ solution ∷ []
-reads_it job solution (inl check) = ap (λ j. read_for j (Some solution)) check.2
-reads_it job solution (inr score) = ap (λ j. read_for j (Some solution)) score.1
+    → read_for job solutions ≡ solutions
+reads_it job solutions (inl check) = ap (λ j. read_for j solutions) check.2
+reads_it job solutions (inr score) = ap (λ j. read_for j solutions) score.1
+
+-- what holds of none of the readers holds of none that the job reads
+pub none_for : (P : Change SourceState → Type 0) (job : Job) (solutions : List (Change SourceState)) → (OfOne P solutions → ⊥) → OfOne P (read_for job solutions) → ⊥
+none_for P Lint solutions none h = absurd h
+none_for P (Check after limit) solutions none h = none h
+none_for P (Score aims) solutions none h = none h
+
+-- this holds of one, and so of all
+pub of_one : {A : Type 0} (P : A → Type 0) (x : A) → P x → All P (x ∷ [])
+of_one P x h zero d below = h
+of_one P x h (suc k) d below = absurd (omega arith)

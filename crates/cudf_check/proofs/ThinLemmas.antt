@@ -1,6 +1,6 @@
 -- A problem without what packages need that the solution doesn't install has the same report.
-use Rattle.std.proofs.Common.{◌≡◌, ℕ, ◌-◌, ◌==◌, Bool, true, false, List, [], ◌∷◌, ◌++◌, map, filter, filter_map, slice_get, Option, Some, None, option_map, option_and_then, refl, sym, ap, ◌∙◌, codes, if◌then◌else◌}
-use Rattle.std.specs.List.{flat_map, enumerate_from}
+use Rattle.std.proofs.Common.{◌≡◌, ℕ, ◌-◌, ◌==◌, Bool, true, false, List, [], ◌∷◌, ◌++◌, map, filter, filter_map, slice_get, Option, Some, None, option_map, option_and_then, refl, sym, ap, ◌∙◌, codes, decimal, if◌then◌else◌}
+use Rattle.std.specs.List.{flat_map, enumerate_from, last_or}
 use Rattle.std.specs.Option.{option_map_or}
 use Rattle.std.specs.Ordering.{is_lt}
 use Rattle.std.proofs.lemmas.Option.{slice_get-map}
@@ -17,12 +17,11 @@ use Rattle.cudf_referee.specs.Promises.Laws.{AreJudgedAlike, ThinIsEnough}
 use Rattle.cudf_referee.specs.Proposals.{Proposal, proposal}
 use Rattle.cudf_referee.specs.Violations.{listing, met_by}
 use Rattle.cudf_referee.specs.declared.key.Aspect.{Aspect}
-use Rattle.cudf_check.specs.declared.outcome.Outcome.TheVariants.{Yes, No}
-use Rattle.cudf_check.specs.Report.{line, what_text, place_text, met_line, instance_line, listed, limited, last_key, more_text, criteria_text, aims_text, verdict_text, judged_report, proposal_of}
+use Rattle.cudf_check.specs.Report.{line, subject_text, what_text, instance_line, listed, limited, more_text, aim_line, criteria_text, verdict, judged_report, proposal_of}
 use Rattle.cudf_check.specs.Working.Chosen.{AreChosen, ReportsAlike}
-use Rattle.cudf_check.specs.Working.Findings.{found_text}
-use Rattle.cudf_check.specs.declared.lines.judged.Findings.{Findings}
-use Rattle.cudf_check.specs.declared.lines.judged.Findings.TheVariants.{Page, Score, Aims}
+use Rattle.cudf_check.specs.Working.Found.{found_text}
+use Rattle.cudf_check.specs.declared.job.Job.{Job}
+use Rattle.cudf_check.specs.declared.job.Job.TheVariants.{Lint, Check, Score}
 
 -- ---- what is found of proposals that are judged alike
 
@@ -58,30 +57,34 @@ met-same k problem (Some place) = at-thin k problem place
 line-same : (k : Id → Bool) (s t : Proposal) → s.problem ≡ thin_problem k t.problem → s.proposed ≡ t.proposed
     → (i : PlainInstance) → instance_line s i ≡ instance_line t i
 line-same k s t thin proposed i =
-    (λ j. met_line i (option_and_then (package_at (thin j)) (met_by (proposed j) i)))
-    ∙ ap (met_line i) (met-same k t.problem (met_by t.proposed i))
-    ∙ ap (λ text. line (key_text i.key ++ place_text i.subject i.line ++ text)) (what-same k i.what i.key.aspect (option_and_then (package_at t.problem) (met_by t.proposed i)))
+    (λ j. with (what_text i.what i.key.aspect (option_and_then (package_at (thin j)) (met_by (proposed j) i))))
+    ∙ ap (λ met. with (what_text i.what i.key.aspect met)) (met-same k t.problem (met_by t.proposed i))
+    ∙ ap with (what-same k i.what i.key.aspect (option_and_then (package_at t.problem) (met_by t.proposed i)))
+  where
+    with : List ℕ → List ℕ
+    with what = line (key_text i.key ++ subject_text i.subject ++ codes " line " ++ decimal i.line ++ codes ": " ++ what)
 
-more-same : (s t : Proposal) → listing s ≡ listing t → (last : Option PlainKey) → more_text s last ≡ more_text t last
+more-same : (s t : Proposal) → listing s ≡ listing t → (last : Option PlainInstance) → more_text s last ≡ more_text t last
 more-same s t same None = refl
-more-same s t same (Some key) = ap (λ is. if is_empty (filter (λ i. is_lt (key_cmp key i.key)) is) then [] else line (codes "more after " ++ key_text key)) same
+more-same s t same (Some last) = ap (λ is. if is_empty (filter (λ i. is_lt (key_cmp last.key i.key)) is) then [] else line (codes "more after " ++ key_text last.key)) same
 
 listed-same : (s t : Proposal) → listing s ≡ listing t → (after : Option PlainKey) → listed after s ≡ listed after t
 listed-same s t same None = same
 listed-same s t same (Some key) = ap (filter (λ i. is_lt (key_cmp key i.key))) same
 
-found-same : (k : Id → Bool) (s t : Proposal) → s.problem ≡ thin_problem k t.problem → AreJudgedAlike s t → (found : Findings) → found_text found s ≡ found_text found t
-found-same k s t thin alike Score = ap criteria_text alike.criteria_are
-found-same k s t thin alike (Aims aims) = ap (aims_text aims.now) alike.criteria_are
-found-same k s t thin alike (Page after limit) = λ j.
+found-same : (k : Id → Bool) (s t : Proposal) → s.problem ≡ thin_problem k t.problem → AreJudgedAlike s t → (job : Job) → found_text job s ≡ found_text job t
+found-same k s t thin alike Lint = refl
+found-same k s t thin alike (Score None) = ap criteria_text alike.criteria_are
+found-same k s t thin alike (Score (Some aims)) = ap (λ c. flat_map (aim_line c) aims.items) alike.criteria_are
+found-same k s t thin alike (Check after limit) = λ j.
     let page = limited limit (listed-same s t alike.listing_is (option_map key_view after) j) in
-    flat_map (λ i. line-same k s t thin alike.proposed_are i j) page ++ more-same s t alike.listing_is (last_key page) j
+    flat_map (λ i. line-same k s t thin alike.proposed_are i j) page ++ more-same s t alike.listing_is (last_or None page) j
 
-judged-same : (k : Id → Bool) (s t : Proposal) → s.problem ≡ thin_problem k t.problem → AreJudgedAlike s t → (found : Findings)
-    → judged_report (found_text found) s ≡ judged_report (found_text found) t
-judged-same k s t thin alike found = λ j. record {
-  text = found-same k s t thin alike found j ++ line (verdict_text (alike.verdict_is j));
-  outcome = if alike.verdict_is j then Yes else No;
+judged-same : (k : Id → Bool) (s t : Proposal) → s.problem ≡ thin_problem k t.problem → AreJudgedAlike s t → (job : Job)
+    → judged_report (found_text job) s ≡ judged_report (found_text job) t
+judged-same k s t thin alike job = λ j. record {
+  text = found-same k s t thin alike job j ++ (verdict (alike.verdict_is j)).text;
+  outcome = (verdict (alike.verdict_is j)).outcome;
 }
 
 -- ---- what a thinned problem says of statuses
@@ -119,14 +122,14 @@ proposal-same k problem text = λ i. proposal (thin_problem k problem)
 
 judged-thin : ThinIsEnough → (is_chosen : Id → Bool) (thin whole : PlainProblem) → thin ≡ thin_problem is_chosen whole
     → (text : PlainText) → ((id : Id) → is_chosen id ≡ is_among (installed_ids text.stanzas) id)
-    → (found : Findings) → judged_report (found_text found) (proposal_of thin text) ≡ judged_report (found_text found) (proposal_of whole text)
-judged-thin law is_chosen thin whole is text same found =
-    ap (λ problem. judged_report (found_text found) (proposal_of problem text)) is
-    ∙ ap (judged_report (found_text found)) (proposal-same is_chosen whole text)
+    → (job : Job) → judged_report (found_text job) (proposal_of thin text) ≡ judged_report (found_text job) (proposal_of whole text)
+judged-thin law is_chosen thin whole is text same job =
+    ap (λ problem. judged_report (found_text job) (proposal_of problem text)) is
+    ∙ ap (judged_report (found_text job)) (proposal-same is_chosen whole text)
     ∙ judged-same is_chosen
     (proposal (thin_problem is_chosen whole) (is_initial whole) (is_proposed whole text.stanzas) (unknown_stanzas whole text.stanzas))
     (proposal_of whole text) refl
-    (law whole is_chosen (is_initial whole) (is_proposed whole text.stanzas) (unknown_stanzas whole text.stanzas) premise) found
+    (law whole is_chosen (is_initial whole) (is_proposed whole text.stanzas) (unknown_stanzas whole text.stanzas) premise) job
   where
     premise : (place : ℕ) (p : PlainPackage) → package_at whole place ≡ Some p → is_proposed whole text.stanzas place ≡ true → is_chosen (package_id p) ≡ true
     premise place p there proposed =
@@ -135,4 +138,4 @@ judged-thin law is_chosen thin whole is text same found =
 -- a problem that is thinned for what the bytes install has the report of the whole one
 pub report-thin : ThinIsEnough → (chosen : List Id) (thin whole : PlainProblem) → thin ≡ thin_problem (is_among chosen) whole
     → (bytes : List ℕ) → AreChosen chosen bytes → ReportsAlike bytes thin whole
-report-thin law chosen thin whole is bytes same = λ utf8 found. judged-thin law (is_among chosen) thin whole is (plain_text bytes) (same utf8) found
+report-thin law chosen thin whole is bytes same = λ utf8 job. judged-thin law (is_among chosen) thin whole is (plain_text bytes) (same utf8) job

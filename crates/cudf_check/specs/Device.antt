@@ -1,7 +1,7 @@
 -- What contracts see of readers and writers, and how one answer changes it.
 use Rattle.std.specs.Prelude.{ℕ, zero, suc, List, Option, Result, Ok, Err}
 use Rattle.cudf_check.specs.declared.device.Trouble.{Trouble}
-use Rattle.cudf_check.specs.declared.device.Trouble.TheVariants.{Interrupted, Failed}
+use Rattle.cudf_check.specs.declared.device.Trouble.TheVariants.{Failed}
 
 -- a source: the bytes that it will still give, where it tells them; how many calls of `read` it has had, how many of
 -- them answered `Failed`, and how many answered 0 bytes; how many bytes it has given
@@ -19,23 +19,20 @@ pub record SinkState : Type 0 where
 
 -- one failure where the read failed; an interrupted read is none
 abbrev pub failed_reads : Result ℕ Trouble → ℕ
-failed_reads (Ok n) = 0
-failed_reads (Err Interrupted) = 0
 failed_reads (Err Failed) = 1
+failed_reads answer = 0
 
 -- one end where the read answered 0 bytes
 abbrev pub ended_reads : Result ℕ Trouble → ℕ
 ended_reads (Ok zero) = 1
-ended_reads (Ok (suc n)) = 0
-ended_reads (Err trouble) = 0
+ended_reads answer = 0
 
 -- the bytes that the read gave
 abbrev pub bytes_given : Result ℕ Trouble → ℕ
 bytes_given (Ok n) = n
 bytes_given (Err trouble) = 0
 
--- one failure where the write took no byte, for whatever reason
+-- one failure, unless the write took a byte
 abbrev pub failed_writes : Result ℕ Trouble → ℕ
-failed_writes (Ok zero) = 1
 failed_writes (Ok (suc n)) = 0
-failed_writes (Err trouble) = 1
+failed_writes answer = 1

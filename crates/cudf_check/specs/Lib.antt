@@ -1,10 +1,6 @@
 pub mod Device
 pub mod DeviceInside
-pub mod Limits
 pub mod ManyRuns
-pub mod Outcome
-pub mod Prefix
-pub mod RankLaws
 pub mod RankReport
 pub mod Ranking
 pub mod Readers

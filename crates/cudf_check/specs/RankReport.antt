@@ -1,5 +1,5 @@
 -- The report of a ranking: a function of the aims, the problem and its solutions to a text and an outcome. Own.
-use Rattle.std.specs.Prelude.{ℕ, Bool, ◌==◌, List, [], ◌∷◌, ◌++◌, map, codes, decimal, Option, option_map, if◌then◌else◌}
+use Rattle.std.specs.Prelude.{ℕ, Bool, ◌==◌, List, [], ◌∷◌, ◌++◌, map, codes, decimal, Option, option_map, IsTrue, if◌then◌else◌}
 use Rattle.std.specs.List.{flat_map, filter_map, list_any, enumerate_from}
 use Rattle.cudf_document.specs.declared.mode.Mode.{Mode}
 use Rattle.cudf_text.specs.declared.fault.Fault.{Fault}
@@ -12,13 +12,13 @@ use Rattle.cudf_referee.specs.Proposals.{Proposal}
 use Rattle.cudf_referee.specs.Solutions.{is_solution}
 use Rattle.cudf_referee.specs.declared.aims.Aim.{Aim}
 use Rattle.cudf_referee.specs.declared.criteria.Criteria.{Criteria}
-use Rattle.cudf_check.specs.Ranking.{class, ranking}
+use Rattle.cudf_check.specs.Ranking.{class, have_own_places, ranking}
 use Rattle.cudf_check.specs.Report.{Report, line, faulty, faulty_or, problem_fault, solution_fault, proposal_of}
 use Rattle.cudf_check.specs.declared.outcome.Outcome.{Outcome}
 use Rattle.cudf_check.specs.declared.outcome.Outcome.TheVariants.{Yes, No, Fail}
 use Rattle.cudf_check.specs.declared.ranking.Judgement.{Judgement}
 use Rattle.cudf_check.specs.declared.ranking.Judgement.TheVariants.{Solution, NoSolution, SaysFail}
-use Rattle.cudf_check.specs.declared.ranking.Standing.{Standing}
+use Rattle.cudf_check.specs.declared.ranking.Entrant.{Entrant}
 
 -- ---- one solution
 
@@ -41,12 +41,12 @@ abbrev pub placed_faults : Mode → List (List ℕ) → List (ℕ × Fault)
 placed_faults mode solutions = filter_map (placed_fault mode) (enumerate_from 1 solutions)
 
 -- the solution at a place, judged
-abbrev pub standing_of : PlainProblem → ℕ × List ℕ → Standing
-standing_of problem solution = record { place = solution.0; judgement = judgement problem solution.1 }
+abbrev pub entrant_of : PlainProblem → ℕ × List ℕ → Entrant
+entrant_of problem solution = record { place = solution.0; judgement = judgement problem solution.1 }
 
 -- the solutions in order, each judged
-abbrev pub standings : PlainProblem → List (List ℕ) → List Standing
-standings problem solutions = map (standing_of problem) (enumerate_from 1 solutions)
+abbrev pub entrants : PlainProblem → List (List ℕ) → List Entrant
+entrants problem solutions = map (entrant_of problem) (enumerate_from 1 solutions)
 
 -- ---- lines
 
@@ -61,32 +61,32 @@ judgement_text aims NoSolution = codes "no"
 judgement_text aims SaysFail = codes "FAIL"
 
 -- `2 solution 5 yes -changed 1 -touched 1`
-abbrev pub rank_line : List Aim → ℕ × Standing → List ℕ
+abbrev pub rank_line : List Aim → ℕ × Entrant → List ℕ
 rank_line aims ranked = line (decimal ranked.0 ++ codes " solution " ++ decimal ranked.1.place ++ codes " " ++ judgement_text aims ranked.1.judgement)
 
--- a line for each of the ranked standings, with its rank from 1
-abbrev pub ranking_text : List Aim → List Standing → List ℕ
+-- a line for each of the ranked entrants, with its rank from 1
+abbrev pub ranking_text : List Aim → List Entrant → List ℕ
 ranking_text aims ranked = flat_map (rank_line aims) (enumerate_from 1 ranked)
 
 -- ---- the outcome
 
 -- it was judged to be a solution
-abbrev pub solves : Standing → Bool
-solves s = class s.judgement == 0
+abbrev pub is_a_solution : Entrant → Bool
+is_a_solution s = class s.judgement == 0
 
 -- it was judged to be none
-abbrev pub refuses : Standing → Bool
-refuses s = class s.judgement == 1
+abbrev pub is_no_solution : Entrant → Bool
+is_no_solution s = class s.judgement == 1
 
 -- `Yes` where one is a solution, or else `No` where one is none, or else `Fail`
-abbrev pub best_outcome : List Standing → Outcome
-best_outcome standings = if list_any solves standings then Yes else (if list_any refuses standings then No else Fail)
+abbrev pub best_outcome : List Entrant → Outcome
+best_outcome entrants = if list_any is_a_solution entrants then Yes else (if list_any is_no_solution entrants then No else Fail)
 
 -- ---- the report
 
 -- the lines of the ranking, and the best outcome
-abbrev pub ranked_report : List Aim → List Standing → Report
-ranked_report aims standings = record { text = ranking_text aims (ranking aims standings); outcome = best_outcome standings }
+abbrev pub ranked_report : List Aim → List Entrant → Report
+ranked_report aims entrants = record { text = ranking_text aims (ranking aims entrants); outcome = best_outcome entrants }
 
 -- `solution 2 line 1: E12 no version`, of the first faulty solution; or else, where none is, the report
 abbrev pub first_faulty_or : List (ℕ × Fault) → Report → Report
@@ -97,4 +97,10 @@ first_faulty_or (first ∷ others) report = faulty (codes "solution " ++ decimal
 unfoldable pub rank_report : List Aim → Mode → List ℕ → List (List ℕ) → Report
 rank_report aims mode problem solutions =
     faulty_or (codes "problem") (problem_fault mode problem)
-    (first_faulty_or (placed_faults mode solutions) (ranked_report aims (standings (plain_problem (plain_text problem)) solutions)))
+    (first_faulty_or (placed_faults mode solutions) (ranked_report aims (entrants (plain_problem (plain_text problem)) solutions)))
+
+-- ---- what makes the laws over rankings hold of it
+
+-- among the solutions of a problem no place stands twice
+abbrev pub EntrantsHaveOwnPlaces : Type 0
+EntrantsHaveOwnPlaces = (problem : PlainProblem) (solutions : List (List ℕ)) → IsTrue (have_own_places (entrants problem solutions))

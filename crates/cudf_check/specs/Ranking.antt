@@ -8,7 +8,7 @@ use Rattle.cudf_referee.specs.Comparing.{compare}
 use Rattle.cudf_referee.specs.declared.aims.Aim.{Aim}
 use Rattle.cudf_check.specs.declared.ranking.Judgement.{Judgement}
 use Rattle.cudf_check.specs.declared.ranking.Judgement.TheVariants.{Solution, NoSolution, SaysFail}
-use Rattle.cudf_check.specs.declared.ranking.Standing.{Standing}
+use Rattle.cudf_check.specs.declared.ranking.Entrant.{Entrant}
 
 -- solutions come first, then those that are none, then those that say FAIL
 abbrev pub class : Judgement → ℕ
@@ -22,45 +22,45 @@ compare_counts aims (Solution c) (Solution d) = compare aims c d
 compare_counts aims left right = Equal
 
 -- a comes before b: by class, then by the aims, then by place
-abbrev pub precedes : List Aim → Standing → Standing → Bool
+abbrev pub precedes : List Aim → Entrant → Entrant → Bool
 precedes aims a b = is_lt (ordering_then (nat_cmp (class a.judgement) (class b.judgement))
     (ordering_then (compare_counts aims a.judgement b.judgement) (nat_cmp a.place b.place)))
 
--- the standings with x put before the first that it precedes, or at the end
-abbrev pub put : List Aim → Standing → List Standing → List Standing
+-- the entrants with x put before the first that it precedes, or at the end
+abbrev pub put : List Aim → Entrant → List Entrant → List Entrant
 put aims x [] = x ∷ []
 put aims x (y ∷ ys) = if precedes aims x y then x ∷ y ∷ ys else y ∷ put aims x ys
 
--- the ranked standings with the others put among them, one after another
-abbrev pub put_all : List Aim → List Standing → List Standing → List Standing
+-- the ranked entrants with the others put among them, one after another
+abbrev pub put_all : List Aim → List Entrant → List Entrant → List Entrant
 put_all aims ranked [] = ranked
 put_all aims ranked (x ∷ xs) = put_all aims (put aims x ranked) xs
 
--- the standings in the order of their rank, the best first
-unfoldable pub ranking : List Aim → List Standing → List Standing
-ranking aims standings = put_all aims [] standings
+-- the entrants in the order of their rank, the best first
+unfoldable pub ranking : List Aim → List Entrant → List Entrant
+ranking aims entrants = put_all aims [] entrants
 
 -- ---- what makes it the ranking
 
 -- no place stands twice
-abbrev pub have_own_places : List Standing → Bool
+abbrev pub have_own_places : List Entrant → Bool
 have_own_places [] = true
 have_own_places (x ∷ xs) = list_all (λ y. not (x.place == y.place)) xs && have_own_places xs
 
 -- each precedes all later ones
-abbrev pub ascend : List Aim → List Standing → Bool
+abbrev pub ascend : List Aim → List Entrant → Bool
 ascend aims [] = true
 ascend aims (x ∷ xs) = list_all (precedes aims x) xs && ascend aims xs
 
 -- the ranking is its list in another order: none is left out, and none stands twice
 abbrev pub RankingPermutes : Type 0
-RankingPermutes = (aims : List Aim) (xs : List Standing) → IsPermutation xs (ranking aims xs)
+RankingPermutes = (aims : List Aim) (xs : List Entrant) → IsPermutation xs (ranking aims xs)
 
 -- where no place stands twice, each precedes all that are ranked behind it
 abbrev pub RankingAscends : Type 0
-RankingAscends = (aims : List Aim) (xs : List Standing) → IsTrue (have_own_places xs) → IsTrue (ascend aims (ranking aims xs))
+RankingAscends = (aims : List Aim) (xs : List Entrant) → IsTrue (have_own_places xs) → IsTrue (ascend aims (ranking aims xs))
 
--- and no other list of the same standings ascends so
+-- and no other list of the same entrants ascends so
 abbrev pub RankingIsAlone : Type 0
-RankingIsAlone = (aims : List Aim) (xs ys : List Standing) → IsTrue (have_own_places xs) → IsPermutation xs ys → IsTrue (ascend aims ys)
+RankingIsAlone = (aims : List Aim) (xs ys : List Entrant) → IsTrue (have_own_places xs) → IsPermutation xs ys → IsTrue (ascend aims ys)
     → ys ≡ ranking aims xs

@@ -2,7 +2,6 @@
 use Rattle.std.specs.Prelude.{◌≡◌, ◌+◌, ◌<◌, ◌≤◌, ◌⊎◌, ℕ, List, [], ◌∷◌, length}
 use Rattle.std.specs.Io.KnownBytes.{Consumes, IsAtEnd}
 use Rattle.cudf_check.specs.Device.{SourceState}
-use Rattle.cudf_check.specs.Limits.{most_bytes, most_turns}
 
 -- ---- before and after
 
@@ -13,6 +12,21 @@ pub record Change (A : Type 0) : Type 0 where
 -- what became of the state of a device
 abbrev pub change : {D A : Type 0} → (D → A) → D → D → Change A
 change state old new = record { before = state old; after = state new }
+
+-- what became of the states of devices in a row
+abbrev pub changes : {D A : Type 0} → (D → A) → List D → List D → List (Change A)
+changes state (old ∷ olds) (new ∷ news) = change state old new ∷ changes state olds news
+changes state olds news = []
+
+-- ---- how much a run reads of one input
+
+-- the most bytes that an input may have: 256 MiB
+abbrev pub most_bytes : ℕ
+most_bytes = 268435456
+
+-- the most calls of `read` that an input may take
+abbrev pub most_turns : ℕ
+most_turns = 536870912
 
 -- ---- one reader
 
@@ -38,13 +52,9 @@ IsTooLong reader = reader.before.given + most_bytes < reader.after.given
 abbrev pub IsWithinTurns : Change SourceState → Type 0
 IsWithinTurns reader = reader.after.calls ≤ reader.before.calls + most_turns
 
--- the reader hasn't told its end, as where memory ran out before it
-abbrev pub IsUnended : Change SourceState → Type 0
-IsUnended reader = reader.after.ends ≡ reader.before.ends
-
--- the reading ended in an error, whichever it is
+-- the reading ended in an error, whichever it is: where memory ran out, the reader hasn't told its end
 abbrev pub IsStopped : Change SourceState → Type 0
-IsStopped reader = IsUnfinished reader ⊎ (IsTooLong reader ⊎ IsUnended reader)
+IsStopped reader = IsUnfinished reader ⊎ (IsTooLong reader ⊎ (reader.after.ends ≡ reader.before.ends))
 
 -- ---- readers in a row
 
@@ -52,10 +62,3 @@ IsStopped reader = IsUnfinished reader ⊎ (IsTooLong reader ⊎ IsUnended reade
 abbrev pub OfOne : {A : Type 0} → (A → Type 0) → List A → Type 0
 OfOne P [] = ⊥
 OfOne P (x ∷ xs) = P x ⊎ OfOne P xs
-
--- the lists are of one length, and this holds of each of the one with its counterpart in the other
-abbrev pub OfEach : {A B : Type 0} → (A → B → Type 0) → List A → List B → Type 0
-OfEach R [] [] = Unit {0}
-OfEach R [] (y ∷ ys) = ⊥
-OfEach R (x ∷ xs) [] = ⊥
-OfEach R (x ∷ xs) (y ∷ ys) = R x y × OfEach R xs ys

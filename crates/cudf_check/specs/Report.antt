@@ -1,6 +1,6 @@
 -- The report of a run: a function of the job and the inputs to a text and an outcome. Own.
 use Rattle.std.specs.Prelude.{ℕ, Bool, List, [], ◌∷◌, ◌++◌, take, codes, decimal, Option, Some, None, option_map, option_and_then, if◌then◌else◌}
-use Rattle.std.specs.List.{flat_map}
+use Rattle.std.specs.List.{flat_map, last_or}
 use Rattle.std.specs.Str.{is_utf8}
 use Rattle.cudf_text.specs.declared.fault.Fault.{Fault}
 use Rattle.cudf_text.specs.Faults.{fault_text}
@@ -16,10 +16,12 @@ use Rattle.cudf_document.specs.SolutionFaults.{solution_faults}
 use Rattle.cudf_document.specs.Universe.{PlainPackage, PlainProblem, plain_problem, package_at}
 use Rattle.cudf_document.specs.Statuses.{is_initial, is_proposed, unknown_stanzas}
 use Rattle.cudf_document.specs.Ids.{Id}
-use Rattle.cudf_referee.specs.Aims.{aim_text, count_of}
+use Rattle.cudf_referee.specs.Aims.{aim_text, count_of, count_text}
 use Rattle.cudf_referee.specs.declared.aims.Aim.{Aim}
 use Rattle.cudf_referee.specs.declared.key.Aspect.{Aspect}
 use Rattle.cudf_referee.specs.declared.key.Aspect.TheVariants.{Unsatisfied, Many, Lower}
+use Rattle.cudf_referee.specs.declared.criteria.Count.{Count}
+use Rattle.cudf_referee.specs.declared.criteria.Count.TheVariants.{Removed, New, Changed, NotUpToDate, UnsatRecommends}
 use Rattle.cudf_referee.specs.declared.criteria.Criteria.{Criteria}
 use Rattle.cudf_referee.specs.Criteria.{criteria, paranoid, trendy}
 use Rattle.cudf_document.specs.Documents.{is_empty}
@@ -78,14 +80,12 @@ abbrev pub meeting_text : Option PlainPackage → List ℕ
 meeting_text None = []
 meeting_text (Some p) = codes ", met by " ++ p.name ++ codes " " ++ decimal p.version
 
-abbrev pub aspect_line : PlainVpkg → Aspect → List ℕ
-aspect_line v Unsatisfied = codes "upgrade needs " ++ vpkg_text v
-aspect_line v Many = codes "upgrade " ++ v.name ++ codes " has several versions"
-aspect_line v Lower = codes "upgrade " ++ v.name ++ codes " is lower than before"
-
+-- what is wrong with an entry of `upgrade`
 abbrev pub upgrade_text : PlainVpkg → Option Aspect → List ℕ
 upgrade_text v None = []
-upgrade_text v (Some aspect) = aspect_line v aspect
+upgrade_text v (Some Unsatisfied) = codes "upgrade needs " ++ vpkg_text v
+upgrade_text v (Some Many) = codes "upgrade " ++ v.name ++ codes " has several versions"
+upgrade_text v (Some Lower) = codes "upgrade " ++ v.name ++ codes " is lower than before"
 
 -- what is wrong, with the package that meets the entry
 abbrev pub what_text : PlainWhat → Option Aspect → Option PlainPackage → List ℕ
@@ -99,17 +99,11 @@ what_text (remove v) aspect met = codes "must remove " ++ vpkg_text v ++ meeting
 what_text (upgrade v) aspect met = upgrade_text v aspect
 what_text unknown aspect met = codes "not in the universe"
 
--- what an instance is about, and its line
-abbrev pub place_text : Option Id → ℕ → List ℕ
-place_text subject number = subject_text subject ++ codes " line " ++ decimal number ++ codes ": "
-
--- the line of an instance that this package meets
-abbrev pub met_line : PlainInstance → Option PlainPackage → List ℕ
-met_line i met = line (key_text i.key ++ place_text i.subject i.line ++ what_text i.what i.key.aspect met)
-
 -- `p1.depends.1 car 1 line 1: needs wheel > 2`
 abbrev pub instance_line : Proposal → PlainInstance → List ℕ
-instance_line s i = met_line i (option_and_then (package_at s.problem) (met_by s.proposed i))
+instance_line s i =
+    let met = option_and_then (package_at s.problem) (met_by s.proposed i) in
+    line (key_text i.key ++ subject_text i.subject ++ codes " line " ++ decimal i.line ++ codes ": " ++ what_text i.what i.key.aspect met)
 
 -- ---- pages of the listing
 
@@ -123,20 +117,14 @@ abbrev pub limited : Option ℕ → List PlainInstance → List PlainInstance
 limited None instances = instances
 limited (Some limit) instances = take limit instances
 
--- the key of the last one
-abbrev pub last_key : List PlainInstance → Option PlainKey
-last_key [] = None
-last_key (i ∷ []) = Some i.key
-last_key (i ∷ j ∷ instances) = last_key (j ∷ instances)
-
--- `more after p1.depends.1`, where the listing has a greater key than the last one of the page
-abbrev pub more_text : Proposal → Option PlainKey → List ℕ
+-- `more after p1.depends.1`, where the listing has a greater key than the last instance of the page
+abbrev pub more_text : Proposal → Option PlainInstance → List ℕ
 more_text s None = []
-more_text s (Some key) = if is_empty (rest key s) then [] else line (codes "more after " ++ key_text key)
+more_text s (Some last) = if is_empty (rest last.key s) then [] else line (codes "more after " ++ key_text last.key)
 
 -- a line for each violated instance of the page, and where the next page begins
 abbrev pub check_text : Option PlainKey → Option ℕ → Proposal → List ℕ
-check_text after limit s = let page = limited limit (listed after s) in flat_map (instance_line s) page ++ more_text s (last_key page)
+check_text after limit s = let page = limited limit (listed after s) in flat_map (instance_line s) page ++ more_text s (last_or None page)
 
 -- ---- scores
 
@@ -148,20 +136,14 @@ count_line name count = line (name ++ codes " " ++ decimal count)
 abbrev pub vector_line : List ℕ → List ℕ → List ℕ
 vector_line name counts = line (name ++ flat_map (λ count. codes " " ++ decimal count) counts)
 
--- the counts by their names
-abbrev pub named_counts : Criteria → List (List ℕ × ℕ)
-named_counts c =
-    (codes "removed", c.removed)
-    ∷ (codes "new", c.new)
-    ∷ (codes "changed", c.changed)
-    ∷ (codes "notuptodate", c.notuptodate)
-    ∷ (codes "unsat_recommends", c.unsat_recommends)
-    ∷ []
+-- the counts of the competition, in the order of their lines
+abbrev pub scored_counts : List Count
+scored_counts = Removed ∷ New ∷ Changed ∷ NotUpToDate ∷ UnsatRecommends ∷ []
 
 -- a line for each count, and one for each vector
 abbrev pub criteria_text : Criteria → List ℕ
 criteria_text c =
-    flat_map (λ count. count_line count.0 count.1) (named_counts c)
+    flat_map (λ count. count_line (count_text count) (count_of c count)) scored_counts
     ++ vector_line (codes "paranoid") (paranoid c)
     ++ vector_line (codes "trendy") (trendy c)
 
@@ -169,26 +151,20 @@ criteria_text c =
 abbrev pub aim_line : Criteria → Aim → List ℕ
 aim_line c aim = count_line (aim_text aim) (count_of c aim.count)
 
--- a line for each aim of the list, in its order
-abbrev pub aims_text : List Aim → Criteria → List ℕ
-aims_text aims c = flat_map (aim_line c) aims
-
--- the counts that the aims name, where there are aims; and else the counts and vectors of the competition
+-- a line for each of the aims in their order, where there are aims; and else the counts and vectors of the competition
 abbrev pub scored_text : Option (List Aim) → Proposal → List ℕ
 scored_text None s = criteria_text (criteria s)
-scored_text (Some aims) s = aims_text aims (criteria s)
+scored_text (Some aims) s = flat_map (aim_line (criteria s)) aims
 
 -- ---- judging
 
-abbrev pub verdict_text : Bool → List ℕ
-verdict_text is_yes = if is_yes then codes "solution yes" else codes "solution no"
+-- whether it is a solution
+abbrev pub verdict : Bool → Report
+verdict is_yes = if is_yes then alone (codes "solution yes") Yes else alone (codes "solution no") No
 
--- what was found, and the verdict
+-- what was found, and the verdict behind it
 abbrev pub judged_report : (Proposal → List ℕ) → Proposal → Report
-judged_report found s = record {
-  text = found s ++ line (verdict_text (is_solution s));
-  outcome = if is_solution s then Yes else No;
-}
+judged_report found s = record { text = found s ++ (verdict (is_solution s)).text; outcome = (verdict (is_solution s)).outcome }
 
 -- what a solution's text puts forward for a problem
 abbrev pub proposal_of : PlainProblem → PlainText → Proposal
@@ -204,10 +180,6 @@ pair_report mode found problem solution =
     (if is_fail solution then alone (codes "solution FAIL") Fail
     else judged_report found (proposal_of (plain_problem (plain_text problem)) (plain_text solution))))
 
--- a problem alone
-abbrev pub lint_report : Mode → List ℕ → Report
-lint_report mode problem = faulty_or (codes "problem") (problem_fault mode problem) (alone (codes "problem ok") Yes)
-
 -- ---- the report
 
 -- the second input is the solution; where there is none, the first one is cut
@@ -216,6 +188,6 @@ inputs_report mode found input None = pair_report mode found (problem_part input
 inputs_report mode found input (Some solution) = pair_report mode found input solution
 
 unfoldable pub report : Job → Mode → List ℕ → Option (List ℕ) → Report
-report Lint mode input solution = lint_report mode input
+report Lint mode input solution = faulty_or (codes "problem") (problem_fault mode input) (alone (codes "problem ok") Yes)
 report (Check after limit) mode input solution = inputs_report mode (check_text (option_map key_view after) limit) input solution
 report (Score aims) mode input solution = inputs_report mode (scored_text (option_map (λ list. list.items) aims)) input solution

@@ -1,27 +1,35 @@
 -- A run: what it does to its readers and its writer, and what it answers.
-use Rattle.std.specs.Prelude.{◌≡◌, ◌≢◌, ◌<◌, ◌⊎◌, ◌↔◌, ℕ, List, [], ◌∷◌, slice_get, Option, Some, None, Result, IfOk, IfErr, IsErrOf}
+use Rattle.std.specs.Prelude.{◌≡◌, ◌≢◌, ◌<◌, ◌⊎◌, ◌↔◌, ℕ, List, [], ◌∷◌, ◌++◌, slice_get, Option, Some, None, Result, IfOk, IfErr, IsErrOf}
+use Rattle.std.specs.List.{AllZip}
 use Rattle.std.proofs.Common.{inl, inr}
 use Rattle.std.specs.Borrow.{MutBor}
 use Rattle.std.specs.Io.KnownBytes.{Appends, Keeps}
 use Rattle.cudf_document.specs.declared.mode.Mode.{Mode}
 use Rattle.cudf_check.specs.Device.{SourceState, SinkState}
-use Rattle.cudf_check.specs.Prefix.{AppendsPrefix}
-use Rattle.cudf_check.specs.Readers.{Change, change, ReadsAll, IsUnfinished, IsTooLong, IsStopped, OfOne, OfEach}
+use Rattle.cudf_check.specs.Readers.{Change, ReadsAll, IsUnfinished, IsTooLong, IsStopped, OfOne}
 use Rattle.cudf_check.specs.Report.{Report, report}
 use Rattle.cudf_check.specs.declared.job.Job.{Job}
-use Rattle.cudf_check.specs.declared.job.Job.TheVariants.{Lint, Check, Score}
+use Rattle.cudf_check.specs.declared.job.Job.TheVariants.{Lint}
 use Rattle.cudf_check.specs.declared.outcome.Outcome.{Outcome}
+use Rattle.cudf_check.specs.declared.outcome.Outcome.TheVariants.{Yes, No, Faulty, Fail}
 use Rattle.cudf_check.specs.declared.outcome.RunError.{RunError}
-use Rattle.cudf_check.specs.declared.outcome.RunError.TheVariants.{Read, TooLong, Write}
+use Rattle.cudf_check.specs.declared.outcome.RunError.TheVariants.{Read, TooLong, Write, Memory}
 
 -- ---- the run
+
+-- the known bytes grew by a prefix of the text, which may be none or all of it
+pub record AppendsPrefix (old new : Option (List ℕ)) (text : List ℕ) : Type 0 where
+  pub taken : List ℕ
+  pub left : List ℕ
+  pub whole : taken ++ left ≡ text
+  pub appended : Appends old new taken
 
 -- the first input, and those behind it, were read whole, and this holds of the answer to their texts
 pub record OfReport (answer : List ℕ → List (List ℕ) → Report) (first : Change SourceState) (others : List (Change SourceState)) (P : Report → Type 0) : Type 0 where
   pub text : List ℕ
   pub texts : List (List ℕ)
   pub first_read : ReadsAll first text
-  pub others_read : OfEach ReadsAll others texts
+  pub others_read : AllZip ReadsAll others texts
   pub holds : P (answer text texts)
 
 -- a run on a first input and those behind it, whose report is the answer to their texts
@@ -46,30 +54,35 @@ abbrev pub job_report : Job → Mode → List ℕ → List (List ℕ) → Report
 job_report job mode input solutions = report job mode input (slice_get solutions 0)
 
 -- the reader of a solution, where there is one and the job reads it
-abbrev pub read_for : Job → Option (Change SourceState) → List (Change SourceState)
-read_for job None = []
-read_for Lint (Some solution) = []
-read_for (Check after limit) (Some solution) = solution ∷ []
-read_for (Score aims) (Some solution) = solution ∷ []
+abbrev pub read_for : Job → List (Change SourceState) → List (Change SourceState)
+read_for Lint solutions = []
+read_for job solutions = solutions
 
 -- the solution isn't read: the job needs none, or the reading of the first input ended in an error
 abbrev pub SkipsSolution : Job → Change SourceState → Type 0
 SkipsSolution Lint input = Unit {0}
 SkipsSolution job input = IsStopped input
 
--- what became of the state of a device that may not be there
-abbrev pub change_of_lent : {D A : Type 0} → (D → A) → Option D → Option D → Option (Change A)
-change_of_lent state None new = None
-change_of_lent state (Some old) None = None
-change_of_lent state (Some old) (Some new) = Some (change state old new)
-
--- the device behind an optional reference, as it was lent
-abbrev pub lent : {D : Type 0} → Option (MutBor D) → Option D
-lent None = None
-lent (Some r) = Some r.now
+-- the device behind an optional reference, if there is one, as it was lent
+abbrev pub lent : {D : Type 0} → Option (MutBor D) → List D
+lent None = []
+lent (Some r) = r.now ∷ []
 
 -- and as it is returned
-abbrev pub returned : {D : Type 0} → Unit {0} ⊎ ((MutBor D × Unit {0}) ⊎ ⊥) → Option D
-returned (inl none) = None
-returned (inr (inl r)) = Some r.0.now
-returned (inr (inr none)) = None
+abbrev pub returned : {D : Type 0} → Unit {0} ⊎ ((MutBor D × Unit {0}) ⊎ ⊥) → List D
+returned (inr (inl r)) = r.0.now ∷ []
+returned none = []
+
+-- ---- exit statuses
+
+-- a report's status
+abbrev pub outcome_status : Outcome → ℕ
+outcome_status Yes = 0
+outcome_status No = 1
+outcome_status Faulty = 2
+outcome_status Fail = 3
+
+-- the status where there is no whole report
+abbrev pub error_status : RunError → ℕ
+error_status Memory = 6
+error_status error = 5

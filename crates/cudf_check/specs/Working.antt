@@ -1,9 +1,9 @@
 pub mod Answering
 pub mod Chosen
-pub mod Findings
+pub mod Found
 pub mod InTurn
 pub mod Judged
 pub mod Pages
 pub mod Paper
-pub mod Refusals
+pub mod Unjudged
 pub mod Writing

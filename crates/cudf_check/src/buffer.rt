@@ -1,10 +1,7 @@
 //! The buffer through which a report is written.
-ghost use Rattle.std.specs.Prelude.{◌≡◌, [], ◌++◌, if◌then◌else◌, OnOk, IfOk, IsOkUnless};
-ghost use Rattle.cudf_check.specs.Working.Writing.{Writes};
+ghost use Rattle.std.specs.Prelude.{◌≡◌, [], ◌++◌, if◌then◌else◌, IfOk, IsOkUnless};
 
-use crate::device::Sink;
 use crate::outcome::RunError;
-use crate::output::write_all;
 use std::alloc::Global;
 use std::marker::Model;
 
@@ -39,8 +36,8 @@ impl ReportBuffer {
         }
     }
 
-    /// Keeps `text` behind what waits, where there is room for it.
-    pub(crate) fn keep(&mut self, text: &[u8]) -> bool
+    /// Puts `text` behind what waits, where there is room for it.
+    pub(crate) fn add(&mut self, text: &[u8]) -> bool
         ensures { self.new ≡ (if result then self.old ++ text.now else self.old) }
     {
         if text.len() > SIZE - self.waiting.len() {
@@ -50,13 +47,17 @@ impl ReportBuffer {
         true
     }
 
-    /// Writes all that waits.
-    pub(crate) fn flush<W: Sink>(&mut self, out: &mut W) -> Result<(), RunError>
-        ensures written { Writes (W.state out.old) (W.state out.new) result self.old }
-        ensures empty { OnOk result (self.new ≡ []) }
+    /// All that waits.
+    pub(crate) fn bytes(&self) -> &[u8]
+        ensures { result.now ≡ self.now }
     {
-        write_all(out, &self.waiting)?;
+        &self.waiting
+    }
+
+    /// Lets go of all that waits.
+    pub(crate) fn clear(&mut self)
+        ensures { self.new ≡ [] }
+    {
         self.waiting.clear();
-        Ok(())
     }
 }

@@ -154,11 +154,15 @@ impl<R: Reader> Source for Device<R> {
         ensures told { IsTold R.gives (device_inner self.old) result buffer.new (device_inner self.new) }
 
         ensures bound { IfOk result (λ n. n ≤ length buffer.new) }
-        ensures bytes { ReadConsumes (source_state R.remaining self.old).remaining (source_state R.remaining self.new).remaining result buffer.new }
+        ensures bytes { ReadConsumes (source_state R.remaining self.old).remaining (source_state R.remaining self.new).remaining
+            result buffer.new }
         ensures called { (source_state R.remaining self.new).calls ≡ (source_state R.remaining self.old).calls + 1 }
-        ensures failed { (source_state R.remaining self.new).failures ≡ (source_state R.remaining self.old).failures + failed_reads result }
-        ensures ended { (source_state R.remaining self.new).ends ≡ (source_state R.remaining self.old).ends + ended_reads result }
-        ensures gave { (source_state R.remaining self.new).given ≡ (source_state R.remaining self.old).given + bytes_given result }
+        ensures failed { (source_state R.remaining self.new).failures
+            ≡ (source_state R.remaining self.old).failures + failed_reads result }
+        ensures ended { (source_state R.remaining self.new).ends
+            ≡ (source_state R.remaining self.old).ends + ended_reads result }
+        ensures gave { (source_state R.remaining self.new).given
+            ≡ (source_state R.remaining self.old).given + bytes_given result }
     {
         self.calls.tick();
         let answer = answer_of(self.inner.read_once(buffer));
@@ -208,8 +212,10 @@ impl<W: Writer> Sink for Device<W> {
         ensures told { IsHandedDown W.takes (device_inner self.old) bytes.now result (device_inner self.new) }
 
         ensures bound { IfOk result (λ n. n ≤ length bytes.now) }
-        ensures bytes { WriteAppends (sink_state W.contents self.old).contents (sink_state W.contents self.new).contents result bytes.now }
-        ensures failed { (sink_state W.contents self.new).failures ≡ (sink_state W.contents self.old).failures + failed_writes result }
+        ensures bytes { WriteAppends (sink_state W.contents self.old).contents (sink_state W.contents self.new).contents
+            result bytes.now }
+        ensures failed { (sink_state W.contents self.new).failures
+            ≡ (sink_state W.contents self.old).failures + failed_writes result }
     {
         let answer = answer_of(self.inner.write_once(bytes));
         match answer {

@@ -4,11 +4,11 @@ ghost use Rattle.cudf_document.specs.Universe.{PlainProblem};
 ghost use Rattle.cudf_document.specs.declared.mode.Mode.{Mode};
 ghost use Rattle.cudf_check.specs.RankReport.{judgement_of};
 ghost use Rattle.cudf_check.specs.Report.{solution_fault};
-ghost use Rattle.cudf_check.specs.Working.Judged.{IsJudged, AreJudged, IsFirstRefused};
-ghost use Rattle.cudf_check.specs.Working.Refusals.{IsFaultOf, IsRefused};
+ghost use Rattle.cudf_check.specs.Working.Judged.{IsJudged, AreJudged, IsUnranked};
+ghost use Rattle.cudf_check.specs.Working.Unjudged.{IsFaultOf, IsUnjudged};
 
-use crate::ranking::{Judgement, Standing};
-use crate::readings::{Refusal, proposed_in};
+use crate::ranking::{Entrant, Judgement};
+use crate::readings::{Unjudged, proposed_in};
 use crate::setting::Setting;
 use cudf_document::{Problem, ReadError};
 use cudf_referee::Referee;
@@ -17,7 +17,7 @@ use std::alloc::AllocError;
 
 /// Why the solutions aren't ranked.
 #[derive(Debug, Drop)]
-pub(crate) struct Refused {
+pub(crate) struct Unranked {
     /// The place of the solution, from 1.
     pub(crate) place: u64,
     pub(crate) error: ReadError,
@@ -35,13 +35,13 @@ fn judgement_by(referee: &Referee<'_, '_>) -> Judgement
 }
 
 /// A solution that isn't judged, where it says FAIL.
-fn unjudged(refusal: Refusal) -> Result<Judgement, ReadError>
-    ensures judged { (mode : Mode) → (problem : PlainProblem) → (bytes : List ℕ) → IsRefused mode bytes refusal → IfOk result (IsJudged mode problem bytes) }
-    ensures fault { (mode : Mode) → (bytes : List ℕ) → IsRefused mode bytes refusal → IfErr result (IsFaultOf (solution_fault mode bytes)) }
+fn said_fail(reason: Unjudged) -> Result<Judgement, ReadError>
+    ensures judged { (mode : Mode) → (problem : PlainProblem) → (bytes : List ℕ) → IsUnjudged mode bytes reason → IfOk result (IsJudged mode problem bytes) }
+    ensures fault { (mode : Mode) → (bytes : List ℕ) → IsUnjudged mode bytes reason → IfErr result (IsFaultOf (solution_fault mode bytes)) }
 {
-    match refusal {
-        Refusal::SaysFail => Ok(Judgement::SaysFail),
-        Refusal::Unread(error) => Err(error),
+    match reason {
+        Unjudged::SaysFail => Ok(Judgement::SaysFail),
+        Unjudged::Unread(error) => Err(error),
     }
 }
 
@@ -56,7 +56,7 @@ fn judge(setting: Setting, problem: &Problem<'_>, bytes: &[u8]) -> Result<Judgem
             Ok(referee) => Ok(judgement_by(&referee)),
             Err(error) => Err(ReadError::Memory(error)),
         },
-        Err(refusal) => unjudged(refusal),
+        Err(reason) => said_fail(reason),
     }
 }
 
@@ -65,22 +65,22 @@ pub(crate) fn judge_each(
     setting: Setting,
     problem: &Problem<'_>,
     solutions: &[Vec<u8>],
-) -> Result<Vec<Standing>, Refused>
+) -> Result<Vec<Entrant>, Unranked>
     ensures judged { IfOk result (λ ss. AreJudged setting.mode problem.now (map (λ b. b.items) solutions.now) ss.items) }
-    ensures refused { IfErr result (IsFirstRefused setting.mode (map (λ b. b.items) solutions.now)) }
+    ensures unranked { IfErr result (IsUnranked setting.mode (map (λ b. b.items) solutions.now)) }
 {
-    let mut standings = Vec::new(setting.alloc);
+    let mut entrants = Vec::new(setting.alloc);
     for (index, bytes) in solutions.iter().enumerate() {
         let place = index as u64 + 1;
         match judge(setting, problem, bytes) {
             Ok(judgement) => {
-                if standings.push(Standing { place, judgement }).is_err() {
+                if entrants.push(Entrant { place, judgement }).is_err() {
                     let error = ReadError::Memory(AllocError);
-                    return Err(Refused { place, error });
+                    return Err(Unranked { place, error });
                 }
             }
-            Err(error) => return Err(Refused { place, error }),
+            Err(error) => return Err(Unranked { place, error }),
         }
     }
-    Ok(standings)
+    Ok(entrants)
 }

@@ -1,13 +1,13 @@
 //! What follows from the definitions alone.
-ghost use Rattle.cudf_check.specs.RankLaws.{StandingsHaveOwnPlaces};
+ghost use Rattle.cudf_check.specs.RankReport.{EntrantsHaveOwnPlaces};
 ghost use Rattle.cudf_check.specs.Ranking.{RankingPermutes, RankingAscends, RankingIsAlone};
 
-/// The ranking of solutions is their list in another order. Where no place stands twice, each precedes all that are ranked
-/// behind it: by class, then by the counts, then by place. No other order of the list has each precede all behind it. Among the
-/// solutions of a problem no place stands twice.
+/// The ranking of solutions is their list in another order. Where no place stands twice, each precedes all that are
+/// ranked behind it: by class, then by the counts, then by place. No other order of the list has each precede all
+/// behind it. Among the solutions of a problem no place stands twice.
 pub fn ranking()
     ensures permutes { RankingPermutes }
     ensures ascends { RankingAscends }
     ensures alone { RankingIsAlone }
-    ensures places { StandingsHaveOwnPlaces }
+    ensures places { EntrantsHaveOwnPlaces }
 {}

@@ -1,13 +1,13 @@
-//! Checks proposed solutions of a CUDF 2.0 problem: two calls, from readers of the documents to the written report. `run`
-//! reports each rule that a solution breaks, `rank` compares several solutions of one problem.
+//! Checks proposed solutions of a CUDF 2.0 problem: two calls, from readers of the documents to the written report.
+//! `run` reports each rule that a solution breaks, `rank` compares several solutions of one problem.
 #![tactic(auto)]
 
-ghost use Rattle.std.specs.Prelude.{◌≡◌, [], Some, IfSome};
+ghost use Rattle.std.specs.Prelude.{◌≡◌};
 ghost use Rattle.std.specs.List.{All};
-ghost use Rattle.cudf_check.specs.ManyRuns.{changes, LeavesBehind};
+ghost use Rattle.cudf_check.specs.ManyRuns.{LeavesBehind};
 ghost use Rattle.cudf_check.specs.RankReport.{rank_report};
-ghost use Rattle.cudf_check.specs.Readers.{change, IsStopped, IsWithinTurns};
-ghost use Rattle.cudf_check.specs.Runs.{change_of_lent, job_report, lent, read_for, returned, Runs, SkipsSolution};
+ghost use Rattle.cudf_check.specs.Readers.{change, IsStopped, IsWithinTurns, changes};
+ghost use Rattle.cudf_check.specs.Runs.{job_report, lent, read_for, returned, Runs, SkipsSolution};
 
 mod buffer;
 mod device;
@@ -42,8 +42,8 @@ use std::alloc::Global;
 /// mode, answers the job and writes its report to `out`.
 ///
 /// Without a `solution` a job that judges one takes both documents from `input`: the problem goes through the first
-/// blank line behind the line that begins with `request:`, and the rest is the solution. For `Lint` the whole `input` is
-/// the problem.
+/// blank line behind the line that begins with `request:`, and the rest is the solution. For `Lint` the whole `input`
+/// is the problem.
 ///
 /// # Errors
 ///
@@ -64,32 +64,41 @@ pub fn run<R: Source, S: Source, W: Sink>(
     out: &mut W,
 ) -> Result<Outcome, RunError>
     ensures runs { Runs (job_report job.now mode) (change R.state input.old input.new)
-        (read_for job.now (change_of_lent S.state (lent solution.entry) (returned solution.exit)))
+        (read_for job.now (changes S.state (lent solution.entry) (returned solution.exit)))
         (change W.state out.old out.new) result }
 
     // No reader is called more often than an input may take.
     ensures turns { IsWithinTurns (change R.state input.old input.new) }
-    ensures solution_turns { IfSome (change_of_lent S.state (lent solution.entry) (returned solution.exit)) IsWithinTurns }
+    ensures solution_turns { All IsWithinTurns (changes S.state (lent solution.entry) (returned solution.exit)) }
 
     // Where the solution isn't read, it is returned as it was lent.
-    ensures unread { SkipsSolution job.now (change R.state input.old input.new) → returned solution.exit ≡ lent solution.entry }
+    ensures unread { SkipsSolution job.now (change R.state input.old input.new)
+        → returned solution.exit ≡ lent solution.entry }
 {
     let setting = Setting { alloc, mode };
-    match solution {
-        Some(solution) => run_two(setting, job, input, solution, out),
-        None => run_one(setting, job, input, out),
+    let Some(solution) = solution else {
+        let first = read_all(alloc, input)?;
+        return answer_job(setting, job, &first, None, out);
+    };
+    let first = read_all(alloc, input)?;
+    match job {
+        Job::Lint => answer_job(setting, job, &first, None, out),
+        Job::Check { .. } | Job::Score { .. } => {
+            let second = read_all(alloc, solution)?;
+            answer_job(setting, job, &first, Some(&second), out)
+        }
     }
 }
 
 /// Reads `problem` to its end, and then each of the `solutions` in order; reads the documents in this mode, judges and
 /// ranks the solutions by the `aims`, and writes their ranking to `out`. Own.
 ///
-/// The ranking has a line for each solution, the best first: its rank from 1, its place among the solutions from 1, and
-/// what was found of it, as `2 solution 5 yes -changed 1 -touched 1`, `4 solution 3 no` or `5 solution 1 FAIL`. Solutions
-/// come first, the better one by [`compare`](cudf_referee::compare) before the other; then those that are none; then those
-/// that say FAIL. Where these tie, the order is that of their places: without `aims` these alone decide between two
-/// solutions. The outcome is `Yes` where one is a solution, or else `No` where one doesn't say FAIL, or else `Fail`. Without
-/// `solutions` the ranking is empty, and the outcome `Fail`.
+/// The ranking has a line for each solution, the best first: its rank from 1, its place among the solutions from 1,
+/// and what was found of it, as `2 solution 5 yes -changed 1 -touched 1`, `4 solution 3 no` or `5 solution 1 FAIL`.
+/// Solutions come first, the better one by [`compare`](cudf_referee::compare) before the other; then those that are
+/// none; then those that say FAIL. Where these tie, the order is that of their places: without `aims` these alone
+/// decide between two solutions. The outcome is `Yes` where one is a solution, or else `No` where one doesn't say
+/// FAIL, or else `Fail`. Without `solutions` the ranking is empty, and the outcome `Fail`.
 ///
 /// Where a document is faulty, a single line says so, and the outcome is `Faulty`: the problem's first fault, as
 /// `problem line 3: E9 value is not of its type`; or else the first fault of the first solution that has one, as
@@ -104,8 +113,8 @@ pub fn run<R: Source, S: Source, W: Sink>(
 ///   prefix of the report.
 /// - `Memory`: a growth was refused.
 ///
-/// After `Read`, `TooLong` and `Memory` nothing was written. The readers behind one whose reading ended in an error aren't
-/// called.
+/// After `Read`, `TooLong` and `Memory` nothing was written. The readers behind one whose reading ended in an error
+/// aren't called.
 pub fn rank<R: Source, S: Source, W: Sink>(
     alloc: Global,
     aims: &[Aim],
@@ -114,8 +123,8 @@ pub fn rank<R: Source, S: Source, W: Sink>(
     solutions: &mut [S],
     out: &mut W,
 ) -> Result<Outcome, RunError>
-    ensures runs { Runs (rank_report aims.now mode) (change R.state problem.old problem.new) (changes S.state solutions.old solutions.new)
-        (change W.state out.old out.new) result }
+    ensures runs { Runs (rank_report aims.now mode) (change R.state problem.old problem.new)
+        (changes S.state solutions.old solutions.new) (change W.state out.old out.new) result }
 
     // No reader is called more often than an input may take.
     ensures turns { IsWithinTurns (change R.state problem.old problem.new) }
@@ -129,42 +138,4 @@ pub fn rank<R: Source, S: Source, W: Sink>(
     let first = read_all(alloc, problem)?;
     let others = read_each(alloc, solutions)?;
     answer_ranking(Setting { alloc, mode }, aims, &first, &others, out)
-}
-
-/// The run on one input.
-fn run_one<R: Source, W: Sink>(
-    setting: Setting,
-    job: &Job,
-    input: &mut R,
-    out: &mut W,
-) -> Result<Outcome, RunError>
-    ensures runs { Runs (job_report job.now setting.mode) (change R.state input.old input.new) [] (change W.state out.old out.new) result }
-    ensures turns { IsWithinTurns (change R.state input.old input.new) }
-{
-    let bytes = read_all(setting.alloc, input)?;
-    answer_job(setting, job, &bytes, None, out)
-}
-
-/// The run on two inputs. The second isn't read where the job judges no solution.
-fn run_two<R: Source, S: Source, W: Sink>(
-    setting: Setting,
-    job: &Job,
-    input: &mut R,
-    solution: &mut S,
-    out: &mut W,
-) -> Result<Outcome, RunError>
-    ensures runs { Runs (job_report job.now setting.mode) (change R.state input.old input.new)
-        (read_for job.now (Some (change S.state solution.old solution.new))) (change W.state out.old out.new) result }
-    ensures turns { IsWithinTurns (change R.state input.old input.new) }
-    ensures solution_turns { IsWithinTurns (change S.state solution.old solution.new) }
-    ensures unread { SkipsSolution job.now (change R.state input.old input.new) → solution.new ≡ solution.old }
-{
-    let first = read_all(setting.alloc, input)?;
-    match job {
-        Job::Lint => answer_job(setting, job, &first, None, out),
-        Job::Check { .. } | Job::Score { .. } => {
-            let second = read_all(setting.alloc, solution)?;
-            answer_job(setting, job, &first, Some(&second), out)
-        }
-    }
 }

@@ -8,5 +8,5 @@ mod ranks;
 mod score;
 
 pub(crate) use alone::{answer, answer_fault};
-pub(crate) use judged::{Findings, answer_judged};
+pub(crate) use judged::answer_judged;
 pub(crate) use ranks::{answer_faulty_solution, answer_ranked};

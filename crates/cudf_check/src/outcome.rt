@@ -34,7 +34,7 @@ pub enum RunError {
 }
 
 impl Outcome {
-    ghost use Rattle.cudf_check.specs.Outcome.{outcome_status};
+    ghost use Rattle.cudf_check.specs.Runs.{outcome_status};
 
     /// The exit status: 0 for `Yes`, 1 for `No`, 2 for `Faulty`, 3 for `Fail`.
     pub fn status(self) -> u8
@@ -50,7 +50,7 @@ impl Outcome {
 }
 
 impl RunError {
-    ghost use Rattle.cudf_check.specs.Outcome.{error_status};
+    ghost use Rattle.cudf_check.specs.Runs.{error_status};
 
     /// The exit status: 5 for `Read`, `TooLong` and `Write`, 6 for `Memory`.
     pub fn status(self) -> u8

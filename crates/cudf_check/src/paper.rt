@@ -42,13 +42,14 @@ impl<'w, W: Sink> Paper<'w, W> {
             return;
         }
         let bytes = text.as_bytes();
-        if self.waiting.keep(bytes) {
+        if self.waiting.add(bytes) {
             return;
         }
-        if self.waiting.flush(self.out).is_err() {
+        if write_all(self.out, self.waiting.bytes()).is_err() {
             self.has_failed = true;
             return;
         }
+        self.waiting.clear();
         self.has_failed = write_all(self.out, bytes).is_err();
     }
 
@@ -80,7 +81,7 @@ impl<'w, W: Sink> Paper<'w, W> {
         if has_failed {
             return Err(RunError::Write);
         }
-        waiting.flush(out)?;
+        write_all(out, waiting.bytes())?;
         Ok(outcome)
     }
 }

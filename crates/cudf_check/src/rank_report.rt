@@ -4,15 +4,15 @@ ghost use Rattle.cudf_document.specs.declared.mode.Mode.{Mode};
 ghost use Rattle.cudf_check.specs.RankReport.{rank_report, placed_faults, first_faulty_or};
 ghost use Rattle.cudf_check.specs.Report.{Report};
 ghost use Rattle.cudf_check.specs.Working.Answering.{Answers};
-ghost use Rattle.cudf_check.specs.Working.Judged.{IsFirstRefused};
+ghost use Rattle.cudf_check.specs.Working.Judged.{IsUnranked};
 
 use crate::device::Sink;
-use crate::judging::{Refused, judge_each};
+use crate::judging::{Unranked, judge_each};
 use crate::lines::{answer_faulty_solution, answer_ranked};
 use crate::outcome::{Outcome, RunError};
 use crate::ranking::{best_outcome, ranked};
 use crate::readings::problem_in;
-use crate::report::answer_refusal;
+use crate::report::answer_unread;
 use crate::setting::Setting;
 use cudf_document::ReadError;
 use cudf_referee::Aim;
@@ -20,16 +20,16 @@ use cudf_text::Room;
 use std::alloc::Global;
 
 /// Answers a solution that isn't judged.
-fn answer_refused<W: Sink>(
+fn answer_unranked<W: Sink>(
     alloc: Global,
     out: &mut W,
-    refused: Refused,
+    unranked: Unranked,
 ) -> Result<Outcome, RunError>
-    ensures { (mode : Mode) → (solutions : _) → (report : Report) → IsFirstRefused mode solutions refused
+    ensures { (mode : Mode) → (solutions : _) → (report : Report) → IsUnranked mode solutions unranked
         → Answers (W.state out.old) (W.state out.new) (first_faulty_or (placed_faults mode solutions) report) result }
 {
-    match refused.error {
-        ReadError::Fault(fault) => answer_faulty_solution(alloc, out, refused.place, fault),
+    match unranked.error {
+        ReadError::Fault(fault) => answer_faulty_solution(alloc, out, unranked.place, fault),
         ReadError::Memory(_) => Err(RunError::Memory),
     }
 }
@@ -49,14 +49,14 @@ pub(crate) fn answer_ranking<W: Sink>(
     let mut room = Room::new(alloc);
     let problem = match problem_in(setting, problem, &mut room) {
         Ok(problem) => problem,
-        Err(error) => return answer_refusal(alloc, out, "problem", error),
+        Err(error) => return answer_unread(alloc, out, "problem", error),
     };
-    let standings = match judge_each(setting, &problem, solutions) {
-        Ok(standings) => standings,
-        Err(refused) => return answer_refused(alloc, out, refused),
+    let entrants = match judge_each(setting, &problem, solutions) {
+        Ok(entrants) => entrants,
+        Err(unranked) => return answer_unranked(alloc, out, unranked),
     };
-    let outcome = best_outcome(&standings);
-    match ranked(alloc, aims, &standings) {
+    let outcome = best_outcome(&entrants);
+    match ranked(alloc, aims, &entrants) {
         Ok(ranked) => answer_ranked(alloc, out, aims, &ranked, outcome),
         Err(_) => Err(RunError::Memory),
     }

@@ -1,7 +1,7 @@
 //! The ranking of solutions.
 ghost use Rattle.std.specs.Prelude.{◌≡◌, ◌≤◌, length, IfOk};
 ghost use Rattle.std.specs.List.{list_any, position_or_len};
-ghost use Rattle.cudf_check.specs.RankReport.{solves, refuses, best_outcome};
+ghost use Rattle.cudf_check.specs.RankReport.{is_a_solution, is_no_solution, best_outcome};
 ghost use Rattle.cudf_check.specs.Ranking.{class, compare_counts, precedes, ranking};
 
 use crate::outcome::Outcome;
@@ -22,7 +22,7 @@ pub(crate) enum Judgement {
 
 /// A solution's text that was judged.
 #[derive(Clone, Copy, Debug)]
-pub(crate) struct Standing {
+pub(crate) struct Entrant {
     /// Its place among the solutions, from 1.
     pub(crate) place: u64,
     pub(crate) judgement: Judgement,
@@ -41,10 +41,10 @@ impl Judgement {
     }
 }
 
-impl Standing {
+impl Entrant {
     /// Whether it is a solution.
-    fn solves(&self) -> bool
-        ensures { result ≡ solves self.now }
+    fn is_a_solution(&self) -> bool
+        ensures { result ≡ is_a_solution self.now }
     {
         match self.judgement {
             Judgement::Solution(_) => true,
@@ -53,8 +53,8 @@ impl Standing {
     }
 
     /// Whether it was judged to be none.
-    fn refuses(&self) -> bool
-        ensures { result ≡ refuses self.now }
+    fn is_no_solution(&self) -> bool
+        ensures { result ≡ is_no_solution self.now }
     {
         match self.judgement {
             Judgement::NoSolution => true,
@@ -74,7 +74,7 @@ fn compare_counts(aims: &[Aim], left: Judgement, right: Judgement) -> Ordering
 }
 
 /// Whether the one is ranked before the other: by class, then by the aims, then by place.
-fn precedes(aims: &[Aim], left: &Standing, right: &Standing) -> bool
+fn precedes(aims: &[Aim], left: &Entrant, right: &Entrant) -> bool
     ensures { result ≡ precedes aims.now left.now right.now }
 {
     let class = left.judgement.class().cmp(&right.judgement.class());
@@ -83,57 +83,57 @@ fn precedes(aims: &[Aim], left: &Standing, right: &Standing) -> bool
     class.then(counts).then(place) == Ordering::Less
 }
 
-/// Where the standing comes among those that are ranked.
-fn place_of(aims: &[Aim], standing: &Standing, ranked: &[Standing]) -> usize
-    ensures place { result ≡ position_or_len (precedes aims.now standing.now) ranked.now }
+/// Where the entrant comes among those that are ranked.
+fn place_of(aims: &[Aim], entrant: &Entrant, ranked: &[Entrant]) -> usize
+    ensures place { result ≡ position_or_len (precedes aims.now entrant.now) ranked.now }
     ensures inside { result ≤ length ranked.now }
 {
     for index in 0..ranked.len() {
-        if precedes(aims, standing, &ranked[index]) {
+        if precedes(aims, entrant, &ranked[index]) {
             return index;
         }
     }
     ranked.len()
 }
 
-/// The standings in the order of their rank, the best first.
+/// The entrants in the order of their rank, the best first.
 #[tactic(auto, unfolding(crate::specs::Ranking::ranking))]
 pub(crate) fn ranked(
     alloc: Global,
     aims: &[Aim],
-    standings: &[Standing],
-) -> Result<Vec<Standing>, AllocError>
-    ensures { IfOk result (λ ranked. ranked.items ≡ ranking aims.now standings.now) }
+    entrants: &[Entrant],
+) -> Result<Vec<Entrant>, AllocError>
+    ensures { IfOk result (λ ranked. ranked.items ≡ ranking aims.now entrants.now) }
 {
-    let mut ranked = Vec::with_capacity(alloc, standings.len())?;
-    for standing in standings {
-        let index = place_of(aims, standing, &ranked);
-        ranked.insert(index, *standing)?;
+    let mut ranked = Vec::with_capacity(alloc, entrants.len())?;
+    for entrant in entrants {
+        let index = place_of(aims, entrant, &ranked);
+        ranked.insert(index, *entrant)?;
     }
     Ok(ranked)
 }
 
 /// Whether one is a solution.
-fn any_solves(standings: &[Standing]) -> bool
-    ensures { result ≡ list_any solves standings.now }
+fn any_solution(entrants: &[Entrant]) -> bool
+    ensures { result ≡ list_any is_a_solution entrants.now }
 {
-    standings.iter().any(|standing| standing.solves())
+    entrants.iter().any(|entrant| entrant.is_a_solution())
 }
 
 /// Whether one was judged to be none.
-fn any_refuses(standings: &[Standing]) -> bool
-    ensures { result ≡ list_any refuses standings.now }
+fn any_no_solution(entrants: &[Entrant]) -> bool
+    ensures { result ≡ list_any is_no_solution entrants.now }
 {
-    standings.iter().any(|standing| standing.refuses())
+    entrants.iter().any(|entrant| entrant.is_no_solution())
 }
 
 /// `Yes` where one is a solution, or else `No` where one was judged to be none, or else `Fail`.
-pub(crate) fn best_outcome(standings: &[Standing]) -> Outcome
-    ensures { result ≡ best_outcome standings.now }
+pub(crate) fn best_outcome(entrants: &[Entrant]) -> Outcome
+    ensures { result ≡ best_outcome entrants.now }
 {
-    if any_solves(standings) {
+    if any_solution(entrants) {
         Outcome::Yes
-    } else if any_refuses(standings) {
+    } else if any_no_solution(entrants) {
         Outcome::No
     } else {
         Outcome::Fail

@@ -10,7 +10,7 @@ ghost use Rattle.cudf_document.specs.Universe.{plain_problem};
 ghost use Rattle.cudf_referee.specs.Proposals.{proposal};
 ghost use Rattle.cudf_check.specs.Report.{problem_fault, solution_fault, proposal_of};
 ghost use Rattle.cudf_check.specs.Working.Chosen.{AreChosen, ReportsAlike};
-ghost use Rattle.cudf_check.specs.Working.Refusals.{IsFaultOf, IsRefused};
+ghost use Rattle.cudf_check.specs.Working.Unjudged.{IsFaultOf, IsUnjudged};
 
 use crate::setting::Setting;
 use cudf_document::{
@@ -22,7 +22,7 @@ use std::alloc::{AllocError, Global};
 
 /// Why what a solution puts forward isn't judged.
 #[derive(Debug, Drop)]
-pub(crate) enum Refusal {
+pub(crate) enum Unjudged {
     /// It says that there is none.
     SaysFail,
     /// It has a fault, or memory was wanting.
@@ -132,26 +132,26 @@ pub(crate) fn proposed_in<'t>(
     bytes: &'t [u8],
     room: &'t mut Room,
     problem: &Problem<'_>,
-) -> Result<Solution<'t>, Refusal>
+) -> Result<Solution<'t>, Unjudged>
     ensures sound { IfOk result (λ _. solution_fault setting.mode bytes.now ≡ None) }
     ensures utf8 { IfOk result (λ _. is_utf8 bytes.now ≡ true) }
     ensures goes_on { IfOk result (λ _. joined.is_fail bytes.now ≡ false) }
     ensures proposal { IfOk result (λ s. proposal problem.now (is_initial problem.now) (set.contains s.status) (map unknown_view s.unknown.items)
         ≡ proposal_of problem.now (plain_text bytes.now)) }
     ensures ascending { IfOk result (λ s. IsTrue (ascend_above 0 (map unknown_view s.unknown.items))) }
-    ensures refused { IfErr result (IsRefused setting.mode bytes.now) }
+    ensures unjudged { IfErr result (IsUnjudged setting.mode bytes.now) }
 {
     let Setting { alloc, mode } = setting;
     match source_of(bytes) {
         Ok(source) => {
             if is_fail(source) {
-                return Err(Refusal::SaysFail);
+                return Err(Unjudged::SaysFail);
             }
             match solution_of(alloc, Stanzas::new(alloc, source, room), problem, mode) {
                 Ok(solution) => Ok(solution),
-                Err(error) => Err(Refusal::Unread(error)),
+                Err(error) => Err(Unjudged::Unread(error)),
             }
         }
-        Err(fault) => Err(Refusal::Unread(ReadError::Fault(fault))),
+        Err(fault) => Err(Unjudged::Unread(ReadError::Fault(fault))),
     }
 }

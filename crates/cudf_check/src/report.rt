@@ -1,5 +1,5 @@
 //! Decides which report the inputs have.
-ghost use Rattle.std.specs.Prelude.{◌≡◌, ℕ, List, Option, IsTrue, codes, map, option_copied, option_map, if◌then◌else◌};
+ghost use Rattle.std.specs.Prelude.{◌≡◌, ℕ, List, Option, IsTrue, codes, map, option_copied, if◌then◌else◌};
 ghost use Rattle.std.specs.FinSet as set;
 ghost use Rattle.cudf_text.specs.Joined.{is_fail};
 ghost use Rattle.cudf_text.specs.declared.fault.Fault.{Fault};
@@ -7,26 +7,26 @@ ghost use Rattle.cudf_document.specs.Statuses.{is_initial, ascend_above};
 ghost use Rattle.cudf_document.specs.Promises.Views.{unknown_view};
 ghost use Rattle.cudf_document.specs.declared.mode.Mode.{Mode};
 ghost use Rattle.cudf_referee.specs.Proposals.{Proposal, proposal};
-ghost use Rattle.cudf_check.specs.declared.outcome.Outcome.TheVariants.{Fail};
-ghost use Rattle.cudf_check.specs.Report.{Report, alone, faulty_or, solution_fault, judged_report, pair_report, lint_report, inputs_report, scored_text, report};
+ghost use Rattle.cudf_check.specs.declared.outcome.Outcome.TheVariants.{Fail, Yes};
+ghost use Rattle.cudf_check.specs.Report.{Report, alone, faulty_or, problem_fault, solution_fault, judged_report, pair_report, inputs_report, report};
 ghost use Rattle.cudf_check.specs.Working.Answering.{Answers};
-ghost use Rattle.cudf_check.specs.Working.Findings.{found_text};
-ghost use Rattle.cudf_check.specs.Working.Refusals.{IsFaultOf, IsRefused};
+ghost use Rattle.cudf_check.specs.Working.Found.{found_text};
+ghost use Rattle.cudf_check.specs.Working.Unjudged.{IsFaultOf, IsUnjudged};
 
 use crate::device::Sink;
 use crate::job::Job;
-use crate::lines::{Findings, answer, answer_fault, answer_judged};
+use crate::lines::{answer, answer_fault, answer_judged};
 use crate::outcome::{Outcome, RunError};
-use crate::readings::{Refusal, problem_beside, proposed_in, sound_in};
+use crate::readings::{Unjudged, problem_beside, proposed_in, sound_in};
 use crate::setting::Setting;
 use cudf_document::{Problem, ReadError, Solution};
+use cudf_referee::Referee;
 use cudf_referee::laws::ascending;
-use cudf_referee::{Aim, Referee};
 use cudf_text::{Room, cut_joined};
 use std::alloc::Global;
 
 /// Answers a document that isn't judged.
-pub(crate) fn answer_refusal<W: Sink>(
+pub(crate) fn answer_unread<W: Sink>(
     alloc: Global,
     out: &mut W,
     whose: &'static str,
@@ -45,14 +45,14 @@ pub(crate) fn answer_refusal<W: Sink>(
 fn answer_unjudged<W: Sink>(
     alloc: Global,
     out: &mut W,
-    refusal: Refusal,
+    reason: Unjudged,
 ) -> Result<Outcome, RunError>
-    ensures { (mode : Mode) → (bytes : List ℕ) → (report : Report) → IsRefused mode bytes refusal
+    ensures { (mode : Mode) → (bytes : List ℕ) → (report : Report) → IsUnjudged mode bytes reason
         → Answers (W.state out.old) (W.state out.new) (faulty_or (codes "solution") (solution_fault mode bytes) (if is_fail bytes then alone (codes "solution FAIL") Fail else report)) result }
 {
-    match refusal {
-        Refusal::SaysFail => answer(alloc, out, "solution FAIL", Outcome::Fail),
-        Refusal::Unread(error) => answer_refusal(alloc, out, "solution", error),
+    match reason {
+        Unjudged::SaysFail => answer(alloc, out, "solution FAIL", Outcome::Fail),
+        Unjudged::Unread(error) => answer_unread(alloc, out, "solution", error),
     }
 }
 
@@ -60,17 +60,17 @@ fn answer_unjudged<W: Sink>(
 fn answer_proposal<W: Sink>(
     alloc: Global,
     out: &mut W,
-    found: Findings<'_>,
+    job: &Job,
     problem: &Problem<'_>,
     solution: &Solution<'_>,
 ) -> Result<Outcome, RunError>
     requires { IsTrue (ascend_above 0 (map unknown_view solution.now.unknown.items)) }
-    ensures { Answers (W.state out.old) (W.state out.new) (judged_report (found_text found.entry) (proposal problem.now (is_initial problem.now) (set.contains solution.now.status)
+    ensures { Answers (W.state out.old) (W.state out.new) (judged_report (found_text job.now) (proposal problem.now (is_initial problem.now) (set.contains solution.now.status)
         (map unknown_view solution.now.unknown.items))) result }
 {
     ascending();
     match Referee::new(alloc, problem, solution) {
-        Ok(referee) => answer_judged(alloc, out, &referee, found),
+        Ok(referee) => answer_judged(alloc, out, &referee, job),
         Err(_) => Err(RunError::Memory),
     }
 }
@@ -79,33 +79,33 @@ fn answer_proposal<W: Sink>(
 fn check<W: Sink>(
     setting: Setting,
     out: &mut W,
-    found: Findings<'_>,
+    job: &Job,
     problem: &[u8],
     solution: &[u8],
 ) -> Result<Outcome, RunError>
-    ensures { Answers (W.state out.old) (W.state out.new) (pair_report setting.mode (found_text found.entry) problem.now solution.now) result }
+    ensures { Answers (W.state out.old) (W.state out.new) (pair_report setting.mode (found_text job.now) problem.now solution.now) result }
 {
     let alloc = setting.alloc;
     let mut problem_room = Room::new(alloc);
     let mut solution_room = Room::new(alloc);
     let problem = match problem_beside(setting, problem, &mut problem_room, solution) {
         Ok(problem) => problem,
-        Err(error) => return answer_refusal(alloc, out, "problem", error),
+        Err(error) => return answer_unread(alloc, out, "problem", error),
     };
     let solution = match proposed_in(setting, solution, &mut solution_room, &problem) {
         Ok(solution) => solution,
-        Err(refusal) => return answer_unjudged(alloc, out, refusal),
+        Err(reason) => return answer_unjudged(alloc, out, reason),
     };
-    answer_proposal(alloc, out, found, &problem, &solution)
+    answer_proposal(alloc, out, job, &problem, &solution)
 }
 
 /// Says that a problem has no fault, or which one is its first.
 fn lint<W: Sink>(setting: Setting, out: &mut W, problem: &[u8]) -> Result<Outcome, RunError>
-    ensures { Answers (W.state out.old) (W.state out.new) (lint_report setting.mode problem.now) result }
+    ensures { Answers (W.state out.old) (W.state out.new) (faulty_or (codes "problem") (problem_fault setting.mode problem.now) (alone (codes "problem ok") Yes)) result }
 {
     match sound_in(setting, problem) {
         Ok(()) => answer(setting.alloc, out, "problem ok", Outcome::Yes),
-        Err(error) => answer_refusal(setting.alloc, out, "problem", error),
+        Err(error) => answer_unread(setting.alloc, out, "problem", error),
     }
 }
 
@@ -117,16 +117,6 @@ fn parted<'t>(input: &'t [u8], solution: Option<&'t [u8]>) -> (&'t [u8], &'t [u8
     match solution {
         Some(solution) => (input, solution),
         None => cut_joined(input),
-    }
-}
-
-/// What is counted: the counts that the aims name, or else those of the competition.
-fn found_by(aims: &Option<Vec<Aim>>) -> Findings<'_>
-    ensures { found_text result ≡ scored_text (option_map (λ aims. aims.items) aims.now) }
-{
-    match aims {
-        Some(aims) => Findings::Aims(aims),
-        None => Findings::Score,
     }
 }
 
@@ -143,17 +133,9 @@ pub(crate) fn answer_job<W: Sink>(
 {
     match job {
         Job::Lint => lint(setting, out, input),
-        Job::Check { after, limit } => {
-            let found = Findings::Page {
-                after: *after,
-                limit: *limit,
-            };
+        Job::Check { .. } | Job::Score { .. } => {
             let (problem, solution) = parted(input, solution);
-            check(setting, out, found, problem, solution)
-        }
-        Job::Score { aims } => {
-            let (problem, solution) = parted(input, solution);
-            check(setting, out, found_by(aims), problem, solution)
+            check(setting, out, job, problem, solution)
         }
     }
 }

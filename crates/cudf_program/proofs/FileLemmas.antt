@@ -1,15 +1,15 @@
 -- Files in a row: the words that name them, the devices over them, and the bytes that these give.
-use Rattle.std.proofs.Common.{◌≡◌, ◌+◌, ◌<◌, ◌≤◌, ℕ, Bool, zero, suc, true, false, cond, List, [], ◌∷◌, ◌++◌, map, take, get_or, Vec, Global, length, slice_get, slice_index_or, count_by, bytes_eq, nat_lt, codes, Option, Some, None, Result, Ok, Err, MatchResult, inl, refl, sym, ap, ◌∙◌, subst, arith}
+use Rattle.std.proofs.Common.{◌≡◌, ◌+◌, ◌<◌, ◌≤◌, ℕ, Bool, zero, suc, true, false, cond, List, [], ◌∷◌, ◌++◌, map, take, get_or, Vec, Global, length, slice_index_or, count_by, bytes_eq, nat_lt, codes, Option, Some, None, Result, Ok, Err, MatchResult, inl, refl, sym, ap, ◌∙◌, subst, arith}
 use Rattle.std.proofs.lemmas.Grind.{common_steps}
 use Rattle.std.proofs.lemmas.List.{map-id}
-use Rattle.std.specs.List.{fold}
+use Rattle.std.specs.List.{fold, AllZip}
+use Rattle.std.specs.Option.{option_to_list}
 use Rattle.cudf_document.proofs.NameLemmas.{same_bytes}
-use Rattle.cudf_check.specs.ManyRuns.{LeavesBehind, changes}
-use Rattle.cudf_check.specs.Readers.{Change, OfEach, ReadsAll, change}
-use Rattle.cudf_check.specs.Prefix.{AppendsPrefix}
+use Rattle.cudf_check.specs.ManyRuns.{LeavesBehind}
+use Rattle.cudf_check.specs.Readers.{Change, ReadsAll, change, changes}
+use Rattle.cudf_check.specs.Runs.{AppendsPrefix, Runs, job_report, read_for}
 use Rattle.cudf_check.specs.RankReport.{rank_report}
 use Rattle.cudf_check.specs.Report.{Report, report}
-use Rattle.cudf_check.specs.Runs.{Runs, job_report, read_for}
 use Rattle.cudf_check.specs.declared.job.Job.{Job}
 use Rattle.cudf_check.specs.declared.job.Job.TheVariants.{Lint, Check, Score}
 use Rattle.std.specs.Io.KnownBytes.{Appends, Consumes, Keeps}
@@ -39,10 +39,10 @@ use Rattle.cudf_program.specs.declared.command.FileName.TheVariants.{Path, Stand
 -- ---- one more
 
 pub taken_more : {A B C : Type 0} (f : C → A) (R : A → B → Type 0) (cs : List C) (i : ℕ) (d : C) (ys : List B) (y : B)
-    → i < length cs → OfEach R (map f (take i cs)) ys → R (f (get_or cs i d)) y → OfEach R (map f (take (i + 1) cs)) (ys ++ y ∷ [])
-taken_more {A = A} {B = B} {C = C} f R cs i d ys y below m h = let next : i + 1 ≡ suc i = omega arith in subst (λ n. OfEach R (map f (take n cs)) (ys ++ y ∷ [])) (sym next) (go cs i ys below m h)
+    → i < length cs → AllZip R (map f (take i cs)) ys → R (f (get_or cs i d)) y → AllZip R (map f (take (i + 1) cs)) (ys ++ y ∷ [])
+taken_more {A = A} {B = B} {C = C} f R cs i d ys y below m h = let next : i + 1 ≡ suc i = omega arith in subst (λ n. AllZip R (map f (take n cs)) (ys ++ y ∷ [])) (sym next) (go cs i ys below m h)
   where
-    go : (cs : List C) (i : ℕ) (ys : List B) → i < length cs → OfEach R (map f (take i cs)) ys → R (f (get_or cs i d)) y → OfEach R (map f (take (suc i) cs)) (ys ++ y ∷ [])
+    go : (cs : List C) (i : ℕ) (ys : List B) → i < length cs → AllZip R (map f (take i cs)) ys → R (f (get_or cs i d)) y → AllZip R (map f (take (suc i) cs)) (ys ++ y ∷ [])
     go [] i ys below m h = absurd (omega arith)
     go (c ∷ cs) zero [] below m h = (h, tt)
     go (c ∷ cs) zero (b ∷ ys) below m h = absurd m
@@ -50,10 +50,10 @@ taken_more {A = A} {B = B} {C = C} f R cs i d ys y below m h = let next : i + 1 
     go (c ∷ cs) (suc i) (b ∷ ys) below m h = (m.0, go cs i ys (omega arith) m.1 h)
 
 pub next_taken : {A B : Type 0} (R : A → B → Type 0) (xs : List A) (i : ℕ) (d : A) (ys : List B) (y : B)
-    → i < length xs → OfEach R (take i xs) ys → R (get_or xs i d) y → OfEach R (take (i + 1) xs) (ys ++ y ∷ [])
+    → i < length xs → AllZip R (take i xs) ys → R (get_or xs i d) y → AllZip R (take (i + 1) xs) (ys ++ y ∷ [])
 next_taken R xs i d ys y below m h =
-    subst (λ zs. OfEach R zs (ys ++ y ∷ [])) (map-id (take (i + 1) xs))
-    (taken_more (λ x. x) R xs i d ys y below (subst (λ zs. OfEach R zs ys) (sym (map-id (take i xs))) m) h)
+    subst (λ zs. AllZip R zs (ys ++ y ∷ [])) (map-id (take (i + 1) xs))
+    (taken_more (λ x. x) R xs i d ys y below (subst (λ zs. AllZip R zs ys) (sym (map-id (take i xs))) m) h)
 
 -- ---- standard input
 
@@ -110,7 +110,7 @@ same_length P (old ∷ olds) [] m = absurd m
 same_length P (old ∷ olds) (new ∷ news) m = ap suc (same_length P olds news m.1)
 
 pub each_known : {D : Type 0} (state : D → SourceState) (left : D → Option (List ℕ)) → ((d : D) → left d ≡ (state d).remaining)
-    → (olds news : List D) (texts : List (List ℕ)) → length news ≡ length olds → OfEach ReadsAll (changes state olds news) texts → OfEach IsKnownAs (map left olds) texts
+    → (olds news : List D) (texts : List (List ℕ)) → length news ≡ length olds → AllZip ReadsAll (changes state olds news) texts → AllZip IsKnownAs (map left olds) texts
 each_known state left is [] [] [] same m = tt
 each_known state left is [] [] (t ∷ texts) same m = absurd m
 each_known state left is [] (new ∷ news) texts same m = absurd (omega arith)
@@ -132,7 +132,7 @@ abbrev filling : Option (List ℕ) → List ℕ
 filling None = []
 filling (Some bytes) = bytes
 
-filled : (known : List (Option (List ℕ))) → OfEach IsKnownAs known (map filling known)
+filled : (known : List (Option (List ℕ))) → AllZip IsKnownAs known (map filling known)
 filled [] = tt
 filled (None ∷ known) = (tt, filled known)
 filled (Some bytes ∷ known) = (refl, filled known)
@@ -144,25 +144,29 @@ knowns (Some reader) rest = reader.before.remaining ∷ rest
 
 -- texts of which this is known, with the same report as these
 abbrev HasOthers : Job → Mode → List ℕ → List (List ℕ) → List (Option (List ℕ)) → Type 0
-HasOthers job mode text texts known = (others : List (List ℕ)) × OfEach IsKnownAs known others × (job_report job mode text texts ≡ job_report job mode text others)
+HasOthers job mode text texts known = (others : List (List ℕ)) × AllZip IsKnownAs known others × (job_report job mode text texts ≡ job_report job mode text others)
 
 read_alone : (job : Job) (mode : Mode) (text : List ℕ) (reader : Change SourceState) (texts : List (List ℕ)) (rest : List (Option (List ℕ)))
-    → OfEach ReadsAll (reader ∷ []) texts → HasOthers job mode text texts (reader.before.remaining ∷ rest)
+    → AllZip ReadsAll (reader ∷ []) texts → HasOthers job mode text texts (reader.before.remaining ∷ rest)
 read_alone job mode text reader [] rest h = absurd h
 read_alone job mode text reader (bytes ∷ []) rest h = (bytes ∷ map filling rest, (all_known reader bytes h.0, filled rest), refl)
 read_alone job mode text reader (bytes ∷ other ∷ texts) rest h = absurd h.1
 
 others_of : (job : Job) (mode : Mode) (text : List ℕ) (solution : Option (Change SourceState)) (texts : List (List ℕ)) (rest : List (Option (List ℕ)))
-    → OfEach ReadsAll (read_for job solution) texts → HasOthers job mode text texts (knowns solution rest)
+    → AllZip ReadsAll (read_for job (option_to_list solution)) texts → HasOthers job mode text texts (knowns solution rest)
 unfolding report
-others_of job mode text None [] rest h = ([], tt, refl)
-others_of job mode text None (bytes ∷ texts) rest h = absurd h
+others_of Lint mode text None [] rest h = ([], tt, refl)
+others_of Lint mode text None (bytes ∷ texts) rest h = absurd h
+others_of (Check after limit) mode text None [] rest h = ([], tt, refl)
+others_of (Check after limit) mode text None (bytes ∷ texts) rest h = absurd h
+others_of (Score aims) mode text None [] rest h = ([], tt, refl)
+others_of (Score aims) mode text None (bytes ∷ texts) rest h = absurd h
 others_of Lint mode text (Some reader) texts rest h = (map filling (knowns (Some reader) rest), filled (knowns (Some reader) rest), refl)
 others_of (Check after limit) mode text (Some reader) texts rest h = read_alone (Check after limit) mode text reader texts rest h
 others_of (Score aims) mode text (Some reader) texts rest h = read_alone (Score aims) mode text reader texts rest h
 
 of_run : (P : Report → Type 0) (job : Job) (mode : Mode) (input : Change SourceState) (solution : Option (Change SourceState)) (rest : List (Option (List ℕ)))
-    (text : List ℕ) (texts : List (List ℕ)) → ReadsAll input text → OfEach ReadsAll (read_for job solution) texts → P (job_report job mode text texts)
+    (text : List ℕ) (texts : List (List ℕ)) → ReadsAll input text → AllZip ReadsAll (read_for job (option_to_list solution)) texts → P (job_report job mode text texts)
     → OfReport (RunOf job) mode input.before.remaining (knowns solution rest) P
 of_run P job mode input solution rest text texts first_read others_read holds =
     let o : HasOthers job mode text texts (knowns solution rest) = others_of job mode text solution texts rest others_read in
@@ -170,7 +174,7 @@ of_run P job mode input solution rest text texts first_read others_read holds =
 
 -- a run on a problem, and on the first solution where there is one
 pub did_run : (job : Job) (mode : Mode) (input : Change SourceState) (solution : Option (Change SourceState)) (rest : List (Option (List ℕ)))
-    (out : Change SinkState) (result : Result Outcome RunError) → Runs (job_report job mode) input (read_for job solution) out result
+    (out : Change SinkState) (result : Result Outcome RunError) → Runs (job_report job mode) input (read_for job (option_to_list solution)) out result
     → Did (RunOf job) mode input.before.remaining (knowns solution rest) out.before out.after result
 did_run job mode input solution rest out result runs = record {
   done = IfOk-weaker result _ _ (λ outcome h. of_run (λ r. Appends out.before.contents out.after.contents r.text × (outcome ≡ r.outcome)) job mode input solution rest h.text h.texts h.first_read h.others_read h.holds) runs.done;
@@ -185,7 +189,7 @@ first_item d (old ∷ olds) some is = (olds, ap (λ first. first ∷ olds) (sym 
 
 -- a run where there is no device of a solution
 pub did_alone : {D : Type 0} (state : D → SourceState) (job : Job) (mode : Mode) (input : Change SourceState) (olds : List D)
-    (out : Change SinkState) (result : Result Outcome RunError) → length olds ≤ 0 → Runs (job_report job mode) input (read_for job None) out result
+    (out : Change SinkState) (result : Result Outcome RunError) → length olds ≤ 0 → Runs (job_report job mode) input (read_for job []) out result
     → Did (RunOf job) mode input.before.remaining (map (λ d. (state d).remaining) olds) out.before out.after result
 did_alone state job mode input [] out result none runs = did_run job mode input None [] out result runs
 did_alone state job mode input (old ∷ olds) out result none runs = absurd (omega arith)
@@ -193,7 +197,7 @@ did_alone state job mode input (old ∷ olds) out result none runs = absurd (ome
 -- a run on the first of these devices
 pub did_first : {D : Type 0} (state : D → SourceState) (job : Job) (mode : Mode) (input : Change SourceState) (olds : List D) (old : D) (reader : Change SourceState)
     (out : Change SinkState) (result : Result Outcome RunError) → true ≡ nat_lt 0 (length olds) → old ≡ slice_index_or olds 0 old → reader.before ≡ state old
-    → Runs (job_report job mode) input (read_for job (Some reader)) out result
+    → Runs (job_report job mode) input (read_for job (reader ∷ [])) out result
     → Did (RunOf job) mode input.before.remaining (map (λ d. (state d).remaining) olds) out.before out.after result
 did_first state job mode input olds old reader out result some is first runs =
     let more = first_item old olds some is in
@@ -205,7 +209,7 @@ did_first state job mode input olds old reader out result some is first runs =
 -- ---- rankings
 
 of_ranking : {D : Type 0} (P : Report → Type 0) (state : D → SourceState) (aims : Vec Aim Global) (mode : Mode) (problem : Change SourceState) (olds news : List D)
-    (text : List ℕ) (texts : List (List ℕ)) → length news ≡ length olds → ReadsAll problem text → OfEach ReadsAll (changes state olds news) texts → P (rank_report aims.items mode text texts)
+    (text : List ℕ) (texts : List (List ℕ)) → length news ≡ length olds → ReadsAll problem text → AllZip ReadsAll (changes state olds news) texts → P (rank_report aims.items mode text texts)
     → OfReport (RankOf aims) mode problem.before.remaining (map (λ d. (state d).remaining) olds) P
 of_ranking P state aims mode problem olds news text texts same first_read others_read holds = record {
   first = text;

@@ -1,5 +1,6 @@
 -- What the words of the command line ask for.
 use Rattle.std.specs.Prelude.{◌≡◌, ◌≢◌, ◌⊎◌, ◌&&◌, ◌||◌, if◌then◌else◌, nat_lt, bytes_eq, ℕ, Bool, true, false, List, [], ◌∷◌, count_by, codes, drop, Option, Some, None, is_some, option_map, unwrap_or, Result, Ok, Err, MatchResult}
+use Rattle.std.specs.List.{AllZip}
 use Rattle.std.specs.Option.{option_map_or}
 use Rattle.std.specs.Result.{IsErrAnd}
 use Rattle.clap.specs.Matches.{first_value, matched_of, raw_values}
@@ -15,7 +16,6 @@ use Rattle.cudf_referee.specs.KeyViews.{key_view}
 use Rattle.cudf_referee.specs.declared.key.Key.{Key}
 use Rattle.cudf_document.specs.declared.mode.Mode.{Mode}
 use Rattle.cudf_document.specs.declared.mode.Mode.TheVariants.{Lenient, Strict}
-use Rattle.cudf_check.specs.Readers.{OfEach}
 use Rattle.cudf_check.specs.declared.job.Job.TheVariants.{Lint, Check, Score}
 use Rattle.cudf_program.specs.declared.command.FileName.{FileName}
 use Rattle.cudf_program.specs.declared.command.FileName.TheVariants.{Path, Standard}
@@ -39,7 +39,7 @@ IsGivenBy (Some word) file = IsNamedBy word file
 
 -- each word names the file at its place
 abbrev pub AreNamedBy : List (List ℕ) → List FileName → Type 0
-AreNamedBy words files = OfEach IsNamedBy words files
+AreNamedBy words files = AllZip IsNamedBy words files
 
 -- each word names the file at its place; without words there are no files
 abbrev pub AreGivenBy : Option (List (List ℕ)) → List FileName → Type 0

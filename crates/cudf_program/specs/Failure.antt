@@ -4,7 +4,7 @@ use Rattle.std.specs.declared.io.Error.{Error}
 use Rattle.std.specs.declared.io.ErrorKind.{ErrorKind}
 use Rattle.std.specs.declared.io.ErrorKind.TheVariants.{OutOfMemory}
 use Rattle.cudf_check.specs.Device.{SinkState}
-use Rattle.cudf_check.specs.Outcome.{error_status, outcome_status}
+use Rattle.cudf_check.specs.Runs.{error_status, outcome_status}
 use Rattle.cudf_check.specs.declared.outcome.Outcome.{Outcome}
 use Rattle.cudf_check.specs.declared.outcome.RunError.{RunError}
 use Rattle.cudf_program.specs.Usage.{usage_status}

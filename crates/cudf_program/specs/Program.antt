@@ -1,16 +1,15 @@
 -- What the program prints on standard output, and its exit status.
 use Rattle.std.specs.Prelude.{◌≡◌, ◌≢◌, ◌<◌, ◌⊎◌, ◌↔◌, ℕ, List, map, Option, Some, None, Result, IfOk, IfErr, IsErrOf}
+use Rattle.std.specs.List.{AllZip}
 use Rattle.std.specs.Io.KnownBytes.{Appends, Keeps}
 use Rattle.std.specs.IoError.{error_kind}
 use Rattle.std.specs.declared.io.Error.{Error}
 use Rattle.cudf_document.specs.declared.mode.Mode.{Mode}
 use Rattle.cudf_check.specs.Device.{SinkState}
 use Rattle.cudf_check.specs.DeviceInside.{device_inner}
-use Rattle.cudf_check.specs.Readers.{OfEach}
-use Rattle.cudf_check.specs.Prefix.{AppendsPrefix}
+use Rattle.cudf_check.specs.Runs.{AppendsPrefix, job_report}
 use Rattle.cudf_check.specs.RankReport.{rank_report}
 use Rattle.cudf_check.specs.Report.{Report}
-use Rattle.cudf_check.specs.Runs.{job_report}
 use Rattle.cudf_check.specs.declared.device.Device.{Device}
 use Rattle.cudf_check.specs.declared.outcome.Outcome.{Outcome}
 use Rattle.cudf_check.specs.declared.outcome.RunError.{RunError}
@@ -57,7 +56,7 @@ IsOpenedAs standard name device = IsOpened standard name (device_inner device)
 
 -- the inputs under the devices are those of the names, in order
 abbrev pub AreOpened : {I : Type 0} → I → List FileName → List (Device (Input I)) → Type 0
-AreOpened standard names devices = OfEach (IsOpenedAs standard) names devices
+AreOpened standard names devices = AllZip (IsOpenedAs standard) names devices
 
 -- the task is the order, on its files
 pub record IsTask {I : Type 0} (standard : I) (order : Order) (task : Task I) : Type 0 where
@@ -90,7 +89,7 @@ pub record OfReport (work : Work) (mode : Mode) (problem : Option (List ℕ)) (s
   pub first : List ℕ
   pub others : List (List ℕ)
   pub first_is : IsKnownAs problem first
-  pub others_are : OfEach IsKnownAs solutions others
+  pub others_are : AllZip IsKnownAs solutions others
   pub holds : P (work_report work mode first others)
 
 -- what some work on such inputs did to the output, and its answer

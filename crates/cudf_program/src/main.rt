@@ -6,7 +6,6 @@ ghost use Rattle.std.specs.Io.KnownBytes.{Keeps};
 ghost use Rattle.std.specs.Vec.Iter.{into_iter_items};
 ghost use Rattle.cudf_program.specs.Failure.{IsStatusOf, failure_status};
 ghost use Rattle.cudf_program.specs.Program.{AreOpened, Did, Finishes, IsPrepared, IsFailureOf, IsOfFile, IsOpened, IsTask, IsUnopened, Responds, left_of};
-ghost use Rattle.cudf_program.specs.declared.command.Work.TheVariants.{Run};
 
 mod command;
 mod failure;
@@ -18,8 +17,8 @@ mod stop;
 mod topic;
 mod usage;
 
-use command::{FileName, Order, Work, command as order_of};
-use cudf_check::{Device, Job, Mode, Outcome, RunError, Sink, rank, run};
+use command::{FileName, Order, Work};
+use cudf_check::{Device, Outcome, RunError, Sink, rank, run};
 use failure::Failure;
 use file::{Input, open};
 use output::write_all;
@@ -116,7 +115,7 @@ fn prepare<'w, I: Read + Copy + Drop>(
 ) -> Result<Task<'w, I>, Failure<'w>>
     ensures { MatchResult result (IsPrepared (map (λ word. string_bytes word) words.entry.now) standard) (IsFailureOf (map (λ word. string_bytes word) words.entry.now)) }
 {
-    match order_of(rt.alloc(), words) {
+    match command::command(rt.alloc(), words) {
         Ok(order) => open_files(rt, order, standard),
         Err(usage) => Err(Failure::Usage(usage)),
     }
@@ -187,7 +186,7 @@ fn open_named<'w, I: Drop>(
     }
 }
 
-/// Does the work of an order on open files.
+/// Does the work of an order on open files: a run is on the first of the solutions, where there is one.
 fn perform<I: Read + Drop, W: Sink>(
     alloc: Global,
     order: &Order<'_>,
@@ -198,25 +197,11 @@ fn perform<I: Read + Drop, W: Sink>(
     ensures { Did order.now.work order.now.mode (left_of I.remaining problem.old) (map (left_of I.remaining) solutions.old) (W.state out.old) (W.state out.new) result }
 {
     match &order.work {
-        Work::Run(job) => run_files(alloc, job, order.mode, problem, solutions, out),
         Work::Rank(aims) => rank(alloc, aims, order.mode, problem, solutions, out),
-    }
-}
-
-/// Runs on the problem, and on the first of the solutions, where there is one.
-fn run_files<I: Read + Drop, W: Sink>(
-    alloc: Global,
-    job: &Job,
-    mode: Mode,
-    problem: &mut Device<Input<I>>,
-    solutions: &mut [Device<Input<I>>],
-    out: &mut W,
-) -> Result<Outcome, RunError>
-    ensures { Did (Run job.now) mode (left_of I.remaining problem.old) (map (left_of I.remaining) solutions.old) (W.state out.old) (W.state out.new) result }
-{
-    match solutions.first_mut() {
-        Some(solution) => run(alloc, job, mode, problem, Some(solution), out),
-        None => run::<_, Device<File>, _>(alloc, job, mode, problem, None, out),
+        Work::Run(job) => match solutions.first_mut() {
+            Some(solution) => run(alloc, job, order.mode, problem, Some(solution), out),
+            None => run::<_, Device<File>, _>(alloc, job, order.mode, problem, None, out),
+        },
     }
 }
 

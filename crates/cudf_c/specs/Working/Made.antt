@@ -3,7 +3,7 @@ use Rattle.std.specs.Prelude.{◌≡◌, ◌⊎◌, List, ℕ}
 use Rattle.std.specs.List.{All}
 use Rattle.cudf_check.specs.Readers.{OfOne}
 use Rattle.cudf_check.specs.Report.{Report}
-use Rattle.cudf_check.specs.Outcome.{outcome_status}
+use Rattle.cudf_check.specs.Runs.{outcome_status}
 use Rattle.cudf_c.specs.Calls.{IsLong, IsShort, Left, Shows, ShowsNothing}
 use Rattle.cudf_c.specs.Working.Stops.{stop_status}
 use Rattle.cudf_c.specs.declared.made.Made.{Made}

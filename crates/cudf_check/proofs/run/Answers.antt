@@ -1,11 +1,76 @@
-use Rattle.std.proofs.Common.{Some, ap}
+use Rattle.std.proofs.Common.{[], ◌∷◌, Some, refl, subst, sym}
+use Rattle.cudf_check.specs.Readers.{IsTooLong, IsUnfinished, IsWithinTurns, change, changes}
+use Rattle.cudf_check.specs.Report.{report}
+use Rattle.cudf_check.specs.Runs.{Runs, job_report}
+use Rattle.cudf_check.specs.Working.Answering.{Answers}
+use Rattle.cudf_check.proofs.InputsLemmas.{IsBeyondTurns, beyond_turns_fails, each_within, none_still, too_long_fails, unfinished_fails}
+use Rattle.cudf_check.proofs.RunLemmas.{all_answered, first_stopped, none_for, of_one, one_behind, reads_it, second_stopped, was_read}
 use Rattle.cudf_check.proofs.run.Goals as goal
 
-pub returns-in-Some-clause-runs : goal.returns-in-Some-clause-runs
-returns-in-Some-clause-runs g c = rw c.in-Some.is c.run_two.ensures.runs
+pub returns-in_err-first-2-clause-runs : goal.returns-in_err-first-2-clause-runs
+returns-in_err-first-2-clause-runs g c =
+    let state = g.S.Source.state in
+    let job = c.args.job.now in
+    let still = c.in-Some.solution.now ∷ [] in
+    let read = c.read_all-2.ensures in
+    rw c.in-Some.is (first_stopped _ _ _ _ c.read_all-2.result _ _
+    (none_for IsTooLong job _ (none_still state IsTooLong (too_long_fails state) still)) (none_for IsUnfinished job _ (none_still state IsUnfinished (unfinished_fails state) still))
+    c.in_err-first-2.was read.too_long read.read read.no_write c.from_residual-in_err-first-2.ensures)
 
-pub returns-in-Some-clause-unread : goal.returns-in-Some-clause-unread
-returns-in-Some-clause-unread g c = rw c.in-Some.is (λ skips. ap Some (c.run_two.ensures.unread skips))
+pub returns-in_err-first-2-clause-solution_turns : goal.returns-in_err-first-2-clause-solution_turns
+returns-in_err-first-2-clause-solution_turns g c =
+    let state = g.S.Source.state in
+    let still = c.in-Some.solution.now ∷ [] in
+    rw c.in-Some.is (each_within (changes state still still) (none_still state IsBeyondTurns (beyond_turns_fails state) still))
 
-pub returns-in-Some-clause-solution_turns : goal.returns-in-Some-clause-solution_turns
-returns-in-Some-clause-solution_turns g c = rw c.in-Some.is c.run_two.ensures.solution_turns
+pub returns-in_err-first-2-clause-unread : goal.returns-in_err-first-2-clause-unread
+returns-in_err-first-2-clause-unread g c = rw c.in-Some.is (λ skips. refl)
+
+pub returns-in-Lint-clause-solution_turns : goal.returns-in-Lint-clause-solution_turns
+returns-in-Lint-clause-solution_turns g c =
+    let state = g.S.Source.state in
+    let still = c.in-Some.solution.now ∷ [] in
+    rw c.in-Some.is (each_within (changes state still still) (none_still state IsBeyondTurns (beyond_turns_fails state) still))
+
+pub returns-in-Lint-clause-unread : goal.returns-in-Lint-clause-unread
+returns-in-Lint-clause-unread g c = rw c.in-Some.is (λ skips. refl)
+
+pub returns-in_err-second-in-Check-clause-runs : goal.returns-in_err-second-in-Check-clause-runs
+returns-in_err-second-in-Check-clause-runs g c =
+    let answer = job_report c.args.job.now c.args.mode in
+    let first = change g.R.Source.state c.args.input.now c.read_all-2.new.source in
+    let second = change g.S.Source.state c.in-Some.solution.now c.read_all-in-Check.new.source in
+    let out = g.W.Sink.state c.args.out.now in
+    let read = c.in_ok-first-2.ensures in
+    let tried = c.read_all-in-Check.ensures in
+    rw c.in-Some.is (subst (λ others. Runs answer first others (record { before = out; after = out }) c.from_residual-in_err-second-in-Check.result) (sym (reads_it c.args.job.now (second ∷ []) c.in-Check.is))
+    (second_stopped answer first _ second out c.read_all-in-Check.result _ _
+    (was_read first c.in_ok-first-2.first.items c.in_ok-first-2.first read.all read.too_long read.read read.turns)
+    c.in_err-second-in-Check.was tried.too_long tried.read tried.no_write c.from_residual-in_err-second-in-Check.ensures))
+
+pub returns-in_err-second-in-Check-clause-solution_turns : goal.returns-in_err-second-in-Check-clause-solution_turns
+returns-in_err-second-in-Check-clause-solution_turns g c = rw c.in-Some.is (of_one IsWithinTurns _ c.read_all-in-Check.ensures.turns)
+
+pub returns-clause-runs : goal.returns-clause-runs
+returns-clause-runs g c =
+    let job = c.args.job.now in
+    let mode = c.args.mode in
+    let first = change g.R.Source.state c.args.input.now c.read_all-2.new.source in
+    let second = change g.S.Source.state c.in-Some.solution.now c.read_all-in-Check.new.source in
+    let before = g.W.Sink.state c.args.out.now in
+    let after = g.W.Sink.state c.answer_job-in-Check.new.out in
+    let text = c.in_ok-first-2.first.items in
+    let bytes = c.in_ok-second-in-Check.second.items in
+    let read = c.in_ok-first-2.ensures in
+    let read_too = c.in_ok-second-in-Check.ensures in
+    rw c.in-Some.is (subst (λ others. Runs (job_report job mode) first others (record { before = before; after = after }) c.answer_job-in-Check.result) (sym (reads_it job (second ∷ []) c.in-Check.is))
+    (all_answered (job_report job mode) first text (second ∷ []) (bytes ∷ [])
+    (was_read first text c.in_ok-first-2.first read.all read.too_long read.read read.turns)
+    (one_behind second bytes (was_read second bytes c.in_ok-second-in-Check.second read_too.all read_too.too_long read_too.read read_too.turns))
+    before after c.answer_job-in-Check.result
+    (subst (λ t. Answers before after (report job mode t (Some bytes)) c.answer_job-in-Check.result) c.deref-in-Check.ensures.value
+    (subst (λ b. Answers before after (report job mode c.deref-in-Check.result.now (Some b)) c.answer_job-in-Check.result) c.deref-in-Check-2.ensures.value
+    c.answer_job-in-Check.ensures))))
+
+pub returns-clause-solution_turns : goal.returns-clause-solution_turns
+returns-clause-solution_turns g c = rw c.in-Some.is (of_one IsWithinTurns _ c.in_ok-second-in-Check.ensures.turns)

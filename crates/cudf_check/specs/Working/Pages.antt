@@ -1,5 +1,6 @@
 -- Where the walk over the instances stands after a page, and what it has spent.
-use Rattle.std.specs.Prelude.{◌≡◌, ◌≤◌, ◌+◌, ◌⊎◌, ℕ, Bool, true, false, List, [], ◌∷◌, ◌++◌, codes, length, take, drop, map, IsTrue, Option, Some, None, if◌then◌else◌}
+use Rattle.std.specs.Prelude.{◌≡◌, ◌≤◌, ◌+◌, ◌⊎◌, ℕ, Bool, true, false, List, [], ◌∷◌, ◌++◌, codes, length, take, drop, map, IsTrue, option_map, Option, Some, None, if◌then◌else◌}
+use Rattle.std.specs.List.{last_or}
 use Rattle.cudf_document.specs.Documents.{is_empty}
 use Rattle.cudf_referee.specs.Keys.{PlainKey, key_text, ascend}
 use Rattle.cudf_referee.specs.Promises.Pages.{cost_along}
@@ -9,17 +10,21 @@ use Rattle.cudf_referee.specs.declared.key.Key.{Key}
 use Rattle.cudf_referee.specs.Instances.{PlainInstance}
 use Rattle.cudf_referee.specs.KeyViews.{key_view}
 use Rattle.cudf_referee.specs.Proposals.{Proposal}
-use Rattle.cudf_referee.specs.Violations.{listing}
-use Rattle.cudf_check.specs.Report.{line, last_key}
+use Rattle.cudf_referee.specs.Violations.{listing, rest}
+use Rattle.cudf_check.specs.Report.{line}
 
 -- the keys of the listing ascend
 abbrev pub Ascends : Proposal → Type 0
 Ascends s = IsTrue (ascend (map (λ i. i.key) (listing s)))
 
+-- the key of the last one
+abbrev pub end_key : List PlainInstance → Option PlainKey
+end_key is = option_map (λ i. i.key) (last_or None is)
+
 -- so many instances were taken, and this is the key of the last one; or there was none left to take
 abbrev pub IsPageEnd : ℕ → List PlainInstance → List PlainInstance → Option Key → Type 0
-IsPageEnd limit old new (Some key) = (last_key (take limit old) ≡ Some (key_view key)) × (new ≡ drop limit old)
-IsPageEnd limit old new None = (last_key (take limit old) ≡ None) ⊎ (drop limit old ≡ [])
+IsPageEnd limit old new (Some key) = (end_key (take limit old) ≡ Some (key_view key)) × (new ≡ drop limit old)
+IsPageEnd limit old new None = (end_key (take limit old) ≡ None) ⊎ (drop limit old ≡ [])
 
 -- the same, unless a write failed before the page was whole
 abbrev pub IsEnded : ℕ → List PlainInstance → List PlainInstance → Option Key → Bool → Type 0
@@ -30,6 +35,11 @@ IsEnded limit old new None false = IsPageEnd limit old new None
 -- where the next page begins, if an instance is left
 abbrev pub more_behind : List PlainInstance → PlainKey → List ℕ
 more_behind is key = if is_empty is then [] else line (codes "more after " ++ key_text key)
+
+-- the same of the listing, behind the key of the last one
+abbrev pub more_after : Proposal → Option PlainKey → List ℕ
+more_after s None = []
+more_after s (Some key) = more_behind (rest key s) key
 
 -- how many instances a page has at most: all that are left, where it has no limit
 abbrev pub page_size : Option ℕ → List PlainInstance → ℕ

@@ -2,7 +2,7 @@
 use Rattle.std.specs.Prelude.{◌≡◌, ◌<◌, ◌↔◌, ℕ, List, Result, OnOk, IsErrOf, IsOkUnless}
 use Rattle.std.specs.Io.KnownBytes.{Appends}
 use Rattle.cudf_check.specs.Device.{SinkState}
-use Rattle.cudf_check.specs.Prefix.{AppendsPrefix}
+use Rattle.cudf_check.specs.Runs.{AppendsPrefix}
 use Rattle.cudf_check.specs.declared.outcome.RunError.{RunError}
 use Rattle.cudf_check.specs.declared.outcome.RunError.TheVariants.{Write}
 

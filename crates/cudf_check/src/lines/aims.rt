@@ -1,5 +1,6 @@
 //! Prints the counts that a list of aims names.
-ghost use Rattle.cudf_check.specs.Report.{aim_line, aims_text};
+ghost use Rattle.std.specs.List.{flat_map};
+ghost use Rattle.cudf_check.specs.Report.{aim_line};
 ghost use Rattle.cudf_check.specs.Working.Paper.{Says};
 
 use crate::device::Sink;
@@ -17,7 +18,7 @@ fn print_aim_line<W: Sink>(paper: &mut Paper<'_, W>, criteria: &Criteria, aim: A
 
 /// Prints a line for each aim.
 pub(crate) fn print_aim_lines<W: Sink>(paper: &mut Paper<'_, W>, criteria: &Criteria, aims: &[Aim])
-    ensures { Says W.state paper.old paper.new (aims_text aims.now criteria.now) }
+    ensures { Says W.state paper.old paper.new (flat_map (aim_line criteria.now) aims.now) }
 {
     for aim in aims {
         print_aim_line(paper, criteria, *aim);

@@ -1,39 +1,32 @@
 //! Prints the line of an instance.
-ghost use Rattle.std.specs.Prelude.{◌++◌, codes, option_map};
-ghost use Rattle.std.specs.List.{flat_map};
+ghost use Rattle.std.specs.Prelude.{◌≡◌, ◌++◌, Some, map, option_map, option_and_then};
 ghost use Rattle.cudf_value.specs.Promises.Views.{vpkg_view, atom_view, clause_view};
-ghost use Rattle.cudf_value.specs.Printing.{bound_text, vpkg_text, atom_text, clause_text};
+ghost use Rattle.cudf_value.specs.Printing.{vpkg_text, atom_text, clause_text};
 ghost use Rattle.cudf_document.specs.Promises.Views.{package_view};
+ghost use Rattle.cudf_document.specs.Universe.{PlainProblem, package_at};
 ghost use Rattle.cudf_referee.specs.Keys.{key_text, part_text, aspect_text};
 ghost use Rattle.cudf_referee.specs.KeyViews.{key_view};
 ghost use Rattle.cudf_referee.specs.Promises.Views.{instance_view, what_view};
-ghost use Rattle.cudf_check.specs.Report.{meeting_text, aspect_line, upgrade_text, what_text, subject_text, place_text, met_line};
+ghost use Rattle.cudf_check.specs.Report.{meeting_text, upgrade_text, what_text, subject_text, instance_line};
 ghost use Rattle.cudf_check.specs.Working.Paper.{Says};
 
 use crate::device::Sink;
 use crate::paper::Paper;
 use cudf_document::Package;
-use cudf_referee::{Aspect, Instance, Key, Part, What};
-use cudf_value::{Atom, Clause, Relop, Vpkg};
+use cudf_referee::{Aspect, Instance, Key, Part, Referee, What};
+use cudf_value::{Atom, Clause, Vpkg};
 
-/// Prints a bound, if there is one.
-fn print_bound<W: Sink>(paper: &mut Paper<'_, W>, bound: Option<(Relop, u64)>)
-    ensures { Says W.state paper.old paper.new (bound_text bound) }
+/// Prints a vpkg, with its bound, if it has one.
+fn print_vpkg<W: Sink>(paper: &mut Paper<'_, W>, vpkg: &Vpkg<'_>)
+    ensures { Says W.state paper.old paper.new (vpkg_text (vpkg_view vpkg.now)) }
 {
-    if let Some((relop, number)) = bound {
+    paper.text(vpkg.name);
+    if let Some((relop, number)) = vpkg.bound {
         paper.text(" ");
         paper.text(relop.symbol());
         paper.text(" ");
         paper.number(number);
     }
-}
-
-/// Prints a vpkg.
-fn print_vpkg<W: Sink>(paper: &mut Paper<'_, W>, vpkg: &Vpkg<'_>)
-    ensures { Says W.state paper.old paper.new (vpkg_text (vpkg_view vpkg.now)) }
-{
-    paper.text(vpkg.name);
-    print_bound(paper, vpkg.bound);
 }
 
 /// Prints an atom.
@@ -47,23 +40,16 @@ fn print_atom<W: Sink>(paper: &mut Paper<'_, W>, atom: &Atom<'_>)
     }
 }
 
-/// Prints the atoms behind the first one.
-fn print_others<W: Sink>(paper: &mut Paper<'_, W>, atoms: &[Atom<'_>])
-    ensures { Says W.state paper.old paper.new (flat_map (λ a. codes " | " ++ atom_text (atom_view a)) atoms.now) }
-{
-    for atom in atoms {
-        paper.text(" | ");
-        print_atom(paper, atom);
-    }
-}
-
 /// Prints a clause.
 fn print_clause<W: Sink>(paper: &mut Paper<'_, W>, clause: &Clause<'_>)
     ensures { Says W.state paper.old paper.new (clause_text (clause_view clause.now)) }
 {
     if let Some((first, others)) = clause.atoms.as_slice().split_first() {
         print_atom(paper, first);
-        print_others(paper, others);
+        for atom in others {
+            paper.text(" | ");
+            print_atom(paper, atom);
+        }
     }
 }
 
@@ -81,7 +67,7 @@ fn print_meeting<W: Sink>(paper: &mut Paper<'_, W>, met: Option<&Package<'_>>)
 
 /// Prints what is wrong with an entry of `upgrade` in this way.
 fn print_aspect<W: Sink>(paper: &mut Paper<'_, W>, vpkg: &Vpkg<'_>, aspect: Aspect)
-    ensures { Says W.state paper.old paper.new (aspect_line (vpkg_view vpkg.now) aspect) }
+    ensures { Says W.state paper.old paper.new (upgrade_text (vpkg_view vpkg.now) (Some aspect)) }
 {
     match aspect {
         Aspect::Unsatisfied => {
@@ -203,26 +189,28 @@ fn print_subject<W: Sink>(paper: &mut Paper<'_, W>, subject: Option<(&str, u64)>
     }
 }
 
-/// Prints what an instance is about, and its line.
-fn print_place<W: Sink>(paper: &mut Paper<'_, W>, subject: Option<(&str, u64)>, number: u64)
-    ensures { Says W.state paper.old paper.new (place_text (option_map (λ s. (s.0.now, s.1)) subject.entry) number) }
+/// The package that meets an instance's entry.
+fn meeting<'x, 't>(packages: &'x [Package<'t>], place: Option<u64>) -> Option<&'x Package<'t>>
+    ensures { (problem : PlainProblem) → map package_view packages.now ≡ problem.packages
+        → option_map (λ p. package_view p.now) result ≡ option_and_then (package_at problem) place }
 {
-    print_subject(paper, subject);
-    paper.text(" line ");
-    paper.number(number);
-    paper.text(": ");
+    packages.get((place? as usize).checked_sub(1)?)
 }
 
-/// Prints the line of an instance that this package meets.
+/// Prints the line of an instance.
 pub(crate) fn print_instance<W: Sink>(
     paper: &mut Paper<'_, W>,
+    referee: &Referee<'_, '_>,
     instance: &Instance<'_, '_>,
-    met: Option<&Package<'_>>,
 )
-    ensures { Says W.state paper.old paper.new (met_line (instance_view instance.now) (option_map (λ p. package_view p.now) met.entry)) }
+    ensures { Says W.state paper.old paper.new (instance_line referee.entry.now (instance_view instance.now)) }
 {
+    let met = meeting(referee.packages(), referee.met_by(instance));
     print_key(paper, instance.key);
-    print_place(paper, instance.subject, instance.line);
+    print_subject(paper, instance.subject);
+    paper.text(" line ");
+    paper.number(instance.line);
+    paper.text(": ");
     print_what(paper, &instance.what, instance.key.aspect(), met);
     paper.text("\n");
 }

@@ -1,14 +1,11 @@
 //! Prints a page of the listing.
-ghost use Rattle.std.specs.Prelude.{◌≡◌, ◌≤◌, ◌+◌, ◌++◌, codes, take, map, length, slice_get, Option, Some, None, option_map, option_and_then};
+ghost use Rattle.std.specs.Prelude.{◌≡◌, ◌≤◌, ◌+◌, ◌++◌, codes, take, length, slice_get, option_map};
 ghost use Rattle.std.specs.List.{flat_map};
-ghost use Rattle.cudf_document.specs.Promises.Views.{package_view};
-ghost use Rattle.cudf_document.specs.Universe.{PlainProblem, package_at};
 ghost use Rattle.cudf_universe.specs.Promises.Prices.{digits};
-ghost use Rattle.cudf_referee.specs.Keys.{PlainKey, key_text};
+ghost use Rattle.cudf_referee.specs.Keys.{key_text};
 ghost use Rattle.cudf_referee.specs.KeyViews.{key_view};
 ghost use Rattle.cudf_referee.specs.Promises.Pages.{behind, at_instance, calls, cost_along, page_price};
 ghost use Rattle.cudf_referee.specs.Promises.Sites.{cost_between};
-ghost use Rattle.cudf_referee.specs.Promises.Views.{instance_view};
 ghost use Rattle.cudf_referee.specs.Promises.Walks.{left};
 ghost use Rattle.cudf_check.specs.Report.{line, instance_line, listed, check_text};
 ghost use Rattle.cudf_check.specs.Working.Pages.{Ascends, IsEnded, IsSpent, more_behind, page_size};
@@ -17,16 +14,7 @@ ghost use Rattle.cudf_check.specs.Working.Paper.{Says};
 use crate::device::Sink;
 use crate::lines::instance::{print_instance, print_key};
 use crate::paper::Paper;
-use cudf_document::Package;
-use cudf_referee::{Instance, Instances, Key, Referee};
-
-/// The package that meets an instance's entry.
-fn meeting<'x, 't>(packages: &'x [Package<'t>], place: Option<u64>) -> Option<&'x Package<'t>>
-    ensures { (problem : PlainProblem) → map package_view packages.now ≡ problem.packages
-        → option_map (λ p. package_view p.now) result ≡ option_and_then (package_at problem) place }
-{
-    packages.get((place? as usize).checked_sub(1)?)
-}
+use cudf_referee::{Instances, Key, Referee};
 
 /// The walk over the violated instances with greater keys than `after`, over all of them where it isn't given.
 fn walk_after<'r, 'p, 't>(referee: &'r Referee<'p, 't>, after: Option<Key>) -> Instances<'r, 'p, 't>
@@ -40,18 +28,6 @@ fn walk_after<'r, 'p, 't>(referee: &'r Referee<'p, 't>, after: Option<Key>) -> I
     }
 }
 
-/// Prints the line of an instance.
-fn print_line<W: Sink>(
-    paper: &mut Paper<'_, W>,
-    referee: &Referee<'_, '_>,
-    instance: &Instance<'_, '_>,
-)
-    ensures { Says W.state paper.old paper.new (instance_line referee.entry.now (instance_view instance.now)) }
-{
-    let met = meeting(referee.packages(), referee.met_by(instance));
-    print_instance(paper, instance, met);
-}
-
 /// Prints the lines of all instances that are left. Where a write has failed, the walk goes no further.
 fn print_rest<W: Sink>(
     paper: &mut Paper<'_, W>,
@@ -63,7 +39,7 @@ fn print_rest<W: Sink>(
         + cost_along instances.old.judged instances.old.position (calls (left instances.old) (length (left instances.old))) }
 {
     while let Some(instance) = instances.next() {
-        print_line(paper, referee, &instance);
+        print_instance(paper, referee, &instance);
         if paper.has_failed() {
             return;
         }
@@ -88,7 +64,7 @@ fn print_first<W: Sink>(
     for turn in 0..limit {
         match instances.next() {
             Some(instance) => {
-                print_line(paper, referee, &instance);
+                print_instance(paper, referee, &instance);
                 if paper.has_failed() {
                     return None;
                 }
@@ -121,46 +97,9 @@ fn print_next<W: Sink>(paper: &mut Paper<'_, W>, instances: &mut Instances<'_, '
     }
 }
 
-/// Prints at most `limit` of the instances that are left, and where the next page begins. That takes `limit` calls of
-/// `next`, and one more.
-fn print_limited<W: Sink>(
-    paper: &mut Paper<'_, W>,
-    referee: &Referee<'_, '_>,
-    instances: &mut Instances<'_, '_, '_>,
-    limit: u64,
-)
-    ensures printed { (after : Option PlainKey) → Ascends referee.entry.now → left instances.old ≡ listed after referee.entry.now
-        → Says W.state paper.old paper.new (check_text after (Some limit) referee.entry.now) }
-    ensures price { instances.new.steps ≤ instances.old.steps
-        + cost_along instances.old.judged instances.old.position (calls (left instances.old) limit) }
-{
-    match print_first(paper, referee, instances, limit) {
-        Some(last) => print_next(paper, instances, last),
-        None => {}
-    }
-}
-
-/// Prints the instances that are left, at most `limit` of them where that is given, and where the next
-/// page begins.
-fn print_left<W: Sink>(
-    paper: &mut Paper<'_, W>,
-    referee: &Referee<'_, '_>,
-    instances: &mut Instances<'_, '_, '_>,
-    limit: Option<u64>,
-)
-    ensures printed { (after : Option PlainKey) → Ascends referee.entry.now → left instances.old ≡ listed after referee.entry.now
-        → Says W.state paper.old paper.new (check_text after limit referee.entry.now) }
-    ensures price { instances.new.steps ≤ instances.old.steps
-        + cost_along instances.old.judged instances.old.position (calls (left instances.old) (page_size limit (left instances.old))) }
-{
-    match limit {
-        Some(limit) => print_limited(paper, referee, instances, limit),
-        None => print_rest(paper, referee, instances),
-    }
-}
-
 /// Prints the page: the instances after the key `after`, where it is given, and at most `limit` of
-/// them; and where the next page begins. Gives back the walk that it made, too: that counted the steps.
+/// them; and where the next page begins, for which the walk is asked once more. Gives back the walk that it made,
+/// too: that counted the steps.
 pub(crate) fn print_page<'r, 'p, 't, W: Sink>(
     paper: &mut Paper<'_, W>,
     referee: &'r Referee<'p, 't>,
@@ -173,6 +112,15 @@ pub(crate) fn print_page<'r, 'p, 't, W: Sink>(
         (page_size limit (listed (option_map key_view after) referee.entry.now)) }
 {
     let mut instances = walk_after(referee, after);
-    print_left(paper, referee, &mut instances, limit);
-    instances
+    let Some(limit) = limit else {
+        print_rest(paper, referee, &mut instances);
+        return instances;
+    };
+    match print_first(paper, referee, &mut instances, limit) {
+        Some(last) => {
+            print_next(paper, &mut instances, last);
+            instances
+        }
+        None => instances,
+    }
 }

@@ -11,7 +11,7 @@ use crate::device::Sink;
 use crate::lines::alone::print_fault;
 use crate::outcome::{Outcome, RunError};
 use crate::paper::Paper;
-use crate::ranking::{Judgement, Standing};
+use crate::ranking::{Entrant, Judgement};
 use cudf_referee::{Aim, Criteria};
 use cudf_text::Fault;
 use std::alloc::Global;
@@ -61,20 +61,20 @@ fn print_rank<W: Sink>(paper: &mut Paper<'_, W>, rank: u64, place: u64)
 }
 
 /// Prints the line of a solution.
-fn print_standing<W: Sink>(paper: &mut Paper<'_, W>, aims: &[Aim], rank: u64, standing: &Standing)
-    ensures { Says W.state paper.old paper.new (rank_line aims.now (rank, standing.now)) }
+fn print_entrant<W: Sink>(paper: &mut Paper<'_, W>, aims: &[Aim], rank: u64, entrant: &Entrant)
+    ensures { Says W.state paper.old paper.new (rank_line aims.now (rank, entrant.now)) }
 {
-    print_rank(paper, rank, standing.place);
-    print_judgement(paper, aims, standing.judgement);
+    print_rank(paper, rank, entrant.place);
+    print_judgement(paper, aims, entrant.judgement);
     paper.text("\n");
 }
 
 /// Prints the lines of the ranked solutions.
-fn print_ranking<W: Sink>(paper: &mut Paper<'_, W>, aims: &[Aim], ranked: &[Standing])
+fn print_ranking<W: Sink>(paper: &mut Paper<'_, W>, aims: &[Aim], ranked: &[Entrant])
     ensures { Says W.state paper.old paper.new (ranking_text aims.now ranked.now) }
 {
-    for (index, standing) in ranked.iter().enumerate() {
-        print_standing(paper, aims, index as u64 + 1, standing);
+    for (index, entrant) in ranked.iter().enumerate() {
+        print_entrant(paper, aims, index as u64 + 1, entrant);
     }
 }
 
@@ -83,7 +83,7 @@ pub(crate) fn answer_ranked<W: Sink>(
     alloc: Global,
     out: &mut W,
     aims: &[Aim],
-    ranked: &[Standing],
+    ranked: &[Entrant],
     outcome: Outcome,
 ) -> Result<Outcome, RunError>
     ensures { Answers (W.state out.old) (W.state out.new) (record { text = ranking_text aims.now ranked.now; outcome = outcome }) result }

@@ -1,11 +1,12 @@
 //! Prints what a proposed status changes and lacks, counted.
 ghost use Rattle.std.specs.List.{flat_map};
+ghost use Rattle.cudf_referee.specs.Aims.{count_of, count_text};
 ghost use Rattle.cudf_check.specs.Report.{criteria_text, count_line, vector_line};
 ghost use Rattle.cudf_check.specs.Working.Paper.{Says};
 
 use crate::device::Sink;
 use crate::paper::Paper;
-use cudf_referee::Criteria;
+use cudf_referee::{Count, Criteria};
 
 /// Prints the line of a count.
 pub(crate) fn print_count<W: Sink>(paper: &mut Paper<'_, W>, name: &str, count: u64)
@@ -18,11 +19,11 @@ pub(crate) fn print_count<W: Sink>(paper: &mut Paper<'_, W>, name: &str, count: 
 }
 
 /// Prints a line for each count.
-fn print_counts<W: Sink>(paper: &mut Paper<'_, W>, counts: &[(&str, u64)])
-    ensures { Says W.state paper.old paper.new (flat_map (λ count. count_line count.0.now count.1) counts.now) }
+fn print_counts<W: Sink>(paper: &mut Paper<'_, W>, criteria: &Criteria, counts: &[Count])
+    ensures { Says W.state paper.old paper.new (flat_map (λ count. count_line (count_text count) (count_of criteria.now count)) counts.now) }
 {
-    for (name, count) in counts {
-        print_count(paper, name, *count);
+    for count in counts {
+        print_count(paper, count.text(), criteria.count(*count));
     }
 }
 
@@ -43,13 +44,13 @@ pub(crate) fn print_score<W: Sink>(paper: &mut Paper<'_, W>, criteria: Criteria)
     ensures { Says W.state paper.old paper.new (criteria_text criteria) }
 {
     let counts = [
-        ("removed", criteria.removed),
-        ("new", criteria.new),
-        ("changed", criteria.changed),
-        ("notuptodate", criteria.notuptodate),
-        ("unsat_recommends", criteria.unsat_recommends),
+        Count::Removed,
+        Count::New,
+        Count::Changed,
+        Count::NotUpToDate,
+        Count::UnsatRecommends,
     ];
-    print_counts(paper, &counts);
+    print_counts(paper, &criteria, &counts);
     print_vector(paper, "paranoid", &criteria.paranoid());
     print_vector(paper, "trendy", &criteria.trendy());
 }

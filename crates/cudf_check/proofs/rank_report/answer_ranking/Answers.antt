@@ -1,7 +1,7 @@
 use Rattle.std.proofs.Common.{map}
 use Rattle.cudf_text.specs.Stanzas.{plain_text}
 use Rattle.cudf_document.specs.Universe.{plain_problem}
-use Rattle.cudf_check.specs.RankReport.{rank_report, ranked_report, placed_faults, first_faulty_or, standings}
+use Rattle.cudf_check.specs.RankReport.{rank_report, ranked_report, placed_faults, first_faulty_or, entrants}
 use Rattle.cudf_check.specs.Report.{problem_fault}
 use Rattle.cudf_check.proofs.AnswerLemmas.{memory_first}
 use Rattle.cudf_check.proofs.rank_report.answer_ranking.Goals as goal
@@ -11,8 +11,8 @@ unfolding rank_report
 returns-in-Err g c =
     let mode = c.args.setting.mode in
     let solutions = map (λ b. b.items) c.args.solutions.now in
-    c.answer_refusal.ensures (problem_fault mode c.args.problem.now)
-    (first_faulty_or (placed_faults mode solutions) (ranked_report c.args.aims.now (standings (plain_problem (plain_text c.args.problem.now)) solutions)))
+    c.answer_unread.ensures (problem_fault mode c.args.problem.now)
+    (first_faulty_or (placed_faults mode solutions) (ranked_report c.args.aims.now (entrants (plain_problem (plain_text c.args.problem.now)) solutions)))
     c.in-Err.ensures.fault
 
 pub returns : goal.returns

@@ -8,8 +8,8 @@ use Rattle.cudf_check.specs.Report.{solution_fault}
 use Rattle.cudf_check.proofs.ReadingLemmas.{first_of, solution_read, solution_fails, solution_unread}
 use Rattle.cudf_check.proofs.readings.proposed_in.Goals as goal
 
-pub returns-then-is_fail-clause-refused : goal.returns-then-is_fail-clause-refused
-returns-then-is_fail-clause-refused c =
+pub returns-then-is_fail-clause-unjudged : goal.returns-then-is_fail-clause-unjudged
+returns-then-is_fail-clause-unjudged c =
     let bytes = c.args.bytes.now in
     let fails : is_fail bytes ≡ true = ap is_fail (sym c.in-Ok.ensures.utf8.1) ∙ sym c.is_fail.ensures ∙ c.if-is_fail.true in
     (solution_fails c.args.setting.mode bytes c.in-Ok.ensures.utf8.0 fails, fails)
@@ -24,8 +24,8 @@ returns-in-Ok-solution_of-clause-sound c =
 pub returns-in-Ok-solution_of-clause-utf8 : goal.returns-in-Ok-solution_of-clause-utf8
 returns-in-Ok-solution_of-clause-utf8 c = is_utf8-from_IsUtf8 c.args.bytes.now c.in-Ok.ensures.utf8.0
 
-pub returns-in-Err-solution_of-clause-refused : goal.returns-in-Err-solution_of-clause-refused
-returns-in-Err-solution_of-clause-refused c =
+pub returns-in-Err-solution_of-clause-unjudged : goal.returns-in-Err-solution_of-clause-unjudged
+returns-in-Err-solution_of-clause-unjudged c =
     let bytes = c.args.bytes.now in
     let text = c.new.result in
     let goes_on : is_fail bytes ≡ false = ap is_fail (sym c.in-Ok.ensures.utf8.1) ∙ sym c.is_fail.ensures ∙ c.if-is_fail.false in
@@ -33,5 +33,5 @@ returns-in-Err-solution_of-clause-refused c =
     (solution_read c.args.setting.mode bytes text c.in-Ok.ensures.utf8.0 goes_on (c.new.ensures ∙ ap plain_text c.in-Ok.ensures.utf8.1))
     c.in-Err-solution_of.error c.in-Err-solution_of.ensures.fault
 
-pub returns-in-Err-clause-refused : goal.returns-in-Err-clause-refused
-returns-in-Err-clause-refused c = solution_unread c.args.setting.mode c.args.bytes.now c.in-Err.fault c.in-Err.ensures.fault.0 c.in-Err.ensures.fault.1
+pub returns-in-Err-clause-unjudged : goal.returns-in-Err-clause-unjudged
+returns-in-Err-clause-unjudged c = solution_unread c.args.setting.mode c.args.bytes.now c.in-Err.fault c.in-Err.ensures.fault.0 c.in-Err.ensures.fault.1

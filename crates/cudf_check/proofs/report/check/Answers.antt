@@ -7,7 +7,7 @@ use Rattle.cudf_document.specs.Promises.Views.{unknown_view}
 use Rattle.cudf_document.specs.Universe.{plain_problem}
 use Rattle.cudf_referee.specs.Proposals.{proposal}
 use Rattle.cudf_check.specs.Report.{alone, faulty_or, problem_fault, solution_fault, proposal_of, judged_report}
-use Rattle.cudf_check.specs.Working.Findings.{found_text}
+use Rattle.cudf_check.specs.Working.Found.{found_text}
 use Rattle.cudf_check.specs.declared.outcome.Outcome.TheVariants.{Fail}
 use Rattle.cudf_check.proofs.AnswerLemmas.{answers_as}
 use Rattle.cudf_check.proofs.ReadingLemmas.{pair_judged}
@@ -17,9 +17,9 @@ pub returns-in-Err : goal.returns-in-Err
 returns-in-Err g c =
     let mode = c.args.setting.mode in
     let solution = c.args.solution.now in
-    c.answer_refusal.ensures (problem_fault mode c.args.problem.now)
+    c.answer_unread.ensures (problem_fault mode c.args.problem.now)
     (faulty_or (codes "solution") (solution_fault mode solution) (if is_fail solution then alone (codes "solution FAIL") Fail
-    else judged_report (found_text c.args.found) (proposal_of (plain_problem (plain_text c.args.problem.now)) (plain_text solution))))
+    else judged_report (found_text c.args.job.now) (proposal_of (plain_problem (plain_text c.args.problem.now)) (plain_text solution))))
     c.in-Err.ensures.fault
 
 pub returns : goal.returns
@@ -27,7 +27,7 @@ returns g c =
     let read = c.in-Ok.ensures in
     let proposed = c.in-Ok-proposed_in.ensures in
     answers_as _ _ _ _ _
-    (pair_judged c.args.setting.mode c.args.found c.args.problem.now c.args.solution.now c.in-Ok.problem
+    (pair_judged c.args.setting.mode c.args.job.now c.args.problem.now c.args.solution.now c.in-Ok.problem
     (proposal c.in-Ok.problem (is_initial c.in-Ok.problem) (set.contains c.in-Ok-proposed_in.solution.status) (map unknown_view c.in-Ok-proposed_in.solution.unknown.items))
     read.sound proposed.sound proposed.goes_on proposed.utf8 read.problem proposed.proposal)
     c.answer_proposal.ensures

@@ -2,11 +2,11 @@ use Rattle.std.proofs.Common.{◌+◌, ◌≤◌, take, sym, ap, ◌∙◌, subs
 use Rattle.std.specs.List.{flat_map}
 use Rattle.cudf_referee.specs.Promises.Views.{instance_view}
 use Rattle.cudf_referee.specs.Promises.Walks.{left}
-use Rattle.cudf_check.specs.Working.Pages.{HasSpent}
-use Rattle.cudf_check.specs.Report.{instance_line, last_key}
+use Rattle.cudf_check.specs.Working.Pages.{HasSpent, end_key}
+use Rattle.cudf_check.specs.Report.{instance_line}
 use Rattle.cudf_check.proofs.PageLemmas.{step, last_of_more, take-further, drop-further, ended}
 use Rattle.cudf_check.proofs.PaperLemmas.{Says-as, ◌▸◌, Says-front, texts-step}
-use Rattle.cudf_check.proofs.WalkLemmas.{spent-more, price-within, price-ended}
+use Rattle.cudf_check.proofs.PagePriceLemmas.{spent-more, price-within, price-ended}
 use Rattle.cudf_check.proofs.lines.page.print_first.Goals as goal
 
 pub loop-turn-preserved : goal.loop-turn-preserved
@@ -17,11 +17,11 @@ loop-turn-preserved g c =
     let one = step is n i (left c.next.new.self) (sym c.loop-turn.invariant.left_is ∙ c.in-Some.ensures.steps.gives) in
     record {
       printed = Says-as _ _ _ _ _ (texts-step (instance_line c.args.referee.now) (take n is) (take (n + 1) is) i one.taken)
-          (c.loop-turn.invariant.printed ▸ c.print_line.ensures);
+          (c.loop-turn.invariant.printed ▸ c.print_instance.ensures);
       left_is = one.left_is;
       taken = one.below;
       spent = subst (λ xs. HasSpent xs c.args.instances.now c.next.new.self) (sym one.taken) (spent-more (take n is) i _ _ _ c.loop-turn.invariant.spent c.in-Some.ensures.steps);
-      key = sym (ap last_key one.taken ∙ last_of_more (take n is) i);
+      key = sym (ap end_key one.taken ∙ last_of_more (take n is) i);
     }
 
 pub returns-then-has_failed-clause-printed : goal.returns-then-has_failed-clause-printed
@@ -32,7 +32,7 @@ returns-then-has_failed-clause-printed g c =
     let one = step is n i (left c.next.new.self) (sym c.loop-turn.invariant.left_is ∙ c.in-Some.ensures.steps.gives) in
     let line = instance_line c.args.referee.now in
     Says-front _ _ _ line is (n + 1) c.args.limit (omega arith) (sym c.has_failed.ensures ∙ c.if-has_failed.true)
-    (Says-as _ _ _ _ _ (texts-step line (take n is) (take (n + 1) is) i one.taken) (c.loop-turn.invariant.printed ▸ c.print_line.ensures))
+    (Says-as _ _ _ _ _ (texts-step line (take n is) (take (n + 1) is) i one.taken) (c.loop-turn.invariant.printed ▸ c.print_instance.ensures))
 
 pub returns-then-has_failed-clause-price : goal.returns-then-has_failed-clause-price
 returns-then-has_failed-clause-price g c =

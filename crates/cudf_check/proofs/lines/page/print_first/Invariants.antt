@@ -3,8 +3,8 @@ use Rattle.std.proofs.Common.{◌≡◌, ◌≤◌, length, take, drop, option_m
 use Rattle.std.specs.List.{flat_map}
 use Rattle.cudf_referee.specs.KeyViews.{key_view}
 use Rattle.cudf_referee.specs.Promises.Walks.{left}
-use Rattle.cudf_check.specs.Report.{instance_line, last_key}
-use Rattle.cudf_check.specs.Working.Pages.{HasSpent}
+use Rattle.cudf_check.specs.Report.{instance_line}
+use Rattle.cudf_check.specs.Working.Pages.{HasSpent, end_key}
 use Rattle.cudf_check.specs.Working.Paper.{Says}
 use Rattle.cudf_check.proofs.lines.page.print_first.Given as goal
 
@@ -14,5 +14,5 @@ invariant-loop-turn g l = record {
   left_is : left l.instances ≡ drop l.turn (left l.fn.instances);
   taken : l.turn ≤ length (left l.fn.instances);
   spent : HasSpent (take l.turn (left l.fn.instances)) l.fn.instances l.instances;
-  key : option_map key_view l.last ≡ last_key (take l.turn (left l.fn.instances));
+  key : option_map key_view l.last ≡ end_key (take l.turn (left l.fn.instances));
 }

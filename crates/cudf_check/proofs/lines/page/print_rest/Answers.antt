@@ -7,7 +7,7 @@ use Rattle.cudf_referee.specs.Promises.Walks.{Walking, left, Moves}
 use Rattle.cudf_check.specs.Report.{instance_line}
 use Rattle.cudf_check.proofs.PageLemmas.{step, take-further}
 use Rattle.cudf_check.proofs.PaperLemmas.{Says-none, Says-as, ◌▸◌, Says-front, texts-step}
-use Rattle.cudf_check.proofs.WalkLemmas.{taken-start, taken-more, price-taken, price-all}
+use Rattle.cudf_check.proofs.PagePriceLemmas.{taken-start, taken-more, price-taken, price-all}
 use Rattle.cudf_check.proofs.lines.page.print_rest.Goals as goal
 
 pub loop-instance-init : goal.loop-instance-init
@@ -24,7 +24,7 @@ loop-instance-preserved g c =
     record {
       taken = taken-more i _ _ _ taken c.in-Some.ensures.steps;
       printed = Says-as _ _ _ _ _ (texts-step (instance_line c.args.referee.now) (take taken.number is) (take (taken.number + 1) is) i one.taken)
-          (c.loop-instance.invariant.printed ▸ c.print_line.ensures);
+          (c.loop-instance.invariant.printed ▸ c.print_instance.ensures);
     }
 
 pub returns-then-has_failed-clause-printed : goal.returns-then-has_failed-clause-printed
@@ -36,7 +36,7 @@ returns-then-has_failed-clause-printed g c =
     let line = instance_line c.args.referee.now in
     Says-as _ _ _ _ _ (ap (flat_map line) (take_all (length is) is (omega arith)))
     (Says-front _ _ _ line is (taken.number + 1) (length is) one.below (sym c.has_failed.ensures ∙ c.if-has_failed.true)
-    (Says-as _ _ _ _ _ (texts-step line (take taken.number is) (take (taken.number + 1) is) i one.taken) (c.loop-instance.invariant.printed ▸ c.print_line.ensures)))
+    (Says-as _ _ _ _ _ (texts-step line (take taken.number is) (take (taken.number + 1) is) i one.taken) (c.loop-instance.invariant.printed ▸ c.print_instance.ensures)))
 
 pub returns-then-has_failed-clause-price : goal.returns-then-has_failed-clause-price
 returns-then-has_failed-clause-price g c =

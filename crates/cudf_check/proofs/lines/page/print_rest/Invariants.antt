@@ -4,7 +4,7 @@ use Rattle.std.specs.List.{flat_map}
 use Rattle.cudf_referee.specs.Promises.Walks.{left}
 use Rattle.cudf_check.specs.Report.{instance_line}
 use Rattle.cudf_check.specs.Working.Paper.{Says}
-use Rattle.cudf_check.proofs.WalkLemmas.{HasTaken}
+use Rattle.cudf_check.proofs.PagePriceLemmas.{HasTaken}
 use Rattle.cudf_check.proofs.lines.page.print_rest.Given as goal
 
 abbrev pub invariant-loop-instance : goal.invariant-loop-instance

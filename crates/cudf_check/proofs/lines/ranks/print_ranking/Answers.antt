@@ -7,7 +7,7 @@ pub loop-index-preserved : goal.loop-index-preserved
 loop-index-preserved g c =
     let below : c.loop-index.index < length c.args.ranked.now = omega arith in
     Says-as _ _ _ _ _ (numbered-more (rank_line c.args.aims.now) c.args.ranked.now c.loop-index.index _ below)
-    (c.loop-index.invariant ▸ c.print_standing.ensures)
+    (c.loop-index.invariant ▸ c.print_entrant.ensures)
 
 pub returns : goal.returns
 returns g c =

@@ -6,8 +6,8 @@ use Rattle.cudf_document.specs.declared.error.ReadError.{ReadError}
 use Rattle.cudf_document.specs.declared.error.ReadError.TheVariants as read_error
 use Rattle.cudf_document.specs.declared.mode.Mode.{Mode}
 use Rattle.cudf_check.specs.Report.{solution_fault}
-use Rattle.cudf_check.specs.declared.readings.Refusal.{Refusal}
-use Rattle.cudf_check.specs.declared.readings.Refusal.TheVariants.{SaysFail, Unread}
+use Rattle.cudf_check.specs.declared.readings.Unjudged.{Unjudged}
+use Rattle.cudf_check.specs.declared.readings.Unjudged.TheVariants.{SaysFail, Unread}
 
 -- this is the fault, or memory was wanting
 abbrev pub IsFaultOf : Option Fault → ReadError → Type 0
@@ -15,6 +15,6 @@ IsFaultOf fault (read_error.Fault f) = fault ≡ Some f
 IsFaultOf fault (read_error.Memory e) = Unit {0}
 
 -- a solution isn't judged: it says FAIL, or has this fault, or memory was wanting
-abbrev pub IsRefused : Mode → List ℕ → Refusal → Type 0
-IsRefused mode bytes SaysFail = (solution_fault mode bytes ≡ None) × (is_fail bytes ≡ true)
-IsRefused mode bytes (Unread error) = IsFaultOf (solution_fault mode bytes) error
+abbrev pub IsUnjudged : Mode → List ℕ → Unjudged → Type 0
+IsUnjudged mode bytes SaysFail = (solution_fault mode bytes ≡ None) × (is_fail bytes ≡ true)
+IsUnjudged mode bytes (Unread error) = IsFaultOf (solution_fault mode bytes) error

@@ -3,16 +3,16 @@ use Rattle.cudf_text.specs.Stanzas.{plain_text}
 use Rattle.cudf_check.specs.RankReport.{judgement_of}
 use Rattle.cudf_check.specs.Report.{proposal_of}
 use Rattle.cudf_check.specs.declared.ranking.Judgement.TheVariants.{SaysFail}
-use Rattle.cudf_check.specs.Working.Refusals.{IsRefused}
-use Rattle.cudf_check.proofs.judging.unjudged.Goals as goal
+use Rattle.cudf_check.specs.Working.Unjudged.{IsUnjudged}
+use Rattle.cudf_check.proofs.judging.said_fail.Goals as goal
 
 pub returns-in-SaysFail-clause-judged : goal.returns-in-SaysFail-clause-judged
 returns-in-SaysFail-clause-judged c = λ mode problem bytes is.
-    let refused = subst (IsRefused mode bytes) c.in-SaysFail.is is in
+    let unjudged = subst (IsUnjudged mode bytes) c.in-SaysFail.is is in
     record {
-      found = ap (λ b. if b then SaysFail else judgement_of (proposal_of problem (plain_text bytes))) (sym refused.1);
-      sound = refused.0;
+      found = ap (λ b. if b then SaysFail else judgement_of (proposal_of problem (plain_text bytes))) (sym unjudged.1);
+      sound = unjudged.0;
     }
 
 pub returns-in-Unread-clause-fault : goal.returns-in-Unread-clause-fault
-returns-in-Unread-clause-fault c = λ mode bytes is. subst (IsRefused mode bytes) c.in-Unread.is is
+returns-in-Unread-clause-fault c = λ mode bytes is. subst (IsUnjudged mode bytes) c.in-Unread.is is

@@ -1,8 +1,8 @@
 use Rattle.std.proofs.Common.{ap, sym, subst}
 use Rattle.cudf_check.specs.Report.{faulty_or}
-use Rattle.cudf_check.specs.Working.Refusals.{IsFaultOf}
+use Rattle.cudf_check.specs.Working.Unjudged.{IsFaultOf}
 use Rattle.cudf_check.proofs.AnswerLemmas.{memory_first, answers_as}
-use Rattle.cudf_check.proofs.report.answer_refusal.Goals as goal
+use Rattle.cudf_check.proofs.report.answer_unread.Goals as goal
 
 pub returns-in-Fault : goal.returns-in-Fault
 returns-in-Fault g c = λ fault report is.
