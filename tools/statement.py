@@ -316,8 +316,9 @@ def ghosts_of(text):
 
 
 def without_ghosts(text):
-    for ghost in list(GHOST.finditer(text)):
-        text = text.replace(block_from(text, ghost.start()), "", 1)
+    # (from behind, so that places before stay)
+    for ghost in reversed(list(GHOST.finditer(text))):
+        text = text[:ghost.start()] + text[ghost.start() + len(block_from(text, ghost.start())):]
     return re.sub(r"#\[[^\]]*\]", "", text)
 
 
