@@ -1,14 +1,11 @@
 //! Decides which report the inputs have.
-ghost use Rattle.std.specs.Prelude.{◌≡◌, ℕ, List, Option, IsTrue, codes, map, option_copied, if◌then◌else◌};
-ghost use Rattle.std.specs.FinSet as set;
+ghost use Rattle.std.specs.Prelude.{◌≡◌, ℕ, List, Option, codes, option_copied, if◌then◌else◌};
 ghost use Rattle.cudf_text.specs.Joined.{is_fail};
 ghost use Rattle.cudf_text.specs.declared.fault.Fault.{Fault};
-ghost use Rattle.cudf_document.specs.Statuses.{is_initial, ascend_above};
-ghost use Rattle.cudf_document.specs.Promises.Views.{unknown_view};
 ghost use Rattle.cudf_document.specs.declared.mode.Mode.{Mode};
-ghost use Rattle.cudf_referee.specs.Proposals.{Proposal, proposal};
+ghost use Rattle.cudf_referee.specs.Proposals.{Proposal};
 ghost use Rattle.cudf_check.specs.declared.outcome.Outcome.TheVariants.{Fail, Yes};
-ghost use Rattle.cudf_check.specs.Report.{Report, alone, faulty_or, problem_fault, solution_fault, judged_report, pair_report, inputs_report, report};
+ghost use Rattle.cudf_check.specs.Report.{Report, alone, faulty_or, problem_fault, solution_fault, pair_report, inputs_report, report};
 ghost use Rattle.cudf_check.specs.Working.Answering.{Answers};
 ghost use Rattle.cudf_check.specs.Working.Found.{found_text};
 ghost use Rattle.cudf_check.specs.Working.Unjudged.{IsFaultOf, IsUnjudged};
@@ -19,9 +16,7 @@ use crate::lines::{answer, answer_fault, answer_judged};
 use crate::outcome::{Outcome, RunError};
 use crate::readings::{Unjudged, problem_beside, proposed_in, sound_in};
 use crate::setting::Setting;
-use cudf_document::{Problem, ReadError, Solution};
-use cudf_referee::Referee;
-use cudf_referee::laws::ascending;
+use cudf_document::ReadError;
 use cudf_text::{Room, cut_joined};
 use std::alloc::Global;
 
@@ -56,25 +51,6 @@ fn answer_unjudged<W: Sink>(
     }
 }
 
-/// Judges what a solution proposes.
-fn answer_proposal<W: Sink>(
-    alloc: Global,
-    out: &mut W,
-    job: &Job,
-    problem: &Problem<'_>,
-    solution: &Solution<'_>,
-) -> Result<Outcome, RunError>
-    requires { IsTrue (ascend_above 0 (map unknown_view solution.now.unknown.items)) }
-    ensures { Answers (W.state out.old) (W.state out.new) (judged_report (found_text job.now) (proposal problem.now (is_initial problem.now) (set.contains solution.now.status)
-        (map unknown_view solution.now.unknown.items))) result }
-{
-    ascending();
-    match Referee::new(alloc, problem, solution) {
-        Ok(referee) => answer_judged(alloc, out, &referee, job),
-        Err(_) => Err(RunError::Memory),
-    }
-}
-
 /// Judges a solution of a problem.
 fn check<W: Sink>(
     setting: Setting,
@@ -96,7 +72,7 @@ fn check<W: Sink>(
         Ok(solution) => solution,
         Err(reason) => return answer_unjudged(alloc, out, reason),
     };
-    answer_proposal(alloc, out, job, &problem, &solution)
+    answer_judged(alloc, out, job, &problem, &solution)
 }
 
 /// Says that a problem has no fault, or which one is its first.

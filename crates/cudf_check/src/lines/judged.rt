@@ -1,5 +1,9 @@
 //! The report of a judged solution: what was found, and the verdict.
-ghost use Rattle.std.specs.Prelude.{◌≡◌, option_map};
+ghost use Rattle.std.specs.Prelude.{◌≡◌, IsTrue, map, option_map};
+ghost use Rattle.std.specs.FinSet as set;
+ghost use Rattle.cudf_document.specs.Statuses.{is_initial, ascend_above};
+ghost use Rattle.cudf_document.specs.Promises.Views.{unknown_view};
+ghost use Rattle.cudf_referee.specs.Proposals.{proposal};
 ghost use Rattle.cudf_check.specs.Report.{verdict, judged_report, scored_text};
 ghost use Rattle.cudf_check.specs.Working.Answering.{Answers};
 ghost use Rattle.cudf_check.specs.Working.Found.{found_text};
@@ -14,6 +18,8 @@ use crate::lines::page::print_page;
 use crate::lines::score::print_score;
 use crate::outcome::{Outcome, RunError};
 use crate::paper::Paper;
+use cudf_document::{Problem, Solution};
+use cudf_referee::laws::ascending;
 use cudf_referee::{Aim, Referee};
 use std::alloc::Global;
 
@@ -61,19 +67,26 @@ fn print_found<W: Sink>(paper: &mut Paper<'_, W>, referee: &Referee<'_, '_>, job
     }
 }
 
-/// Writes the report of a judged solution: what is found for the job, and the verdict.
+/// Judges what a solution proposes, and writes the report: what is found for the job, and the verdict.
 pub(crate) fn answer_judged<W: Sink>(
     alloc: Global,
     out: &mut W,
-    referee: &Referee<'_, '_>,
     job: &Job,
+    problem: &Problem<'_>,
+    solution: &Solution<'_>,
 ) -> Result<Outcome, RunError>
-    requires ascending { Ascends referee.now }
-    ensures { Answers (W.state out.old) (W.state out.new) (judged_report (found_text job.now) referee.entry.now) result }
+    requires { IsTrue (ascend_above 0 (map unknown_view solution.now.unknown.items)) }
+    ensures { Answers (W.state out.old) (W.state out.new) (judged_report (found_text job.now) (proposal problem.now (is_initial problem.now) (set.contains solution.now.status)
+        (map unknown_view solution.now.unknown.items))) result }
 {
+    ascending();
+    let referee = match Referee::new(alloc, problem, solution) {
+        Ok(referee) => referee,
+        Err(_) => return Err(RunError::Memory),
+    };
     let mut waiting = ReportBuffer::new(alloc)?;
     let mut paper = Paper::new(out, &mut waiting);
-    print_found(&mut paper, referee, job);
+    print_found(&mut paper, &referee, job);
     let outcome = print_verdict(&mut paper, referee.is_solution());
     paper.finish(outcome)
 }

@@ -30,4 +30,4 @@ returns g c =
     (pair_judged c.args.setting.mode c.args.job.now c.args.problem.now c.args.solution.now c.in-Ok.problem
     (proposal c.in-Ok.problem (is_initial c.in-Ok.problem) (set.contains c.in-Ok-proposed_in.solution.status) (map unknown_view c.in-Ok-proposed_in.solution.unknown.items))
     read.sound proposed.sound proposed.goes_on proposed.utf8 read.problem proposed.proposal)
-    c.answer_proposal.ensures
+    c.answer_judged.ensures
