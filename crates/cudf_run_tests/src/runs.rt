@@ -63,6 +63,29 @@ fn reads(rt: HostRuntime) {
     }
 }
 
+/// A run to lint reads no solution.
+#[test]
+fn lints_beside_a_solution(rt: HostRuntime) {
+    let mut input = Giver::new(b"request: r\n");
+    let mut solution = Giver::new(JOINED);
+    let mut out = Taker::new(
+        Vec::new(rt.alloc()),
+        usize::MAX,
+        usize::MAX,
+        Refusal::Failed,
+    );
+    let answer = run(
+        rt.alloc(),
+        &Job::Lint,
+        Mode::Lenient,
+        &mut input,
+        Some(&mut solution),
+        &mut out,
+    );
+    assert!(rt; answer == Ok(Outcome::Yes), "lint");
+    assert!(rt; solution.turn == 0, "{} turns", solution.turn);
+}
+
 /// An input that begins so and repeats its last byte, its length, how many calls are interrupted first, how the run ends,
 /// what is written, and how many bytes and calls were taken of it.
 type Limit = (
