@@ -1,3 +1,4 @@
+mod BlankLemmas
 mod CountLemmas
 mod Examples
 mod IdentLemmas

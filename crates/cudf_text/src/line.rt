@@ -1,10 +1,10 @@
-ghost use Rattle.std.specs.Prelude.{◌≡◌, ◌≤◌, length, position};
+ghost use Rattle.std.specs.Prelude.{◌≡◌, ◌≤◌, ◌==◌, length, position, if◌then◌else◌};
 ghost use Rattle.std.specs.List.{prefix_len};
 ghost use Rattle.cudf_text.specs.Chars.{is_ident_char};
-ghost use Rattle.cudf_text.specs.Lines.{class, class_by_colon};
+ghost use Rattle.cudf_text.specs.Lines.{blank, class, class_by_colon, continuation};
 ghost use Rattle.cudf_text.specs.Working.LineView.{is_colon, line_view, ends_name};
 
-use crate::blanks::{is_blank, is_blank_text, trim};
+use crate::blanks::{is_blank, trim};
 use crate::cut::{after, before};
 use crate::ident::is_ident_char;
 
@@ -22,16 +22,25 @@ pub(crate) enum Line<'a> {
 pub(crate) fn classify(line: &str) -> Line<'_>
     ensures { line_view result ≡ class line.now }
 {
-    let bytes = line.as_bytes();
-    let first = bytes.first().copied().unwrap_or(0);
+    // An empty line is as one of blanks.
+    let first = line.as_bytes().first().copied().unwrap_or(b' ');
     if first == b'#' {
         Line::Comment
-    } else if is_blank_text(bytes) {
-        Line::Blank
     } else if is_blank(first) {
-        Line::Continuation(trim(line))
+        indented(trim(line))
     } else {
         name_line(line)
+    }
+}
+
+/// A line that begins with a blank, or is empty, by its trimmed text.
+fn indented(text: &str) -> Line<'_>
+    ensures { line_view result ≡ (if length text.now == 0 then blank else continuation text.now) }
+{
+    if text.is_empty() {
+        Line::Blank
+    } else {
+        Line::Continuation(text)
     }
 }
 

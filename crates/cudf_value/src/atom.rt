@@ -57,9 +57,7 @@ pub(crate) fn first_atom(text: &str) -> (Option<Atom<'_>>, AtomEnd<'_>)
             return (Some(Atom::Is(vpkg)), end);
         }
     }
-    // taken apart, so that the values of the way above needn't be put into memory
-    let (atom, end) = other_atom(text);
-    (atom, end)
+    other_atom_apart(text)
 }
 
 /// What ends an atom here, if it ends here.
@@ -73,6 +71,16 @@ fn end_at(text: &str) -> Option<AtomEnd<'_>>
         Some(b'|') => Some(AtomEnd::Bar(after(text, 1))),
         Some(_) => None,
     }
+}
+
+/// The first atom, whatever it is, taken apart: else the values of the way beside it were put into memory too.
+#[inline(always)]
+fn other_atom_apart(text: &str) -> (Option<Atom<'_>>, AtomEnd<'_>)
+    ensures values { values text.now ≡ values_of (option_map atom_view result.0) result.1 }
+    ensures shorter { IfSome (end_rest result.1) (λ rest. length rest < length text.now) }
+{
+    let (atom, end) = other_atom(text);
+    (atom, end)
 }
 
 /// The first atom, whatever it is.

@@ -149,9 +149,7 @@ fn first_entry(text: &str, exact: bool) -> (Option<Vpkg<'_>>, Option<&str>)
             return (exact_where_asked(vpkg, exact), after_comma(rest));
         }
     }
-    // taken apart, as in `first_atom`
-    let (entry, next) = other_entry(text, exact);
-    (entry, next)
+    other_entry_apart(text, exact)
 }
 
 /// The vpkg, where it is exact or needn't be.
@@ -182,6 +180,17 @@ fn after_comma(text: &str) -> Option<&str>
     } else {
         Some(after(text, 1))
     }
+}
+
+/// The first entry, whatever it is, taken apart as `other_atom_apart` does it.
+#[inline(always)]
+fn other_entry_apart(text: &str, exact: bool) -> (Option<Vpkg<'_>>, Option<&str>)
+    ensures part { parts (byte ",") text.now ≡ first_part text.now ∷ parts_after (byte ",") (option_copied result.1) }
+    ensures entry { option_map vpkg_view result.0 ≡ vpkg_part exact (first_part text.now) }
+    ensures shorter { IfSome result.1 (λ rest. length rest.now < length text.now) }
+{
+    let (entry, next) = other_entry(text, exact);
+    (entry, next)
 }
 
 /// The first entry, whatever it is.
