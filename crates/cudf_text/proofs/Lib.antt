@@ -1,4 +1,3 @@
-mod BlankLemmas
 mod CountLemmas
 mod Examples
 mod IdentLemmas

@@ -1,12 +1,13 @@
--- A name line is known by the characters at its front.
-use Rattle.std.proofs.Common.{◌≡◌, ℕ, zero, suc, ◌+◌, ◌<◌, Bool, true, false, nat_lt, List, [], ◌∷◌, length, take, drop, position, refl, sym, ap, ◌∙◌, arith, if◌then◌else◌}
+-- A line is known by the characters at its front: a name line, and one that begins with a blank.
+use Rattle.std.proofs.Common.{◌≡◌, ℕ, zero, suc, ◌+◌, ◌-◌, ◌<◌, ◌≤◌, ◌==◌, Bool, true, false, nat_lt, List, [], ◌∷◌, ◌++◌, length, take, drop, reverse, position, unwrap_or, refl, sym, ap, subst, ◌∙◌, inl, inr, arith, if◌then◌else◌}
 use Rattle.std.specs.Prelude.{slice_index}
-use Rattle.std.specs.List.{list_all, prefix_len, position_or_len}
+use Rattle.std.specs.List.{list_all, prefix_len, suffix_len, position_or_len, slice_get}
 use Rattle.std.specs.Char.{is_ascii_alphabetic}
 use Rattle.std.proofs.Math.Bool.{and-false}
-use Rattle.std.proofs.lemmas.Bool.{true≢false, and_parts, eqb-true, false_from_ne_true, lt-ltb, ltb-true}
-use Rattle.cudf_text.specs.Chars.{is_ident_char, is_ident, trim}
-use Rattle.cudf_text.specs.Lines.{named, faulty, class_by_colon}
+use Rattle.std.proofs.lemmas.List.{length-reverse, length-take, reverse-append}
+use Rattle.std.proofs.lemmas.Bool.{cases_Bool, true≢false, and_parts, eqb-true, false_from_ne_true, lt-ltb, ltb-true}
+use Rattle.cudf_text.specs.Chars.{is_blank, is_blank_text, is_ident_char, is_ident, trim}
+use Rattle.cudf_text.specs.Lines.{blank, continuation, named, faulty, class, class_by_colon}
 use Rattle.cudf_text.specs.Working.LineView.{is_colon, ends_name}
 
 abbrev first_colon : List ℕ → ℕ
@@ -106,3 +107,27 @@ other_class line n is h = by (is_colon (slice_index line n)) refl
         let f : Found line = found line (rw is at e) in
         sym (class_at line n false (f.first ∙ sym is) f.inside (no_ident-first line n (rw e at h)))
     by false e = without (nat_lt (first_colon line) (length line)) refl e
+
+stops_at : (b : ℕ) → is_blank b ≡ false → (text : List ℕ) → prefix_len is_blank (text ++ b ∷ []) ≤ length text
+stops_at b e [] = rw e (omega arith)
+stops_at b e (c ∷ text) = elim (cases_Bool (is_blank c)) [ inl other ↦ rw other (omega (arith, stops_at b e text)) | inr other ↦ rw other (omega arith) ]
+
+-- blanks alone are trimmed to nothing, and no other text is
+trim-empty : (text : List ℕ) → (length (trim text) == 0) ≡ is_blank_text text
+trim-empty [] = refl
+trim-empty (b ∷ text) =
+    let left : is_blank b ≡ false → 0 < length (take (length (b ∷ text) - suffix_len is_blank (b ∷ text)) (b ∷ text)) = λ e.
+    let behind : suffix_len is_blank (b ∷ text) ≤ length (reverse text) =
+    subst (λ t. prefix_len is_blank t ≤ length (reverse text)) (sym (reverse-append (b ∷ []) text)) (stops_at b e (reverse text)) in
+    omega (arith, behind, length-reverse text, length-take (length (b ∷ text) - suffix_len is_blank (b ∷ text)) (b ∷ text)) in
+    elim (cases_Bool (is_blank b)) [
+      | inl e ↦ rw (e, one_more (prefix_len is_blank text)) (trim-empty text)
+      | inr e ↦ rw e (false_from_ne_true _ (λ none. omega (arith, left e, eqb-true _ 0 none)))
+    ]
+
+-- so what begins with a blank is blank or a continuation, and the empty line is as one of blanks
+pub indented_class : (line : List ℕ) (first : ℕ) → first ≡ unwrap_or (slice_get line 0) 32 → (first ≡ 35 → ⊥) → is_blank first ≡ true
+    → (if length (trim line) == 0 then blank else continuation (trim line)) ≡ class line
+indented_class [] first at other indented = refl
+indented_class (b ∷ line) first at other indented =
+    rw (false_from_ne_true (b == 35) (λ h. other (at ∙ eqb-true b 35 h)), trim-empty (b ∷ line), rw at at indented) refl

@@ -1,5 +1,5 @@
 use Rattle.std.proofs.Common.{ap, sym, ◌∙◌, unwrap_or}
-use Rattle.cudf_text.proofs.BlankLemmas.{indented_class}
+use Rattle.cudf_text.proofs.NameLineLemmas.{indented_class}
 use Rattle.cudf_text.proofs.line.classify.Goals as goal
 
 pub returns-then-is_blank : goal.returns-then-is_blank
