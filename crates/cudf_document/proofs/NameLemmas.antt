@@ -1,7 +1,7 @@
 -- Names of properties, and what the first property of a name says.
-use Rattle.std.proofs.Common.{◌≡◌, ℕ, Bool, true, false, not, ◌||◌, List, [], ◌∷◌, ◌++◌, map, Bor, Option, None, Some, is_some, find, refl, sym, ap, subst, ◌∙◌, if◌then◌else◌, option_and_then, bytes_eq}
+use Rattle.std.proofs.Common.{◌≡◌, ℕ, Bool, true, false, not, ◌||◌, List, [], ◌∷◌, ◌++◌, map, Bor, Option, None, Some, is_some, find, length, refl, sym, ap, subst, ◌∙◌, if◌then◌else◌, option_and_then, bytes_eq}
 use Rattle.std.proofs.Math.Bool.{or-false}
-use Rattle.std.proofs.lemmas.Bool.{true≢false}
+use Rattle.std.proofs.lemmas.Bool.{true≢false, false_from_ne_true}
 use Rattle.std.proofs.lemmas.Slice.Eq.{bytes_eq-Decides}
 use Rattle.std.proofs.lemmas.List.{append_assoc, map_push}
 use Rattle.std.proofs.lemmas.List.Folds.{list_any-append, find-append}
@@ -19,6 +19,10 @@ use Rattle.cudf_document.proofs.ListLemmas.{option_or-none, is_some-find, find_n
 
 pub same_bytes : (xs ys : List ℕ) → bytes_eq xs ys ≡ true → xs ≡ ys
 same_bytes xs ys same = (bytes_eq-Decides xs ys).0 same
+
+-- and so equal lengths
+pub other_lengths : (xs ys : List ℕ) → (length xs ≡ length ys → ⊥) → false ≡ bytes_eq xs ys
+other_lengths xs ys other = sym (false_from_ne_true (bytes_eq xs ys) (λ h. other (ap length (same_bytes xs ys h))))
 
 pub bytes_same : (xs : List ℕ) → bytes_eq xs xs ≡ true
 bytes_same xs = (bytes_eq-Decides xs xs).1 refl

@@ -57,7 +57,7 @@ pub(crate) fn first_atom(text: &str) -> (Option<Atom<'_>>, AtomEnd<'_>)
             return (Some(Atom::Is(vpkg)), end);
         }
     }
-    other_atom_apart(text)
+    other_atom(text)
 }
 
 /// What ends an atom here, if it ends here.
@@ -73,18 +73,8 @@ fn end_at(text: &str) -> Option<AtomEnd<'_>>
     }
 }
 
-/// The first atom, whatever it is, taken apart: else the values of the way beside it were put into memory too.
+/// The first atom, whatever it is. What it calls isn't inlined: no value of the way beside it is put into memory.
 #[inline(always)]
-fn other_atom_apart(text: &str) -> (Option<Atom<'_>>, AtomEnd<'_>)
-    ensures values { values text.now ≡ values_of (option_map atom_view result.0) result.1 }
-    ensures shorter { IfSome (end_rest result.1) (λ rest. length rest < length text.now) }
-{
-    let (atom, end) = other_atom(text);
-    (atom, end)
-}
-
-/// The first atom, whatever it is.
-#[inline(never)]
 fn other_atom(text: &str) -> (Option<Atom<'_>>, AtomEnd<'_>)
     ensures values { values text.now ≡ values_of (option_map atom_view result.0) result.1 }
     ensures shorter { IfSome (end_rest result.1) (λ rest. length rest < length text.now) }
@@ -94,6 +84,7 @@ fn other_atom(text: &str) -> (Option<Atom<'_>>, AtomEnd<'_>)
 }
 
 /// The text of the first atom, and what ends it.
+#[inline(never)]
 fn cut_atom(text: &str) -> (&str, AtomEnd<'_>)
     ensures text { text.now ≡ result.0.now ++ end_text result.1 }
     ensures inside { list_all is_inside result.0.now ≡ true }
@@ -127,6 +118,7 @@ fn end_from(text: &str, n: usize) -> AtomEnd<'_>
 }
 
 /// The atom, with blanks or none round it.
+#[inline(never)]
 fn atom_of(part: &str) -> Option<Atom<'_>>
     ensures { option_map atom_view result ≡ atom_part part.now }
 {

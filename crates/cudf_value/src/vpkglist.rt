@@ -149,7 +149,7 @@ fn first_entry(text: &str, exact: bool) -> (Option<Vpkg<'_>>, Option<&str>)
             return (exact_where_asked(vpkg, exact), after_comma(rest));
         }
     }
-    other_entry_apart(text, exact)
+    other_entry(text, exact)
 }
 
 /// The vpkg, where it is exact or needn't be.
@@ -182,19 +182,8 @@ fn after_comma(text: &str) -> Option<&str>
     }
 }
 
-/// The first entry, whatever it is, taken apart as `other_atom_apart` does it.
+/// The first entry, whatever it is. What reads it isn't inlined, as in `other_atom`.
 #[inline(always)]
-fn other_entry_apart(text: &str, exact: bool) -> (Option<Vpkg<'_>>, Option<&str>)
-    ensures part { parts (byte ",") text.now ≡ first_part text.now ∷ parts_after (byte ",") (option_copied result.1) }
-    ensures entry { option_map vpkg_view result.0 ≡ vpkg_part exact (first_part text.now) }
-    ensures shorter { IfSome result.1 (λ rest. length rest.now < length text.now) }
-{
-    let (entry, next) = other_entry(text, exact);
-    (entry, next)
-}
-
-/// The first entry, whatever it is.
-#[inline(never)]
 fn other_entry(text: &str, exact: bool) -> (Option<Vpkg<'_>>, Option<&str>)
     ensures part { parts (byte ",") text.now ≡ first_part text.now ∷ parts_after (byte ",") (option_copied result.1) }
     ensures entry { option_map vpkg_view result.0 ≡ vpkg_part exact (first_part text.now) }
@@ -205,6 +194,7 @@ fn other_entry(text: &str, exact: bool) -> (Option<Vpkg<'_>>, Option<&str>)
 }
 
 /// The vpkg or veqpkg, with blanks or none round it.
+#[inline(never)]
 fn entry_of(part: &str, exact: bool) -> Option<Vpkg<'_>>
     ensures { option_map vpkg_view result ≡ vpkg_part exact part.now }
 {

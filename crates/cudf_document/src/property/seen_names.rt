@@ -78,9 +78,26 @@ fn is_among(name: &str, names: &[&str]) -> bool
     ensures { result ≡ list_any (λ seen. bytes_eq name.now seen.now) names.now }
 {
     for seen in names {
-        if name == *seen {
+        if are_equal(name, seen) {
             return true;
         }
     }
     false
+}
+
+/// Whether the names are equal. Most differ by their lengths already.
+#[inline(always)]
+#[tactic(auto, using(crate::proofs::NameLemmas::other_lengths))]
+fn are_equal(name: &str, other: &str) -> bool
+    ensures { result ≡ bytes_eq name.now other.now }
+{
+    name.len() == other.len() && are_equal_bytes(name, other)
+}
+
+/// The same. Inlined, what only a comparison needs would be made ready before each loop over names.
+#[inline(never)]
+fn are_equal_bytes(name: &str, other: &str) -> bool
+    ensures { result ≡ bytes_eq name.now other.now }
+{
+    name == other
 }

@@ -10,7 +10,7 @@ loop-seen-init c = refl
 pub loop-seen-preserved : goal.loop-seen-preserved
 loop-seen-preserved c =
     let same = λ (seen : Bor (List ℕ)). bytes_eq c.args.name.now seen.now in
-    (λ i. c.loop-seen.invariant i || (sym c.if-eq.false ∙ c.eq.ensures) i)
+    (λ i. c.loop-seen.invariant i || (sym c.if-are_equal.false ∙ c.are_equal.ensures) i)
     ∙ sym (list_any_more same c.args.names.now c.loop-seen.seen-index _ c.loop-seen-test.true)
 
 pub returns : goal.returns
