@@ -1,5 +1,6 @@
 -- What follows where a problem has no fault.
 use Rattle.std.proofs.Common.{◌≡◌, ◌≢◌, ℕ, zero, suc, ◌<◌, nat_eq, Bool, true, false, not, ◌||◌, ◌&&◌, List, [], ◌∷◌, ◌++◌, map, take, length, get_or, max, Option, None, Some, is_some, is_none, find, filter, filter_map, count_by, AllPairs, refl, sym, ap, ◌∙◌, arith, if◌then◌else◌, option_map, option_and_then, option_to_list, bytes_eq, codes}
+use Rattle.std.specs.Option.{option_zip}
 use Rattle.std.specs.Prelude.{slice_get}
 use Rattle.std.proofs.Math.Bool.{not-not, or-false}
 use Rattle.std.proofs.lemmas.Bool.{true≢false, and_parts, and_from, not-true, not-false, not_from_false, false_from_ne_true, eq-eqb}
@@ -18,14 +19,14 @@ use Rattle.cudf_document.specs.declared.stanza.postmark.Postmark.{Postmark}
 use Rattle.cudf_document.specs.declared.stanza.postmark.Postmark.TheVariants.{Preamble, Package, Request}
 use Rattle.cudf_document.specs.Faults.{fault_if}
 use Rattle.cudf_document.specs.Documents.{is_empty, with_earlier, postmark_named, postmark, marks_preamble, marks_package, is_request, has_name, value_of, line_of}
-use Rattle.cudf_document.specs.Promises.Packages.{is_package, are_distinct}
-use Rattle.cudf_document.specs.Ids.{Id, is_id, is_among, is_known, id_with, id_of}
+use Rattle.cudf_document.specs.Promises.Packages.{is_package, are_distinct, packages_in}
+use Rattle.cudf_document.specs.Ids.{Id, is_id, is_among, is_known, id_of}
 use Rattle.cudf_document.specs.Working.Judging.{id_under, fails, faults_or}
 use Rattle.cudf_document.specs.Values.{Test, name_value, version_value, can_be}
 use Rattle.cudf_value.specs.Parts.{look_up}
 use Rattle.cudf_document.specs.Preamble.{declared}
 use Rattle.cudf_document.specs.ProblemFaults.{tests, place_faults, property_faults, repeated_faults, undeclared_faults, mistyped_faults, misdeclared_faults, version_property, repeated_package_faults, unversioned_faults, required_names, missing_faults, inner_faults, stanza_faults, requestless_faults, problem_faults}
-use Rattle.cudf_document.specs.Universe.{PlainPackage, package_id, package_with, package_of, packages_in}
+use Rattle.cudf_document.specs.Universe.{PlainPackage, package_id, package_with, package_of}
 use Rattle.cudf_document.specs.Promises.Laws.{IsSound}
 use Rattle.cudf_document.proofs.ListLemmas.{is_some-find, is_some-option_map}
 use Rattle.cudf_document.proofs.NameLemmas.{same_bytes, bytes_same}
@@ -249,7 +250,7 @@ named_package (p ∷ ps) marked =
     by false false true h = absurd cc
     by false false false h = absurd cc
 
-both_there : (name : Option (List ℕ)) (version : Option ℕ) → is_some name ≡ true → is_some version ≡ true → is_some (id_with name version) ≡ true
+both_there : (name : Option (List ℕ)) (version : Option ℕ) → is_some name ≡ true → is_some version ≡ true → is_some (option_zip name version) ≡ true
 both_there (Some n) (Some v) a b = refl
 both_there _ _ a b = absurd cc
 

@@ -6,13 +6,13 @@ use Rattle.cudf_document.specs.declared.package.identity.Identity.{Identity}
 use Rattle.cudf_document.specs.declared.stanza.postmark.Postmark.TheVariants.{Package}
 use Rattle.cudf_document.specs.Documents.{line_of}
 use Rattle.cudf_document.specs.Faults.{fault_if}
-use Rattle.cudf_document.specs.Ids.{id_with}
+use Rattle.std.specs.Option.{option_zip}
 use Rattle.cudf_document.specs.Working.Judging.{id_under}
 use Rattle.cudf_document.specs.ProblemFaults.{version_property}
 use Rattle.cudf_document.specs.Working.Identities.{IsIdentity, known_id}
 
 pub known_id-is : (i : Identity) (ps : List PlainProperty) → IsIdentity i ps → known_id i ≡ id_under (Some Package) ps
-known_id-is i ps it = λ k. id_with (it.name_is k) (it.version_is k)
+known_id-is i ps it = λ k. option_zip (it.name_is k) (it.version_is k)
 
 -- the faults of its name and version
 pub version_faults : (is_repeated : Bool) (i : Identity) (s : PlainStanza) → IsIdentity i s.properties

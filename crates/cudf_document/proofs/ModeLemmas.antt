@@ -12,12 +12,12 @@ use Rattle.cudf_document.specs.declared.stanza.postmark.Postmark.{Postmark}
 use Rattle.cudf_document.specs.declared.stanza.postmark.Postmark.TheVariants.{Package}
 use Rattle.cudf_document.specs.Faults.{fault_if}
 use Rattle.cudf_document.specs.Documents.{is_empty, with_earlier, postmark, marks_preamble, marks_package, is_request, line_of}
-use Rattle.cudf_document.specs.Working.Judging.{same_name, fails, faults_or}
+use Rattle.cudf_document.specs.Working.Judging.{same_name, fails, faults_or, properties_faults}
 use Rattle.cudf_document.specs.Ids.{id_of, is_known}
-use Rattle.cudf_document.specs.Preamble.{declared, declared_after, is_bad_declaration}
+use Rattle.cudf_document.specs.Preamble.{declared, declared_by, declared_after}
 use Rattle.cudf_document.specs.Values.{solution_tests}
 use Rattle.cudf_value.specs.Parts.{look_up}
-use Rattle.cudf_document.specs.ProblemFaults.{tests, is_repeatable, property_faults, properties_faults, place_faults, version_property, repeated_package_faults, unversioned_faults, required_names, lacks_one, missing_faults, inner_faults, stanza_faults, requestless_faults, problem_faults}
+use Rattle.cudf_document.specs.ProblemFaults.{tests, declares, property_faults, place_faults, version_property, repeated_package_faults, unversioned_faults, required_names, lacks_one, missing_faults, inner_faults, stanza_faults, requestless_faults, problem_faults}
 use Rattle.cudf_document.specs.SolutionFaults.{value_faults, values_faults, solution_stanza_faults, repeated_pair_faults, repeated_pairs_faults, solution_faults}
 use Rattle.cudf_document.specs.Promises.Laws.{is_strict, StrictAdds, StrictAddsOneKind}
 use Rattle.cudf_document.proofs.LawLemmas.{head_or_after, none_in_nil, at_head}
@@ -95,10 +95,10 @@ module _ (line : Option Fault) where
 
   property_told : (ds : List PlainDeclaration) (mark : Option Postmark) (x : List PlainProperty × PlainProperty) → All (IsTold line) (property_faults ds mark x)
   property_told ds mark (before, p) =
-      let repeated = told_if E7 refl (list_any (same_name p) before && not (is_repeatable mark p)) p.line in
+      let repeated = told_if E7 refl (list_any (same_name p) before && not (declares mark p)) p.line in
       let undeclared = told_if E8 refl (marks_package mark && is_none (look_up p.name (tests ds mark))) p.line in
       let mistyped = told_if E9 refl (fails (look_up p.name (tests ds mark)) p.value) p.line in
-      let misdeclared = told_if E10 refl (marks_preamble mark && is_bad_declaration (declared_after [] before) p) p.line in
+      let misdeclared = told_if E10 refl (declares mark p && is_none (declared_by (declared_after [] before) p.value)) p.line in
       both_told _ _ (both_told _ _ (both_told _ _ repeated undeclared) mistyped) misdeclared
 
   unversioned_told : (s : PlainStanza) → All (IsTold line) (unversioned_faults s)

@@ -10,12 +10,12 @@ use Rattle.cudf_document.specs.declared.problem.walk.Walk.{Walk}
 use Rattle.cudf_document.specs.declared.stanza.postmark.Postmark.{Postmark}
 use Rattle.cudf_document.specs.declared.stanza.postmark.Postmark.TheVariants.{Preamble, Package, Request}
 use Rattle.cudf_document.specs.Documents.{is_empty, postmark, marks_package, marks_request, is_request}
-use Rattle.cudf_document.specs.Promises.Packages.{is_package, are_distinct}
+use Rattle.cudf_document.specs.Promises.Packages.{is_package, are_distinct, packages_in}
 use Rattle.cudf_document.specs.Ids.{Id, id_of}
 use Rattle.cudf_document.specs.Working.Judging.{request_in, id_under}
 use Rattle.cudf_document.specs.Preamble.{declared}
 use Rattle.cudf_document.specs.Promises.Thin.{thin_package, thin_problem}
-use Rattle.cudf_document.specs.Universe.{PlainPackage, PlainRequest, plain_problem, package_id, request_of, packages_in}
+use Rattle.cudf_document.specs.Universe.{PlainPackage, PlainRequest, plain_problem, package_id, request_of}
 use Rattle.cudf_document.specs.Promises.Views.{package_view, request_view}
 use Rattle.cudf_document.specs.Working.Kept.{AreParts, IsParts, IsReady, kept_by, gathered_of}
 use Rattle.cudf_document.specs.Working.PackageFields.{package_fields_of, package_from, passes, needing_if}

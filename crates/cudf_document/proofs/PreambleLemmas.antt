@@ -10,9 +10,9 @@ use Rattle.cudf_document.specs.declared.stanza.postmark.Postmark.TheVariants.{Pr
 use Rattle.cudf_document.specs.Faults.{lesser}
 use Rattle.cudf_document.specs.Documents.{has_name}
 use Rattle.cudf_document.specs.Working.Judging.{same_name}
-use Rattle.cudf_document.specs.Preamble.{declared_by, is_bad_declaration, added_by, declared_after}
+use Rattle.cudf_document.specs.Preamble.{declared_by, added_by, declared_after}
 use Rattle.cudf_document.specs.Working.PackageFields.{fault_on}
-use Rattle.cudf_document.specs.Working.ProblemBuilders.{preamble_kind_after}
+use Rattle.cudf_document.specs.Working.ProblemBuilders.{preamble_kind_after, is_bad_declaration}
 use Rattle.cudf_document.proofs.PropertyLemmas.{IsJudgedTo, IsJudgedTo-next, preamble_property}
 
 -- what is declared after one more property

@@ -17,10 +17,10 @@ use Rattle.std.proofs.lemmas.List.{append_assoc, append-nil}
 use Rattle.cudf_document.specs.Documents.{is_empty, with_earlier, postmark, is_request, marks_preamble, marks_request}
 use Rattle.cudf_document.specs.Ids.{is_id, id_of}
 use Rattle.cudf_document.specs.Preamble.{declared}
-use Rattle.cudf_document.specs.Promises.Packages.{is_preamble}
-use Rattle.cudf_document.specs.ProblemFaults.{properties_faults, required_names, stanza_faults}
-use Rattle.cudf_document.specs.Working.Judging.{request_in, placed_faults}
-use Rattle.cudf_document.specs.Universe.{package_id, packages_in}
+use Rattle.cudf_document.specs.Promises.Packages.{is_preamble, packages_in}
+use Rattle.cudf_document.specs.ProblemFaults.{required_names, stanza_faults}
+use Rattle.cudf_document.specs.Working.Judging.{request_in, placed_faults, properties_faults}
+use Rattle.cudf_document.specs.Universe.{package_id}
 use Rattle.cudf_document.specs.Working.ProblemBuilders.{PlainBuilder, with_stanza, faults_inside, IsBuilt, first_ids}
 use Rattle.cudf_document.specs.Working.Walks.{IsKnown, IsSoFar, GoesOn, IsWhole, judged_faults, judged_ids}
 use Rattle.cudf_document.proofs.ListLemmas.{is_empty-push}

@@ -2,25 +2,11 @@
 use Rattle.std.specs.Prelude.{ℕ, Bool, ◌&&◌, ◌||◌, ◌==◌, nat_lt, List, [], ◌∷◌, Option, Some, None, if◌then◌else◌}
 use Rattle.cudf_text.specs.declared.fault.Fault.{Fault}
 use Rattle.cudf_text.specs.declared.fault.Kind.{Kind}
-use Rattle.cudf_text.specs.declared.fault.Kind.TheVariants.{E1, E2, E3, E4, E5, E6, E7, E8, E9, E10, E11, E12, E13, E14, E15}
+use Rattle.cudf_text.specs.Faults.{described}
 
 -- a kind's number
 abbrev pub rank : Kind → ℕ
-rank E1 = 1
-rank E2 = 2
-rank E3 = 3
-rank E4 = 4
-rank E5 = 5
-rank E6 = 6
-rank E7 = 7
-rank E8 = 8
-rank E9 = 9
-rank E10 = 10
-rank E11 = 11
-rank E12 = 12
-rank E13 = 13
-rank E14 = 14
-rank E15 = 15
+rank kind = (described kind).0
 
 -- f is on an earlier line than g, or on the same line and of a lesser kind
 abbrev pub precedes : Fault → Fault → Bool

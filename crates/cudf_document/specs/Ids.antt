@@ -1,7 +1,7 @@
 -- Name and version, which together identify a package: CUDF 2.0, universes.
-use Rattle.std.specs.Prelude.{ℕ, Bool, false, ◌&&◌, ◌==◌, List, Option, None, option_and_then, option_map, bytes_eq, codes, if◌then◌else◌}
+use Rattle.std.specs.Prelude.{ℕ, Bool, false, ◌&&◌, ◌==◌, List, Option, None, bytes_eq, codes, if◌then◌else◌}
 use Rattle.std.specs.List.{list_any}
-use Rattle.std.specs.Option.{option_map_or}
+use Rattle.std.specs.Option.{option_map_or, option_zip}
 use Rattle.cudf_text.specs.Stanzas.{PlainStanza}
 use Rattle.cudf_document.specs.Documents.{postmark, marks_package, value_of}
 use Rattle.cudf_document.specs.Values.{name_value, version_value}
@@ -20,11 +20,7 @@ is_among ids id = list_any (is_id id) ids
 abbrev pub is_known : List Id → Option Id → Bool
 is_known ids id = option_map_or (is_among ids) id false
 
--- both, where there are both
-abbrev pub id_with : Option (List ℕ) → Option ℕ → Option Id
-id_with name version = option_and_then (λ n. option_map (λ v. (n, v)) version) name
-
 -- the name and the version of a package stanza, where both are of their types
 abbrev pub id_of : PlainStanza → Option Id
 id_of s = if marks_package (postmark s)
-    then id_with (value_of name_value (codes "package") s.properties) (value_of version_value (codes "version") s.properties) else None
+    then option_zip (value_of name_value (codes "package") s.properties) (value_of version_value (codes "version") s.properties) else None

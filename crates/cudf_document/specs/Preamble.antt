@@ -15,24 +15,17 @@ abbrev pub reserved_names : List (List ℕ)
 reserved_names = codes "package" ∷ codes "version" ∷ codes "depends" ∷ codes "conflicts" ∷ codes "provides" ∷ codes "installed"
     ∷ codes "was-installed" ∷ codes "keep" ∷ codes "preamble" ∷ codes "request" ∷ []
 
-abbrev pub is_reserved : List ℕ → Bool
-is_reserved name = list_any (bytes_eq name) reserved_names
-
 -- the name has a declaration among these
 abbrev pub is_declared : List PlainDeclaration → List ℕ → Bool
 is_declared ds name = list_any (λ d. bytes_eq name d.name) ds
 
 -- a declaration that may stand after these: of a name that is neither reserved nor declared before
 abbrev pub is_declarable : List PlainDeclaration × PlainDeclaration → Bool
-is_declarable (before, d) = not (is_reserved d.name || is_declared before d.name)
+is_declarable (before, d) = not (list_any (bytes_eq d.name) reserved_names || is_declared before d.name)
 
 -- what a `property` value declares after those before, where each may stand after those and after the ones before it in the value
 abbrev pub declared_by : List PlainDeclaration → List ℕ → Option (List PlainDeclaration)
 declared_by before text = option_and_then (λ ds. some_if (list_all is_declarable (with_earlier before ds)) ds) (declarations (trim text))
-
--- a `property` with a bad declaration
-abbrev pub is_bad_declaration : List PlainDeclaration → PlainProperty → Bool
-is_bad_declaration before p = has_name (codes "property") p && is_none (declared_by before p.value)
 
 -- what a property of the preamble adds to those before: a bad declaration adds nothing
 abbrev pub added_by : List PlainDeclaration → PlainProperty → List PlainDeclaration

@@ -17,7 +17,7 @@ use Rattle.cudf_document.specs.Faults.{fault_if}
 use Rattle.cudf_document.specs.Documents.{is_empty, with_earlier, postmark, marks_preamble, marks_package, is_request, has_name, line_of}
 use Rattle.cudf_document.specs.Ids.{Id, id_of, is_known}
 use Rattle.cudf_document.specs.Values.{Test, package_tests, request_tests, declared_test}
-use Rattle.cudf_document.specs.Preamble.{is_bad_declaration, declared_after, declared}
+use Rattle.cudf_document.specs.Preamble.{declared_by, declared_after, declared}
 
 -- ---- where a stanza stands
 
@@ -38,9 +38,9 @@ place_faults before s = unmarked_faults s ++ late_preamble_faults before s ++ la
 
 -- ---- properties, each after those before it in its stanza
 
--- a name that may stand more than once: `property` in a preamble
-abbrev pub is_repeatable : Option Postmark → PlainProperty → Bool
-is_repeatable mark p = marks_preamble mark && has_name (codes "property") p
+-- a `property` of a preamble
+abbrev pub declares : Option Postmark → PlainProperty → Bool
+declares mark p = marks_preamble mark && has_name (codes "property") p
 
 -- the names that are known in a stanza, and what each has to be
 abbrev pub tests : List PlainDeclaration → Option Postmark → List (List ℕ × Test)
@@ -52,9 +52,9 @@ tests ds _ = []
 abbrev pub repeats : List PlainProperty → PlainProperty → Bool
 repeats before p = list_any (λ q. bytes_eq p.name q.name) before
 
--- E7, property repeated
+-- E7, property repeated, but for those that declare
 abbrev pub repeated_faults : Option Postmark → List PlainProperty → PlainProperty → List Fault
-repeated_faults mark before p = fault_if (repeats before p && not (is_repeatable mark p)) p.line E7
+repeated_faults mark before p = fault_if (repeats before p && not (declares mark p)) p.line E7
 
 -- E8, property not declared
 abbrev pub undeclared_faults : List PlainDeclaration → Option Postmark → PlainProperty → List Fault
@@ -66,17 +66,13 @@ mistyped_faults known p = fault_if (option_map_or (λ test. not (test p.value)) 
 
 -- E10, bad declaration
 abbrev pub misdeclared_faults : Option Postmark → List PlainProperty → PlainProperty → List Fault
-misdeclared_faults mark before p = fault_if (marks_preamble mark && is_bad_declaration (declared_after [] before) p) p.line E10
+misdeclared_faults mark before p = fault_if (declares mark p && is_none (declared_by (declared_after [] before) p.value)) p.line E10
 
 -- the faults of a property after those before it
 abbrev pub property_faults : List PlainDeclaration → Option Postmark → List PlainProperty × PlainProperty → List Fault
 property_faults ds mark (before, p) =
     repeated_faults mark before p ++ undeclared_faults ds mark p ++ mistyped_faults (tests ds mark) p
     ++ misdeclared_faults mark before p
-
--- the faults of a stanza's properties
-abbrev pub properties_faults : List PlainDeclaration → Option Postmark → List PlainProperty → List Fault
-properties_faults ds mark ps = flat_map (property_faults ds mark) (with_earlier [] ps)
 
 -- ---- packages
 
@@ -111,7 +107,7 @@ missing_faults required s = fault_if (lacks_one required s.properties && marks_p
 abbrev pub inner_faults : Mode → List PlainStanza → PlainStanza → List Fault
 inner_faults mode before s =
     missing_faults (required_names mode (declared before)) s
-    ++ properties_faults (declared before) (postmark s) s.properties
+    ++ flat_map (property_faults (declared before) (postmark s)) (with_earlier [] s.properties)
     ++ repeated_package_faults (filter_map id_of before) s ++ unversioned_faults s
 
 -- a stanza in a wrong place has no other fault (own)

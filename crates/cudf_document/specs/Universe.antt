@@ -64,10 +64,6 @@ request_of s = record {
   upgrade = unwrap_or (value_of list_value (codes "upgrade") s.properties) [];
 }
 
--- asks for nothing; a problem without fault has a request
-abbrev pub no_request : PlainRequest
-no_request = record { line = 0; install = []; remove = []; upgrade = [] }
-
 -- ---- the problem
 
 pub record PlainProblem : Type 0 where
@@ -76,13 +72,11 @@ pub record PlainProblem : Type 0 where
   -- the declared default of `recommends`
   pub recommends : Option (List (List PlainAtom))
 
-abbrev pub packages_in : List PlainStanza → List PlainPackage
-packages_in stanzas = filter_map (package_of (declared stanzas)) stanzas
-
 unfoldable pub plain_problem : PlainText → PlainProblem
 plain_problem text = record {
-  packages = packages_in text.stanzas;
-  request = unwrap_or (option_map request_of (find is_request text.stanzas)) no_request;
+  packages = filter_map (package_of (declared text.stanzas)) text.stanzas;
+  -- where there is none, which is a fault, one that asks for nothing
+  request = unwrap_or (option_map request_of (find is_request text.stanzas)) (record { line = 0; install = []; remove = []; upgrade = [] });
   recommends = recommends_default (declared text.stanzas);
 }
 

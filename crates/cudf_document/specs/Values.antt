@@ -1,12 +1,12 @@
 -- The types of the properties that CUDF knows: CUDF 2.0, package and request properties.
-use Rattle.std.specs.Prelude.{ℕ, Bool, true, List, [], ◌∷◌, Option, Some, None, is_some, codes, if◌then◌else◌}
+use Rattle.std.specs.Prelude.{ℕ, Bool, true, List, [], ◌∷◌, map, filter, Option, Some, None, is_some, codes, if◌then◌else◌}
 use Rattle.cudf_text.specs.Chars.{trim}
 use Rattle.cudf_value.specs.Parts.{look_up}
 use Rattle.cudf_value.specs.Words.{truth, is_pkgname}
 use Rattle.cudf_value.specs.Numbers.{positive}
 use Rattle.cudf_value.specs.Vpkgs.{PlainVpkg}
 use Rattle.cudf_value.specs.Formulas.{PlainAtom, formula, vpkglist, veqpkglist}
-use Rattle.cudf_value.specs.Types.{is_of_type}
+use Rattle.cudf_value.specs.Types.{is_one_of, is_of_type}
 use Rattle.cudf_value.specs.Declarations.{PlainDeclaration}
 use Rattle.cudf_document.specs.declared.package.Keep.{Keep}
 use Rattle.cudf_document.specs.declared.package.Keep.TheVariants.{Version, Package, Feature, Nothing}
@@ -58,19 +58,11 @@ package_tests =
 
 -- the properties of a request that count
 abbrev pub request_tests : List (List ℕ × Test)
-request_tests =
-    (codes "install", can_be list_value)
-    ∷ (codes "remove", can_be list_value)
-    ∷ (codes "upgrade", can_be list_value)
-    ∷ []
+request_tests = map (λ name. (name, can_be list_value)) (codes "install" ∷ codes "remove" ∷ codes "upgrade" ∷ [])
 
 -- the properties of a solution's package that count
 abbrev pub solution_tests : List (List ℕ × Test)
-solution_tests =
-    (codes "package", can_be name_value)
-    ∷ (codes "version", can_be version_value)
-    ∷ (codes "installed", can_be truth_value)
-    ∷ []
+solution_tests = filter (λ known. is_one_of (codes "package" ∷ codes "version" ∷ codes "installed" ∷ []) known.0) package_tests
 
 -- a declared property has to be of its declared type
 abbrev pub declared_test : PlainDeclaration → List ℕ × Test

@@ -15,9 +15,9 @@ use Rattle.cudf_document.specs.Documents.{is_empty}
 use Rattle.cudf_document.proofs.ListLemmas.{list_any-map}
 use Rattle.cudf_universe.specs.Satisfaction.{Placed}
 use Rattle.cudf_referee.specs.declared.counting.standing.Standing.{Standing}
-use Rattle.cudf_referee.specs.Criteria.{each_once, names_of, versions_of, is_among, is_same_set, greatest, at_most_max}
+use Rattle.cudf_referee.specs.Criteria.{each_once, versions_of, is_among, is_same_set, greatest, at_most_max}
 use Rattle.cudf_referee.specs.Violations.{has_package}
-use Rattle.cudf_referee.specs.Working.Standings.{differ, standing_with, held, names_held, standing_of, standings_of}
+use Rattle.cudf_referee.specs.Working.Standings.{differ, standing_with, held, names_of, names_held, standing_of, standings_of}
 use Rattle.cudf_referee.proofs.EntryLemmas.{enumerate-push}
 use Rattle.cudf_referee.proofs.ListLemmas.{and_false, and_true, or_true, count-map, filter-both, weaker_case, is_empty-map, is_empty-filter, list_any-none}
 use Rattle.cudf_referee.proofs.NameLemmas.{text_same, any_once, once_push, same_count}

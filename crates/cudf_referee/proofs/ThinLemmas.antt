@@ -1,6 +1,6 @@
 -- A problem in which only those that are proposed need something is judged as the whole one.
-use Rattle.std.proofs.Common.{◌≡◌, ℕ, suc, ◌+◌, ◌-◌, ◌==◌, Bool, true, false, not, ◌&&◌, ◌||◌, List, [], ◌∷◌, ◌++◌, length, map, filter, cond, Some, None, refl, ap, sym, ◌∙◌, arith, ne_eqb}
-use Rattle.std.specs.Prelude.{bytes_eq, slice_get, unwrap_or}
+use Rattle.std.proofs.Common.{◌≡◌, ℕ, suc, ◌+◌, ◌-◌, ◌==◌, Bool, true, false, not, ◌&&◌, List, [], ◌∷◌, ◌++◌, length, map, filter, cond, Some, None, refl, ap, sym, ◌∙◌, arith, ne_eqb}
+use Rattle.std.specs.Prelude.{bytes_eq, slice_get, unwrap_or, if◌then◌else◌}
 use Rattle.std.specs.List.{flat_map, count_by, enumerate_from}
 use Rattle.std.specs.Option.{option_or}
 use Rattle.std.proofs.lemmas.List.Folds.{flat_map-map}
@@ -14,7 +14,8 @@ use Rattle.cudf_document.proofs.ListLemmas.{list_any-map}
 use Rattle.cudf_universe.specs.Satisfaction.{Placed, members, numbers_of, package_pairs, satisfies, satisfies_clause}
 use Rattle.cudf_referee.specs.declared.key.Rule.TheVariants as rule
 use Rattle.cudf_referee.specs.declared.key.Aspect.TheVariants.{Unsatisfied, Many, Lower}
-use Rattle.cudf_referee.specs.Criteria.{universe, is_touched, each_once, names_of, versions_of, is_among, is_same_set, greatest, at_most_max, criteria}
+use Rattle.cudf_referee.specs.Working.Standings.{names_of}
+use Rattle.cudf_referee.specs.Criteria.{universe, is_touched, each_once, versions_of, is_among, is_same_set, greatest, at_most_max, criteria}
 use Rattle.cudf_document.specs.Documents.{is_empty}
 use Rattle.cudf_referee.specs.Instances.{upgrade}
 use Rattle.cudf_referee.specs.Promises.Laws.{ThinIsEnough}
@@ -148,7 +149,7 @@ touched_same : (k : Id → Bool) (s t : Proposal) → s.initial ≡ map (second 
     → universe s ≡ map (second (thin_package k)) (universe t) → count_by (is_touched s) (universe s) ≡ count_by (is_touched t) (universe t)
 touched_same k s t initial proposed placed =
     ap (count_by (is_touched s)) placed ∙ count-map (is_touched s) (second (thin_package k)) (universe t)
-    ∙ (λ i. count_by (λ (p : Placed). (held p.0 i && not (holds_place (proposed i) p.0)) || (holds_place (proposed i) p.0 && not (held p.0 i))) (universe t))
+    ∙ (λ i. count_by (λ (p : Placed). if held p.0 i then not (holds_place (proposed i) p.0) else holds_place (proposed i) p.0) (universe t))
   where
     held : (place : ℕ) → holds_place s.initial place ≡ holds_place t.initial place
     held place = ap (λ qs. holds_place qs place) initial ∙ held_same k t.initial place

@@ -1,22 +1,14 @@
 -- Counting the packages that one of the two statuses has and the other hasn't.
-use Rattle.std.proofs.Common.{◌≡◌, ℕ, ◌+◌, ◌-◌, ◌^◌, ◌<◌, Bool, true, false, not, ◌&&◌, ◌||◌, [], length, take, get_or, min, ap, sym, ◌∙◌, arith}
+use Rattle.std.proofs.Common.{◌≡◌, ℕ, ◌+◌, ◌-◌, ◌^◌, ◌<◌, Bool, true, false, [], length, take, get_or, min, ap, sym, ◌∙◌, arith}
 use Rattle.std.specs.List.{count_by}
 use Rattle.std.proofs.lemmas.List.Sums.{count_by_more_yes, count_by_more_no}
 use Rattle.std.proofs.lemmas.List.FromFn.{get_or-enumerate_from, length-enumerate_from}
-use Rattle.std.proofs.lemmas.Grind.{common_steps}
 use Rattle.cudf_document.specs.Universe.{PlainProblem}
 use Rattle.cudf_universe.specs.Satisfaction.{Placed}
 use Rattle.cudf_referee.specs.Criteria.{is_touched, at_most_max, universe}
 use Rattle.cudf_referee.specs.Proposals.{Proposal, proposal}
 use Rattle.cudf_referee.specs.Working.Standings.{differ}
 use Rattle.cudf_referee.proofs.GroundLemmas.{held-at}
-
--- one alone is true where they differ
-abbrev one_alone : Bool → Bool → Bool
-one_alone a b = (a && not b) || (b && not a)
-
-one_alone_differ : (a b : Bool) → one_alone a b ≡ differ a b
-one_alone_differ a b = grind (arith, common_steps)
 
 module _ (problem : PlainProblem) (was is : ℕ → Bool) (i : ℕ) (d : Placed) (below : i < length problem.packages) where
   abbrev pub s : Proposal
@@ -25,8 +17,7 @@ module _ (problem : PlainProblem) (was is : ℕ → Bool) (i : ℕ) (d : Placed)
   touched_at : is_touched s (get_or (universe s) i d) ≡ differ (was (i + 1)) (is (i + 1))
   touched_at = ap (is_touched s) (get_or-enumerate_from 1 problem.packages i d below)
       ∙ (λ k. is_touched s (number k, get_or problem.packages i d.1))
-      ∙ (λ k. one_alone (held-at was problem.packages i below k) (held-at is problem.packages i below k))
-      ∙ one_alone_differ (was (i + 1)) (is (i + 1))
+      ∙ (λ k. differ (held-at was problem.packages i below k) (held-at is problem.packages i below k))
     where
       number : 1 + i ≡ i + 1
       number = omega arith

@@ -1,6 +1,6 @@
 -- What a proposed status changes and lacks, counted: the criteria paranoid and trendy of the MISC competition.
 -- Own: changes are counted by name, recommended conjuncts by place.
-use Rattle.std.specs.Prelude.{ℕ, ◌==◌, Bool, not, ◌&&◌, ◌||◌, List, [], ◌∷◌, map, filter, length, max, min, bytes_eq}
+use Rattle.std.specs.Prelude.{ℕ, ◌==◌, Bool, not, ◌&&◌, List, [], ◌∷◌, map, filter, length, max, min, bytes_eq, if◌then◌else◌}
 use Rattle.std.specs.List.{list_any, list_all, flat_map, count_by, enumerate_from}
 use Rattle.cudf_universe.specs.Satisfaction.{Placed, satisfies_clause}
 use Rattle.cudf_referee.specs.declared.criteria.Criteria.{Criteria}
@@ -17,10 +17,6 @@ universe s = enumerate_from 1 s.problem.packages
 abbrev pub each_once : List (List ℕ) → List (List ℕ)
 each_once [] = []
 each_once (name ∷ names) = name ∷ filter (λ other. not (bytes_eq name other)) (each_once names)
-
--- the names of packages, each once
-abbrev pub names_of : List Placed → List (List ℕ)
-names_of packages = each_once (map (λ p. p.1.name) packages)
 
 -- the versions of the packages of a name
 abbrev pub versions_of : List ℕ → List Placed → List ℕ
@@ -66,9 +62,7 @@ unsatisfied_recommends s =
 
 -- packages that are in one of the two statuses and not in the other; the name is own
 abbrev pub is_touched : Proposal → Placed → Bool
-is_touched s p =
-    (holds_place s.initial p.0 && not (holds_place s.proposed p.0))
-    || (holds_place s.proposed p.0 && not (holds_place s.initial p.0))
+is_touched s p = if holds_place s.initial p.0 then not (holds_place s.proposed p.0) else holds_place s.proposed p.0
 
 -- ---- the counts
 
@@ -78,7 +72,7 @@ at_most_max n = min n 18446744073709551615
 
 -- how many names of the universe pass a test
 abbrev pub count_names : (List ℕ → Bool) → Proposal → ℕ
-count_names test s = at_most_max (count_by test (names_of (universe s)))
+count_names test s = at_most_max (count_by test (each_once (map (λ p. p.1.name) (universe s))))
 
 unfoldable pub criteria : Proposal → Criteria
 criteria s = record {

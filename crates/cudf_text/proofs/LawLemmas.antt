@@ -5,7 +5,8 @@ use Rattle.std.proofs.lemmas.Bool.{or_parts}
 use Rattle.std.proofs.lemmas.List.Elements.{All-from_recursion}
 use Rattle.cudf_text.specs.Lines.{is_blank_line, NumberedLine, is_lf}
 use Rattle.cudf_text.specs.LineFaults.{read_lines}
-use Rattle.cudf_text.specs.Stanzas.{PlainProperty, PlainStanza, plain_text, stanza_of, stanza_with, properties, last_number}
+use Rattle.cudf_text.specs.Stanzas.{PlainProperty, PlainStanza, plain_text, stanza_of, properties, last_number}
+use Rattle.cudf_text.specs.Working.Tracked.{plain_with}
 use Rattle.cudf_text.specs.Promises.Laws.{LineEndsAtLf, LastLineNeedsNoLf, BeginsWithProperty, StanzasHaveProperties}
 
 pub line_ends_at_lf : (line rest : List ℕ) → LineEndsAtLf line rest
@@ -24,7 +25,7 @@ last_line_needs_no_lf (b ∷ c ∷ line) none some =
     rw here (ap (onto_first b) (last_line_needs_no_lf (c ∷ line) parts.1 (omega arith)))
 
 one_begins : (last : ℕ) (ps : List PlainProperty) (rest : List PlainStanza) → AllByRecursion BeginsWithProperty rest
-    → AllByRecursion BeginsWithProperty (cons_option (stanza_with last ps) rest)
+    → AllByRecursion BeginsWithProperty (cons_option (plain_with last ps) rest)
 one_begins last [] rest all = all
 one_begins last (p ∷ ps) rest all = (refl, all)
 

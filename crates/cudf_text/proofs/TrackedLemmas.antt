@@ -17,7 +17,7 @@ use Rattle.cudf_text.specs.Stanzas as plain
 use Rattle.cudf_text.specs.Promises.Views.{own_property_view, own_stanza_view, owned_in, property_view}
 use Rattle.cudf_text.specs.Working.Left.{with_tracked}
 use Rattle.cudf_text.specs.Working.Reading.{read_after}
-use Rattle.cudf_text.specs.Working.Tracked.{TrackedProperty, TrackedStanza, TrackedText, properties, stanza_with, stanza_of, plain_property, plain_stanza, plain_of, joins_of, owned_of, tracked_properties, tracked_property, whole}
+use Rattle.cudf_text.specs.Working.Tracked.{TrackedProperty, TrackedStanza, TrackedText, properties, stanza_with, stanza_of, plain_property, plain_stanza, plain_with, plain_of, joins_of, owned_of, tracked_properties, tracked_property, whole}
 use Rattle.cudf_text.proofs.OrderLemmas.{first_fault-is, read_lines-is}
 
 -- ---- what it says
@@ -29,7 +29,7 @@ plain-properties ((n, named name text) ∷ ls) =
 plain-properties ((n, _) ∷ ls) = plain-properties ls
 
 plain-one : (last : ℕ) (ps : List TrackedProperty) (rest : List TrackedStanza)
-    → map plain_stanza (cons_option (stanza_with last ps) rest) ≡ cons_option (plain.stanza_with last (map plain_property ps)) (map plain_stanza rest)
+    → map plain_stanza (cons_option (stanza_with last ps) rest) ≡ cons_option (plain_with last (map plain_property ps)) (map plain_stanza rest)
 plain-one last [] rest = refl
 plain-one last (p ∷ ps) rest = refl
 
@@ -37,7 +37,7 @@ plain-stanzas : (parts : List (List NumberedLine)) → map plain_stanza (filter_
 plain-stanzas [] = refl
 plain-stanzas (part ∷ parts) =
     plain-one (last_number part) (properties part) (filter_map stanza_of parts)
-    ∙ ap (λ ps. cons_option (plain.stanza_with (last_number part) ps) (map plain_stanza (filter_map stanza_of parts))) (plain-properties part)
+    ∙ ap (λ ps. cons_option (plain_with (last_number part) ps) (map plain_stanza (filter_map stanza_of parts))) (plain-properties part)
     ∙ ap (cons_option (plain.stanza_of part)) (plain-stanzas parts)
 
 -- ---- which values are joined

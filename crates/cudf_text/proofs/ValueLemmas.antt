@@ -5,7 +5,7 @@ use Rattle.std.specs.List.{join_with_byte}
 use Rattle.std.proofs.lemmas.List.{append_assoc, append-nil, length-append, length_push}
 use Rattle.std.proofs.lemmas.List.Elements.{filter-append}
 use Rattle.std.proofs.lemmas.Bool.{cases_Bool, eqb-false, ne_eqb, lt-ltb}
-use Rattle.cudf_text.specs.Stanzas.{some_texts}
+use Rattle.cudf_text.specs.Promises.Borrows.{some_texts}
 use Rattle.cudf_text.specs.Working.Tracked.{TrackedValue, joined}
 use Rattle.cudf_text.specs.Working.Steps.{value_onto}
 

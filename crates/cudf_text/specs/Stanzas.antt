@@ -1,6 +1,7 @@
 -- What a text says, its properties and stanzas: CUDF 2.0, syntax of stanzas and properties.
-use Rattle.std.specs.Prelude.{ℕ, not, ◌==◌, List, [], ◌∷◌, length, filter, filter_map, Option, Some, None}
-use Rattle.std.specs.List.{join_with_byte, slice_split}
+use Rattle.std.specs.Prelude.{ℕ, not, ◌==◌, List, [], ◌∷◌, length, filter, filter_map, slice_get, Option, None, option_map}
+use Rattle.std.specs.List.{join_with_byte, slice_split, last_or}
+use Rattle.std.specs.Option.{option_map_or}
 use Rattle.std.specs.Str.{byte}
 use Rattle.cudf_text.specs.declared.fault.Fault.{Fault}
 use Rattle.cudf_text.specs.Lines.{continuation, named, NumberedLine, is_blank_line, lines}
@@ -34,13 +35,9 @@ continuations [] = []
 continuations ((n, continuation text) ∷ ls) = text ∷ continuations ls
 continuations (l ∷ ls) = []
 
--- the texts that aren't empty
-abbrev pub some_texts : List (List ℕ) → List (List ℕ)
-some_texts texts = filter (λ text. not (length text == 0)) texts
-
 -- the texts that aren't empty, with one space between each two (own)
 abbrev pub joined : List (List ℕ) → List ℕ
-joined texts = join_with_byte (byte " ") (some_texts texts)
+joined texts = join_with_byte (byte " ") (filter (λ text. not (length text == 0)) texts)
 
 -- each name line, with the continuations that directly follow it
 abbrev pub properties : List NumberedLine → List PlainProperty
@@ -52,18 +49,11 @@ properties (l ∷ ls) = properties ls
 
 -- the number of the last line
 abbrev pub last_number : List NumberedLine → ℕ
-last_number [] = 0
-last_number ((n, c) ∷ []) = n
-last_number (l ∷ m ∷ ls) = last_number (m ∷ ls)
+last_number ls = option_map_or (λ l. l.0) (last_or None ls) 0
 
--- the stanza of these properties that ends at this line, if there is a property
-abbrev pub stanza_with : ℕ → List PlainProperty → Option PlainStanza
-stanza_with last [] = None
-stanza_with last (p ∷ ps) = Some (record { line = p.line; last = last; properties = p ∷ ps })
-
--- the stanza on lines of which none is blank, if they have a property
+-- the stanza on lines of which none is blank, if they have a property: from the first one's line to the last line
 abbrev pub stanza_of : List NumberedLine → Option PlainStanza
-stanza_of ls = stanza_with (last_number ls) (properties ls)
+stanza_of ls = option_map (λ p. record { line = p.line; last = last_number ls; properties = properties ls }) (slice_get (properties ls) 0)
 
 -- the lines are split at the blank ones, and each part is a stanza, if it has a property
 abbrev pub stanzas_of : List NumberedLine → List PlainStanza

@@ -75,7 +75,7 @@ pub struct Fault {
 /// What a report says of a fault, as `line 3: E9 value is not of its type`.
 impl fmt::Display for Fault {
     ghost use Rattle.std.specs.Prelude.{Some};
-    ghost use Rattle.cudf_text.specs.Faults.{fault_line};
+    ghost use Rattle.cudf_text.specs.Promises.Errors.{fault_line};
 
     ghost output = { λ fault. Some (fault_line fault) };
 

@@ -7,8 +7,12 @@ use Rattle.std.proofs.lemmas.List.{take_more, take_all}
 use Rattle.std.proofs.lemmas.List.Elements.{All-from_get_or}
 use Rattle.std.proofs.lemmas.List.Sums.{fails_before_first, fold-append}
 use Rattle.std.proofs.lemmas.List.Splits.{slice_split_first, slice_split_none}
-use Rattle.cudf_value.specs.Spots.{Spot, unquoted, next_spot, with_spots, is_outside, separates, characters, pieces}
+use Rattle.cudf_value.specs.Spots.{Spot, unquoted, next_spot, with_spots, is_outside, separates, pieces}
 use Rattle.cudf_value.specs.Working.Spots.{is_quotable_from}
+
+-- the characters without their spots
+abbrev pub characters : List (Spot × ℕ) → List ℕ
+characters xs = map (λ x. x.1) xs
 
 length-with_spots : (spot : Spot) (text : List ℕ) → length (with_spots spot text) ≡ length text
 length-with_spots spot [] = refl

@@ -7,7 +7,8 @@ use Rattle.std.proofs.lemmas.Bool.{and_parts, or_parts, not-true, eqb-true}
 use Rattle.std.proofs.lemmas.List.{append_assoc}
 use Rattle.std.proofs.lemmas.List.Splits.{length-slice_split}
 use Rattle.cudf_value.specs.Promises.Laws.{IsCutAtCommas, PiecesJoinToText}
-use Rattle.cudf_value.specs.Spots.{quote_mark, backslash, Spot, unquoted, in_quotes, after_backslash, next_spot, with_spots, is_outside, separates, characters}
+use Rattle.cudf_value.proofs.SpotLemmas.{characters}
+use Rattle.cudf_value.specs.Spots.{quote_mark, backslash, Spot, unquoted, in_quotes, after_backslash, next_spot, with_spots, is_outside, separates}
 use Rattle.cudf_value.specs.Promises.Tokens.{Inner, plain, escaped, Item, char_item, quoted_item, Token, char, quoted, bracketed, is_inner, is_plain_char, is_item, is_token, inner_text, quoted_text, item_text, token_text, text_of, is_comma}
 
 -- ---- the pieces of a text that begins in a spot

@@ -42,13 +42,9 @@ is_outside _ = false
 abbrev pub separates : Spot × ℕ → Bool
 separates x = is_outside x.0 && x.1 == byte ","
 
--- the characters without their spots
-abbrev pub characters : List (Spot × ℕ) → List ℕ
-characters xs = map (λ x. x.1) xs
-
 -- the pieces between such commas, where all quotes and brackets are closed and none is astray
 abbrev pub pieces : List ℕ → Option (List (List ℕ))
-pieces text = some_if (is_outside (fold next_spot (unquoted false) text)) (map characters (slice_split separates (with_spots (unquoted false) text)))
+pieces text = some_if (is_outside (fold next_spot (unquoted false) text)) (map (map (λ x. x.1)) (slice_split separates (with_spots (unquoted false) text)))
 
 -- in quotes outside brackets, and not behind a backslash
 abbrev pub is_in_quotes : Spot → Bool

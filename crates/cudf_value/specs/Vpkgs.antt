@@ -12,14 +12,17 @@ pub record PlainVpkg : Type 0 where
   pub name : List ℕ
   pub bound : Option (Relop × ℕ)
 
--- the operator as it is written
+-- each operator as it is written, and whether a number n stands so to m
+abbrev pub compared : Relop → List ℕ × (ℕ → ℕ → Bool)
+compared Eq = (codes "=", λ n m. n == m)
+compared Neq = (codes "!=", λ n m. not (n == m))
+compared Geq = (codes ">=", λ n m. nat_le m n)
+compared Gt = (codes ">", λ n m. nat_lt m n)
+compared Leq = (codes "<=", λ n m. nat_le n m)
+compared Lt = (codes "<", λ n m. nat_lt n m)
+
 abbrev pub relop_text : Relop → List ℕ
-relop_text Eq = codes "="
-relop_text Neq = codes "!="
-relop_text Geq = codes ">="
-relop_text Gt = codes ">"
-relop_text Leq = codes "<="
-relop_text Lt = codes "<"
+relop_text r = (compared r).0
 
 -- the operator that is written so
 abbrev pub relop : List ℕ → Option Relop
@@ -48,9 +51,4 @@ veqpkg text = option_and_then (λ v. some_if (is_exact v.bound) v) (vpkg text)
 -- the number n is one that the bound admits
 abbrev pub meets : Option (Relop × ℕ) → ℕ → Bool
 meets None n = true
-meets (Some (Eq, m)) n = n == m
-meets (Some (Neq, m)) n = not (n == m)
-meets (Some (Geq, m)) n = nat_le m n
-meets (Some (Gt, m)) n = nat_lt m n
-meets (Some (Leq, m)) n = nat_le n m
-meets (Some (Lt, m)) n = nat_lt n m
+meets (Some (r, m)) n = (compared r).1 n m

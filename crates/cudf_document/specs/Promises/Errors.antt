@@ -1,6 +1,6 @@
 -- What is printed of the errors of this crate (own).
 use Rattle.std.specs.Prelude.{ℕ, List, codes}
-use Rattle.cudf_text.specs.Faults.{fault_line}
+use Rattle.cudf_text.specs.Promises.Errors.{fault_line}
 use Rattle.cudf_document.specs.declared.error.ReadError.{ReadError}
 use Rattle.cudf_document.specs.declared.error.ReadError.TheVariants.{Fault, Memory}
 

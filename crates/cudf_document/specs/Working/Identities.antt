@@ -1,9 +1,10 @@
 -- The name and the version of a package, which are read before its other properties.
 use Rattle.std.specs.Prelude.{◌≡◌, List, Option, option_map, option_copied, find, codes}
+use Rattle.std.specs.Option.{option_zip}
 use Rattle.cudf_text.specs.Stanzas.{PlainProperty}
 use Rattle.cudf_document.specs.declared.package.identity.Identity.{Identity}
 use Rattle.cudf_document.specs.Documents.{has_name, value_of}
-use Rattle.cudf_document.specs.Ids.{Id, id_with}
+use Rattle.cudf_document.specs.Ids.{Id}
 use Rattle.cudf_document.specs.Values.{name_value, version_value}
 
 -- these are the name and the version of the properties, and the line of the first `version`
@@ -14,4 +15,4 @@ pub record IsIdentity (i : Identity) (ps : List PlainProperty) : Type 0 where
 
 -- the name and the version, where there are both
 abbrev pub known_id : Identity → Option Id
-known_id i = id_with (option_copied i.name) i.version
+known_id i = option_zip (option_copied i.name) i.version

@@ -1,7 +1,7 @@
 -- What is judged of parts of a stanza: of its postmark, its place, or a property's name.
-use Rattle.std.specs.Prelude.{ℕ, Bool, true, false, not, ◌&&◌, List, ◌++◌, Option, Some, None, is_none, is_some, find, option_map, bytes_eq, codes, if◌then◌else◌}
-use Rattle.std.specs.List.{list_all}
-use Rattle.std.specs.Option.{option_map_or}
+use Rattle.std.specs.Prelude.{ℕ, Bool, true, false, not, ◌&&◌, List, [], ◌++◌, Option, Some, None, is_none, is_some, find, option_map, bytes_eq, codes, if◌then◌else◌}
+use Rattle.std.specs.List.{list_all, flat_map}
+use Rattle.std.specs.Option.{option_map_or, option_zip}
 use Rattle.cudf_text.specs.declared.fault.Fault.{Fault}
 use Rattle.cudf_text.specs.declared.fault.Kind.TheVariants.{E4, E5, E6}
 use Rattle.cudf_text.specs.Stanzas.{PlainProperty, PlainStanza}
@@ -10,14 +10,19 @@ use Rattle.cudf_value.specs.Declarations.{PlainDeclaration}
 use Rattle.cudf_document.specs.declared.stanza.postmark.Postmark.{Postmark}
 use Rattle.cudf_document.specs.Faults.{fault_if}
 use Rattle.cudf_document.specs.Documents.{is_request, is_empty, with_earlier, marks_preamble, marks_package, value_of}
-use Rattle.cudf_document.specs.Ids.{Id, id_with}
+use Rattle.cudf_document.specs.Ids.{Id}
 use Rattle.cudf_document.specs.Values.{Test, formula_value, name_value, version_value}
 use Rattle.cudf_document.specs.Preamble.{is_declarable, recommends_in}
+use Rattle.cudf_document.specs.ProblemFaults.{property_faults}
 use Rattle.cudf_document.specs.Universe.{PlainRequest, request_of}
 
 -- the name and the version in these properties, where the postmark is a package's
 abbrev pub id_under : Option Postmark → List PlainProperty → Option Id
-id_under mark ps = if marks_package mark then id_with (value_of name_value (codes "package") ps) (value_of version_value (codes "version") ps) else None
+id_under mark ps = if marks_package mark then option_zip (value_of name_value (codes "package") ps) (value_of version_value (codes "version") ps) else None
+
+-- the faults of a stanza's properties
+abbrev pub properties_faults : List PlainDeclaration → Option Postmark → List PlainProperty → List Fault
+properties_faults ds mark ps = flat_map (property_faults ds mark) (with_earlier [] ps)
 
 -- the faults of where a stanza stands
 abbrev pub placed_faults : Bool → Bool → Option Postmark → ℕ → List Fault

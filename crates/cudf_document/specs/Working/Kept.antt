@@ -4,10 +4,10 @@ use Rattle.std.specs.Borrow.{Bor}
 use Rattle.cudf_text.specs.Stanzas.{PlainStanza}
 use Rattle.cudf_document.specs.declared.problem.parts.Parts.{Parts}
 use Rattle.cudf_document.specs.declared.problem.walk.Walk.{Walk}
-use Rattle.cudf_document.specs.Promises.Packages.{are_distinct}
+use Rattle.cudf_document.specs.Promises.Packages.{are_distinct, packages_in}
 use Rattle.cudf_document.specs.Ids.{Id, is_among}
 use Rattle.cudf_document.specs.Promises.Thin.{thin_package}
-use Rattle.cudf_document.specs.Universe.{package_id, packages_in}
+use Rattle.cudf_document.specs.Universe.{package_id}
 use Rattle.cudf_document.specs.Working.Judging.{request_in}
 use Rattle.cudf_document.specs.Promises.Views.{package_view, request_view}
 use Rattle.cudf_document.specs.Working.ProblemBuilders.{PlainBuilder}

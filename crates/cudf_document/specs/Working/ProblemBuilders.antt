@@ -1,5 +1,5 @@
 -- What the stanzas of a problem say, while they are read.
-use Rattle.std.specs.Prelude.{◌≡◌, ℕ, Bool, List, [], ◌∷◌, ◌++◌, map, filter_map, Option, Some, None, option_map, option_to_list, unwrap_or, is_some, is_none, bytes_eq, codes, if◌then◌else◌}
+use Rattle.std.specs.Prelude.{◌≡◌, ℕ, Bool, ◌&&◌, List, [], ◌∷◌, ◌++◌, map, filter_map, Option, Some, None, option_map, option_to_list, unwrap_or, is_some, is_none, bytes_eq, codes, if◌then◌else◌}
 use Rattle.std.specs.List.{list_any}
 use Rattle.indexmap.specs.IndexSet.{insert_key}
 use Rattle.cudf_text.specs.declared.fault.Fault.{Fault}
@@ -12,11 +12,19 @@ use Rattle.cudf_document.specs.declared.stanza.postmark.Postmark.TheVariants.{Pr
 use Rattle.cudf_document.specs.Faults.{fault_if}
 use Rattle.cudf_document.specs.Documents.{has_name, line_of}
 use Rattle.cudf_document.specs.Ids.{Id, is_id, is_among, is_known, id_of}
-use Rattle.cudf_document.specs.Working.Judging.{request_in, id_under}
-use Rattle.cudf_document.specs.Promises.Packages.{with_id}
-use Rattle.cudf_document.specs.Preamble.{declared_after, is_bad_declaration, declared, recommends_default}
-use Rattle.cudf_document.specs.ProblemFaults.{properties_faults, version_property, lacks_one}
-use Rattle.cudf_document.specs.Universe.{PlainPackage, package_id, package_with, PlainRequest, PlainProblem, no_request, request_of, packages_in}
+use Rattle.cudf_document.specs.Working.Judging.{request_in, id_under, properties_faults}
+use Rattle.cudf_document.specs.Promises.Packages.{with_id, packages_in}
+use Rattle.cudf_document.specs.Preamble.{declared_by, declared_after, declared, recommends_default}
+use Rattle.cudf_document.specs.ProblemFaults.{version_property, lacks_one}
+use Rattle.cudf_document.specs.Universe.{PlainPackage, package_id, package_with, PlainRequest, PlainProblem, request_of}
+
+-- asks for nothing
+abbrev pub no_request : PlainRequest
+no_request = record { line = 0; install = []; remove = []; upgrade = [] }
+
+-- the property is a bad declaration after those before
+abbrev pub is_bad_declaration : List PlainDeclaration → PlainProperty → Bool
+is_bad_declaration before p = has_name (codes "property") p && is_none (declared_by before p.value)
 
 -- what is wrong with a preamble's property: it is a bad declaration, or else it is repeated
 abbrev pub preamble_kind_after : List PlainDeclaration → List (List ℕ) → PlainProperty → Option Kind

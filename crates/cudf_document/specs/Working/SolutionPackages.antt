@@ -1,5 +1,6 @@
 -- The values of a solution's package while they are gathered.
 use Rattle.std.specs.Prelude.{ℕ, Bool, true, false, List, Option, Some, None, is_some, option_copied, unwrap_or, bytes_eq, codes, if◌then◌else◌}
+use Rattle.std.specs.Option.{option_zip}
 use Rattle.std.specs.List.{list_any}
 use Rattle.cudf_text.specs.declared.fault.Kind.{Kind}
 use Rattle.cudf_text.specs.declared.fault.Kind.TheVariants.{E7, E9}
@@ -8,7 +9,7 @@ use Rattle.cudf_document.specs.declared.solution.package.SolutionProperty.{Solut
 use Rattle.cudf_document.specs.declared.solution.package.SolutionProperty.TheVariants.{Package, Version, Installed}
 use Rattle.cudf_document.specs.declared.solution.package.SolutionPackage.{SolutionPackage}
 use Rattle.cudf_document.specs.Documents.{has_name, value_of}
-use Rattle.cudf_document.specs.Ids.{Id, id_with}
+use Rattle.cudf_document.specs.Ids.{Id}
 use Rattle.cudf_document.specs.Values.{name_value, version_value, truth_value}
 
 abbrev pub solution_property_named : List ℕ → Option SolutionProperty
@@ -77,4 +78,4 @@ solution_kind_of p e = solution_kind (solution_property_named p.name) p.value e
 
 -- the pair that it installs, if it installs one
 abbrev pub solution_package_id : PlainSolutionPackage → Option Id
-solution_package_id e = if unwrap_or e.installed false then id_with e.name e.version else None
+solution_package_id e = if unwrap_or e.installed false then option_zip e.name e.version else None

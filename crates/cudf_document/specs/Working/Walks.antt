@@ -12,11 +12,11 @@ use Rattle.cudf_document.specs.declared.problem.walk.Walk.{Walk}
 use Rattle.cudf_document.specs.Faults.{least}
 use Rattle.cudf_document.specs.Documents.{is_empty, with_earlier, is_request}
 use Rattle.cudf_document.specs.Ids.{Id, is_among, id_of}
-use Rattle.cudf_document.specs.Working.Judging.{id_under}
-use Rattle.cudf_document.specs.Promises.Packages.{with_id}
+use Rattle.cudf_document.specs.Working.Judging.{id_under, properties_faults}
+use Rattle.cudf_document.specs.Promises.Packages.{with_id, packages_in}
 use Rattle.cudf_document.specs.Preamble.{declared}
-use Rattle.cudf_document.specs.ProblemFaults.{properties_faults, required_names, stanza_faults, problem_faults}
-use Rattle.cudf_document.specs.Universe.{package_id, packages_in}
+use Rattle.cudf_document.specs.ProblemFaults.{required_names, stanza_faults, problem_faults}
+use Rattle.cudf_document.specs.Universe.{package_id}
 use Rattle.cudf_document.specs.Working.ProblemBuilders.{package_faults, first_ids}
 
 -- the faults inside a stanza with a postmark, after these declarations, names and versions, where packages have to have

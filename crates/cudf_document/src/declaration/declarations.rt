@@ -1,12 +1,13 @@
 //! The extra package properties that a document declares.
 ghost use Rattle.std.specs.Prelude.{◌≡◌, false, not, ◌&&◌, ◌||◌, [], ◌∷◌, ◌++◌, map, take, length, filter_map, find, is_some, Some, None, option_map, option_to_list, unwrap_or, bytes_eq, IfOk, OnOk, IsTrue, if◌then◌else◌};
+ghost use Rattle.std.specs.List.{list_any};
 ghost use Rattle.cudf_value.specs.Promises.Views.{formula_view};
 ghost use Rattle.cudf_value.specs.Promises.Types.{declaration_view};
 ghost use Rattle.cudf_document.specs.Values.{declared_test};
 ghost use Rattle.cudf_value.specs.Parts.{look_up};
 ghost use Rattle.cudf_document.specs.ProblemFaults.{required_names};
 ghost use Rattle.cudf_document.specs.Working.Judging.{name_without_default, all_declarable};
-ghost use Rattle.cudf_document.specs.Preamble.{is_reserved, is_declared, is_declarable, declared_by, recommends_in, recommends_default};
+ghost use Rattle.cudf_document.specs.Preamble.{reserved_names, is_declared, is_declarable, declared_by, recommends_in, recommends_default};
 ghost use Rattle.cudf_document.specs.Working.PackageFields.{wrong_kind};
 
 use crate::declaration::declared::Declared;
@@ -212,7 +213,7 @@ impl<'t> Declarations<'t> {
 
     /// Whether the name can be declared here.
     fn can_declare(&self, name: &str) -> bool
-        ensures { result ≡ not (is_reserved name.now || is_declared self.now name.now) }
+        ensures { result ≡ not (list_any (bytes_eq name.now) reserved_names || is_declared self.now name.now) }
     {
         !(is_reserved(name) || self.is_declared(name))
     }
@@ -258,7 +259,7 @@ pub(crate) fn mistyped_unless(fits: bool) -> Option<Kind>
 
 /// Whether the name can't be declared.
 fn is_reserved(name: &str) -> bool
-    ensures { result ≡ is_reserved name.now }
+    ensures { result ≡ list_any (bytes_eq name.now) reserved_names }
 {
     matches!(
         name,

@@ -4,7 +4,7 @@ ghost use Rattle.indexmap.specs.IndexSet.{insert_key};
 ghost use Rattle.cudf_text.specs.Promises.Views.{property_view, stanza_view};
 ghost use Rattle.cudf_document.specs.Faults.{least};
 ghost use Rattle.cudf_document.specs.Preamble.{added_by, declared_after};
-ghost use Rattle.cudf_document.specs.ProblemFaults.{properties_faults};
+ghost use Rattle.cudf_document.specs.Working.Judging.{properties_faults};
 ghost use Rattle.cudf_document.specs.Working.PackageFields.{fault_on};
 ghost use Rattle.cudf_document.specs.Working.ProblemBuilders.{preamble_kind_after};
 ghost use Rattle.cudf_document.specs.declared.stanza.postmark.Postmark.TheVariants.{Preamble as PreambleMark};

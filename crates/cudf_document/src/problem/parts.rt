@@ -32,7 +32,7 @@ impl<'a, 'c, 's> Parts<'a, 'c, 's> {
     ghost use Rattle.std.specs.Prelude.{◌≡◌, [], Some, option_map, is_some, if◌then◌else◌, IfOk, OnOk};
     ghost use Rattle.cudf_text.specs.Promises.Views.{stanza_view};
     ghost use Rattle.cudf_document.specs.Faults.{least};
-    ghost use Rattle.cudf_document.specs.ProblemFaults.{properties_faults};
+    ghost use Rattle.cudf_document.specs.Working.Judging.{properties_faults};
     ghost use Rattle.cudf_document.specs.Promises.Views.{request_view};
     ghost use Rattle.cudf_document.specs.declared.stanza.postmark.Postmark.TheVariants.{Package as PackageMark};
     ghost use Rattle.cudf_document.specs.Working.Kept.{IsParts, IsReady, kept_by, gathered_of};

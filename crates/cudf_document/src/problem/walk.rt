@@ -7,8 +7,7 @@ ghost use Rattle.cudf_text.specs.declared.fault.Kind.TheVariants.{E11, E12};
 ghost use Rattle.cudf_document.specs.Faults.{least, fault_if};
 ghost use Rattle.cudf_document.specs.Documents.{postmark, marks_preamble, marks_request};
 ghost use Rattle.cudf_document.specs.Ids.{Id};
-ghost use Rattle.cudf_document.specs.ProblemFaults.{properties_faults};
-ghost use Rattle.cudf_document.specs.Working.Judging.{placed_faults};
+ghost use Rattle.cudf_document.specs.Working.Judging.{properties_faults, placed_faults};
 ghost use Rattle.cudf_document.specs.Working.Identities.{IsIdentity};
 ghost use Rattle.cudf_document.specs.Working.SeenNames.{AreNames};
 ghost use Rattle.cudf_document.specs.Working.Walks.{texts, IsWhole};
@@ -37,7 +36,7 @@ pub(crate) trait Kept<'a>: Sized + Drop {
     ghost use Rattle.cudf_document.specs.Promises.Packages.{is_package};
     ghost use Rattle.cudf_document.specs.Ids.{Id};
     ghost use Rattle.cudf_document.specs.Preamble.{declared};
-    ghost use Rattle.cudf_document.specs.ProblemFaults.{properties_faults};
+    ghost use Rattle.cudf_document.specs.Working.Judging.{properties_faults};
     ghost use Rattle.cudf_document.specs.Working.Identities.{IsIdentity};
     ghost use Rattle.cudf_document.specs.Working.SeenNames.{AreNames};
     ghost use Rattle.cudf_document.specs.declared.stanza.postmark.Postmark.TheVariants.{Package as PackageMark, Request as RequestMark};
@@ -155,7 +154,8 @@ impl<'a> Walk<'a> {
     ghost use Rattle.cudf_document.specs.Working.Walks.{texts, IsKnown, IsSoFar, judged_faults, judged_ids};
     ghost use Rattle.cudf_document.specs.Documents.{is_empty, postmark};
     ghost use Rattle.cudf_document.specs.Preamble.{declared, declared_after};
-    ghost use Rattle.cudf_document.specs.ProblemFaults.{properties_faults, required_names};
+    ghost use Rattle.cudf_document.specs.ProblemFaults.{required_names};
+    ghost use Rattle.cudf_document.specs.Working.Judging.{properties_faults};
     ghost use Rattle.cudf_document.specs.declared.stanza.postmark.Postmark.TheVariants.{Preamble as PreambleMark, Package as PackageMark};
 
     /// No stanza.

@@ -46,7 +46,7 @@ pub(crate) struct SolutionPackage<'a> {
 impl<'a> SolutionPackage<'a> {
     ghost use Rattle.std.specs.Prelude.{◌≡◌, [], Some, option_map};
     ghost use Rattle.cudf_text.specs.Promises.Views.{property_view};
-    ghost use Rattle.cudf_document.specs.Ids.{id_with};
+    ghost use Rattle.std.specs.Option.{option_zip};
     ghost use Rattle.cudf_document.specs.Working.PackageFields.{fault_on};
     ghost use Rattle.cudf_document.specs.Working.SolutionPackages.{solution_property_named, solution_package_view, solution_package_of, with_solution_property, solution_kind, with_property, solution_kind_of, solution_package_id};
     ghost use Rattle.cudf_document.specs.declared.solution.package.SolutionProperty.TheVariants as counted;
@@ -123,7 +123,7 @@ impl<'a> SolutionPackage<'a> {
 
     /// The name and the version, where both are of their types.
     pub(crate) fn id(&self) -> Option<(&'a str, u64)>
-        ensures { option_map (λ id. (id.0.now, id.1)) result ≡ id_with (solution_package_view self.now).name (solution_package_view self.now).version }
+        ensures { option_map (λ id. (id.0.now, id.1)) result ≡ option_zip (solution_package_view self.now).name (solution_package_view self.now).version }
     {
         Some((self.name?, self.version?))
     }

@@ -5,7 +5,7 @@ use Rattle.std.specs.List.{AllByRecursion}
 use Rattle.indexmap.specs.IndexMap.{IndexMap, keys}
 use Rattle.cudf_universe.specs.Satisfaction.{Placed}
 use Rattle.cudf_referee.specs.declared.counting.standing.Standing.{Standing}
-use Rattle.cudf_referee.specs.Criteria.{names_of, versions_of, is_same_set, greatest}
+use Rattle.cudf_referee.specs.Criteria.{each_once, versions_of, is_same_set, greatest}
 use Rattle.cudf_referee.specs.Violations.{has_package}
 
 abbrev pub no_standing : Standing
@@ -38,6 +38,10 @@ standing_of was is packages name = record {
   greatest = greatest (versions_of name packages);
   greatest_installed = greatest (versions_of name (held is packages));
 }
+
+-- the names of packages, each once
+abbrev pub names_of : List Placed → List (List ℕ)
+names_of packages = each_once (map (λ p. p.1.name) packages)
 
 -- the names of the packages that one of the statuses has
 abbrev pub names_held : (ℕ → Bool) → (ℕ → Bool) → List Placed → List (List ℕ)

@@ -1,8 +1,12 @@
 -- Which values are joined of two texts or more: these alone are no parts of the source.
-use Rattle.std.specs.Prelude.{ℕ, Bool, nat_lt, List, [], ◌∷◌, length}
+use Rattle.std.specs.Prelude.{ℕ, Bool, not, ◌==◌, nat_lt, List, [], ◌∷◌, length, filter}
 use Rattle.cudf_text.specs.Lines.{named, NumberedLine}
 use Rattle.cudf_text.specs.LineFaults.{read_lines}
-use Rattle.cudf_text.specs.Stanzas.{continuations, some_texts}
+use Rattle.cudf_text.specs.Stanzas.{continuations}
+
+-- the texts that aren't empty
+abbrev pub some_texts : List (List ℕ) → List (List ℕ)
+some_texts texts = filter (λ text. not (length text == 0)) texts
 
 -- two texts at least aren't empty
 abbrev pub is_joined : List (List ℕ) → Bool

@@ -1,5 +1,5 @@
 -- What a text says, where each value tells whether it is joined of two texts or more.
-use Rattle.std.specs.Prelude.{ℕ, Bool, false, List, [], ◌∷◌, ◌++◌, length, map, filter_map, Option, Some, None}
+use Rattle.std.specs.Prelude.{ℕ, Bool, false, List, [], ◌∷◌, ◌++◌, length, map, filter_map, slice_get, Option, Some, None, option_map}
 use Rattle.std.specs.List.{slice_split, flat_map}
 use Rattle.std.specs.Cow.{cow_str_bytes}
 use Rattle.std.specs.declared.alloc.Global.{Global}
@@ -69,6 +69,10 @@ plain_of t = record { stanzas = map plain_stanza t.stanzas; fault = t.fault; lin
 -- for each property, whether its value is joined
 abbrev pub joins_of : TrackedText → List Bool
 joins_of t = flat_map (λ s. owned_of s.properties) t.stanzas
+
+-- a plain stanza of these properties that ends at this line, if there is a property
+abbrev pub plain_with : ℕ → List PlainProperty → Option PlainStanza
+plain_with last ps = option_map (λ p. record { line = p.line; last = last; properties = ps }) (slice_get ps 0)
 
 -- a whole text
 abbrev pub whole : List ℕ → TrackedText
