@@ -22,7 +22,9 @@ use Rattle.cudf_document.specs.Documents.{is_empty, with_earlier, postmark_named
 use Rattle.cudf_document.specs.Promises.Packages.{is_package, are_distinct, packages_in}
 use Rattle.cudf_document.specs.Ids.{Id, is_id, is_among, is_known, id_of}
 use Rattle.cudf_document.specs.Working.Judging.{id_under, fails, faults_or}
-use Rattle.cudf_document.specs.Values.{Test, name_value, version_value, can_be}
+use Rattle.cudf_value.specs.Types.{can_be}
+use Rattle.cudf_document.specs.Values.{Test, name_value}
+use Rattle.cudf_document.specs.Working.Reads.{version_value}
 use Rattle.cudf_value.specs.Parts.{look_up}
 use Rattle.cudf_document.specs.Preamble.{declared}
 use Rattle.cudf_document.specs.ProblemFaults.{tests, place_faults, property_faults, repeated_faults, undeclared_faults, mistyped_faults, misdeclared_faults, version_property, repeated_package_faults, unversioned_faults, required_names, missing_faults, inner_faults, stanza_faults, requestless_faults, problem_faults}

@@ -4,7 +4,7 @@ use Rattle.std.specs.List.{list_any}
 use Rattle.cudf_text.specs.declared.fault.Kind.TheVariants.{E7}
 use Rattle.cudf_text.specs.Stanzas.{PlainProperty}
 use Rattle.cudf_text.specs.Chars.{trim}
-use Rattle.cudf_value.specs.Types.{PlainType, word_type, enum_type, is_of_type}
+use Rattle.cudf_value.specs.Types.{can_be, PlainType, word_type, enum_type, is_of_type}
 use Rattle.cudf_value.specs.Declarations.{PlainDeclaration}
 use Rattle.cudf_document.specs.declared.stanza.postmark.Postmark.TheVariants.{Package as PackageMark}
 use Rattle.cudf_document.specs.declared.package.property.PackageProperty.{PackageProperty}
@@ -12,7 +12,8 @@ use Rattle.cudf_document.specs.declared.package.property.PackageProperty.TheVari
 use Rattle.cudf_document.specs.Faults.{least}
 use Rattle.cudf_document.specs.Documents.{value_of}
 use Rattle.cudf_document.specs.Working.Judging.{same_name}
-use Rattle.cudf_document.specs.Values.{formula_value, list_value, exact_list_value, truth_value, keep_value, can_be, declared_test}
+use Rattle.cudf_document.specs.Values.{truth_value, keep_value, declared_test}
+use Rattle.cudf_document.specs.Working.Reads.{formula_value, list_value, exact_list_value}
 use Rattle.cudf_value.specs.Parts.{look_up}
 use Rattle.cudf_document.specs.Preamble.{is_formula_type, recommends_in}
 use Rattle.cudf_document.specs.ProblemFaults.{tests, property_faults}

@@ -7,7 +7,8 @@ use Rattle.cudf_document.specs.declared.stanza.postmark.Postmark.TheVariants.{Re
 use Rattle.cudf_document.specs.Faults.{least}
 use Rattle.cudf_document.specs.Documents.{value_of}
 use Rattle.cudf_document.specs.Working.Judging.{same_name, fails}
-use Rattle.cudf_document.specs.Values.{list_value, request_tests}
+use Rattle.cudf_document.specs.Values.{request_tests}
+use Rattle.cudf_document.specs.Working.Reads.{list_value}
 use Rattle.cudf_value.specs.Parts.{look_up}
 use Rattle.cudf_document.specs.ProblemFaults.{property_faults}
 use Rattle.cudf_document.specs.Working.PackageFields.{fault_on}

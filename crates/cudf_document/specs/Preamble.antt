@@ -1,14 +1,13 @@
 -- The extra package properties that a document declares: CUDF 2.0, the preamble.
-use Rattle.std.specs.Prelude.{ℕ, Bool, false, not, ◌&&◌, ◌||◌, List, [], ◌∷◌, ◌++◌, Option, find, is_none, unwrap_or, option_and_then, bytes_eq, codes, if◌then◌else◌}
+use Rattle.std.specs.Prelude.{ℕ, Bool, false, not, ◌||◌, List, [], ◌∷◌, ◌++◌, Option, find, unwrap_or, option_and_then, bytes_eq, codes, if◌then◌else◌}
 use Rattle.std.specs.List.{fold, list_any, list_all}
 use Rattle.cudf_text.specs.Stanzas.{PlainProperty, PlainStanza}
 use Rattle.cudf_text.specs.Chars.{trim}
-use Rattle.cudf_value.specs.Parts.{some_if}
-use Rattle.cudf_value.specs.Formulas.{PlainAtom}
+use Rattle.cudf_value.specs.Parts.{some_if, trimmed}
+use Rattle.cudf_value.specs.Formulas.{PlainAtom, formula}
 use Rattle.cudf_value.specs.Types.{PlainType, word_type, enum_type}
 use Rattle.cudf_value.specs.Declarations.{PlainDeclaration, declarations}
 use Rattle.cudf_document.specs.Documents.{with_earlier, has_name, postmark, marks_preamble}
-use Rattle.cudf_document.specs.Values.{formula_value}
 
 -- the names that can't be declared (own)
 abbrev pub reserved_names : List (List ℕ)
@@ -52,4 +51,4 @@ recommends_in ds = option_and_then (λ d. some_if (is_formula_type d.kind) d) (f
 
 -- the declared default of `recommends`, where it is one of formulas
 abbrev pub recommends_default : List PlainDeclaration → Option (List (List PlainAtom))
-recommends_default ds = option_and_then (λ d. option_and_then formula_value d.default) (recommends_in ds)
+recommends_default ds = option_and_then (λ d. option_and_then (trimmed formula) d.default) (recommends_in ds)

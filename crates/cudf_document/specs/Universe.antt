@@ -2,14 +2,15 @@
 -- What these words say counts for a problem without fault; of any other they say something too.
 use Rattle.std.specs.Prelude.{ℕ, ◌-◌, ◌==◌, Bool, false, List, [], Option, None, is_some, find, filter_map, slice_get, unwrap_or, option_map, codes, if◌then◌else◌}
 use Rattle.cudf_text.specs.Stanzas.{PlainProperty, PlainStanza, PlainText}
+use Rattle.cudf_value.specs.Parts.{trimmed}
 use Rattle.cudf_value.specs.Vpkgs.{PlainVpkg}
-use Rattle.cudf_value.specs.Formulas.{PlainAtom}
+use Rattle.cudf_value.specs.Formulas.{PlainAtom, formula, vpkglist, veqpkglist}
 use Rattle.cudf_value.specs.Declarations.{PlainDeclaration}
 use Rattle.cudf_document.specs.declared.package.Keep.{Keep}
 use Rattle.cudf_document.specs.declared.package.Keep.TheVariants.{Nothing}
 use Rattle.cudf_document.specs.Documents.{value_of, is_request}
 use Rattle.cudf_document.specs.Ids.{Id, id_of}
-use Rattle.cudf_document.specs.Values.{formula_value, list_value, exact_list_value, truth_value, keep_value}
+use Rattle.cudf_document.specs.Values.{truth_value, keep_value}
 use Rattle.cudf_document.specs.Preamble.{declared, recommends_in, recommends_default}
 
 -- ---- packages
@@ -36,12 +37,12 @@ package_with ds line ps (name, version) = record {
   line = line;
   name = name;
   version = version;
-  depends = unwrap_or (value_of formula_value (codes "depends") ps) [];
-  conflicts = unwrap_or (value_of list_value (codes "conflicts") ps) [];
-  provides = unwrap_or (value_of exact_list_value (codes "provides") ps) [];
+  depends = unwrap_or (value_of (trimmed formula) (codes "depends") ps) [];
+  conflicts = unwrap_or (value_of (trimmed vpkglist) (codes "conflicts") ps) [];
+  provides = unwrap_or (value_of (trimmed veqpkglist) (codes "provides") ps) [];
   installed = unwrap_or (value_of truth_value (codes "installed") ps) false;
   keep = unwrap_or (value_of keep_value (codes "keep") ps) Nothing;
-  recommends = if is_some (recommends_in ds) then value_of formula_value (codes "recommends") ps else None;
+  recommends = if is_some (recommends_in ds) then value_of (trimmed formula) (codes "recommends") ps else None;
 }
 
 -- the package that a stanza describes, if it is a package stanza with a name and a version
@@ -59,9 +60,9 @@ pub record PlainRequest : Type 0 where
 abbrev pub request_of : PlainStanza → PlainRequest
 request_of s = record {
   line = s.line;
-  install = unwrap_or (value_of list_value (codes "install") s.properties) [];
-  remove = unwrap_or (value_of list_value (codes "remove") s.properties) [];
-  upgrade = unwrap_or (value_of list_value (codes "upgrade") s.properties) [];
+  install = unwrap_or (value_of (trimmed vpkglist) (codes "install") s.properties) [];
+  remove = unwrap_or (value_of (trimmed vpkglist) (codes "remove") s.properties) [];
+  upgrade = unwrap_or (value_of (trimmed vpkglist) (codes "upgrade") s.properties) [];
 }
 
 -- ---- the problem

@@ -1,12 +1,11 @@
 -- The types of the properties that CUDF knows: CUDF 2.0, package and request properties.
-use Rattle.std.specs.Prelude.{ℕ, Bool, true, List, [], ◌∷◌, map, filter, Option, Some, None, is_some, codes, if◌then◌else◌}
+use Rattle.std.specs.Prelude.{ℕ, Bool, true, List, [], ◌∷◌, map, filter, Option, Some, None, codes, if◌then◌else◌}
 use Rattle.cudf_text.specs.Chars.{trim}
-use Rattle.cudf_value.specs.Parts.{look_up}
+use Rattle.cudf_value.specs.Parts.{trimmed, look_up}
 use Rattle.cudf_value.specs.Words.{truth, is_pkgname}
 use Rattle.cudf_value.specs.Numbers.{positive}
-use Rattle.cudf_value.specs.Vpkgs.{PlainVpkg}
-use Rattle.cudf_value.specs.Formulas.{PlainAtom, formula, vpkglist, veqpkglist}
-use Rattle.cudf_value.specs.Types.{is_one_of, is_of_type}
+use Rattle.cudf_value.specs.Formulas.{formula, vpkglist, veqpkglist}
+use Rattle.cudf_value.specs.Types.{can_be, is_one_of, is_of_type}
 use Rattle.cudf_value.specs.Declarations.{PlainDeclaration}
 use Rattle.cudf_document.specs.declared.package.Keep.{Keep}
 use Rattle.cudf_document.specs.declared.package.Keep.TheVariants.{Version, Package, Feature, Nothing}
@@ -16,20 +15,8 @@ use Rattle.cudf_document.specs.declared.package.Keep.TheVariants.{Version, Packa
 abbrev pub name_value : List ℕ → Option (List ℕ)
 name_value text = if is_pkgname text then Some text else None
 
-abbrev pub version_value : List ℕ → Option ℕ
-version_value text = positive (trim text)
-
-abbrev pub formula_value : List ℕ → Option (List (List PlainAtom))
-formula_value text = formula (trim text)
-
-abbrev pub list_value : List ℕ → Option (List PlainVpkg)
-list_value text = vpkglist (trim text)
-
-abbrev pub exact_list_value : List ℕ → Option (List PlainVpkg)
-exact_list_value text = veqpkglist (trim text)
-
 abbrev pub truth_value : List ℕ → Option Bool
-truth_value text = truth (trim text)
+truth_value = trimmed truth
 
 abbrev pub keep_value : List ℕ → Option Keep
 keep_value text = look_up text ((codes "version", Version) ∷ (codes "package", Package) ∷ (codes "feature", Feature) ∷ (codes "none", Nothing) ∷ [])
@@ -40,17 +27,14 @@ keep_value text = look_up text ((codes "version", Version) ∷ (codes "package",
 abbrev pub Test : Type 0
 Test = List ℕ → Bool
 
-abbrev pub can_be : {A : Type 0} → (List ℕ → Option A) → Test
-can_be read = λ text. is_some (read text)
-
 -- the properties of a package, and what each has to be; `was-installed` may be anything (own)
 abbrev pub package_tests : List (List ℕ × Test)
 package_tests =
     (codes "package", can_be name_value)
-    ∷ (codes "version", can_be version_value)
-    ∷ (codes "depends", can_be formula_value)
-    ∷ (codes "conflicts", can_be list_value)
-    ∷ (codes "provides", can_be exact_list_value)
+    ∷ (codes "version", can_be (trimmed positive))
+    ∷ (codes "depends", can_be (trimmed formula))
+    ∷ (codes "conflicts", can_be (trimmed vpkglist))
+    ∷ (codes "provides", can_be (trimmed veqpkglist))
     ∷ (codes "installed", can_be truth_value)
     ∷ (codes "keep", can_be keep_value)
     ∷ (codes "was-installed", λ text. true)
@@ -58,7 +42,7 @@ package_tests =
 
 -- the properties of a request that count
 abbrev pub request_tests : List (List ℕ × Test)
-request_tests = map (λ name. (name, can_be list_value)) (codes "install" ∷ codes "remove" ∷ codes "upgrade" ∷ [])
+request_tests = map (λ name. (name, can_be (trimmed vpkglist))) (codes "install" ∷ codes "remove" ∷ codes "upgrade" ∷ [])
 
 -- the properties of a solution's package that count
 abbrev pub solution_tests : List (List ℕ × Test)

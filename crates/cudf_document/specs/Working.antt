@@ -6,6 +6,7 @@ pub mod Kept
 pub mod Pairs
 pub mod PackageFields
 pub mod ProblemBuilders
+pub mod Reads
 pub mod RequestFields
 pub mod SeenNames
 pub mod SolutionBuilders

@@ -70,7 +70,7 @@ is_touched s p = if holds_place s.initial p.0 then not (holds_place s.proposed p
 abbrev pub at_most_max : ℕ → ℕ
 at_most_max n = min n 18446744073709551615
 
--- how many names of the universe pass a test
+-- how many names of the universe, each once, pass a test
 abbrev pub count_names : (List ℕ → Bool) → Proposal → ℕ
 count_names test s = at_most_max (count_by test (each_once (map (λ p. p.1.name) (universe s))))
 

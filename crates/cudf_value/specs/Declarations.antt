@@ -6,7 +6,7 @@ use Rattle.std.specs.Str.{byte}
 use Rattle.std.specs.Char.{is_ascii_alphabetic}
 use Rattle.cudf_text.specs.Chars.{is_ident_char, trim_start, trim, is_ident}
 use Rattle.cudf_value.specs.Chars.{rest_after, between}
-use Rattle.cudf_value.specs.Parts.{some_if, all_some, look_up, read_parts}
+use Rattle.cudf_value.specs.Parts.{some_if, trimmed, all_some, look_up, read_parts}
 use Rattle.cudf_value.specs.Types.{types, PlainType, word_type, enum_type, is_one_of, is_of_type}
 use Rattle.cudf_value.specs.Spots.{quote_mark, is_quotable, pieces}
 
@@ -62,4 +62,4 @@ declaration text = let name = take_while is_ident_char text in let rest = trim_s
 
 -- all declarations of a value, with blanks or none round each; the empty text has none (own)
 unfoldable pub declarations : List ℕ → Option (List PlainDeclaration)
-declarations text = if length text == 0 then Some [] else option_and_then (λ ps. all_some (map (λ piece. declaration (trim piece)) ps)) (pieces text)
+declarations text = if length text == 0 then Some [] else option_and_then (λ ps. all_some (map (trimmed declaration) ps)) (pieces text)

@@ -2,10 +2,15 @@
 use Rattle.std.specs.Prelude.{ℕ, Bool, ◌==◌, List, [], ◌∷◌, length, map, Option, Some, None, option_map, bytes_eq, if◌then◌else◌}
 use Rattle.std.specs.List.{slice_split}
 use Rattle.std.specs.Str.{byte}
+use Rattle.cudf_text.specs.Chars.{trim}
 
 -- the value, where the test holds
 abbrev pub some_if : {A : Type 0} → Bool → A → Option A
 some_if test value = if test then Some value else None
+
+-- what is read of the text without the blanks round it
+abbrev pub trimmed : {A : Type 0} → (List ℕ → Option A) → List ℕ → Option A
+trimmed read text = read (trim text)
 
 -- all values, where there is one at each place
 abbrev pub all_some : {A : Type 0} → List (Option A) → Option (List A)

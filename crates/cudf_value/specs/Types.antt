@@ -1,5 +1,5 @@
 -- CUDF's types, and which texts are of each (the type library).
-use Rattle.std.specs.Prelude.{ℕ, Bool, true, false, List, [], ◌∷◌, is_some, bytes_eq, codes}
+use Rattle.std.specs.Prelude.{ℕ, Bool, true, false, List, [], ◌∷◌, Option, is_some, bytes_eq, codes}
 use Rattle.std.specs.List.{list_any}
 use Rattle.std.specs.Option.{option_map_or}
 use Rattle.cudf_text.specs.Chars.{is_ident}
@@ -9,21 +9,25 @@ use Rattle.cudf_value.specs.Numbers.{positive, natural, signed}
 use Rattle.cudf_value.specs.Vpkgs.{vpkg, veqpkg}
 use Rattle.cudf_value.specs.Formulas.{formula, vpkglist, veqpkglist}
 
+-- the text has a value
+abbrev pub can_be : {A : Type 0} → (List ℕ → Option A) → List ℕ → Bool
+can_be read text = is_some (read text)
+
 -- the types that are a word, each with the test of its texts; any text is a string
 abbrev pub types : List (List ℕ × (List ℕ → Bool))
 types =
-    (codes "posint", λ text. is_some (positive text))
-    ∷ (codes "nat", λ text. is_some (natural text))
-    ∷ (codes "int", λ text. is_some (signed text))
-    ∷ (codes "bool", λ text. is_some (truth text))
+    (codes "posint", can_be positive)
+    ∷ (codes "nat", can_be natural)
+    ∷ (codes "int", can_be signed)
+    ∷ (codes "bool", can_be truth)
     ∷ (codes "string", λ text. true)
     ∷ (codes "pkgname", is_pkgname)
     ∷ (codes "ident", is_ident)
-    ∷ (codes "vpkg", λ text. is_some (vpkg text))
-    ∷ (codes "veqpkg", λ text. is_some (veqpkg text))
-    ∷ (codes "vpkgformula", λ text. is_some (formula text))
-    ∷ (codes "vpkglist", λ text. is_some (vpkglist text))
-    ∷ (codes "veqpkglist", λ text. is_some (veqpkglist text))
+    ∷ (codes "vpkg", can_be vpkg)
+    ∷ (codes "veqpkg", can_be veqpkg)
+    ∷ (codes "vpkgformula", can_be formula)
+    ∷ (codes "vpkglist", can_be vpkglist)
+    ∷ (codes "veqpkglist", can_be veqpkglist)
     ∷ []
 
 -- a type: one of these words, or an enum with its idents

@@ -5,7 +5,8 @@ use Rattle.cudf_text.specs.Stanzas.{PlainProperty}
 use Rattle.cudf_document.specs.declared.package.identity.Identity.{Identity}
 use Rattle.cudf_document.specs.Documents.{has_name, value_of}
 use Rattle.cudf_document.specs.Ids.{Id}
-use Rattle.cudf_document.specs.Values.{name_value, version_value}
+use Rattle.cudf_document.specs.Values.{name_value}
+use Rattle.cudf_document.specs.Working.Reads.{version_value}
 
 -- these are the name and the version of the properties, and the line of the first `version`
 pub record IsIdentity (i : Identity) (ps : List PlainProperty) : Type 0 where

@@ -11,7 +11,8 @@ use Rattle.cudf_document.specs.declared.stanza.postmark.Postmark.{Postmark}
 use Rattle.cudf_document.specs.Faults.{fault_if}
 use Rattle.cudf_document.specs.Documents.{is_request, is_empty, with_earlier, marks_preamble, marks_package, value_of}
 use Rattle.cudf_document.specs.Ids.{Id}
-use Rattle.cudf_document.specs.Values.{Test, formula_value, name_value, version_value}
+use Rattle.cudf_document.specs.Values.{Test, name_value}
+use Rattle.cudf_document.specs.Working.Reads.{formula_value, version_value}
 use Rattle.cudf_document.specs.Preamble.{is_declarable, recommends_in}
 use Rattle.cudf_document.specs.ProblemFaults.{property_faults}
 use Rattle.cudf_document.specs.Universe.{PlainRequest, request_of}

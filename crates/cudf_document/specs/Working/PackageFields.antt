@@ -19,7 +19,9 @@ use Rattle.cudf_document.specs.Universe.{PlainPackage}
 use Rattle.cudf_document.specs.Working.Judging.{is_anything, own_recommends}
 use Rattle.cudf_document.specs.Promises.Views.{list_view}
 use Rattle.cudf_document.specs.Ids.{Id}
-use Rattle.cudf_document.specs.Values.{Test, formula_value, list_value, exact_list_value, truth_value, keep_value, can_be, declared_test}
+use Rattle.cudf_value.specs.Types.{can_be}
+use Rattle.cudf_document.specs.Values.{Test, truth_value, keep_value, declared_test}
+use Rattle.cudf_document.specs.Working.Reads.{formula_value, list_value, exact_list_value}
 use Rattle.cudf_value.specs.Parts.{look_up}
 
 -- ---- fields

@@ -9,7 +9,9 @@ use Rattle.cudf_document.specs.declared.request.fields.RequestProperty.{RequestP
 use Rattle.cudf_document.specs.declared.request.fields.RequestProperty.TheVariants.{Install, Remove, Upgrade}
 use Rattle.cudf_document.specs.declared.request.fields.RequestFields.{RequestFields}
 use Rattle.cudf_document.specs.Documents.{value_of}
-use Rattle.cudf_document.specs.Values.{Test, list_value, can_be}
+use Rattle.cudf_value.specs.Types.{can_be}
+use Rattle.cudf_document.specs.Values.{Test}
+use Rattle.cudf_document.specs.Working.Reads.{list_value}
 use Rattle.cudf_document.specs.Working.Judging.{fails}
 use Rattle.cudf_document.specs.Universe.{PlainRequest}
 use Rattle.cudf_document.specs.Promises.Views.{list_view}

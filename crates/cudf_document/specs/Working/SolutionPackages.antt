@@ -10,7 +10,8 @@ use Rattle.cudf_document.specs.declared.solution.package.SolutionProperty.TheVar
 use Rattle.cudf_document.specs.declared.solution.package.SolutionPackage.{SolutionPackage}
 use Rattle.cudf_document.specs.Documents.{has_name, value_of}
 use Rattle.cudf_document.specs.Ids.{Id}
-use Rattle.cudf_document.specs.Values.{name_value, version_value, truth_value}
+use Rattle.cudf_document.specs.Values.{name_value, truth_value}
+use Rattle.cudf_document.specs.Working.Reads.{version_value}
 
 abbrev pub solution_property_named : List ℕ → Option SolutionProperty
 solution_property_named name = if bytes_eq name (codes "package") then Some Package

@@ -36,7 +36,7 @@ impl<'t> Declared<'t> {
     ghost use Rattle.cudf_value.specs.Promises.Views.{formula_view};
     ghost use Rattle.cudf_value.specs.Promises.Types.{declaration_view};
     ghost use Rattle.cudf_document.specs.Preamble.{is_formula_type};
-    ghost use Rattle.cudf_document.specs.Values.{formula_value};
+    ghost use Rattle.cudf_document.specs.Working.Reads.{formula_value};
 
     pub(crate) fn new(alloc: Global, declaration: Declaration<'t>) -> Result<Self, AllocError>
         ensures { IfOk result (λ d. d ≡ declaration_view declaration.entry) }
