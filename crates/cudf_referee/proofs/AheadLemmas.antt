@@ -1,10 +1,10 @@
 -- The stops of the walk that come after a key: those behind the number of places that the key has passed.
-use Rattle.std.proofs.Common.{◌≡◌, ℕ, zero, suc, not, ◌==◌, ◌+◌, ◌*◌, ◌-◌, ◌<◌, ◌≤◌, Bool, true, false, inl, inr, min, nat_lt, nat_le, List, [], ◌∷◌, ◌++◌, length, map, filter, drop, cond, arith, refl, ap, sym, ◌∙◌, subst, Option, Some, None}
+use Rattle.std.proofs.Common.{◌≡◌, ℕ, zero, suc, not, ◌==◌, ◌+◌, ◌*◌, ◌-◌, ◌<◌, ◌≤◌, Bool, true, false, min, nat_lt, nat_le, List, [], ◌∷◌, ◌++◌, length, map, filter, drop, cond, arith, refl, ap, sym, ◌∙◌, subst, Option, Some, None}
 use Rattle.std.specs.Prelude.{slice_get}
-use Rattle.std.proofs.lemmas.Bool.{cases_lt, ltb-true}
+use Rattle.std.proofs.lemmas.Bool.{ltb-true}
 use Rattle.std.proofs.lemmas.Bool.Decides.{nat_tests}
 use Rattle.std.proofs.lemmas.Cmp.{nat_cmp_total, nat_list_cmp_total, tied_itself}
-use Rattle.std.proofs.lemmas.List.{length-map, length-append, length-drop, drop-append-le, drop-map, drop_min}
+use Rattle.std.proofs.lemmas.List.{length-map, length-append, length-drop, drop-map, drop_min}
 use Rattle.std.proofs.lemmas.List.Elements.{filter-append, filter_agree}
 use Rattle.std.proofs.lemmas.List.Sums.{length-filter, count_by-le-length}
 use Rattle.std.proofs.lemmas.List.FromFn.{length-enumerate_from}
@@ -33,10 +33,10 @@ use Rattle.cudf_referee.specs.declared.sites.candidate.Candidate.{Candidate}
 use Rattle.cudf_referee.specs.Keys.{PlainKey, package_key, part_rank, part_place, fits, is_key, rule_rank, aspect_rank, key_ranks}
 use Rattle.cudf_referee.specs.Promises.Keys.{is_fitting}
 use Rattle.cudf_referee.specs.Proposals.{Proposal}
-use Rattle.cudf_referee.specs.Promises.Sites.{Site, conjunct, conflicts_entry, kept_version, kept_package, kept_feature, install_entry, remove_entry, upgrade_entry, unknown_stanza, site_key, kept_sites, package_sites, upgrade_sites, request_sites, Stop, at_site, package_end, package_stops, precedes, precedes_end, is_after}
+use Rattle.cudf_referee.specs.Promises.Sites.{Site, conjunct, conflicts_entry, kept_version, kept_package, kept_feature, install_entry, remove_entry, unknown_stanza, site_key, kept_sites, package_sites, upgrade_sites, request_sites, Stop, at_site, package_end, package_stops, precedes, precedes_end, is_after}
 use Rattle.cudf_referee.specs.Working.Searches.{unknown_left, package_rest, packages_rest}
 use Rattle.cudf_referee.specs.Working.SiteNumbers.{placed_view, Fits, clauses_of, conflicts_of, kept_of, passed_of, passed_upgrade}
-use Rattle.cudf_referee.proofs.AscentLemmas.{Below, same_first, less_first, Climbs, from_lower, to_higher, climbs-over, site_ranks, sites_climb, package_climbs, packages_climb, entry_climbs, entries_climb, request_climbs}
+use Rattle.cudf_referee.proofs.AscentLemmas.{Below, same_first, less_first, Climbs, from_lower, to_higher, climbs-over, site_ranks, sites_climb, package_climbs, packages_climb, entries_climb, request_climbs}
 use Rattle.cudf_referee.proofs.ListLemmas.{and_left, and_right, filter-map, all_kept, none_kept}
 use Rattle.cudf_referee.proofs.PositionLemmas.{stop_ranks, lt_less, is_after-ranks}
 use Rattle.cudf_referee.proofs.SiteNumberLemmas.{candidate-sites, count-entries, count-upgrades}
@@ -90,20 +90,29 @@ after-ranks key xs = filter_agree (is_after key) (ranks_after (key_ranks key) st
 abbrev entry_after : PlainKey → Rule → ℕ → Bool
 entry_after key r place = is_lt (slice_cmp nat_cmp (rule_rank key.rule ∷ key.place ∷ aspect_rank key.aspect ∷ []) (rule_rank r ∷ place ∷ 0 ∷ []))
 
-later_ones : {A : Type 0} (n m : ℕ) (xs : List A) → n < m → filter (λ x. nat_lt n x.0) (enumerate_from m xs) ≡ enumerate_from m xs
-later_ones n m [] h = refl
-later_ones n m (x ∷ xs) h =
-    let here : nat_lt n m ≡ true = grind (arith, nat_tests) in
-    let more = later_ones n (m + 1) xs (omega arith) in
-    (λ j. cond (here j) ((m, x) ∷ more j) (more j))
+drop-none : {A : Type 0} (n : ℕ) → drop {A = A} n [] ≡ []
+drop-none zero = refl
+drop-none (suc n) = refl
 
-later_places : {A : Type 0} (n m i : ℕ) (xs : List A) → n + 1 ≡ m + i → filter (λ x. nat_lt n x.0) (enumerate_from m xs) ≡ drop i (enumerate_from m xs)
-later_places n m zero xs h = later_ones n m xs (omega arith)
-later_places n m (suc i) [] h = refl
-later_places n m (suc i) (x ∷ xs) h =
-    let here : nat_lt n m ≡ false = grind (arith, nat_tests) in
-    let more = later_places n (m + 1) i xs (omega arith) in
-    (λ j. cond (here j) ((m, x) ∷ more j) (more j))
+-- what stands at numbers from the one behind n on is tested by whether its number is greater than k
+abbrev Numbered : {A : Type 0} → (A → Bool) → ℕ → ℕ → List A → Type 0
+Numbered test k n [] = Unit {0}
+Numbered test k n (x ∷ xs) = (test x ≡ nat_lt k (n + 1)) × Numbered test k (n + 1) xs
+
+behind_number : {A : Type 0} (test : A → Bool) (k n d : ℕ) (xs : List A) → k - n ≡ d → Numbered test k n xs → filter test xs ≡ drop d xs
+behind_number test k n d [] e h = sym (drop-none d)
+behind_number test k n zero (x ∷ xs) e h =
+    let here : nat_lt k (n + 1) ≡ true = grind (arith, nat_tests) in
+    let more = behind_number test k (n + 1) zero xs (omega arith) h.1 in
+    (λ i. cond ((h.0 ∙ here) i) (x ∷ more i) (more i))
+behind_number test k n (suc d) (x ∷ xs) e h =
+    let here : nat_lt k (n + 1) ≡ false = grind (arith, nat_tests) in
+    let more = behind_number test k (n + 1) d xs (omega arith) h.1 in
+    (λ i. cond ((h.0 ∙ here) i) (x ∷ more i) (more i))
+
+numbered_on : {A : Type 0} (k n : ℕ) (xs : List A) → Numbered (λ (x : ℕ × A). nat_lt k x.0) k n (enumerate_from (n + 1) xs)
+numbered_on k n [] = tt
+numbered_on k n (x ∷ xs) = (refl, numbered_on k (n + 1) xs)
 
 -- without an aspect the place decides
 place_decides : (place k aspect : ℕ) → is_lt (ordering_then (nat_cmp place k) (slice_cmp nat_cmp (aspect ∷ []) (0 ∷ []))) ≡ nat_lt place k
@@ -132,7 +141,7 @@ by_ranks {A = A} a b place aspect xs = by (nat_lt a b) (a == b) (nat_lt b a) (λ
     by true same above h = all_kept (λ x. true) (λ x. refl) (enumerate_from 1 xs)
     by false false true h = none_kept (λ x. false) (λ x. refl) (enumerate_from 1 xs) ∙ sym (drop_of_length-le (enumerate_from 1 xs) (omega (arith, count)))
     by false true false h =
-        filter_agree _ (λ x. nat_lt place x.0) (λ x. place_decides place x.0 aspect) (enumerate_from 1 xs) ∙ later_places place 1 place xs (omega arith)
+        filter_agree _ (λ x. nat_lt place x.0) (λ x. place_decides place x.0 aspect) (enumerate_from 1 xs) ∙ behind_number (λ (x : ℕ × A). nat_lt place x.0) place 0 place (enumerate_from 1 xs) (omega arith) (numbered_on place 0 xs)
         ∙ sym (ap (λ n. drop (min place n) (enumerate_from 1 xs)) (sym count) ∙ drop_min place (enumerate_from 1 xs))
     by false true true h = absurd (cc (h refl))
     by false false false h = absurd (cc (h refl))
@@ -145,10 +154,6 @@ made_after key r make xs same =
     ∙ ap (map make) (filter_agree (λ x. precedes key (site_key (make x))) (λ x. entry_after key r x.0) same (enumerate_from 1 xs)
     ∙ by_ranks (rule_rank key.rule) (rule_rank r) key.place (aspect_rank key.aspect) xs)
     ∙ sym (drop-map make (passed_of key r (length xs)) (enumerate_from 1 xs))
-
-drop-none : {A : Type 0} (n : ℕ) → drop {A = A} n [] ≡ []
-drop-none zero = refl
-drop-none (suc n) = refl
 
 -- of these places those come after a key that are behind this many
 pub record After (key : PlainKey) (xs : List Site) (n : ℕ) : Type 0 where
@@ -250,24 +255,21 @@ candidate-after s key c k l m fits of h h' h'' =
 
 -- ---- the packages before and after it
 
--- up to a number, or to more that begins with it
-up_to : (m n x : ℕ) (xs : List ℕ) → m ≤ n → Below (m ∷ []) (n ∷ x ∷ xs)
-up_to m n x xs h = elim (cases_lt m n) [ inl below ↦ less_first m n [] (x ∷ xs) below | inr k ↦ at_same (omega arith) ]
-  where
-    at_same : m ≡ n → Below (m ∷ []) (n ∷ x ∷ xs)
-    at_same same = subst (λ (l : ℕ). Below (l ∷ []) (n ∷ x ∷ xs)) (sym same) (same_first n [] (x ∷ xs) refl)
+-- the ranks of a key of this part
+pub ranks_of : (key : PlainKey) (p : Part) → key.part ≡ p → (part_rank p ∷ part_place p ∷ rule_rank key.rule ∷ key.place ∷ aspect_rank key.aspect ∷ []) ≡ key_ranks key
+ranks_of key p of = ap (λ q. part_rank q ∷ part_place q ∷ rule_rank key.rule ∷ key.place ∷ aspect_rank key.aspect ∷ []) (sym of)
 
 module _ (s : Proposal) (key : PlainKey) where
+  -- a key's ranks behind its package
+  abbrev more : List ℕ
+  more = rule_rank key.rule ∷ key.place ∷ aspect_rank key.aspect ∷ []
+
   earlier_package : (n : ℕ) (p : Placed) → key.part ≡ part.Package n → p.0 < n → filter (is_after key) (package_stops s p) ≡ []
   earlier_package n p of h =
       after-ranks key (package_stops s p)
       ∙ dropped_below stop_ranks (1 ∷ p.0 ∷ []) (package_stops s p) (key_ranks key)
-      (to_higher stop_ranks (1 ∷ p.0 ∷ []) (1 ∷ (p.0 + 1) ∷ []) (key_ranks key) (package_stops s p) (package_climbs s p)
-      (subst (λ (q : Part). Below (1 ∷ (p.0 + 1) ∷ []) (part_rank q ∷ part_place q ∷ more)) (sym of)
-      (same_first 1 ((p.0 + 1) ∷ []) (n ∷ more) (up_to (p.0 + 1) n (rule_rank key.rule) (key.place ∷ aspect_rank key.aspect ∷ []) (omega arith)))))
-    where
-      more : List ℕ
-      more = rule_rank key.rule ∷ key.place ∷ aspect_rank key.aspect ∷ []
+      (to_higher stop_ranks (1 ∷ p.0 ∷ []) (1 ∷ p.0 ∷ 9 ∷ []) (key_ranks key) (package_stops s p) (package_climbs s p)
+      (subst (λ (l : List ℕ). Below (1 ∷ p.0 ∷ 9 ∷ []) l) (ranks_of key (part.Package n) of) (same_first 1 (p.0 ∷ 9 ∷ []) (n ∷ more) (less_first p.0 n (9 ∷ []) more h))))
 
   later_packages : (n m : ℕ) (packages : List PlainPackage) → key.part ≡ part.Package n → n < m
       → filter (is_after key) (flat_map (package_stops s) (enumerate_from m packages)) ≡ flat_map (package_stops s) (enumerate_from m packages)
@@ -276,11 +278,8 @@ module _ (s : Proposal) (key : PlainKey) where
       after-ranks key stops
       ∙ kept_above stop_ranks (key_ranks key) stops (2 ∷ [])
       (from_lower stop_ranks (key_ranks key) (1 ∷ m ∷ []) (2 ∷ []) stops
-      (subst (λ (q : Part). Below (part_rank q ∷ part_place q ∷ more) (1 ∷ m ∷ [])) (sym of) (same_first 1 (n ∷ more) (m ∷ []) (less_first n m more [] h)))
+      (subst (λ (l : List ℕ). Below l (1 ∷ m ∷ [])) (ranks_of key (part.Package n) of) (same_first 1 (n ∷ more) (m ∷ []) (less_first n m more [] h)))
       (packages_climb s m packages))
-    where
-      more : List ℕ
-      more = rule_rank key.rule ∷ key.place ∷ aspect_rank key.aspect ∷ []
 
   -- the key's own package, of whose places it has passed this many
   own_package : (k : ℕ) (p : Placed) → key.part ≡ part.Package p.0 → filter (λ x. precedes key (site_key x)) (package_sites s p) ≡ drop k (package_sites s p)
@@ -325,67 +324,46 @@ key_of p r place aspect = record { part = p; rule = r; place = place; aspect = a
 abbrev to_upgrade : ℕ → Option Aspect → PlainKey
 to_upgrade place aspect = key_of part.Request rule.Upgrade place aspect
 
--- what passes of three
-abbrev passing : Bool → Bool → Bool → Site → Site → Site → List Site
-passing a b c x y z = cond a (x ∷ cond b (y ∷ cond c (z ∷ []) []) (cond c (z ∷ []) [])) (cond b (y ∷ cond c (z ∷ []) []) (cond c (z ∷ []) []))
-
-own_entry : (place : ℕ) (aspect : Option Aspect) (v : ℕ × PlainVpkg) → place ≡ v.0
-    → filter (λ x. precedes (to_upgrade place aspect) (site_key x)) (upgrade_sites v) ≡ drop (aspect_rank aspect) (upgrade_sites v)
-own_entry place aspect v same = (λ i. passing (by Unsatisfied i) (by Many i) (by Lower i) (upgrade_entry v.0 v.1 Unsatisfied) (upgrade_entry v.0 v.1 Many) (upgrade_entry v.0 v.1 Lower)) ∙ cases aspect
+-- places with three aspects each are numbered on
+weighs : (m n a b : ℕ) → a ≤ 3 → 0 < b → b ≤ 3 → is_lt (slice_cmp nat_cmp (m ∷ a ∷ []) (n ∷ b ∷ [])) ≡ nat_lt (3 * m + a) (3 * n + b)
+weighs m n a b h k l = by (nat_lt m n) (m == n) (nat_lt a b) (a == b) ∙ grind (arith, nat_tests)
   where
-    by : (a : Aspect) → precedes (to_upgrade place aspect) (site_key (upgrade_entry v.0 v.1 a)) ≡ is_lt (slice_cmp nat_cmp (aspect_rank aspect ∷ []) (aspect_rank (Some a) ∷ []))
-    by a = sym (ap (λ o. is_lt (ordering_then o (slice_cmp nat_cmp (aspect_rank aspect ∷ []) (aspect_rank (Some a) ∷ [])))) (nat_cmp_is place v.0 Equal same))
+    by : (below same less tied : Bool)
+        → is_lt (ordering_then (cond below Less (cond same Equal Greater)) (ordering_then (cond less Less (cond tied Equal Greater)) Equal)) ≡ cond below true (cond same less false)
+    by true same less tied = refl
+    by false false less tied = refl
+    by false true true tied = refl
+    by false true false true = refl
+    by false true false false = refl
 
-    later : Option Aspect → Aspect → Bool
-    later aspect a = is_lt (slice_cmp nat_cmp (aspect_rank aspect ∷ []) (aspect_rank (Some a) ∷ []))
-
-    cases : (aspect : Option Aspect)
-        → passing (is_lt (slice_cmp nat_cmp (aspect_rank aspect ∷ []) (1 ∷ []))) (is_lt (slice_cmp nat_cmp (aspect_rank aspect ∷ []) (2 ∷ []))) (is_lt (slice_cmp nat_cmp (aspect_rank aspect ∷ []) (3 ∷ [])))
-        (upgrade_entry v.0 v.1 Unsatisfied) (upgrade_entry v.0 v.1 Many) (upgrade_entry v.0 v.1 Lower)
-        ≡ drop (aspect_rank aspect) (upgrade_sites v)
-    cases None = refl
-    cases (Some Unsatisfied) = refl
-    cases (Some Many) = refl
-    cases (Some Lower) = refl
-
-earlier_entry : (place : ℕ) (aspect : Option Aspect) (v : ℕ × PlainVpkg) → v.0 < place → filter (λ x. precedes (to_upgrade place aspect) (site_key x)) (upgrade_sites v) ≡ []
-earlier_entry place aspect v h =
-    dropped_below site_ranks (2 ∷ 0 ∷ 6 ∷ v.0 ∷ []) (upgrade_sites v) (key_ranks (to_upgrade place aspect))
-    (to_higher site_ranks (2 ∷ 0 ∷ 6 ∷ v.0 ∷ []) (2 ∷ 0 ∷ 6 ∷ (v.0 + 1) ∷ []) (key_ranks (to_upgrade place aspect)) (upgrade_sites v) (entry_climbs v)
-    (up_to (v.0 + 1) place (aspect_rank aspect) [] (omega arith)))
-
-later_entries : (place : ℕ) (aspect : Option Aspect) (m : ℕ) (vs : List PlainVpkg) → place < m
-    → filter (λ x. precedes (to_upgrade place aspect) (site_key x)) (flat_map upgrade_sites (enumerate_from m vs)) ≡ flat_map upgrade_sites (enumerate_from m vs)
-later_entries place aspect m vs h =
-    kept_above site_ranks (key_ranks (to_upgrade place aspect)) (flat_map upgrade_sites (enumerate_from m vs)) (3 ∷ [])
-    (from_lower site_ranks (key_ranks (to_upgrade place aspect)) (2 ∷ 0 ∷ 6 ∷ m ∷ []) (3 ∷ []) (flat_map upgrade_sites (enumerate_from m vs))
-    (less_first place m (aspect_rank aspect ∷ []) [] h) (entries_climb m vs))
-
-aspects_split : (place : ℕ) (aspect : Option Aspect) (m i : ℕ) (vs : List PlainVpkg) → place ≡ m + i
-    → filter (λ x. precedes (to_upgrade place aspect) (site_key x)) (flat_map upgrade_sites (enumerate_from m vs))
-    ≡ drop (3 * min i (length vs) + aspect_rank aspect) (flat_map upgrade_sites (enumerate_from m vs))
-aspects_split place aspect m i [] h = sym (drop-none (3 * min i 0 + aspect_rank aspect))
-aspects_split place aspect m zero (v ∷ vs) h =
-    filter-append (λ x. precedes (to_upgrade place aspect) (site_key x)) (upgrade_sites (m, v)) more
-    ∙ (λ j. own_entry place aspect (m, v) (omega arith) j ++ later_entries place aspect (m + 1) vs (omega arith) j)
-    ∙ sym (drop-append-le (aspect_rank aspect) (upgrade_sites (m, v)) more (aspects_within aspect))
-    ∙ ap (λ n. drop n (upgrade_sites (m, v) ++ more)) {x = aspect_rank aspect} {y = 3 * min 0 (length (v ∷ vs)) + aspect_rank aspect} (omega arith)
+entries_numbered : (place : ℕ) (aspect : Option Aspect) (m : ℕ) (vs : List PlainVpkg)
+    → Numbered (λ x. precedes (to_upgrade place aspect) (site_key x)) (3 * place + aspect_rank aspect) (3 * m) (flat_map upgrade_sites (enumerate_from m vs))
+entries_numbered place aspect m [] = tt
+entries_numbered place aspect m (v ∷ vs) = (
+  weighs place m (aspect_rank aspect) 1 (within aspect) (omega arith) (omega arith),
+  (
+    here 2 (3 * m + 1 + 1) (omega arith) (omega arith) (omega arith),
+    (
+      here 3 (3 * m + 1 + 1 + 1) (omega arith) (omega arith) (omega arith),
+      subst (λ (n : ℕ). Numbered (λ x. precedes (to_upgrade place aspect) (site_key x)) number n (flat_map upgrade_sites (enumerate_from (m + 1) vs))) on (entries_numbered place aspect (m + 1) vs),
+    ),
+  ),
+)
   where
-    more : List Site
-    more = flat_map upgrade_sites (enumerate_from (m + 1) vs)
+    number : ℕ
+    number = 3 * place + aspect_rank aspect
 
-    aspects_within : (aspect : Option Aspect) → aspect_rank aspect ≤ 3
-    aspects_within None = omega arith
-    aspects_within (Some Unsatisfied) = omega arith
-    aspects_within (Some Many) = omega arith
-    aspects_within (Some Lower) = omega arith
-aspects_split place aspect m (suc i) (v ∷ vs) h =
-    filter-append (λ x. precedes (to_upgrade place aspect) (site_key x)) (upgrade_sites (m, v)) more
-    ∙ (λ j. earlier_entry place aspect (m, v) (omega arith) j ++ aspects_split place aspect (m + 1) i vs (omega arith) j)
-    ∙ ap (λ n. drop n (upgrade_sites (m, v) ++ more)) {x = suc (suc (suc (3 * min i (length vs) + aspect_rank aspect)))} {y = 3 * min (suc i) (length (v ∷ vs)) + aspect_rank aspect} (omega arith)
-  where
-    more : List Site
-    more = flat_map upgrade_sites (enumerate_from (m + 1) vs)
+    on : 3 * (m + 1) ≡ 3 * m + 1 + 1 + 1
+    on = omega arith
+
+    within : (aspect : Option Aspect) → aspect_rank aspect ≤ 3
+    within None = omega arith
+    within (Some Unsatisfied) = omega arith
+    within (Some Many) = omega arith
+    within (Some Lower) = omega arith
+
+    here : (a n : ℕ) → 0 < a → a ≤ 3 → 3 * m + a ≡ n → is_lt (slice_cmp nat_cmp (place ∷ aspect_rank aspect ∷ []) (m ∷ a ∷ [])) ≡ nat_lt number n
+    here a n h k same = weighs place m (aspect_rank aspect) a (within aspect) h k ∙ ap (nat_lt number) same
 
 -- numbers are from 1
 place_counted : (p : Part) (r : Rule) (place : ℕ) (aspect : Option Aspect) → is_key p r place aspect ≡ true → 0 < place
@@ -407,10 +385,12 @@ upgrades-left rule.Remove place aspect vs h =
     kept_above site_ranks (2 ∷ 0 ∷ 5 ∷ place ∷ aspect_rank aspect ∷ []) (flat_map upgrade_sites (enumerate_from 1 vs)) (3 ∷ [])
     (from_lower site_ranks (2 ∷ 0 ∷ 5 ∷ place ∷ aspect_rank aspect ∷ []) (2 ∷ 0 ∷ 6 ∷ 1 ∷ []) (3 ∷ []) (flat_map upgrade_sites (enumerate_from 1 vs)) refl (entries_climb 1 vs))
 upgrades-left rule.Upgrade place aspect vs h =
+    let all = flat_map upgrade_sites (enumerate_from 1 vs) in
     let positive = place_counted part.Request rule.Upgrade place aspect h in
-    aspects_split place aspect 1 (place - 1) vs (omega arith)
-    ∙ sym (drop_min (3 * min (place - 1) (length vs) + aspect_rank aspect) (flat_map upgrade_sites (enumerate_from 1 vs)))
-    ∙ ap (λ n. drop (min (3 * min (place - 1) (length vs) + aspect_rank aspect) n) (flat_map upgrade_sites (enumerate_from 1 vs))) (count-upgrades 1 vs)
+    let number = 3 * place + aspect_rank aspect in
+    behind_number (λ x. precedes (to_upgrade place aspect) (site_key x)) number 3 (number - 3) all refl (entries_numbered place aspect 1 vs) ∙ sym (drop_min (number - 3) all)
+    ∙ ap (λ n. drop n all) {x = min (number - 3) (length all)} {y = min (3 * min (place - 1) (length vs) + aspect_rank aspect) (3 * length vs)}
+    (omega (arith, count-upgrades 1 vs))
 upgrades-left rule.Depends place aspect vs h = absurd (cc h)
 upgrades-left rule.Conflicts place aspect vs h = absurd (cc h)
 upgrades-left rule.Keep place aspect vs h = absurd (cc h)

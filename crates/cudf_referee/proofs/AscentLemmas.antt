@@ -154,14 +154,17 @@ sites_climb s p =
         (climbs-rule (λ c. conjunct p c.0 c.1) 1 p.0 1 (λ x. refl) p.1.depends)
         (climbs-rule (λ v. conflicts_entry p v.0 v.1) 1 p.0 2 (λ x. refl) p.1.conflicts)
 
-pub package_climbs : (s : Proposal) (p : Placed) → Climbs stop_ranks (1 ∷ p.0 ∷ []) (package_stops s p) (1 ∷ (p.0 + 1) ∷ [])
+pub package_climbs : (s : Proposal) (p : Placed) → Climbs stop_ranks (1 ∷ p.0 ∷ []) (package_stops s p) (1 ∷ p.0 ∷ 9 ∷ [])
 package_climbs s p =
-    climbs-append stop_ranks (1 ∷ p.0 ∷ []) (1 ∷ p.0 ∷ 4 ∷ []) (1 ∷ (p.0 + 1) ∷ []) (map at_site (package_sites s p)) (package_end p.0 ∷ [])
+    climbs-append stop_ranks (1 ∷ p.0 ∷ []) (1 ∷ p.0 ∷ 4 ∷ []) (1 ∷ p.0 ∷ 9 ∷ []) (map at_site (package_sites s p)) (package_end p.0 ∷ [])
     (climbs-map stop_ranks at_site (1 ∷ p.0 ∷ []) (package_sites s p) (1 ∷ p.0 ∷ 4 ∷ []) (sites_climb s p))
-    (same_first p.0 (4 ∷ []) (8 ∷ []) refl, next_first p.0 (8 ∷ []) [])
+    (same_first p.0 (4 ∷ []) (8 ∷ []) refl, same_first p.0 (8 ∷ []) (9 ∷ []) refl)
 
 pub packages_climb : (s : Proposal) (n : ℕ) (packages : List PlainPackage) → Climbs stop_ranks (1 ∷ n ∷ []) (flat_map (package_stops s) (enumerate_from n packages)) (2 ∷ [])
-packages_climb s n packages = climbs-flat_map stop_ranks (package_stops s) (λ m. 1 ∷ m ∷ []) (2 ∷ []) (package_climbs s) (λ m. refl) n packages
+packages_climb s n packages =
+    climbs-flat_map stop_ranks (package_stops s) (λ m. 1 ∷ m ∷ []) (2 ∷ [])
+    (λ p. to_higher stop_ranks (1 ∷ p.0 ∷ []) (1 ∷ p.0 ∷ 9 ∷ []) (1 ∷ (p.0 + 1) ∷ []) (package_stops s p) (package_climbs s p) (next_first p.0 (9 ∷ []) []))
+    (λ m. refl) n packages
 
 -- ---- the request
 

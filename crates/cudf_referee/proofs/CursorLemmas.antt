@@ -10,16 +10,15 @@ use Rattle.cudf_document.specs.declared.package.Package.{Package}
 use Rattle.cudf_document.specs.Promises.Views.{package_view}
 use Rattle.cudf_document.specs.Universe.{PlainPackage}
 use Rattle.cudf_universe.specs.Satisfaction.{Placed}
-use Rattle.cudf_referee.specs.declared.key.Part.{Part}
 use Rattle.cudf_referee.specs.declared.key.Part.TheVariants as part
-use Rattle.cudf_referee.specs.Keys.{PlainKey, part_rank, part_place, is_key, rule_rank, aspect_rank, key_ranks}
+use Rattle.cudf_referee.specs.Keys.{PlainKey, is_key}
 use Rattle.cudf_referee.specs.Promises.Keys.{is_fitting}
 use Rattle.cudf_referee.specs.Proposals.{Proposal}
 use Rattle.cudf_referee.specs.Promises.Sites.{site_key, package_sites, request_sites, at_site, package_stops, PlainPosition, at_start, at_key, at_end, precedes, is_after, is_ahead}
 use Rattle.cudf_referee.specs.Promises.Walks.{Walking}
 use Rattle.cudf_referee.specs.Working.Places.{ahead, IsFitting, BeginsAt}
 use Rattle.cudf_referee.specs.Working.Searches.{packages_rest, request_rest, unknown_rest, stops_from}
-use Rattle.cudf_referee.proofs.AheadLemmas.{packages_after, packages_before, request-later, request-earlier, package_counted}
+use Rattle.cudf_referee.proofs.AheadLemmas.{ranks_of, packages_after, packages_before, request-later, request-earlier, package_counted}
 use Rattle.cudf_referee.proofs.AscentLemmas.{Below}
 use Rattle.cudf_referee.proofs.ListLemmas.{filter-map, all_kept, none_kept}
 use Rattle.cudf_referee.proofs.PlaceLemmas.{known_stops, unknown_stops, walk-split, ahead_unknown}
@@ -64,10 +63,6 @@ module _ (s : Proposal) where
       (none_kept (is_ahead at_end) (λ x. refl) (map at_site (request_sites s.problem.request)) ∙ past-request r (omega arith))
 
   module _ (key : PlainKey) (fits : is_fitting key ≡ true) where
-    -- a key of this part ranks where its part does
-    ranked : (p : Part) (low : List ℕ) → key.part ≡ p → Below low (part_rank p ∷ part_place p ∷ rule_rank key.rule ∷ key.place ∷ aspect_rank key.aspect ∷ []) → Below low (key_ranks key)
-    ranked p low of h = subst (λ (q : Part). Below low (part_rank q ∷ part_place q ∷ rule_rank key.rule ∷ key.place ∷ aspect_rank key.aspect ∷ [])) (sym of) h
-
     pub behind-package : (n k u : ℕ) → key.part ≡ part.Package n → BeginsAt (at_key key) s.unknown u
         → ((p : PlainPackage) → slice_get s.problem.packages (n - 1) ≡ Some p → filter (λ x. precedes key (site_key x)) (package_sites s (n - 1 + 1, p)) ≡ drop k (package_sites s (n - 1 + 1, p)))
         → stops_from s (record { packages = n - 1; sites = k; request = 0; unknown = u }) ≡ ahead s (at_key key)
@@ -78,20 +73,20 @@ module _ (s : Proposal) where
         (packages_after s key k n 1 (n - 1) s.problem.packages of (omega arith)
         (λ p is. subst (λ (m : ℕ). filter (λ x. precedes key (site_key x)) (package_sites s (m, p)) ≡ drop k (package_sites s (m, p))) number (own p is)))
         (of-request key 0 (request-later key s.problem.request
-        (subst (λ (q : Part). Below (part_rank q ∷ part_place q ∷ rule_rank key.rule ∷ key.place ∷ aspect_rank key.aspect ∷ []) (2 ∷ [])) (sym of) refl)))
+        (subst (λ (l : List ℕ). Below l (2 ∷ [])) (ranks_of key (part.Package n) of) refl)))
 
     pub behind-request : (n r u : ℕ) → n ≡ length s.problem.packages → key.part ≡ part.Request → BeginsAt (at_key key) s.unknown u
         → filter (λ x. precedes key (site_key x)) (request_sites s.problem.request) ≡ drop r (request_sites s.problem.request)
         → stops_from s (record { packages = n; sites = 0; request = r; unknown = u }) ≡ ahead s (at_key key)
     behind-request n r u count of begins left = from-parts (at_key key) n 0 r u fits begins
-        (packages_before s key (ranked part.Request (2 ∷ []) of refl) ∙ past-packages ∙ ap (λ m. packages_rest s 0 (drop m packages)) (sym count))
+        (packages_before s key (subst (λ (l : List ℕ). Below (2 ∷ []) l) (ranks_of key part.Request of) refl) ∙ past-packages ∙ ap (λ m. packages_rest s 0 (drop m packages)) (sym count))
         (of-request key r left)
 
     pub behind-solution : (n r u : ℕ) → n ≡ length s.problem.packages → r ≡ length (request_sites s.problem.request) → key.part ≡ part.Solution → BeginsAt (at_key key) s.unknown u
         → stops_from s (record { packages = n; sites = 0; request = r; unknown = u }) ≡ ahead s (at_key key)
     behind-solution n r u count count' of begins = from-parts (at_key key) n 0 r u fits begins
-        (packages_before s key (ranked part.Solution (2 ∷ []) of refl) ∙ past-packages ∙ ap (λ m. packages_rest s 0 (drop m packages)) (sym count))
-        (of-request key r (request-earlier key s.problem.request (ranked part.Solution (3 ∷ []) of refl)
+        (packages_before s key (subst (λ (l : List ℕ). Below (2 ∷ []) l) (ranks_of key part.Solution of) refl) ∙ past-packages ∙ ap (λ m. packages_rest s 0 (drop m packages)) (sym count))
+        (of-request key r (request-earlier key s.problem.request (subst (λ (l : List ℕ). Below (3 ∷ []) l) (ranks_of key part.Solution of) refl)
         ∙ sym (drop_of_length-le (request_sites s.problem.request) (omega arith))))
 
 -- ---- what a walk is seen as
