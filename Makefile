@@ -25,7 +25,7 @@ export DESTDIR PREFIX LIBDIR PROGRAM LIBRARY DIST PAGES VERSION
 
 # The example is no solution, so the program's status is 1.
 run: toolchain
-	@echo "Everything is proved before it is built: the first time that takes about 25 minutes on four processors, later only what changed."
+	@echo "Everything is proved before it is built: the first time that takes about 22 minutes on four processors, later only what changed."
 	cd crates/cudf_program && rt run -- check ../../examples/car-and-wheel.cudf; test $$? -eq 1
 	install -D -m 755 $(BUILT) "$(PROGRAM)"
 	@echo "the program is $(PROGRAM)"

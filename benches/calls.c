@@ -40,8 +40,8 @@ int main(int count, char **words)
     read_text(words[2], &solution);
     long long begun = now();
     for (long left = strtol(words[3], NULL, 10); left > 0; left--) {
-        uint8_t status = cudf_check_check(false, problem.bytes, problem.length, solution.bytes, solution.length, NULL, 0, 0,
-                                          report.bytes, sizeof report.bytes, &report.length);
+        uint8_t status = cudf_check_check(false, false, problem.bytes, problem.length, solution.bytes, solution.length, NULL,
+                                          0, 0, report.bytes, sizeof report.bytes, &report.length);
         if (status != CUDF_CHECK_NO)
             return EXIT_FAILURE;
     }

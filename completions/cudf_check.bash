@@ -27,8 +27,8 @@ _cudf_check()
             done
             ;;
         *:--*=*) ;;
-        lint:-*) offered=(--strict -h --help) ;;
-        check:-*) offered=(--after --limit --strict -h --help) ;;
+        lint:-*) offered=(--strict --explain -h --help) ;;
+        check:-*) offered=(--after --limit --strict --explain -h --help) ;;
         score:-* | rank:-*) offered=(--criteria= --strict -h --help) ;;
         *) return ;;
     esac

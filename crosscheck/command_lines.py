@@ -3,7 +3,7 @@
 
 usage: command_lines.py PROGRAM
 
-- Some 140 command lines, started as `cudf_check` and by four names that look like its words: each has the same status, and
+- Some 230 command lines, started as `cudf_check` and by four names that look like its words: each has the same status, and
   where this is from 4 to 6, nothing on standard output.
 - What each command of help prints, to the byte (help.txt), and the version.
 - Pages of a report of two lines.
@@ -36,23 +36,31 @@ LINES = {
         good; rank --criteria=-new p -; rank p good bad --criteria=-new; rank p bad --criteria=-new good fail; rank p
         --criteria=-new good --strict good; rank --strict --criteria=-new p good; rank --criteria=-new -- p
         --criteria; rank --criteria=+touched,-touched p fail good; rank --help; rank --help --criteria -new; rank p
-        good --help; help; -h; --help; help lint; help check; help score; help rank; --version; -V
+        good --help; help; -h; --help; help lint; help check; help score; help rank; --version; -V; lint --explain p;
+        lint p --explain; lint --explain sized; lint --strict --explain p; check --explain p; check p good --explain;
+        check p --explain good --strict; check --explain p - --limit 1; check p --explain twice; check --explain -- p
+        --criteria; lint --explain --help; check --explain -h
     """,
     1: """
         check p bad; check both; check -- p bad; check p -- bad; check --strict p bad; check p --strict bad; check p
         bad --strict; check p bad --limit 1; check --limit 1 p bad; check p --limit=1 bad; check --limit=+007 p bad;
         check p bad --limit 18446744073709551615; check p bad --after p1.depends.1; check --after=p2.keep.1 p bad;
         check p --after r.upgrade.1.many bad --limit=9; score p bad; score both; score p bad --criteria=-new; rank
-        --criteria=-new p bad; rank p fail bad --criteria=-new
+        --criteria=-new p bad; rank p fail bad --criteria=-new; check --explain p bad; check p bad --explain; check p
+        --explain bad; check both --explain; check p --limit 1 --explain bad --after=p1.depends.1; check --strict
+        --explain -- p bad
     """,
     2: """
         lint faulty; lint empty; lint -; lint both; lint sized --strict; lint --strict sized; check faulty; check
         faulty fail; check p faulty; check p cut; check - good; check p twice --strict; check good p; score faulty
         bad; score p cut; score --strict p twice; rank --criteria=-new p faulty; rank --criteria=-new faulty fail;
-        rank --criteria=-new - good; rank --criteria=-new p good twice --strict
+        rank --criteria=-new - good; rank --criteria=-new p good twice --strict; lint --explain faulty; lint empty
+        --explain; lint - --explain; lint --explain sized --strict; check p --explain twice --strict; check --explain
+        p cut; check cut --explain bad
     """,
     3: """
-        check p fail; score p fail; score p fail --criteria=-new; rank --criteria=-new p fail; rank p fail fail --criteria=-new
+        check p fail; score p fail; score p fail --criteria=-new; rank --criteria=-new p fail; rank p fail fail
+        --criteria=-new; check --explain p fail; check p fail --explain --strict
     """,
     4: """
         ; p; judge p; help judge; -x check p; --strict check p bad; --limit 1 check p bad; --criteria=-new rank p
@@ -68,12 +76,21 @@ LINES = {
         --after=; score p good --criteria=-new --criteria=-new; rank p good --criteria=-new --criteria=-new; rank p
         good; rank --criteria=-new; rank --criteria=-new p; rank --criteria -new p good; rank --criteria +new p good;
         rank p good --criteria +new; rank p good --criteria; score --criteria +new p good; score p good --criteria
-        +new; score p good --criteria new; score p good --criteria=
+        +new; score p good --criteria new; score p good --criteria=; lint --explain --explain p; lint p --explain
+        --explain; check --explain p bad --explain; check p bad --strict --explain --limit 1 --explain; score p bad
+        --explain; score --explain p; score --criteria=-new --explain p good; rank --criteria=-new --explain p good;
+        rank p good --explain --criteria=-new; rank p good --criteria=-new --strict --explain; lint p --explain=true;
+        check p bad --explain=; check p bad --explain=false; lint p --explai; check p bad --Explain; --explain lint p;
+        --explain; --explain check p bad; lint --explain; check --explain; check p good bad --explain; check - -
+        --explain; lint p good --explain; check p --explain bad --limit 0; check --explain p bad --after p1.depends;
+        rank --explain
     """,
     5: """
         lint none; check none; check none bad; check p none; check faulty none; check -- -p; check p -- --strict;
         score none bad; score p none --criteria=-new; rank --criteria=-new none good; rank --criteria=-new p good
-        none; lint .; check p .; rank --criteria=-new -- p --after --criteria
+        none; lint .; check p .; rank --criteria=-new -- p --after --criteria; lint --explain none; check p none
+        --explain; check --explain none bad; check -- p --explain; lint -- --explain; check --explain faulty none; lint
+        --explain .
     """,
 }
 # what is no value of these options, in both forms
@@ -87,13 +104,14 @@ NO_VALUES = {
 FIRST_PAGE = "p1.depends.1 user 1 line 1: needs a\nmore after p1.depends.1\nsolution no\n"
 LAST_PAGE = "p1.depends.2 user 1 line 1: needs a\nsolution no\n"
 TWO = "p1.depends.1 user 1 line 1: needs a\n" + LAST_PAGE
+NOTHING = "; nothing in the problem would do\n"
 PAGED = {
     "user": "package: user\nversion: 1\ndepends: a, a\n\nrequest: r\n",
     "installed": "package: user\nversion: 1\ninstalled: true\n",
 }
 COMMANDS = "error: 'cudf_check' requires a subcommand but one was not provided\n  [subcommands: lint, check, score, rank, help]"
 FIRST = "\n\n  tip: a command comes first, as in 'cudf_check check [OPTIONS] <P> [S]'"
-AS_A_VALUE = "\n\n  tip: to pass '--criteria' as a value, use '-- --criteria'"
+AS_A_VALUE = "\n\n  tip: to pass '{0}' as a value, use '-- {0}'"
 # usage faults, and what is told of them before the usage
 FAULTS = (
     ("", COMMANDS), ("p bad", "error: unrecognized subcommand 'p'" + FIRST),
@@ -102,7 +120,11 @@ FAULTS = (
     ("check", "error: the following required arguments were not provided:\n  <P>"),
     ("check p s --limit", "error: a value is required for '--limit <N>' but none was supplied"),
     ("rank p s", "error: the following required arguments were not provided:\n  --criteria <LIST>"),
-    ("check p --criteria -new", "error: unexpected argument '--criteria' found" + AS_A_VALUE),
+    ("check p --criteria -new", "error: unexpected argument '--criteria' found" + AS_A_VALUE.format("--criteria")),
+    ("score p --explain", "error: unexpected argument '--explain' found" + AS_A_VALUE.format("--explain")),
+    ("rank --criteria=-new p --explain good", "error: unexpected argument '--explain' found" + AS_A_VALUE.format("--explain")),
+    ("lint p --explain --explain", "error: the argument '--explain' cannot be used multiple times"),
+    ("check --explain p bad --explain", "error: the argument '--explain' cannot be used multiple times"),
     # behind `--` it is a file
     ("rank p -- --criteria -new", "error: the following required arguments were not provided:\n  --criteria <LIST>"),
     ("rank p --criteria -new --none", "error: " + APART), ("rank --criteria --help", "error: " + APART),
@@ -148,6 +170,9 @@ def pages(trial):
         ("check user installed --after=p1.depends.1 --limit=1", LAST_PAGE),
         ("check user installed --after p1.depends.2", "solution no\n"),
         ("check user installed --after=p1.conflicts.1", "solution no\n"),
+        ("check user installed --explain --limit 1", FIRST_PAGE.replace("a\n", "a" + NOTHING, 1)),
+        ("check --after=p1.depends.1 user --explain installed", LAST_PAGE.replace("a\n", "a" + NOTHING, 1)),
+        ("check --explain user installed", TWO.replace("a\n", "a" + NOTHING)),
     ):
         trial.expect(words, 1, output)
 

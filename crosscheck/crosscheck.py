@@ -9,13 +9,17 @@ its solution is short. Of each the program is asked for `lint`; `check` of two f
 and of both in one input; `score` of both forms, also with a random list of criteria; `rank` of one to six solutions by
 another list; the whole listing in pages of 1, 2 and 3, each continued from the key that the page before printed (of a
 faulty document one page); two pages behind random keys, which may name no instance; and two behind random words, many of
-which are no keys or no limits. Every second input is asked about with `--strict`. Options stand before, between or behind
-the files. What a program doesn't know (`score`, pages, `--strict`, `--criteria`, `rank`) is left out, and the last line
-says so.
+which are no keys or no limits. Every second input is asked about with `--strict`. `lint` and `check` are asked for once more
+with `--explain`, and every second page has it. Options stand before, between or behind the files. What a program doesn't
+know (`score`, pages, `--strict`, `--explain`, `--criteria`, `rank`) is left out, and the last line says so.
 
-Prints each input that the two answer differently, how often each kind of line came, and how often the program was run.
-The status is 1 where an answer differed. Inputs are numbered from 1, and input N of a seed is the same whatever COUNT and
-WORKERS (processes; 1 if not given) are. Python's standard library alone.
+More than half of the inputs have a fault. Many are put in on purpose, so that each kind comes about with each thing that
+`--explain` says of it.
+
+Prints each input that the two answer differently, how often each kind of line came, how many inputs with a fault were asked
+about with `--explain`, what was told of how many lines, and how often the program was run. The status is 1 where an answer
+differed. Inputs are numbered from 1, and input N of a seed is the same whatever COUNT and WORKERS (processes; 1 if not
+given) are. Python's standard library alone.
 """
 import collections
 import multiprocessing
@@ -24,12 +28,15 @@ import re
 import sys
 import tempfile
 
+import explained
 import programs
 import reports
 from inputs import Inputs
 
 SIZES = (1, 2, 3)
 MORE = "more after "
+EXPLAIN = ["--explain"]
+FAULTY = "inputs with a fault"
 BLOCK = 50
 
 
@@ -47,13 +54,15 @@ class Comparison:
         self.files = [programs.write(folder, "problem", self.problem), programs.write(folder, "solution", self.solution)]
         self.is_strict = self.inputs.now_and_then(0.5) and program.has_strict
         self.second = reports.Second(self.problem, self.solution, self.is_strict)
-        self.runs, self.kinds, self.differing = 0, collections.Counter(), []
+        self.runs, self.kinds, self.told, self.differing = 0, collections.Counter(), collections.Counter(), []
 
     def compare(self, words, data, wanted):
         """Asks the program, and notes where it answers otherwise. Returns the program's lines."""
         given = self.program.run(words, data)
         self.runs += 1
         self.kinds.update(map(kind_of, wanted[0]))
+        if EXPLAIN[0] in words:
+            self.told.update(told for told in map(explained.kind_of, wanted[0]) if told)
         if given != wanted:
             self.differing.append(f"{words}\n  input: {data}\n  program: {given}\n  second: {wanted}")
         return given[0]
@@ -62,6 +71,8 @@ class Comparison:
         self.compare(self.words("lint", self.files[:1]), b"", reports.lint(self.problem, self.is_strict))
         joined = reports.joined(self.joined, self.is_strict)
         self.both("check", self.second.check(), joined.check())
+        if self.program.has_explain:
+            self.ask_explained(joined)
         if self.program.has_score:
             self.both("score", self.second.score(), joined.score())
         if self.program.has_lists:
@@ -71,6 +82,12 @@ class Comparison:
             self.pages()
         if self.program.has_rank:
             self.rank(self.inputs.aims())
+
+    def ask_explained(self, joined):
+        wanted = reports.lint(self.problem, self.is_strict, explains=True)
+        self.compare(self.words("lint", self.files[:1], EXPLAIN), b"", wanted)
+        self.both("check", self.second.check(explains=True), joined.check(explains=True), EXPLAIN)
+        self.told[FAULTY] += self.second.check()[1] == reports.FAULTY
 
     def words(self, job, files, *options):
         """The words of a job; options stand before, between or behind the files."""
@@ -103,22 +120,27 @@ class Comparison:
             self.page(self.inputs.key(), str(self.inputs.chance.randrange(1, 4)))
             self.page(**self.inputs.page())
 
-    def page(self, after=None, limit=None):
+    def page(self, after=None, limit=None, explains=None):
         """One page, its options as one word each or two."""
+        explains = self.may_explain() if explains is None else explains
         told = [(f"--{name}", value) for name, value in (("after", after), ("limit", limit)) if value is not None]
         options = [[f"{name}={value}"] if self.inputs.now_and_then(0.3) else [name, value] for name, value in told]
-        return self.compare(self.words("check", self.files, *options), b"", self.second.check(after, limit))
+        words = self.words("check", self.files, *options, *[EXPLAIN] * explains)
+        return self.compare(words, b"", self.second.check(after, limit, explains))
+
+    def may_explain(self):
+        return self.inputs.now_and_then(0.5) and self.program.has_explain
 
     def walk(self, size):
         """The listing page by page, as the program's own keys lead, up to the first difference."""
-        walked, after = [], None
+        walked, after, explains = [], None, self.may_explain()
         while not self.differing:
-            lines = self.page(after, str(size))[:-1]
+            lines = self.page(after, str(size), explains)[:-1]
             walked += [line for line in lines if not line.startswith(MORE)]
             if not lines or not lines[-1].startswith(MORE):
                 break
             after = lines[-1].removeprefix(MORE)
-        wanted = self.second.check()[0][:-1]
+        wanted = self.second.check(explains=explains)[0][:-1]
         if walked != wanted:
             self.differing.append(f"pages of {size}: {walked}\n  second: {wanted}")
 
@@ -143,32 +165,39 @@ def kind_of(line):
 
 
 def compare_block(job):
-    """The runs, kinds and differences of some inputs."""
+    """The runs, kinds, what was explained, and the differences of some inputs."""
     program, seed, numbers = job
-    runs, kinds, differing = 0, collections.Counter(), []
+    runs, kinds, explained_kinds, differing = 0, collections.Counter(), collections.Counter(), []
     with tempfile.TemporaryDirectory() as folder:
         for number in numbers:
             comparison = Comparison(program, seed, number, folder)
             comparison.all()
             runs += comparison.runs
             kinds.update(comparison.kinds)
+            explained_kinds.update(comparison.told)
             if comparison.differing:
                 told = "\n  ".join(comparison.differing)
                 differing.append(f"input {number}:\n  {comparison.problem}\n  {comparison.solution}\n  {told}")
-    return runs, kinds, differing
+    return runs, kinds, explained_kinds, differing
+
+
+def counted(kinds):
+    return ", ".join(f"{kind} {number}" for kind, number in sorted(kinds.items()))
 
 
 def main(path, seed, count, workers="1"):
     program = programs.Program(os.path.abspath(path))
     last = int(count) + 1
     jobs = [(program, seed, range(first, min(first + BLOCK, last))) for first in range(1, last, BLOCK)]
-    runs, kinds, differing = 0, collections.Counter(), 0
+    runs, kinds, explained_kinds, differing = 0, collections.Counter(), collections.Counter(), 0
     with multiprocessing.Pool(int(workers)) as pool:
-        for more_runs, more_kinds, told in pool.imap(compare_block, jobs):
+        for more_runs, more_kinds, more_explained, told in pool.imap(compare_block, jobs):
             runs, differing = runs + more_runs, differing + len(told)
             kinds.update(more_kinds)
+            explained_kinds.update(more_explained)
             print(*told, sep="\n", end="\n" if told else "", flush=True)
-    print(", ".join(f"{kind} {number}" for kind, number in sorted(kinds.items())))
+    print(counted(kinds))
+    print(f"explained: {counted(explained_kinds) or 'nothing'}")
     print(f"inputs {count}, runs {runs}, differing {differing}; {program.told()}")
     return 1 if differing else 0
 

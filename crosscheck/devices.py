@@ -283,7 +283,8 @@ def unopened(watch):
 REFUSED = (
     ("check p bad", True), ("rank --criteria=-removed,+new p bad good --strict", True), ("score p bad --criteria=-new", True),
     ("lint p", True), ("rank --help", False), ("--version", False), ("check p bad --limit 0", False), ("judge p", False),
-    ("rank --criteria -new p good", False),
+    ("rank --criteria -new p good", False), ("check --explain p bad", True), ("lint p --explain", True),
+    ("score p --explain", False),
 )
 
 

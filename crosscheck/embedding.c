@@ -3,9 +3,10 @@
 usage: embedding FILE [THREADS CALLS STACK]
 
 FILE has requests, one behind the other, in numbers of 64 bits as the machine has them: which call it is (0 lint, 1 check,
-2 score, 3 rank), whether it is strict, the limit, the room, how many texts there are, and then the texts, each a length and
-bytes. The problem comes first, then the solutions, and last the key or the list. A length NONE stands for a null pointer,
-and with ZEROES for that many bytes 0, which don't stand in the file; a room NONE stands for a null buffer.
+2 score, 3 rank), whether it is strict, whether lines are explained, the limit, the room, how many texts there are, and then
+the texts, each a length and bytes. The problem comes first, then the solutions, and last the key or the list. A length NONE
+stands for a null pointer, and with ZEROES for that many bytes 0, which don't stand in the file; a room NONE stands for a
+null buffer.
 
 For each request its answer is written in the same way: the status, the length that was told, and the buffer with GUARD
 bytes behind its room. All its bytes were PATTERN before the call.
@@ -31,7 +32,7 @@ struct text {
 };
 
 struct request {
-    uint64_t call, strict, limit, room, count;
+    uint64_t call, strict, explain, limit, room, count;
     struct text *texts;
     cudf_check_text *solutions;
 };
@@ -72,8 +73,8 @@ static bool read_request(FILE *file, struct request *request)
 {
     if (!read_number(file, &request->call))
         return false;
-    if (!read_number(file, &request->strict) || !read_number(file, &request->limit) || !read_number(file, &request->room)
-        || !read_number(file, &request->count))
+    if (!read_number(file, &request->strict) || !read_number(file, &request->explain) || !read_number(file, &request->limit)
+        || !read_number(file, &request->room) || !read_number(file, &request->count))
         abort();
     request->texts = taken(request->count * sizeof *request->texts);
     for (uint64_t at = 0; at < request->count; at++)
@@ -98,7 +99,7 @@ static void drop_request(struct request *request)
 static void call(const struct request *request, struct answer *answer)
 {
     const struct text *problem = request->texts, *solution = problem + 1, *words = problem + request->count - 1;
-    bool strict = request->strict;
+    bool strict = request->strict, explain = request->explain;
     bool is_null = request->room == NONE;
     size_t room = is_null ? 0 : request->room;
     answer->size = is_null ? 0 : room + GUARD;
@@ -108,12 +109,13 @@ static void call(const struct request *request, struct answer *answer)
         memset(answer->buffer, PATTERN, answer->size);
     switch (request->call) {
     case LINT:
-        answer->status = cudf_check_lint(strict, problem->bytes, problem->length, answer->buffer, room, &answer->length);
+        answer->status = cudf_check_lint(strict, explain, problem->bytes, problem->length, answer->buffer, room,
+                                         &answer->length);
         break;
     case CHECK:
-        answer->status = cudf_check_check(strict, problem->bytes, problem->length, solution->bytes, solution->length,
-                                          words->bytes, words->length, request->limit, answer->buffer, room,
-                                          &answer->length);
+        answer->status = cudf_check_check(strict, explain, problem->bytes, problem->length, solution->bytes,
+                                          solution->length, words->bytes, words->length, request->limit,
+                                          answer->buffer, room, &answer->length);
         break;
     case SCORE:
         answer->status = cudf_check_score(strict, problem->bytes, problem->length, solution->bytes, solution->length,

@@ -7,9 +7,9 @@ LIBRARY_FOLDER has libcudf_check.a and libcudf_check.so.1.
 
 - The examples in C, C++, Python and OCaml, linked to each of the two files, print embedding/expected.txt. What
   docs/EMBEDDING.md shows of them stands in them.
-- 500 random problems with their solutions, in both modes, by all four calls, with pages and lists, right ones and wrong
-  ones: through C and through Python the status and the bytes of the report are the program's, and the values that Python
-  gives say the same.
+- 500 random problems with their solutions, in both modes, explained and not, by all four calls, with pages and lists, right
+  ones and wrong ones: through C and through Python the status and the bytes of the report are the program's, and the values
+  that Python gives say the same.
 - Reports that are cut at every length; null pointers; keys, lists and rankings that a command line can't ask for.
 - Each growth of memory in a call refused in turn; documents that are too long, and one that just isn't.
 - 10,000 calls by eight threads at once: with stacks of 128 KB, under a sanitizer for addresses and leaks, and under one for
@@ -56,6 +56,9 @@ PROBLEM = b"package: car\nversion: 1\ndepends: wheel > 2\ninstalled: true\n\npac
 GOOD = b"package: wheel\nversion: 2\ninstalled: true\n"
 BAD = b"package: car\nversion: 1\ninstalled: true\n"
 UNMET = b"p1.depends.1 car 1 line 1: needs wheel > 2\nsolution no\n"
+EXPLAINED = b"p1.depends.1 car 1 line 1: needs wheel > 2; nothing in the problem would do\nsolution no\n"
+# a value of many lines, of which the last entry is none
+MISTYPED = b"package: car\nversion: 1\ndepends: wheel" + b",\n wheel" * 69 + b",\n\nrequest:\n"
 # docs/FORMAT.md: what a key and a list can't be; and what no word of a command line can be
 NO_KEYS = (b"p01.keep.1", b"r.upgrade.1", b"r.install.1.many", b" r.install.1", b"r.install.1 ", b"r.install.1\n", b"\xff",
            b"r.install.1\0", b"\0", b"p18446744073709551616.keep.1")
@@ -221,19 +224,20 @@ class Request:
     said: bytes = b""
     limit: int = 0
     is_strict: bool = False
+    is_explained: bool = False
     room: int = 1024
 
     def words(self, files):
         """What asks the program the same, of these files."""
         option = {"check": "--after=", "score": "--criteria=", "rank": "--criteria="}.get(self.call, "")
         words = [os.fsencode(option) + self.said] * bool(self.said) + [f"--limit={self.limit}"] * bool(self.limit)
-        return [self.call, *files, *words] + ["--strict"] * self.is_strict
+        return [self.call, *files, *words] + ["--strict"] * self.is_strict + ["--explain"] * self.is_explained
 
     def written(self):
         """The request as the driver reads it."""
         texts = self.texts if self.call == "lint" else (*self.texts, self.said)
         room = NONE if self.room is None else self.room
-        head = struct.pack("5Q", CALLS.index(self.call), self.is_strict, self.limit, room, len(texts))
+        head = struct.pack("6Q", CALLS.index(self.call), self.is_strict, self.is_explained, self.limit, room, len(texts))
         return head + b"".join(map(written, texts))
 
     def left(self, status, report):
@@ -290,11 +294,12 @@ def random_requests(number):
     pair, is_strict = (problem, solutions[0]), inputs.now_and_then(0.5)
     key = (inputs.odd_key() if inputs.now_and_then(0.4) else inputs.key()).encode()
     limit, other_limit = inputs.pick((0, 1, 2, 3, GREATEST)), inputs.pick((1, 1, 2, 5))
-    yield Request("lint", (problem,), is_strict=is_strict)
-    yield Request("check", pair, is_strict=is_strict)
-    yield Request("check", pair, b"", other_limit, is_strict)
-    # a text of no bytes is no key, and no list
-    yield Request("check", pair, key, limit, is_strict)
+    for is_explained in (False, True):
+        yield Request("lint", (problem,), is_strict=is_strict, is_explained=is_explained)
+        yield Request("check", pair, is_strict=is_strict, is_explained=is_explained)
+        yield Request("check", pair, b"", other_limit, is_strict, is_explained)
+        # a text of no bytes is no key, and no list
+        yield Request("check", pair, key, limit, is_strict, is_explained)
     yield Request("score", pair, is_strict=is_strict)
     yield Request("score", pair, inputs.aims().encode(), is_strict=is_strict)
     yield Request("rank", (problem, *solutions), inputs.aims().encode() or b"-new", is_strict=is_strict)
@@ -336,9 +341,10 @@ def python_module(trial):
 def python_call(module, request):
     problem, *solutions = request.texts
     if request.call == "lint":
-        return module.lint(problem, request.is_strict)
+        return module.lint(problem, request.is_strict, request.is_explained)
     if request.call == "check":
-        return module.check(problem, *solutions, request.said, request.limit or None, request.is_strict)
+        limit = request.limit or None
+        return module.check(problem, *solutions, request.said, limit, request.is_strict, request.is_explained)
     if request.call == "score":
         return module.score(problem, *solutions, request.said, request.is_strict)
     return module.rank(problem, solutions, request.said, request.is_strict)
@@ -362,6 +368,10 @@ def values(trial, module):
     trial.note("Python's faults", [module.check(PROBLEM, b"package: a").fault, module.lint("package: a").fault], [
         module.Fault("solution", *fault), module.Fault("problem", *fault),
     ])
+    explained = module.check(PROBLEM, BAD, explain=True).violations, module.lint(MISTYPED, explain=True).fault
+    cells = "p1.depends.1", "p1", "depends", 1, None, "car", 1, 1, "needs wheel > 2", "nothing in the problem would do"
+    mistyped = 3, "E9", "value is not of its type", None, "depends is no vpkgformula, entry 71"
+    trial.note("Python's explained lines", explained, ([module.Violation(*cells)], module.Fault("problem", *mistyped)))
     ranked = module.rank(PROBLEM, [GOOD, "package: a"], "-new")
     trial.note("Python's fault in a ranking", (ranked.fault, ranked.ranks), (module.Fault("solution", *fault, 2), []))
     trial.note("Python's ranks", module.rank(PROBLEM, [BAD, GOOD], "-new,-removed").ranks, [
@@ -386,7 +396,7 @@ def told_again(request, answer):
     if answer.fault:
         fault = answer.fault
         whose = fault.whose if fault.place is None else f"{fault.whose} {fault.place}"
-        return f"{whose} line {fault.line}: {fault.kind} {fault.text}\n"
+        return f"{whose} line {fault.line}: {fault.kind} {said_again(fault)}\n"
     if request.call == "lint":
         lines = ["problem ok"]
     elif request.call == "rank":
@@ -411,7 +421,12 @@ def ranked_again(rank):
 def violation_again(violation):
     key = f"{violation.part}.{violation.rule}.{violation.place}" + (f".{violation.aspect}" if violation.aspect else "")
     subject = f" {violation.name} {violation.version}" if violation.name else ""
-    return f"{key}{subject} line {violation.line}: {violation.text}" if key == violation.key else violation.key
+    return f"{key}{subject} line {violation.line}: {said_again(violation)}" if key == violation.key else violation.key
+
+
+def said_again(told):
+    """The text of a fault or a violation, with what is added to it."""
+    return told.text if told.added is None else f"{told.text}; {told.added}"
 
 
 # ---- buffers, null pointers, and what no command line can ask for
@@ -426,7 +441,8 @@ def usual_requests():
     rules = (example("rules.problem.cudf"), example("rules.answer.cudf"))
     car = [example(f"car.{name}.cudf") for name in ("problem", "broken", "good", "fail")]
     return (
-        Request("lint", (example("producer.problem.cudf"),)), Request("check", rules),
+        Request("lint", (example("producer.problem.cudf"),)), Request("lint", (MISTYPED,), is_explained=True),
+        Request("check", rules), Request("check", rules, is_explained=True),
         Request("score", rules, b"-removed,+new,-touched"), Request("rank", tuple(car), b"-changed,-touched"),
     )
 
@@ -437,7 +453,7 @@ def cuts(trial):
         status, report = asked(trial, request)
         for room in (*range(len(report) + 2), None):
             cut = dataclasses.replace(request, room=room)
-            yield f"{request.call}, cut at {room}", cut, cut.left(status, report)
+            yield f"{request.call}, explained {request.is_explained}, cut at {room}", cut, cut.left(status, report)
 
 
 def nulls(trial):
@@ -462,6 +478,8 @@ def by_hand():
         (Request("rank", (PROBLEM, BAD, GOOD, b"FAIL", GOOD)), YES, ranked),
         (Request("check", (PROBLEM, BAD), b"p1.conflicts.1"), NO, b"solution no\n"),
         (Request("check", (PROBLEM, BAD), limit=1), NO, UNMET),
+        (Request("check", (PROBLEM, BAD), is_explained=True), NO, EXPLAINED),
+        (Request("lint", (b"?",), is_explained=True), FAULTY, faulty),
     ]
     rows += [(Request("check", (PROBLEM, BAD), key), USAGE, b"") for key in NO_KEYS]
     rows += [(Request(call, (PROBLEM, BAD), said), USAGE, b"") for said in NO_LISTS for call in ("score", "rank")]
@@ -495,6 +513,7 @@ def refused_growths(trial, driver):
         return
     refuser = refusals.Refuser(trial.folder)
     for request in usual_requests():
+        name = f"{request.call}, explained {request.is_explained}"
         path = programs.write(trial.folder, "request", request.written())
         right, refused, in_call = request.left(*asked(trial, request)), request.left(MEMORY, b""), 0
         for growth, later, (status, output, _, marks) in refusals.in_turn(refuser, [driver, path]):
@@ -505,8 +524,8 @@ def refused_growths(trial, driver):
             left = list(answers(output))
             # where memory that was to be given back is refused, the report is right as well
             wanted = refused if is_refused or marks and left == [refused] else right
-            trial.note(f"{request.call}, growth {growth}, later {later}", (status, left), (0, [wanted]))
-        trial.note(f"{request.call}: whether a growth in the call was refused", in_call > 0, True)
+            trial.note(f"{name}, growth {growth}, later {later}", (status, left), (0, [wanted]))
+        trial.note(f"{name}: whether a growth in the call was refused", in_call > 0, True)
 
 
 def sanitizers(folder, compiler):

@@ -6,7 +6,7 @@ usage: hostile.py PROGRAM SEED COUNT [PROBLEM..]
 - Input: a device that never ends, beside memory; a folder, a missing file; a pipe that gives a byte at a time, and one
   whose writer is killed; a file that grows while it is read; an input at the limit of size and one byte above it.
 - Output: a pipe whose reader has gone, or goes within a long report, with SIGPIPE ignored and not; a full device; a file
-  that can't grow.
+  that can't grow. The same with `--explain`, where ten thousand lines each ask for another one of ten thousand packages.
 - Descriptors: each set of the three standard ones closed, beside each choice of files; one left for two files.
 - Limits: of memory from 4 MB up to 512 MB, each step a tenth more; of the stack, 128 KB.
 - Each front of an input with a problem and a solution.
@@ -179,6 +179,25 @@ def growing(trials):
 # ---- output
 
 
+def explained_report(packages):
+    """Packages each of which asks for another one, by a name or by what this provides; all are installed but these."""
+    asked = "".join(
+        f"package: p{number}\nversion: 1\ndepends: none | q{number} | f = {number + 1}, none\n\n" for number in range(packages)
+    )
+    given = "".join(
+        f"package: q{number}\nversion: 2\nprovides: f = {packages - number}\n\n" for number in range(packages)
+    )
+    solution = "".join(f"package: p{number}\nversion: 1\ninstalled: true\n\n" for number in range(packages))
+    lines = []
+    for number in range(packages):
+        # of the two the first: the one of this number, and the one that provides it
+        first = min(number, packages - 1 - number)
+        head, clause = f"p{number + 1}.depends.{{}} p{number} 1 line {4 * number + 1}:", f"none | q{number} | f = {number + 1}"
+        lines.append(f"{head.format(1)} needs {clause}; q{first} 2 line {4 * (packages + first) + 1} would do")
+        lines.append(f"{head.format(2)} needs none; nothing in the problem would do")
+    return (asked + given + "request:\n").encode(), solution.encode(), (lines + ["solution no"], reports.NO)
+
+
 def long_report(packages):
     """A problem, a solution and their report."""
     problem = "".join(f"package: p{number}\nversion: 1\ndepends: q{number}\n\n" for number in range(packages))
@@ -217,11 +236,22 @@ def outputs(trials):
     words = ["check", trials.file("long-problem", problem), trials.file("long-solution", solution)]
     trials.expect("a long report", words, answer)
     broken_pipes(trials, words, output_of(answer))
+    if trials.program.has_explain:
+        explained_outputs(trials)
     small = ["check", trials.file("one-input", ONE_INPUT)]
     for job in (words, small, ["lint", words[1]], ["--help"]):
         with open("/dev/full", "wb") as full:
             trials.expect_trouble("a full device", job, stdout=full)
     filled(trials, words, output_of(answer))
+
+
+def explained_outputs(trials):
+    problem, solution, answer = explained_report(10_000)
+    words = ["check", "--explain", trials.file("asking-problem", problem), trials.file("asking-solution", solution)]
+    trials.expect("a long report, explained", words, answer)
+    broken_pipes(trials, words, output_of(answer))
+    with open("/dev/full", "wb") as full:
+        trials.expect_trouble("a full device", words, stdout=full)
 
 
 def filled(trials, words, report):
@@ -298,11 +328,17 @@ def limits(trials):
         (["check"] + names, answer), (["lint", names[0]], (["problem ok"], 0)),
         (["check", small], reports.joined(ONE_INPUT).check()), (["judge"], ([], reports.USAGE)),
     ]
+    if trials.program.has_explain:
+        problem, solution, answer = explained_report(10_000)
+        names = [trials.file("asking-problem", problem), trials.file("asking-solution", solution)]
+        jobs.append((["check", "--explain"] + names, answer))
     for words, wanted in jobs:
         trials.expect("a stack of 128 KB", words, wanted, before=limiting(resource.RLIMIT_STACK, SMALL_STACK))
+        options = [word for word in words[1:] if word.startswith("--")]
+        trial = " ".join(["a limit of memory,", words[0], *options, str(len(words) - 1 - len(options))])
         limit = 4 * MEGABYTE
         while limit < 512 * MEGABYTE:
-            limited(trials, f"a limit of memory, {words[0]} {len(words) - 1}", words, wanted, limit)
+            limited(trials, trial, words, wanted, limit)
             limit += limit // 10
 
 
@@ -317,11 +353,17 @@ def compare(trials, trial, problem, solution):
         (["lint", words[0]], b"", reports.lint(problem)), (["check"] + words, b"", second.check()),
         (["check", "-"], problem + solution, one.check()),
     ]
+    if trials.program.has_explain:
+        runs += [
+            (["lint", "--explain", words[0]], b"", reports.lint(problem, explains=True)),
+            (["check", "--explain"] + words, b"", second.check(explains=True)),
+            (["check", "-", "--explain"], problem + solution, one.check(explains=True)),
+        ]
     if trials.program.has_score:
         runs.append((["score"] + words, b"", second.score()))
     for job, data, wanted in runs:
         given = trials.program.run(job, data)
-        trials.note(trial, given[1], given == wanted, job[0], problem, solution, given[0][-3:], "wanted", wanted)
+        trials.note(trial, given[1], given == wanted, job[:2], problem, solution, given[0][-3:], "wanted", wanted)
 
 
 def fronts(trials):

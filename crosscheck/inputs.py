@@ -3,9 +3,11 @@ import random
 
 import keys
 from criteria import COUNTS
+from faulty import Faults
 from values import OPERATORS
 
 NAMES = ("a", "b", "c", "f")
+UNKNOWN = ("a", "c", "f", "z")
 ODD_NAMES = ("true", "1", "a:i", "g++", "a b", "")
 ODD_NUMBERS = ("+2", "01", "0", "18446744073709551615", "18446744073709551616", "-1", "x")
 DECLARATIONS = (
@@ -81,6 +83,9 @@ class Inputs:
         return self.pick(("true!", "false!")) if self.now_and_then(0.2) else self.vpkg()
 
     def clause(self):
+        # single versions are seldom installed, and so asked for
+        if self.now_and_then(0.2):
+            return " | ".join(f"{self.pick(NAMES)} = {self.pick('123')}" for _ in range(self.pick((2, 3))))
         return self.pick((" | ", "|")).join(self.atom() for _ in range(self.pick((1, 1, 1, 2, 3))))
 
     def entries(self, entry, most=3):
@@ -122,18 +127,24 @@ class Inputs:
         stanzas = [self.preamble()] if self.recommends or self.needed or self.now_and_then(0.2) else []
         stanzas += [self.package(name, version) for name, version in pairs]
         stanzas += [] if self.oddly(0.03) else [self.request()]
+        if self.oddly(0.25):
+            Faults(self).in_problem(stanzas)
         return self.document(stanzas)
 
     def solution(self, pairs):
         if self.oddly(0.04):
             return self.pick(ODD_SOLUTIONS)
-        chosen = [pair for pair in pairs if self.now_and_then(0.6)] + [("z", 1)] * self.now_and_then(0.1)
+        # few packages leave much to be asked for; a name may be known where the pair isn't
+        share = self.pick((0.6, 0.6, 0.25))
+        chosen = [pair for pair in pairs if self.now_and_then(share)] + [(self.pick(UNKNOWN), 4)] * self.now_and_then(0.15)
         stanzas = [[f"package: {name}", f"version: {version}", "installed: true"] for name, version in chosen]
         if self.now_and_then(self.repeats):
             pair = self.pick(chosen + pairs + [("z", 1)])
             stanzas += [self.again(*pair) for _ in range(self.pick((1, 1, 2)))]
         self.chance.shuffle(stanzas)
         stanzas += [["request: ", "install: ,"]] * self.now_and_then(0.05)
+        if self.oddly(0.08):
+            Faults(self).in_solution(stanzas)
         return self.document(stanzas)
 
     def again(self, name, version):

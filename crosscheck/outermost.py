@@ -31,6 +31,7 @@ GOOD = "package: wheel\nversion: 2\ninstalled: true\n"
 BAD = "package: car\nversion: 1\ninstalled: true\n"
 SIZED = "preamble:\nproperty: size: nat\n\npackage: a\nversion: 1\n\nrequest:\n"
 UNMET = "p1.depends.1 car 1 line 1: needs wheel > 2\nsolution no\n"
+EXPLAINED = "p1.depends.1 car 1 line 1: needs wheel > 2; nothing in the problem would do\nsolution no\n"
 ANSWERED = "solution yes\n"
 FAULTY = "problem line 1: E2 not a property, continuation, comment or blank line\n"
 FAULTY_SOLUTION = "solution line 1: E2 not a property, continuation, comment or blank line\n"
@@ -162,6 +163,11 @@ def statuses(trial):
         ("check p twice", 0, ANSWERED), ("check --strict p twice", 2, REPEATED), ("score p --strict twice", 2, REPEATED),
         ("check sized twice --strict", 2, MISSING), ("check p bad --limit 1 --strict", 1, UNMET),
         ("check p -- --criteria", 0, ANSWERED), ("score p good", 0, SCORED),
+        ("lint --explain p", 0, "problem ok\n"), ("check --explain p good", 0, ANSWERED), ("check p --explain bad", 1, EXPLAINED),
+        ("check both --explain", 1, EXPLAINED), ("check p bad --strict --explain --limit 1", 1, EXPLAINED),
+        ("lint sized --strict --explain", 2, MISSING[:-1] + "; it lacks size\n"), ("lint --explain faulty", 2, FAULTY),
+        ("check --explain --strict p twice", 2, REPEATED[:-1] + "; wheel 2 stands on line 1\n"),
+        ("check p fail --explain", 3, "solution FAIL\n"), ("check p bad --after p1.depends.1 --explain", 1, "solution no\n"),
     ]
     for words, status, output in rows:
         trial.expect(words, status, output, [""] if status == 4 else "")
@@ -266,7 +272,9 @@ def first_refusals(trial):
         ("lint", ""), ("check", ""), ("score", ""), ("", ""), ("judge p", ""), ("lint p bad", ""), ("lint none -x", ""),
         ("check none none none", ""), ("lint p --limit 1", ""), ("check p --limit 1 --limit 1", ""), ("check p --limit", ""),
         ("lint p --strict --strict", ""), ("judge p --strict", ""), ("--strict", ""), ("--strict lint p", ""),
-        ("check p --strict=true", ""), ("lint --strict", ""),
+        ("check p --strict=true", ""), ("lint --strict", ""), ("lint p --explain --explain", ""), ("score p --explain", ""),
+        ("rank --criteria=-new p good --explain", ""), ("--explain lint p", ""), ("check p --explain=true", ""),
+        ("check --explain", ""), ("check p --limit 0 --explain", NO_NUMBER.format("0")),
     ]
     for words, text in rows:
         refuse(trial, words, text)

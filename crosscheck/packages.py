@@ -74,7 +74,7 @@ int main(void)
 {
     uint8_t report[64];
     size_t length;
-    uint8_t status = cudf_check_lint(true, "request:\n", 9, report, sizeof report, &length);
+    uint8_t status = cudf_check_lint(true, false, "request:\n", 9, report, sizeof report, &length);
     fwrite(report, 1, length, stdout);
     cudf_check_version(report, sizeof report, &length);
     fwrite(report, 1, length, stdout);

@@ -37,6 +37,7 @@ class Program:
         self.has_strict = self.run(["lint", "-", "--strict"], EMPTY)[1] == 0
         self.has_lists = self.run(["score", "-", "--criteria=-new"], EMPTY)[1] == 0
         self.has_rank = self.run(["rank", "--criteria=-new", "-", os.devnull], EMPTY)[1] == 0
+        self.has_explain = self.run(["lint", "-", "--explain"], EMPTY)[1] == 0
         version, status = self.run(["--version"])
         self.has_version = status != 4
         is_line = len(version) == 1 and re.fullmatch(r"cudf_check [0-9]\S*", version[0]) is not None
@@ -46,7 +47,7 @@ class Program:
         """What isn't compared, and the version's form."""
         known = {
             "score": self.has_score, "pages": self.has_pages, "--strict": self.has_strict, "--criteria": self.has_lists,
-            "rank": self.has_rank,
+            "rank": self.has_rank, "--explain": self.has_explain,
         }
         left = [name for name, has in known.items() if not has]
         version = "of the right form" if self.is_version_fine else "WRONG" if self.has_version else "not known"
@@ -83,6 +84,7 @@ def has(program, job):
     asked = {
         "score": program.has_score, "--after": program.has_pages, "--limit": program.has_pages,
         "--strict": program.has_strict, "--criteria": program.has_lists, "rank": program.has_rank,
+        "--explain": program.has_explain,
     }
     return all(is_known for word, is_known in asked.items() if word in job)
 

@@ -3,7 +3,8 @@
 
 usage: refusals.py PROGRAM [TESTS]
 
-PROGRAM runs on the documents of examples/, and on a package that gives 80 entries. Growth 1, growth 2 and so on is
+PROGRAM runs on the documents of examples/, on a package that gives 80 entries, and with `--explain` on a document with each
+fault to which this adds something. Growth 1, growth 2 and so on is
 refused, until none is: each in two runs of its own, in the second one with all later ones. Where a growth is refused the
 program has to end with status 6 and nothing on standard output; where memory that was to be given back is refused alone,
 the report is right as well.
@@ -49,7 +50,39 @@ MADE = {
                          "package: b\nversion: 1\nprovides: f = 7\n\nrequest:\n",
     "many.answer.cudf": "package: a\nversion: 1\ninstalled: true\n\npackage: b\nversion: 1\ninstalled: true\n",
 }
-JOBS += [["check", *MADE], ["score", *MADE]]
+JOBS += [["check", *MADE], ["score", *MADE], ["check", "--explain", *MADE]]
+# a document with each fault that --explain says more of
+FAULTY = {
+    "e4.cudf": "version: 1\npackage: a\n",
+    "e6.cudf": "request:\n\nrequest:\n",
+    "e7.cudf": "package: a\nversion: 1\nversion: 2\n\nrequest:\n",
+    "e8.cudf": "package: a\nversion: 1\nsize: 3\n\nrequest:\n",
+    "e9.cudf": "preamble:\nproperty: e: enum[a, b]\n\npackage: a\nversion: 1\ne: c\n\nrequest:\n",
+    "formula.cudf": f"package: a\nversion: 1\ndepends: {ENTRIES},\n a | b,\n a b\n\nrequest:\n",
+    "list.cudf": f"request:\ninstall: {ENTRIES}, true!\n",
+    "exact.cudf": f"package: a\nversion: 1\nprovides: {ENTRIES}, a > 1\n\nrequest:\n",
+    "e10.cudf": 'preamble:\nproperty: a: int, b: string = ["x, y"]\nproperty: c: enum[a, b], d: vpkglist = [a, b], a: int\n',
+    "quotes.cudf": 'preamble:\nproperty: a: int, b: string = ["x\n',
+    "e11.cudf": "package: a\nversion: 1\n\npackage: a\nversion: 01\n\nrequest:\n",
+    "e14.cudf": "preamble:\nproperty: a: int, b: int, c: nat\n\npackage: a\nversion: 1\na: 3\n\nrequest:\n",
+}
+FAULTY_ANSWER = {"e9.answer.cudf": "package: a\nversion: 0\n"}
+# instances for each of which the problem has something
+FOUND = {
+    "found.problem.cudf": "package: a\nversion: 1\ndepends: x | b, b > 1\n\npackage: b\nversion: 2\nprovides: c\n\n"
+                          "request:\ninstall: b, c\nupgrade: b\n",
+    "found.answer.cudf": "package: a\nversion: 1\ninstalled: true\n\npackage: b\nversion: 9\ninstalled: true\n",
+}
+JOBS += [[command, "--explain", "--strict", name] for name in FAULTY for command in ("lint", "check")]
+JOBS += [
+    ["lint", "--explain", "car.good.cudf"], ["lint", "--explain", "producer.problem.cudf"],
+    ["check", "--explain", "car.problem.cudf", "car.broken.cudf"], ["check", "--explain", "car.problem.cudf", "car.fail.cudf"],
+    ["check", "--explain", "rules.problem.cudf", "rules.answer.cudf"], ["check", "--explain", "car-and-wheel.cudf"],
+    ["check", "--explain", "--limit=1", "rules.problem.cudf", "rules.answer.cudf"],
+    ["check", "--explain", "--strict", "car.problem.cudf", "car.twice.cudf"],
+    ["check", "--explain", "producer.problem.cudf", *FAULTY_ANSWER], ["check", "--explain", *FOUND],
+]
+WRITTEN = {**MADE, **FAULTY, **FAULTY_ANSWER, **FOUND}
 # the statuses of a report
 REPORTED = range(4)
 NO_MEMORY = (6, b"")
@@ -100,11 +133,11 @@ def in_turn(refuser, words):
 
 def word_of(word, folder):
     """A document's path, or an option as it is."""
-    return word if word.startswith("-") else os.path.join(folder if word in MADE else EXAMPLES, word)
+    return word if word.startswith("-") else os.path.join(folder if word in WRITTEN else EXAMPLES, word)
 
 
 def programs(refuser, program, folder):
-    for name, text in MADE.items():
+    for name, text in WRITTEN.items():
         with open(os.path.join(folder, name), "w", encoding="ascii") as file:
             file.write(text)
     for job in JOBS:

@@ -6,6 +6,7 @@ import functools
 
 import criteria
 import documents
+import explained
 import keys
 from judge import Judgement
 from values import read_posint
@@ -15,52 +16,62 @@ GREATEST_INPUT = 268435456
 VERDICTS = {YES: "yes", NO: "no", FAIL: "FAIL"}
 
 
-def faulty(whose, faults):
+def faulty(whose, faults, data, explains):
     line, kind = min(faults)
-    return [f"{whose} line {line}: E{kind} {documents.KINDS[kind]}"], FAULTY
+    told = f"{whose} line {line}: E{kind} {documents.KINDS[kind]}"
+    return [explained.behind(told, explained.fault_detail(data, (line, kind)) if explains else "")], FAULTY
 
 
-def problem_fault(data, is_strict=False):
+def problem_fault(data, is_strict=False, explains=False):
     fault = documents.utf8_fault(data)
     faults = {fault} if fault else documents.problem_faults(data.decode(), is_strict)
-    return faulty("problem", faults) if faults else None
+    return faulty("problem", faults, data, explains) if faults else None
 
 
-def solution_answer(data, is_strict=False, whose="solution"):
+def solution_answer(data, is_strict=False, explains=False, whose="solution"):
     """The answer to a solution that isn't judged."""
     fault = documents.utf8_fault(data)
     if fault:
-        return faulty(whose, {fault})
+        return faulty(whose, {fault}, data, explains)
     if documents.says_fail(data.decode()):
         return ["solution FAIL"], FAIL
     faults = documents.solution_faults(data.decode(), is_strict)
-    return faulty(whose, faults) if faults else None
+    return faulty(whose, faults, data, explains) if faults else None
 
 
-def lint(problem, is_strict=False):
+def lint(problem, is_strict=False, explains=False):
     if len(problem) > GREATEST_INPUT:
         return [], TROUBLE
-    return problem_fault(problem, is_strict) or (["problem ok"], YES)
+    return problem_fault(problem, is_strict, explains) or (["problem ok"], YES)
 
 
 class Second:
     """The second implementation's answers to one problem and one solution, read and judged once."""
 
     def __init__(self, problem, solution, is_strict=False):
-        self.refused = ([], TROUBLE) if max(len(problem), len(solution)) > GREATEST_INPUT else None
-        self.refused = self.refused or problem_fault(problem, is_strict) or solution_answer(solution, is_strict)
+        self.asked = problem, solution, is_strict
+        self.refused = self.refusal(False)
         self.judged = None if self.refused else Judgement(problem.decode(), solution.decode())
+
+    def refusal(self, explains):
+        """The answer to documents that aren't judged."""
+        problem, solution, is_strict = self.asked
+        if max(len(problem), len(solution)) > GREATEST_INPUT:
+            return [], TROUBLE
+        return problem_fault(problem, is_strict, explains) or solution_answer(solution, is_strict, explains)
 
     def verdict(self, lines):
         is_solution = not self.judged.instances
         return lines + ["solution yes" if is_solution else "solution no"], YES if is_solution else NO
 
-    def check(self, after=None, limit=None):
+    def check(self, after=None, limit=None, explains=False):
         """The page behind a key, of as many lines as a limit says; both are the words of the command line."""
         number = None if limit is None else read_posint(limit)
         if after is not None and keys.parse(after) is None or limit is not None and number is None:
             return [], USAGE
-        return self.refused or self.verdict(self.judged.page(after, number))
+        if self.refused:
+            return self.refusal(True) if explains else self.refused
+        return self.verdict(self.judged.page(after, number, explains))
 
     def score(self, aims=None):
         """The counts, or those of a list, which is the word of the command line."""
@@ -113,7 +124,7 @@ def rank(aims, problem, solutions, is_strict=False):
     if refused := problem_fault(problem, is_strict):
         return refused
     for place, solution in enumerate(solutions, 1):
-        refused = solution_answer(solution, is_strict, f"solution {place}")
+        refused = solution_answer(solution, is_strict, whose=f"solution {place}")
         if refused and refused[1] == FAULTY:
             return refused
     standings = [Standing(place, problem, solution) for place, solution in enumerate(solutions, 1)]

@@ -14,6 +14,8 @@ memory was asked for), the most bytes that were held at once, and the calls of r
 - for twice the input, at most 2.6 times the processor time (the least of some runs, in turns; of more runs where the
   first ones say otherwise).
 
+Some of the cases are made for `--explain`: what it adds has to be found in about the same time for each line.
+
 An input of exactly 268435456 bytes is answered, with at most three bytes of memory for each of its own, and one byte
 more is told as too long, with status 5.
 
@@ -207,6 +209,119 @@ def enum(count):
     return lint(head + packages(numbers, lambda number: f"e: c{number}\n") + "request:\n")
 
 
+# ---- made inputs of runs with --explain
+
+
+def with_added(task, added):
+    """A task whose one line has this behind it with --explain."""
+    return task._replace(job=task.job + " --explain", output=f"{task.output[:-1]}; {added}\n")
+
+
+def check_explained(problem, solution, lines):
+    """A check with --explain that gives these lines."""
+    return check(problem, solution, "".join(line + "\n" for line in lines) + NO)._replace(job="check --explain")
+
+
+def askers(count):
+    """Packages that are installed, each of which needs a number of a feature that another one of as many others gives."""
+    numbers = range(1, count + 1)
+    problem = packages(numbers, lambda number: f"depends: f = {number}\n", "a{}")
+    problem += packages(numbers, lambda number: f"provides: f = {count + 1 - number}\n") + "request:\n"
+    lines = (
+        f"p{number}.depends.1 a{number} 1 line {4 * number - 3}: needs f = {number}; "
+        f"p{count + 1 - number} 1 line {4 * (2 * count + 1 - number) - 3} would do" for number in numbers
+    )
+    return check_explained(problem, installed(numbers, name="a{}"), lines)
+
+
+def later_versions(count, order=1):
+    """A package that needs a later version of one name in each clause, of versions that aren't installed."""
+    numbers = range(1, count + 1)[::order]
+    problem = packages(numbers, name="a", version="{}")
+    problem += f"package: user\nversion: 1\ndepends: {', '.join(f'a > {number}' for number in range(1, count))}\n\nrequest:\n"
+    lines = (
+        f"p{count + 1}.depends.{number} user 1 line {3 * count + 1}: needs a > {number}; "
+        + (f"a {number + 1} line {3 * number + 1} would do" if order == 1 else f"a {count} line 1 would do")
+        for number in range(1, count)
+    )
+    return check_explained(problem, installed(["user"], name="{}"), lines)
+
+
+def atoms(count):
+    """A clause of many atoms, the last of which is a package."""
+    clause = " | ".join(f"x{number}" for number in range(1, count + 1))
+    problem = f"package: a\nversion: 1\ndepends: {clause}\n\npackage: x{count}\nversion: 1\n\nrequest:\n"
+    line = f"p1.depends.1 a 1 line 1: needs {clause}; x{count} 1 line 5 would do"
+    return check_explained(problem, installed(["a"], name="{}"), [line])
+
+
+def wishes(count):
+    """Entries of the request, each of which another package gives or none does."""
+    numbers = range(1, count + 1)
+    problem = packages(numbers, lambda number: f"provides: f{number}\n") + f"request:\ninstall: {entries(2 * count, 'f{}')}\n"
+    given = (f"f{number}; p{number} 1 line {4 * number - 3} would do" for number in numbers)
+    missed = (f"f{number}; nothing in the problem would do" for number in range(count + 1, 2 * count + 1))
+    lines = (
+        f"r.install.{place} line {4 * count + 1}: needs {text}" for place, text in enumerate((*given, *missed), 1)
+    )
+    return check_explained(problem, "", lines)
+
+
+def other_versions(count):
+    """Unknown stanzas, of each of which the problem has another version."""
+    numbers = range(1, count + 1)
+    lines = (
+        f"s.unknown.{number} p{number} 2 line {4 * number - 3}: not in the universe; "
+        f"the problem has p{number} 1 line {3 * number - 2}" for number in numbers
+    )
+    return check_explained(packages(numbers) + "request:\n", installed(numbers, version="2"), lines)
+
+
+def unknown_versions(count):
+    """Unknown stanzas of one name, of which the problem has as many other versions."""
+    numbers = range(1, count + 1)
+    problem = packages(numbers, name="a", version="{}") + "request:\n"
+    lines = (
+        f"s.unknown.{number} a {count + number} line {4 * number - 3}: not in the universe; the problem has a 1 line 1"
+        for number in numbers
+    )
+    return check_explained(problem, installed(range(count + 1, 2 * count + 1), name="a", version="{}"), lines)
+
+
+def wrong_entry(count):
+    fault = "problem line 3: E9 value is not of its type\n"
+    problem = f"package: a\nversion: 1\ndepends: {entries(count)}, a b\n\nrequest:\n"
+    return with_added(Task("lint", [problem], fault, 2), f"depends is no vpkgformula, entry {count + 1}")
+
+
+def declared_again(count):
+    problem = f"preamble:\nproperty: {entries(count, 'e{}: nat')}, e1: int\n\nrequest:\n"
+    return with_added(Task("lint", [problem], "problem line 2: E10 bad declaration\n", 2), f"declaration {count + 1}")
+
+
+def declared_behind_many(count):
+    """A property line for each declaration, and one that declares the first name again behind a new one."""
+    lines = "".join(f"property: e{number}: nat\n" for number in range(count))
+    problem = f"preamble:\n{lines}property: e: int, e0: int\n\nrequest:\n"
+    return with_added(Task("lint", [problem], f"problem line {count + 2}: E10 bad declaration\n", 2), "declaration 2")
+
+
+def lacking(count):
+    """A package that has all of many declared properties but the last."""
+    lines = "".join(f"e{number}: 7\n" for number in range(1, count))
+    problem = f"preamble:\nproperty: {entries(count, 'e{}: nat')}\n\npackage: a\nversion: 1\n{lines}\nrequest:\n"
+    fault = f"problem line {count + 4}: E14 declared property missing\n"
+    return with_added(Task("lint --strict", [problem], fault, 2), f"it lacks e{count}")
+
+
+def pair_repeated(count):
+    """A stanza for each number, and the last one once more, in a solution."""
+    solution = installed(range(1, count + 1)) + installed([count])
+    fault = f"solution line {4 * count + 2}: E15 pair repeated\n"
+    task = Task("check --strict", ["request:\n", solution], fault, 2)
+    return with_added(task, f"p{count} 1 stands on line {4 * count - 3}")
+
+
 CASES = (
     Case("versions of one name, ascending", 20_000, lambda n: versions(range(1, n + 1))),
     Case("versions of one name, descending", 20_000, lambda n: versions(range(n, 0, -1))),
@@ -241,6 +356,24 @@ CASES = (
     Case("a million properties", 500_000, lambda n: lint("request:\n" + "".join(f"e{k}:\n" for k in range(n)))),
     Case("a million short stanzas", 250_000, lambda n: check("request:\n", "request:\n\n" * n)),
     Case("one long line", 5_000_000, lambda n: lint("request:\n#" + "x" * n)),
+)
+EXPLAINED = (
+    Case("explained: each needs another one of as many", 20_000, askers),
+    Case("explained: a later version, ascending", 20_000, later_versions),
+    Case("explained: a later version, descending", 20_000, lambda n: later_versions(n, -1)),
+    Case("explained: a clause of many atoms", 100_000, atoms),
+    Case("explained: wishes, given and not", 20_000, wishes),
+    Case("explained: other versions of many names", 20_000, other_versions),
+    Case("explained: other versions of one name", 20_000, unknown_versions),
+    Case("explained: a wrong entry behind many", 100_000, wrong_entry),
+    Case("explained: declared behind many in one value", 50_000, declared_again),
+    Case("explained: declared behind many values", 50_000, declared_behind_many),
+    Case("explained: the last of many properties is missing", 50_000, lacking),
+    Case("explained: a pair repeated behind many", 50_000, pair_repeated),
+    Case("explained: a package repeated behind many", 50_000, lambda n: with_added(repeated(n), f"p{n} 1 stands on line {3 * n - 2}")),
+    Case("explained: a property repeated behind many", 50_000, lambda n: with_added(property_repeated(n), "e0 stands on line 2")),
+    Case("explained: a distribution", 20_000, lambda n: check(*distribution(n))._replace(job="check --explain")),
+    Case("explained: a distribution, linted", 20_000, lambda n: lint(distribution(n)[0])._replace(job="lint --explain")),
 )
 SLOW = Case("a byte at a time", 50_000, lambda n: lint("request:\n" + "#\n" * n))
 
@@ -444,7 +577,7 @@ def main(path, tests=None):
         return 0
     with tempfile.TemporaryDirectory() as folder:
         trials = Trials(path, folder)
-        for case in CASES:
+        for case in (*CASES, *EXPLAINED):
             trials.try_case(case)
         trials.try_case(SLOW, is_slow=True)
         trials.try_greatest()

@@ -111,6 +111,19 @@ BUILT_IN = {
     "keep": lambda text: text.strip(BLANKS) in ("version", "package", "feature", "none"),
     "was-installed": lambda text: True,
 }
+# the word of the type of each of these that has wrong values
+WORDS = {
+    "package": "pkgname", "version": "posint", "depends": "vpkgformula", "conflicts": "vpkglist", "provides": "veqpkglist",
+    "installed": "bool", "keep": "enum",
+}
+# what reads one entry of a list
+ENTRIES = {"vpkgformula": read_clause, "vpkglist": read_vpkg, "veqpkglist": read_veqpkg}
+
+
+def wrong_entry(kind, text):
+    """The place of the first entry that is none, of a text that is no list of this kind."""
+    return next(place for place, piece in enumerate(text.split(","), 1) if ENTRIES[kind](piece) is None)
+
 
 # ---- declarations
 
@@ -184,15 +197,25 @@ def read_declaration(piece):
     return None if default is None else Declaration(head.group(1), kind, fits, default)
 
 
+def declared_up_to(text, before):
+    """What the pieces of a value declare up to the first wrong one, by name, and the place of that one, or None."""
+    declared = {}
+    for place, piece in enumerate(cut_declarations(text) or [""], 1):
+        read = read_declaration(piece)
+        if not read or read.name in RESERVED or read.name in before or read.name in declared:
+            return declared, place
+        declared[read.name] = read
+    return declared, None
+
+
 def read_declarations(text, before):
     """What one `property` value declares, by name, or None where it is a bad declaration."""
     if text.strip(BLANKS) == "":
         return {}
-    pieces = cut_declarations(text)
-    declared = {}
-    for piece in pieces or [""]:
-        read = read_declaration(piece)
-        if not read or read.name in RESERVED or read.name in before or read.name in declared:
-            return None
-        declared[read.name] = read
-    return declared
+    declared, wrong = declared_up_to(text, before)
+    return None if wrong else declared
+
+
+def wrong_declaration(text, before):
+    """The place of the first piece that declares nothing, or None where the text can't be cut in pieces."""
+    return cut_declarations(text) and declared_up_to(text, before)[1]

@@ -47,20 +47,22 @@ NOT_UNDERSTOOD = (
     "score P --criteria=-new --criteria=-new", "score - - --criteria=-new", "rank P P", "rank --criteria=-new",
     "rank --criteria=-new P", "rank --criteria -new P P", "rank --criteria=-new - P -", "rank --criteria=-new - -",
     "rank --criteria=-new P P --limit 1", "rank --criteria=-size P P", "rank --criteria=-new --strict P P --strict",
+    "lint P --explain --explain", "check --explain P P --explain", "check P --explain=true", "--explain lint P", "lint --explain",
+    "score P --explain", "score --explain P P --criteria=-new", "rank --criteria=-new P P --explain",
 )
 ASKS_FOR_HELP = ("--help", "-h", "help")
 
 
 def second_answer(job, problem, solutions):
     command, *words = job.split()
-    is_strict = "--strict" in words
+    is_strict, explains = "--strict" in words, "--explain" in words
     options = dict(re.findall(r"--(after|limit|criteria)=(\S+)", job))
     if command == "lint":
-        return reports.lint(problem, is_strict)
+        return reports.lint(problem, is_strict, explains)
     if command == "rank":
         return reports.rank(options["criteria"], problem, solutions, is_strict)
     second = reports.Second(problem, *solutions, is_strict) if solutions else reports.joined(problem, is_strict)
-    return second.score(options.get("criteria")) if command == "score" else second.check(**options)
+    return second.score(options.get("criteria")) if command == "score" else second.check(**options, explains=explains)
 
 
 def answers(row, program):

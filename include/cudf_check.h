@@ -56,19 +56,21 @@ typedef struct cudf_check_text {
 
 /*
  * Says whether a problem is without fault: `problem ok`, or its first fault. The whole text is the problem. With `strict`
- * two things more are faults, as with the program's `--strict`.
+ * two things more are faults, as with the program's `--strict`. With `explain` a fault has behind its text what the problem
+ * says beside it, as with `--explain`.
  */
-uint8_t cudf_check_lint(bool strict, const uint8_t *problem, size_t problem_length, uint8_t *report, size_t room,
-                        size_t *length);
+uint8_t cudf_check_lint(bool strict, bool explain, const uint8_t *problem, size_t problem_length, uint8_t *report,
+                        size_t room, size_t *length);
 
 /*
  * Says what is wrong with a solution of a problem: a line for each violation, sorted by key, and the verdict. `after` is
  * the key behind which the lines begin, as `p1.depends.1`, or an empty text; `limit` is how many lines there are at most,
  * or 0 for all. Where a limit leaves lines out, `more after KEY` says where the next page begins. The verdict is of all.
+ * With `explain` lines have behind their texts what would do, or that nothing would; a fault has what it has in lint.
  */
-uint8_t cudf_check_check(bool strict, const uint8_t *problem, size_t problem_length, const uint8_t *solution,
-                         size_t solution_length, const uint8_t *after, size_t after_length, uint64_t limit,
-                         uint8_t *report, size_t room, size_t *length);
+uint8_t cudf_check_check(bool strict, bool explain, const uint8_t *problem, size_t problem_length,
+                         const uint8_t *solution, size_t solution_length, const uint8_t *after, size_t after_length,
+                         uint64_t limit, uint8_t *report, size_t room, size_t *length);
 
 /*
  * Counts what a solution of a problem changes and lacks, and gives the verdict. `criteria` is a list such as
@@ -119,12 +121,12 @@ static inline const cudf_check_text *cudf_check_texts(const cudf_check_text *tex
     return texts ? texts : &none;
 }
 
-#define cudf_check_lint(strict, problem, problem_length, report, room, length) \
-    cudf_check_lint(strict, cudf_check_bytes(problem), problem_length, cudf_check_room(report), room, length)
-#define cudf_check_check(strict, problem, problem_length, solution, solution_length, after, after_length, limit, report, \
-                         room, length) \
-    cudf_check_check(strict, cudf_check_bytes(problem), problem_length, cudf_check_bytes(solution), solution_length, \
-                     cudf_check_bytes(after), after_length, limit, cudf_check_room(report), room, length)
+#define cudf_check_lint(strict, explain, problem, problem_length, report, room, length) \
+    cudf_check_lint(strict, explain, cudf_check_bytes(problem), problem_length, cudf_check_room(report), room, length)
+#define cudf_check_check(strict, explain, problem, problem_length, solution, solution_length, after, after_length, limit, \
+                         report, room, length) \
+    cudf_check_check(strict, explain, cudf_check_bytes(problem), problem_length, cudf_check_bytes(solution), \
+                     solution_length, cudf_check_bytes(after), after_length, limit, cudf_check_room(report), room, length)
 #define cudf_check_score(strict, problem, problem_length, solution, solution_length, criteria, criteria_length, report, \
                          room, length) \
     cudf_check_score(strict, cudf_check_bytes(problem), problem_length, cudf_check_bytes(solution), solution_length, \

@@ -47,6 +47,14 @@ ENTRY = "run"
 RANKING = "rank"
 LAWS = ("ascending", "empty")
 
+# the files that say what `--explain` adds, and nothing else: who doesn't use it needs none of them
+EXPLAINED = (
+    "cudf_check/specs/Explanations.antt",
+    "cudf_referee/specs/Explanations.antt",
+    "cudf_document/specs/Details.antt",
+    "cudf_value/specs/Misfits.antt",
+)
+
 # where a line begins a `use`, and the two forms that are read: of definitions, and of Rust's items
 USE_BEGINS = re.compile(r"^[^\S\n]*(?:pub(?:\([^)]*\))?\s+)?(ghost\s+)?use\b", re.M)
 USE_OF_DEFINITIONS = re.compile(r"\s*(?:pub\s+)?(?:ghost\s+)?use\s+Rattle\.(\w+(?:\.\w+)*)(?:\.\{([^{}]*)\}|\s+as\s+(\w+))?\s*;?\s*")
@@ -560,7 +568,14 @@ def table(files):
     rows = ["| File | What it says | Lines | With `use` | In all |", "|---|---|---|---|---|"]
     for path in files:
         rows.append("| `%s` | %s | %d | %d | %d |" % (path.relative_to(CRATES), title_of(path), *lines_of(path)))
-    return rows + ["| %d files | | %d | %d | %d |" % (len(files), *sums_of(files))]
+    plain = unexplained(files)
+    rows.append("| %d files | | %d | %d | %d |" % (len(files), *sums_of(files)))
+    return rows + ["| %d files | Without what `--explain` adds | %d | %d | %d |" % (len(plain), *sums_of(plain))]
+
+
+def unexplained(files):
+    """Those that don't speak of `--explain` alone."""
+    return [path for path in files if str(path.relative_to(CRATES)) not in EXPLAINED]
 
 
 def told():
@@ -605,6 +620,8 @@ def main(arguments):
         for path in files:
             print("%5d %5d %5d  %s" % (*lines_of(path), path.relative_to(ROOT)))
         print("%5d %5d %5d  in %d files" % (*sums_of(files), len(files)))
+        plain = unexplained(files)
+        print("%5d %5d %5d  in %d files without what --explain adds" % (*sums_of(plain), len(plain)))
     for fault in faults:
         print(f"statement: {fault}", file=sys.stderr)
     if faults and not arguments:

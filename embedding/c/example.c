@@ -1,5 +1,5 @@
 /*
- * cudf_check from C99: judges an answer, reads a fault, counts, ranks, and goes through a long report by pages.
+ * cudf_check from C99: judges an answer and reads a fault, both explained; counts, ranks, and goes through a report by pages.
  * Prints what stands in embedding/expected.txt.
  *
  *     cc -std=c99 -Iinclude embedding/c/example.c lib/libcudf_check.a -o example
@@ -67,7 +67,7 @@ static char *broken(int count)
 static void check_page(const char *text, const char *after, uint64_t limit, struct report *report)
 {
     do
-        cudf_check_check(false, text, strlen(text), text, strlen(text), after, strlen(after), limit,
+        cudf_check_check(false, false, text, strlen(text), text, strlen(text), after, strlen(after), limit,
                          (uint8_t *)report->text, report->room, &report->length);
     while (!is_whole(report));
 }
@@ -110,7 +110,7 @@ int main(void)
     printf("cudf_check %s\n", report.text);
 
     do
-        status = cudf_check_check(false, problem, strlen(problem), old_wheel, strlen(old_wheel), NULL, 0, 0,
+        status = cudf_check_check(false, true, problem, strlen(problem), old_wheel, strlen(old_wheel), NULL, 0, 0,
                                   (uint8_t *)report.text, report.room, &report.length);
     while (!is_whole(&report));
     printf("\ncheck: status %d\n%s", status, report.text);
@@ -118,7 +118,8 @@ int main(void)
     char whose[16], kind[8], text[64];
     unsigned long line;
     do
-        status = cudf_check_lint(false, faulty, strlen(faulty), (uint8_t *)report.text, report.room, &report.length);
+        status = cudf_check_lint(false, true, faulty, strlen(faulty), (uint8_t *)report.text, report.room,
+                                 &report.length);
     while (!is_whole(&report));
     if (sscanf(report.text, "%15s line %lu: %7s %63[^\n]", whose, &line, kind, text) == 4)
         printf("\nlint: status %d, %s on line %lu of the %s: %s\n", status, kind, line, whose, text);

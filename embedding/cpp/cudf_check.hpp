@@ -58,19 +58,19 @@ try {
 
 } // namespace detail
 
-inline Answer lint(std::string_view problem, bool strict = false) noexcept
+inline Answer lint(std::string_view problem, bool strict = false, bool explain = false) noexcept
 {
     return detail::answer_of([&](std::uint8_t *report, std::size_t room, std::size_t *length) {
-        return cudf_check_lint(strict, problem.data(), problem.size(), report, room, length);
+        return cudf_check_lint(strict, explain, problem.data(), problem.size(), report, room, length);
     });
 }
 
 inline Answer check(std::string_view problem, std::string_view solution, std::string_view after = {},
-                    std::uint64_t limit = 0, bool strict = false) noexcept
+                    std::uint64_t limit = 0, bool strict = false, bool explain = false) noexcept
 {
     return detail::answer_of([&](std::uint8_t *report, std::size_t room, std::size_t *length) {
-        return cudf_check_check(strict, problem.data(), problem.size(), solution.data(), solution.size(), after.data(),
-                                after.size(), limit, report, room, length);
+        return cudf_check_check(strict, explain, problem.data(), problem.size(), solution.data(), solution.size(),
+                                after.data(), after.size(), limit, report, room, length);
     });
 }
 

@@ -1,4 +1,4 @@
-// cudf_check from C++17: judges an answer, reads a fault, counts, ranks, and goes through a long report by pages.
+// cudf_check from C++17: judges an answer and reads a fault, both explained; counts, ranks, and goes through a report by pages.
 // Prints what stands in embedding/expected.txt.
 //
 //     c++ -std=c++17 -Iinclude embedding/cpp/example.cpp lib/libcudf_check.a -o example
@@ -113,8 +113,9 @@ std::pair<std::string, int> by_pages(const std::string &text)
 int main()
 {
     std::cout << "cudf_check " << cudf_check::version() << '\n';
-    print("check", cudf_check::check(problem, old_wheel));
-    print_fault("lint", cudf_check::lint(faulty));
+    const bool strict = false, explain = true;
+    print("check", cudf_check::check(problem, old_wheel, {}, 0, strict, explain));
+    print_fault("lint", cudf_check::lint(faulty, strict, explain));
     print("score", cudf_check::score(problem, new_wheel));
     print("rank", cudf_check::rank(problem, {old_wheel, both_wheels, new_wheel}, "-changed,-touched"));
 

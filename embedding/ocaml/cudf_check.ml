@@ -3,9 +3,9 @@ type status = Yes | No | Faulty | Fail | Usage | Unread | Memory
 type answer = { status : status; report : string }
 
 (* Each puts the front of its report into the bytes, and tells the length of the whole one. *)
-external lint_into : bool -> string -> bytes -> status * int = "cudf_check_ocaml_lint"
+external lint_into : bool -> bool -> string -> bytes -> status * int = "cudf_check_ocaml_lint"
 
-external check_into : bool -> string -> string -> string -> int -> bytes -> status * int
+external check_into : bool -> bool -> string -> string -> string -> int -> bytes -> status * int
   = "cudf_check_ocaml_check_bytecode" "cudf_check_ocaml_check"
 
 external score_into : bool -> string -> string -> string -> bytes -> status * int = "cudf_check_ocaml_score"
@@ -19,16 +19,16 @@ let rec answer ?(room = 4096) call =
   if length > room then answer ~room:length call
   else { status; report = Bytes.sub_string buffer 0 length }
 
-let lint ?(strict = false) problem = answer (lint_into strict problem)
+let lint ?(strict = false) ?(explain = false) problem = answer (lint_into strict explain problem)
 
-let check ?(strict = false) ?(after = "") ?limit problem solution =
+let check ?(strict = false) ?(explain = false) ?(after = "") ?limit problem solution =
   let limit =
     match limit with
     | None -> 0
     | Some limit when limit >= 1 -> limit
     | Some _ -> invalid_arg "Cudf_check.check: limit is less than 1"
   in
-  answer (check_into strict problem solution after limit)
+  answer (check_into strict explain problem solution after limit)
 
 let score ?(strict = false) ?(criteria = "") problem solution =
   answer (score_into strict problem solution criteria)

@@ -2,7 +2,8 @@
 
     Each of the four functions makes the report of the program's command of its name, byte for byte, of documents that are
     held in memory; docs/FORMAT.md and docs/RULES.md of cudf_check say what a report says. With [~strict:true] two things
-    more are faults, as with the program's [--strict]. No document and no list raises an exception. *)
+    more are faults, as with the program's [--strict]; with [~explain:true] lines say more, as with its [--explain]. No
+    document and no list raises an exception. *)
 
 (** The exit status of the program. *)
 type status =
@@ -18,12 +19,12 @@ type status =
 type answer = { status : status; report : string }
 
 (** [lint problem] says whether the problem is without fault. *)
-val lint : ?strict:bool -> string -> answer
+val lint : ?strict:bool -> ?explain:bool -> string -> answer
 
 (** [check problem solution] says what is wrong with the solution: a line for each violation behind the key [after], at
     most [limit] of them, and the verdict.
     @raise Invalid_argument where [limit] is less than 1. *)
-val check : ?strict:bool -> ?after:string -> ?limit:int -> string -> string -> answer
+val check : ?strict:bool -> ?explain:bool -> ?after:string -> ?limit:int -> string -> string -> answer
 
 (** [score problem solution] counts what the solution changes and lacks, by the list [criteria], such as
     ["-removed,-changed"], or by the criteria of the MISC competition. *)

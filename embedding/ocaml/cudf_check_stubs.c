@@ -22,21 +22,22 @@ static value pair_of(uint8_t status, size_t length)
     return pair;
 }
 
-value cudf_check_ocaml_lint(value strict, value problem, value report)
+value cudf_check_ocaml_lint(value strict, value explain, value problem, value report)
 {
     size_t length;
-    uint8_t status = cudf_check_lint(Bool_val(strict), String_val(problem), caml_string_length(problem),
+    uint8_t status = cudf_check_lint(Bool_val(strict), Bool_val(explain), String_val(problem), caml_string_length(problem),
                                      Bytes_val(report), caml_string_length(report), &length);
     return pair_of(status, length);
 }
 
-value cudf_check_ocaml_check(value strict, value problem, value solution, value after, value limit, value report)
+value cudf_check_ocaml_check(value strict, value explain, value problem, value solution, value after, value limit,
+                             value report)
 {
     size_t length;
-    uint8_t status = cudf_check_check(Bool_val(strict), String_val(problem), caml_string_length(problem),
-                                      String_val(solution), caml_string_length(solution), String_val(after),
-                                      caml_string_length(after), (uint64_t)Long_val(limit), Bytes_val(report),
-                                      caml_string_length(report), &length);
+    uint8_t status = cudf_check_check(Bool_val(strict), Bool_val(explain), String_val(problem),
+                                      caml_string_length(problem), String_val(solution), caml_string_length(solution),
+                                      String_val(after), caml_string_length(after), (uint64_t)Long_val(limit),
+                                      Bytes_val(report), caml_string_length(report), &length);
     return pair_of(status, length);
 }
 
@@ -44,7 +45,8 @@ value cudf_check_ocaml_check(value strict, value problem, value solution, value 
 value cudf_check_ocaml_check_bytecode(value *arguments, int count)
 {
     (void)count;
-    return cudf_check_ocaml_check(arguments[0], arguments[1], arguments[2], arguments[3], arguments[4], arguments[5]);
+    return cudf_check_ocaml_check(arguments[0], arguments[1], arguments[2], arguments[3], arguments[4], arguments[5],
+                                  arguments[6]);
 }
 
 value cudf_check_ocaml_score(value strict, value problem, value solution, value criteria, value report)

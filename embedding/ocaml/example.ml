@@ -1,4 +1,4 @@
-(* cudf_check from OCaml: judges an answer, reads a fault, counts, ranks, and goes through a long report by pages.
+(* cudf_check from OCaml: judges an answer and reads a fault, both explained; counts, ranks, and goes through a report by pages.
    Prints what stands in embedding/expected.txt.
 
    In embedding/ocaml, or a copy of it:
@@ -70,8 +70,8 @@ let rec pages_of ?after text =
 
 let () =
   Printf.printf "cudf_check %s\n" (Cudf_check.version ());
-  print "check" (Cudf_check.check problem old_wheel);
-  print_fault "lint" (Cudf_check.lint faulty);
+  print "check" (Cudf_check.check ~explain:true problem old_wheel);
+  print_fault "lint" (Cudf_check.lint ~explain:true faulty);
   print "score" (Cudf_check.score problem new_wheel);
   print "rank" (Cudf_check.rank ~criteria:"-changed,-touched" problem [ old_wheel; both_wheels; new_wheel ]);
   let many = broken packages in

@@ -34,20 +34,25 @@ class Status(enum.IntEnum):
 
 @dataclass(frozen=True)
 class Fault:
-    """The first fault of a document: whose it is, `problem` or `solution`; `place` is that of a solution in a ranking."""
+    """The first fault of a document: whose it is, `problem` or `solution`; `place` is that of a solution in a ranking.
+
+    `added` is what an explained fault says behind its text, or None.
+    """
 
     whose: str
     line: int
     kind: str
     text: str
     place: Optional[int] = None
+    added: Optional[str] = None
 
 
 @dataclass(frozen=True)
 class Violation:
     """A violated instance. The key is made of its part (as `p1`, `r`, `s`), rule, place and, of `upgrade`, aspect.
 
-    `name` and `version` are those of the package or the unknown stanza, or None where the request is violated.
+    `name` and `version` are those of the package or the unknown stanza, or None where the request is violated; `added` is
+    what an explained line says behind its text, or None.
     """
 
     key: str
@@ -59,6 +64,7 @@ class Violation:
     version: Optional[int]
     line: int
     text: str
+    added: Optional[str] = None
 
 
 @dataclass(frozen=True)
@@ -115,20 +121,21 @@ class Ranked:
 # ---- the calls
 
 
-def lint(problem: Text, strict: bool = False) -> Linted:
+def lint(problem: Text, strict: bool = False, explain: bool = False) -> Linted:
     """Whether a problem is without fault, or its first one."""
-    status, report = _call(_library.cudf_check_lint, strict, *_sized(problem))
+    status, report = _call(_library.cudf_check_lint, strict, explain, *_sized(problem))
     return Linted(status, report, _fault(report))
 
 
 def check(
-    problem: Text, solution: Text, after: Optional[Text] = None, limit: Optional[int] = None, strict: bool = False
+    problem: Text, solution: Text, after: Optional[Text] = None, limit: Optional[int] = None, strict: bool = False,
+    explain: bool = False,
 ) -> Checked:
     """What is wrong with a solution: the violations behind the key `after`, at most `limit` of them, and the verdict."""
     if limit is not None and not 1 <= limit < 2**64:
         raise ValueError(f"a limit is a number from 1 to 18446744073709551615, and not {limit}")
     texts = _sized(problem) + _sized(solution) + _sized(after or b"")
-    status, report = _call(_library.cudf_check_check, strict, *texts, limit or 0)
+    status, report = _call(_library.cudf_check_check, strict, explain, *texts, limit or 0)
     fault, lines = _fault(report), _lines(report)
     more = [line[len(_MORE):] for line in lines if line.startswith(_MORE)]
     violations = [] if fault else [_violation(line) for line in lines if not line.startswith((_MORE, _VERDICT))]
@@ -163,9 +170,11 @@ def version() -> str:
 # ---- the lines of a report, as docs/FORMAT.md tells them
 
 _MORE, _VERDICT, _TRACKS = "more after ", "solution ", ("paranoid", "trendy")
-_FAULT_LINE = re.compile(r"(problem|solution)(?: (\d+))? line (\d+): (E\d+) (.*)\n")
+# a text, and behind `; ` what is added to it; no text has a `;`
+_SAID = r"([^;\n]*)(?:; (.*))?"
+_FAULT_LINE = re.compile(rf"(problem|solution)(?: (\d+))? line (\d+): (E\d+) {_SAID}\n")
 _VIOLATION_LINE = re.compile(
-    r"((p\d+|r|s)\.([a-z]+)\.(\d+)(?:\.([a-z]+))?) (?:(\S+) (\d+) )?line (\d+): (.*)"
+    rf"((p\d+|r|s)\.([a-z]+)\.(\d+)(?:\.([a-z]+))?) (?:(\S+) (\d+) )?line (\d+): {_SAID}"
 )
 _RANK_LINE = re.compile(r"(\d+) solution (\d+) (yes|no|FAIL)(.*)")
 _VERDICTS = {Status.YES: "yes", Status.NO: "no", Status.FAIL: "FAIL"}
@@ -186,14 +195,14 @@ def _fault(report: str) -> Optional[Fault]:
     found = _FAULT_LINE.fullmatch(report)
     if found is None:
         return None
-    whose, place, line, kind, text = found.groups()
-    return Fault(whose, int(line), kind, text, int(place) if place else None)
+    whose, place, line, kind, text, added = found.groups()
+    return Fault(whose, int(line), kind, text, int(place) if place else None, added)
 
 
 def _violation(line: str) -> Violation:
-    key, part, rule, place, aspect, name, version_told, number, text = _matched(_VIOLATION_LINE, line).groups()
+    key, part, rule, place, aspect, name, version_told, number, text, added = _matched(_VIOLATION_LINE, line).groups()
     told = int(version_told) if version_told else None
-    return Violation(key, part, rule, int(place), aspect, name, told, int(number), text)
+    return Violation(key, part, rule, int(place), aspect, name, told, int(number), text, added)
 
 
 def _rank(line: str) -> Rank:
@@ -223,8 +232,8 @@ def _opened(name: str) -> ctypes.CDLL:
     library = ctypes.CDLL(name)
     rank_texts = [ctypes.POINTER(_Text), ctypes.c_size_t]
     for call, arguments in (
-        (library.cudf_check_lint, [ctypes.c_bool] + _SIZED),
-        (library.cudf_check_check, [ctypes.c_bool] + _SIZED * 3 + [ctypes.c_uint64]),
+        (library.cudf_check_lint, [ctypes.c_bool] * 2 + _SIZED),
+        (library.cudf_check_check, [ctypes.c_bool] * 2 + _SIZED * 3 + [ctypes.c_uint64]),
         (library.cudf_check_score, [ctypes.c_bool] + _SIZED * 3),
         (library.cudf_check_rank, [ctypes.c_bool] + _SIZED + rank_texts + _SIZED),
     ):

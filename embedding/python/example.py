@@ -1,5 +1,5 @@
 #!/usr/bin/env python3
-"""cudf_check from Python: judges an answer, reads a fault, counts, ranks, and goes through a long report by pages.
+"""cudf_check from Python: judges an answer and reads a fault, both explained; counts, ranks, and goes through a report by pages.
 
 Prints what stands in embedding/expected.txt.
 
@@ -52,15 +52,16 @@ def pages_of(problem, solution, limit):
 def main():
     print(f"cudf_check {cudf_check.version()}")
 
-    checked = cudf_check.check(PROBLEM, OLD_WHEEL)
+    checked = cudf_check.check(PROBLEM, OLD_WHEEL, explain=True)
     print(f"\ncheck: status {checked.status:d}")
-    for violation in checked.violations:
-        print(f"{violation.key} {violation.name} {violation.version} line {violation.line}: {violation.text}")
+    for told in checked.violations:
+        print(f"{told.key} {told.name} {told.version} line {told.line}: {told.text}; {told.added}")
     print(f"solution {checked.verdict}")
 
-    linted = cudf_check.lint(FAULTY)
+    linted = cudf_check.lint(FAULTY, explain=True)
     fault = linted.fault
-    print(f"\nlint: status {linted.status:d}, {fault.kind} on line {fault.line} of the {fault.whose}: {fault.text}")
+    where = f"{fault.kind} on line {fault.line} of the {fault.whose}"
+    print(f"\nlint: status {linted.status:d}, {where}: {fault.text}; {fault.added}")
 
     scored = cudf_check.score(PROBLEM, NEW_WHEEL)
     print(f"\nscore: status {scored.status:d}")

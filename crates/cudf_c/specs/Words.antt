@@ -1,5 +1,5 @@
 -- What the texts of a call say beside its documents: a key, a limit, a list of criteria. A text of no bytes, and 0, say that there is none. Own.
-use Rattle.std.specs.Prelude.{◌≡◌, ◌≢◌, ◌⊎◌, ℕ, zero, suc, List, [], ◌∷◌, Option, Some, None, option_map}
+use Rattle.std.specs.Prelude.{◌≡◌, ◌≢◌, ◌⊎◌, ℕ, zero, suc, Bool, List, [], ◌∷◌, Option, Some, None, option_map}
 use Rattle.std.specs.Str.{IsUtf8}
 use Rattle.cudf_referee.specs.Keys.{PlainKey, key_text}
 use Rattle.cudf_referee.specs.KeyViews.{key_view}
@@ -44,14 +44,14 @@ abbrev pub IsAims : List ℕ → List Aim → Type 0
 IsAims [] aims = aims ≡ []
 IsAims (byte ∷ bytes) aims = criterion (byte ∷ bytes) ≡ Some aims
 
--- the page behind this key that has so many lines at most
-abbrev pub IsPage : List ℕ → ℕ → Job → Type 0
-IsPage after limit Lint = ⊥
-IsPage after limit (Check key number) = IsKey after key × (number ≡ limit_of limit)
-IsPage after limit (Score aims) = ⊥
+-- the page behind this key that has so many lines at most, explained or not
+abbrev pub IsPage : List ℕ → ℕ → Bool → Job → Type 0
+IsPage after limit told (Lint explain) = ⊥
+IsPage after limit told (Check key number explain) = IsKey after key × (number ≡ limit_of limit) × (explain ≡ told)
+IsPage after limit told (Score aims) = ⊥
 
 -- the counts of this list
 abbrev pub IsScore : List ℕ → Job → Type 0
-IsScore criteria Lint = ⊥
-IsScore criteria (Check key number) = ⊥
+IsScore criteria (Lint explain) = ⊥
+IsScore criteria (Check key number explain) = ⊥
 IsScore criteria (Score aims) = IsList criteria (option_map (λ v. v.items) aims)

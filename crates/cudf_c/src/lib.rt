@@ -31,27 +31,30 @@ pub struct Text<'t> {
     pub bytes: &'t [u8],
 }
 
-/// Says whether a problem is without fault, as the program's `lint` does.
+/// Says whether a problem is without fault, as the program's `lint` does, with its `--explain` where `explain` says so.
 #[unsafe(no_mangle)]
 pub extern "C" fn cudf_check_lint(
     alloc: Global,
     strict: bool,
+    explain: bool,
     problem: &[u8],
     room: &mut [u8],
     length: &mut usize,
 ) -> u8
-    ensures { Answers (problem.now ∷ []) (report Lint (mode_of strict) problem.now None) (left room.old room.new length.new result) }
+    ensures { Answers (problem.now ∷ []) (report (Lint explain) (mode_of strict) problem.now None) (left room.old room.new length.new result) }
 {
-    let report = linted(alloc, mode(strict), problem);
+    let report = linted(alloc, mode(strict), explain, problem);
     show(report, room, length)
 }
 
-/// Says what is wrong with a solution of a problem, as the program's `check` does: the violations behind the key `after`,
-/// which may be a text of no bytes, and at most `limit` of them, where that isn't 0. Status 4 where `after` is no key.
+/// Says what is wrong with a solution of a problem, as the program's `check` does, with its `--explain` where `explain`
+/// says so: the violations behind the key `after`, which may be a text of no bytes, and at most `limit` of them, where that
+/// isn't 0. Status 4 where `after` is no key.
 #[unsafe(no_mangle)]
 pub extern "C" fn cudf_check_check(
     alloc: Global,
     strict: bool,
+    explain: bool,
     problem: &[u8],
     solution: &[u8],
     after: &[u8],
@@ -59,10 +62,10 @@ pub extern "C" fn cudf_check_check(
     room: &mut [u8],
     length: &mut usize,
 ) -> u8
-    ensures { AnswersAsked (IsPage after.now limit) (IsNoKey after.now) (problem.now ∷ solution.now ∷ [])
+    ensures { AnswersAsked (IsPage after.now limit explain) (IsNoKey after.now) (problem.now ∷ solution.now ∷ [])
         (λ job. report job (mode_of strict) problem.now (Some solution.now)) (left room.old room.new length.new result) }
 {
-    match page(after, limit) {
+    match page(after, limit, explain) {
         Ok(page) => {
             let report = judged(alloc, &page, mode(strict), problem, solution);
             show(report, room, length)

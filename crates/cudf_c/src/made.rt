@@ -1,12 +1,12 @@
 //! Reports that are made in memory, and how a caller's buffer gets one.
-ghost use Rattle.std.specs.Prelude.{◌≡◌, ◌≢◌, ◌++◌, [], ◌∷◌, IfErr, IfOk, MatchResult, None, Some, drop, length, map, take};
+ghost use Rattle.std.specs.Prelude.{◌≡◌, ◌++◌, [], ◌∷◌, IfErr, IfOk, MatchResult, None, Some, drop, length, map, take};
 ghost use Rattle.std.specs.List.{All};
 ghost use Rattle.cudf_check.specs.RankReport.{rank_report};
 ghost use Rattle.cudf_check.specs.Report.{report};
 ghost use Rattle.cudf_check.specs.declared.job.Job.TheVariants.{Lint};
 ghost use Rattle.cudf_c.specs.Calls.{left};
 ghost use Rattle.cudf_c.specs.Working.Documents.{IsNew};
-ghost use Rattle.cudf_c.specs.Working.Made.{IsMade, IsStopped, IsTold, IsUnmade};
+ghost use Rattle.cudf_c.specs.Working.Made.{IsMade, IsStopped, IsTold, IsUnmade, Judges};
 ghost use Rattle.cudf_c.specs.Working.Stops.{stop_status};
 
 use crate::Text;
@@ -38,13 +38,14 @@ impl Made {
     }
 }
 
-/// The report on a problem alone.
-pub(crate) fn linted(alloc: Global, mode: Mode, problem: &[u8]) -> Result<Made, Stop>
-    ensures { MatchResult result (IsMade (problem.now ∷ []) (report Lint mode problem.now None)) (IsUnmade (problem.now ∷ [])) }
+/// The report on a problem alone, explained or not.
+pub(crate) fn linted(alloc: Global, mode: Mode, explain: bool, problem: &[u8]) -> Result<Made, Stop>
+    ensures { MatchResult result (IsMade (problem.now ∷ []) (report (Lint explain) mode problem.now None)) (IsUnmade (problem.now ∷ [])) }
 {
     let mut first = Document::new(problem);
     let mut out = Device::new(Vec::new(alloc));
-    let outcome = run::<_, Document<'_>, _>(alloc, &Job::Lint, mode, &mut first, None, &mut out)?;
+    let job = Job::Lint { explain };
+    let outcome = run::<_, Document<'_>, _>(alloc, &job, mode, &mut first, None, &mut out)?;
     Ok(Made::of(outcome, out))
 }
 
@@ -56,7 +57,7 @@ pub(crate) fn judged(
     problem: &[u8],
     solution: &[u8],
 ) -> Result<Made, Stop>
-    requires { job.now ≢ Lint }
+    requires { Judges job.now }
 
     ensures { MatchResult result (IsMade (problem.now ∷ solution.now ∷ []) (report job.now mode problem.now (Some solution.now)))
         (IsUnmade (problem.now ∷ solution.now ∷ [])) }

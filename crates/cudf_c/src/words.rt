@@ -1,26 +1,30 @@
 //! What the texts of a call say beside its documents.
-ghost use Rattle.std.specs.Prelude.{◌≡◌, ◌≢◌, ◌⊎◌, ℕ, IfOk, List, MatchResult, option_map};
-ghost use Rattle.cudf_check.specs.declared.job.Job.TheVariants.{Lint};
+ghost use Rattle.std.specs.Prelude.{◌≡◌, ◌⊎◌, ℕ, IfOk, List, MatchResult, option_map};
 ghost use Rattle.cudf_c.specs.Words.{IsAims, IsKey, IsList, IsNoKey, IsNoList, IsPage, IsScore, limit_of};
+ghost use Rattle.cudf_c.specs.Working.Made.{Judges};
 ghost use Rattle.cudf_c.specs.declared.stop.Stop.TheVariants.{Memory, Refused};
 
 use crate::stop::Stop;
 use cudf_check::{Aim, Job, Key, read_criterion};
 use std::alloc::Global;
 
-/// The page of a check behind the key that `after` says, of `limit` lines at most.
-pub(crate) fn page(after: &[u8], limit: u64) -> Result<Job, Stop>
-    ensures judges { IfOk result (λ job. job ≢ Lint) }
-    ensures asked { MatchResult result (IsPage after.now limit) (λ stop. (stop ≡ Refused) × IsNoKey after.now) }
+/// The page of a check behind the key that `after` says, of `limit` lines at most, explained or not.
+pub(crate) fn page(after: &[u8], limit: u64, explain: bool) -> Result<Job, Stop>
+    ensures judges { IfOk result Judges }
+    ensures asked { MatchResult result (IsPage after.now limit explain) (λ stop. (stop ≡ Refused) × IsNoKey after.now) }
 {
     let after = key(after)?;
     let limit = if limit > 0 { Some(limit) } else { None };
-    Ok(Job::Check { after, limit })
+    Ok(Job::Check {
+        after,
+        limit,
+        explain,
+    })
 }
 
 /// The counts of the list that `criteria` says.
 pub(crate) fn score(alloc: Global, criteria: &[u8]) -> Result<Job, Stop>
-    ensures judges { IfOk result (λ job. job ≢ Lint) }
+    ensures judges { IfOk result Judges }
     ensures asked { MatchResult result (IsScore criteria.now) (λ stop. (stop ≡ Memory) ⊎ ((stop ≡ Refused) × IsNoList criteria.now)) }
 {
     let aims = list(alloc, criteria)?;

@@ -1,5 +1,5 @@
 -- One more solution is judged.
-use Rattle.std.proofs.Common.{◌≡◌, ℕ, zero, suc, ◌+◌, ◌<◌, ◌≤◌, List, [], ◌∷◌, ◌++◌, length, map, drop, get_or, codes, decimal, Some, option_map, slice_get, refl, sym, ap, ◌∙◌, append_assoc, append-nil, arith}
+use Rattle.std.proofs.Common.{◌≡◌, ℕ, zero, suc, ◌+◌, ◌<◌, ◌≤◌, List, [], ◌∷◌, ◌++◌, length, map, drop, get_or, codes, decimal, Some, None, option_map, slice_get, refl, sym, ap, ◌∙◌, append_assoc, append-nil, arith}
 use Rattle.std.specs.List.{filter_map, cons_option, enumerate_from}
 use Rattle.cudf_document.specs.declared.mode.Mode.{Mode}
 use Rattle.cudf_text.specs.declared.fault.Fault.{Fault}
@@ -69,9 +69,9 @@ all_judged mode problem view xs n ss end m = record {
 
 -- the report where the first faulty one was found
 pub first_is : (faults : List (ℕ × Fault)) (report : Report) (place : ℕ) (f : Fault) → slice_get faults 0 ≡ Some (place, f)
-    → faulty (codes "solution " ++ decimal place) f ≡ first_faulty_or faults report
+    → faulty (codes "solution " ++ decimal place) f None ≡ first_faulty_or faults report
 first_is [] report place f is = absurd (cc is)
-first_is (first ∷ others) report place f is = let same : first ≡ (place, f) = cc in ap (λ x. faulty (codes "solution " ++ decimal x.0) x.1) (sym same)
+first_is (first ∷ others) report place f is = let same : first ≡ (place, f) = cc in ap (λ x. faulty (codes "solution " ++ decimal x.0) x.1 None) (sym same)
 
 -- ---- the first that is faulty
 

@@ -275,5 +275,5 @@ nothing_limited None is none = none
 nothing_limited (Some limit) is none = take-nothing limit is none
 
 -- no page of it has a text, after any key and up to any limit
-pub no-page : (s : Proposal) (after : Option PlainKey) (limit : Option ℕ) → is_empty (listing s) ≡ true → check_text after limit s ≡ []
-no-page s after limit h = ap (λ page. flat_map (instance_line s) page ++ more_text s (last_or None page)) (nothing_limited limit (listed after s) (nothing_listed s after (nothing_in (listing s) h)))
+pub no-page : (explain : Bool) (s : Proposal) (after : Option PlainKey) (limit : Option ℕ) → is_empty (listing s) ≡ true → check_text explain after limit s ≡ []
+no-page explain s after limit h = ap (λ page. flat_map (instance_line explain s) page ++ more_text s (last_or None page)) (nothing_limited limit (listed after s) (nothing_listed s after (nothing_in (listing s) h)))

@@ -1,5 +1,5 @@
 -- A run: how it ends where its reading does, and where that went well.
-use Rattle.std.proofs.Common.{◌≡◌, ◌↔◌, ◌⊎◌, inl, inr, ℕ, zero, suc, List, [], ◌∷◌, Option, Vec, Global, Result, Ok, Err, IsErr, IsErrAnd, IsErrOf, refl, sym, ap, ◌∙◌, arith}
+use Rattle.std.proofs.Common.{◌≡◌, ◌↔◌, ◌⊎◌, inl, inr, ℕ, zero, suc, Bool, List, [], ◌∷◌, Option, Vec, Global, Result, Ok, Err, IsErr, IsErrAnd, IsErrOf, refl, sym, ap, ◌∙◌, arith}
 use Rattle.std.specs.List.{All, AllZip}
 use Rattle.std.proofs.KnownBytes.{Keeps-refl}
 use Rattle.cudf_referee.specs.declared.aims.Aim.{Aim}
@@ -148,15 +148,15 @@ one_behind reader bytes was = record { all = (was.all, tt); finished = finished;
 
 -- a job that judges a solution reads it
 pub reads_it : (job : Job) (solutions : List (Change SourceState))
-    → ((after : Option Key) × (limit : Option ℕ) × (job ≡ Check after limit)) ⊎ ((aims : Option (Vec Aim Global)) × (job ≡ Score aims))
+    → ((after : Option Key) × (limit : Option ℕ) × (explain : Bool) × (job ≡ Check after limit explain)) ⊎ ((aims : Option (Vec Aim Global)) × (job ≡ Score aims))
     → read_for job solutions ≡ solutions
-reads_it job solutions (inl check) = ap (λ j. read_for j solutions) check.2
+reads_it job solutions (inl check) = ap (λ j. read_for j solutions) check.3
 reads_it job solutions (inr score) = ap (λ j. read_for j solutions) score.1
 
 -- what holds of none of the readers holds of none that the job reads
 pub none_for : (P : Change SourceState → Type 0) (job : Job) (solutions : List (Change SourceState)) → (OfOne P solutions → ⊥) → OfOne P (read_for job solutions) → ⊥
-none_for P Lint solutions none h = absurd h
-none_for P (Check after limit) solutions none h = none h
+none_for P (Lint explain) solutions none h = absurd h
+none_for P (Check after limit explain) solutions none h = none h
 none_for P (Score aims) solutions none h = none h
 
 -- this holds of one, and so of all

@@ -16,7 +16,12 @@ use Rattle.cudf_referee.specs.KeyViews.{key_view}
 use Rattle.cudf_referee.specs.Promises.Laws.{AreJudgedAlike, ThinIsEnough}
 use Rattle.cudf_referee.specs.Proposals.{Proposal, proposal}
 use Rattle.cudf_referee.specs.Violations.{listing, met_by}
+use Rattle.cudf_referee.specs.Criteria.{universe}
+use Rattle.cudf_referee.specs.Explanations.{would_do, least_of, greatest_of}
 use Rattle.cudf_referee.specs.declared.key.Aspect.{Aspect}
+use Rattle.cudf_referee.specs.declared.key.Aspect.TheVariants.{Unsatisfied, Many, Lower}
+use Rattle.cudf_universe.specs.Satisfaction.{first_named, numbers_of}
+use Rattle.cudf_check.specs.Explanations.{would_do_text, named_text, number_text, upgrade_added, unknown_added, what_added, instance_added}
 use Rattle.cudf_check.specs.Report.{line, subject_text, what_text, instance_line, listed, limited, more_text, aim_line, criteria_text, verdict, judged_report, proposal_of}
 use Rattle.cudf_check.specs.Working.Chosen.{AreChosen, ReportsAlike}
 use Rattle.cudf_check.specs.Working.Found.{found_text}
@@ -54,15 +59,58 @@ met-same : (k : Id → Bool) (problem : PlainProblem) (place : Option ℕ)
 met-same k problem None = refl
 met-same k problem (Some place) = at-thin k problem place
 
-line-same : (k : Id → Bool) (s t : Proposal) → s.problem ≡ thin_problem k t.problem → s.proposed ≡ t.proposed
-    → (i : PlainInstance) → instance_line s i ≡ instance_line t i
-line-same k s t thin proposed i =
-    (λ j. with (what_text i.what i.key.aspect (option_and_then (package_at (thin j)) (met_by (proposed j) i))))
-    ∙ ap (λ met. with (what_text i.what i.key.aspect met)) (met-same k t.problem (met_by t.proposed i))
-    ∙ ap with (what-same k i.what i.key.aspect (option_and_then (package_at t.problem) (met_by t.proposed i)))
-  where
-    with : List ℕ → List ℕ
-    with what = line (key_text i.key ++ subject_text i.subject ++ codes " line " ++ decimal i.line ++ codes ": " ++ what)
+-- nor those of a package that would do, or that has a name
+does-same : (k : Id → Bool) (does : Option PlainPackage) → would_do_text (option_map (thin_package k) does) ≡ would_do_text does
+does-same k None = refl
+does-same k (Some p) = refl
+
+named-same : (k : Id → Bool) (name : List ℕ) (named : Option PlainPackage) → named_text name (option_map (thin_package k) named) ≡ named_text name named
+named-same k name None = refl
+named-same k name (Some p) = refl
+
+module _ (k : Id → Bool) (s t : Proposal) (thin : s.problem ≡ thin_problem k t.problem) (alike : AreJudgedAlike s t) where
+  upgrade-same : (name : List ℕ) (does : Option PlainPackage) (aspect : Option Aspect)
+      → upgrade_added s name (option_map (thin_package k) does) aspect ≡ upgrade_added t name does aspect
+  upgrade-same name does None = refl
+  upgrade-same name does (Some Unsatisfied) = does-same k does
+  upgrade-same name does (Some Many) = ap (λ status. codes "; " ++ number_text (least_of (numbers_of name status)) ++ codes " and " ++ number_text (greatest_of (numbers_of name status)) ++ codes " now") alike.proposed_are
+  upgrade-same name does (Some Lower) =
+      λ j. codes "; " ++ number_text (least_of (numbers_of name (alike.proposed_are j))) ++ codes " now, " ++ number_text (greatest_of (alike.numbers_were name j)) ++ codes " before"
+
+  unknown-added : (subject : Option Id) → unknown_added s subject ≡ unknown_added t subject
+  unknown-added None = refl
+  unknown-added (Some (name, version)) =
+      (λ j. named_text name (option_and_then (package_at (thin j)) (alike.named_is name j)))
+      ∙ ap (named_text name) (met-same k t.problem (first_named (universe t) name))
+      ∙ named-same k name (option_and_then (package_at t.problem) (first_named (universe t) name))
+
+  what-added : (what : PlainWhat) (aspect : Option Aspect) (subject : Option Id) (does : Option PlainPackage)
+      → what_added s what aspect subject (option_map (thin_package k) does) ≡ what_added t what aspect subject does
+  what-added (needs clause) aspect subject does = does-same k does
+  what-added (conflicts_with v) aspect subject does = refl
+  what-added keep_version aspect subject does = refl
+  what-added keep_package aspect subject does = refl
+  what-added (keep_feature v) aspect subject does = refl
+  what-added (install v) aspect subject does = does-same k does
+  what-added (remove v) aspect subject does = refl
+  what-added (upgrade v) aspect subject does = upgrade-same v.name does aspect
+  what-added unknown aspect subject does = unknown-added subject
+
+  added-same : (explain : Bool) (i : PlainInstance) → instance_added explain s i ≡ instance_added explain t i
+  added-same true i =
+      (λ j. what_added s i.what i.key.aspect i.subject (option_and_then (package_at (thin j)) (alike.would_do_is i j)))
+      ∙ ap (what_added s i.what i.key.aspect i.subject) (met-same k t.problem (would_do t i))
+      ∙ what-added i.what i.key.aspect i.subject (option_and_then (package_at t.problem) (would_do t i))
+  added-same false i = refl
+
+  line-same : (explain : Bool) (i : PlainInstance) → instance_line explain s i ≡ instance_line explain t i
+  line-same explain i =
+      (λ j. with (what_text i.what i.key.aspect (option_and_then (package_at (thin j)) (met_by (alike.proposed_are j) i))) (added-same explain i j))
+      ∙ ap (λ met. with (what_text i.what i.key.aspect met) (instance_added explain t i)) (met-same k t.problem (met_by t.proposed i))
+      ∙ ap (λ what. with what (instance_added explain t i)) (what-same k i.what i.key.aspect (option_and_then (package_at t.problem) (met_by t.proposed i)))
+    where
+      with : List ℕ → List ℕ → List ℕ
+      with what added = (key_text i.key ++ subject_text i.subject ++ codes " line " ++ decimal i.line ++ codes ": " ++ what) ++ line added
 
 more-same : (s t : Proposal) → listing s ≡ listing t → (last : Option PlainInstance) → more_text s last ≡ more_text t last
 more-same s t same None = refl
@@ -73,12 +121,12 @@ listed-same s t same None = same
 listed-same s t same (Some key) = ap (filter (λ i. is_lt (key_cmp key i.key))) same
 
 found-same : (k : Id → Bool) (s t : Proposal) → s.problem ≡ thin_problem k t.problem → AreJudgedAlike s t → (job : Job) → found_text job s ≡ found_text job t
-found-same k s t thin alike Lint = refl
+found-same k s t thin alike (Lint explain) = refl
 found-same k s t thin alike (Score None) = ap criteria_text alike.criteria_are
 found-same k s t thin alike (Score (Some aims)) = ap (λ c. flat_map (aim_line c) aims.items) alike.criteria_are
-found-same k s t thin alike (Check after limit) = λ j.
+found-same k s t thin alike (Check after limit explain) = λ j.
     let page = limited limit (listed-same s t alike.listing_is (option_map key_view after) j) in
-    flat_map (λ i. line-same k s t thin alike.proposed_are i j) page ++ more-same s t alike.listing_is (last_or None page) j
+    flat_map (λ i. line-same k s t thin alike explain i j) page ++ more-same s t alike.listing_is (last_or None page) j
 
 judged-same : (k : Id → Bool) (s t : Proposal) → s.problem ≡ thin_problem k t.problem → AreJudgedAlike s t → (job : Job)
     → judged_report (found_text job) s ≡ judged_report (found_text job) t

@@ -1,6 +1,8 @@
 pub mod Device
 pub mod DeviceInside
+pub mod Explanations
 pub mod ManyRuns
+pub mod Promises
 pub mod RankReport
 pub mod Ranking
 pub mod Readers

@@ -1,5 +1,5 @@
 -- The report of a ranking: a function of the aims, the problem and its solutions to a text and an outcome. Own.
-use Rattle.std.specs.Prelude.{ℕ, Bool, ◌==◌, List, [], ◌∷◌, ◌++◌, map, codes, decimal, Option, option_map, IsTrue, if◌then◌else◌}
+use Rattle.std.specs.Prelude.{ℕ, Bool, ◌==◌, List, [], ◌∷◌, ◌++◌, map, codes, decimal, Option, None, option_map, IsTrue, if◌then◌else◌}
 use Rattle.std.specs.List.{flat_map, filter_map, list_any, enumerate_from}
 use Rattle.cudf_document.specs.declared.mode.Mode.{Mode}
 use Rattle.cudf_text.specs.declared.fault.Fault.{Fault}
@@ -34,7 +34,7 @@ judgement problem bytes = if is_fail bytes then SaysFail else judgement_of (prop
 
 -- the fault of the solution at a place, if it has one, with the place
 abbrev pub placed_fault : Mode → ℕ × List ℕ → Option (ℕ × Fault)
-placed_fault mode solution = option_map (λ f. (solution.0, f)) (solution_fault mode solution.1)
+placed_fault mode (place, bytes) = option_map (λ f. (place, f)) (solution_fault mode bytes)
 
 -- the faulty solutions in order: the place of each, with its first fault
 abbrev pub placed_faults : Mode → List (List ℕ) → List (ℕ × Fault)
@@ -42,7 +42,7 @@ placed_faults mode solutions = filter_map (placed_fault mode) (enumerate_from 1 
 
 -- the solution at a place, judged
 abbrev pub entrant_of : PlainProblem → ℕ × List ℕ → Entrant
-entrant_of problem solution = record { place = solution.0; judgement = judgement problem solution.1 }
+entrant_of problem (place, bytes) = record { place = place; judgement = judgement problem bytes }
 
 -- the solutions in order, each judged
 abbrev pub entrants : PlainProblem → List (List ℕ) → List Entrant
@@ -62,7 +62,7 @@ judgement_text aims SaysFail = codes "FAIL"
 
 -- `2 solution 5 yes -changed 1 -touched 1`
 abbrev pub rank_line : List Aim → ℕ × Entrant → List ℕ
-rank_line aims ranked = line (decimal ranked.0 ++ codes " solution " ++ decimal ranked.1.place ++ codes " " ++ judgement_text aims ranked.1.judgement)
+rank_line aims (rank, entrant) = line (decimal rank ++ codes " solution " ++ decimal entrant.place ++ codes " " ++ judgement_text aims entrant.judgement)
 
 -- a line for each of the ranked entrants, with its rank from 1
 abbrev pub ranking_text : List Aim → List Entrant → List ℕ
@@ -91,12 +91,12 @@ ranked_report aims entrants = record { text = ranking_text aims (ranking aims en
 -- `solution 2 line 1: E12 no version`, of the first faulty solution; or else, where none is, the report
 abbrev pub first_faulty_or : List (ℕ × Fault) → Report → Report
 first_faulty_or [] report = report
-first_faulty_or (first ∷ others) report = faulty (codes "solution " ++ decimal first.0) first.1
+first_faulty_or ((place, f) ∷ others) report = faulty (codes "solution " ++ decimal place) f None
 
 -- a problem and solutions: the problem's fault, or else that of the first faulty solution, or else the ranking
 unfoldable pub rank_report : List Aim → Mode → List ℕ → List (List ℕ) → Report
 rank_report aims mode problem solutions =
-    faulty_or (codes "problem") (problem_fault mode problem)
+    faulty_or (codes "problem") (λ f. None) (problem_fault mode problem)
     (first_faulty_or (placed_faults mode solutions) (ranked_report aims (entrants (plain_problem (plain_text problem)) solutions)))
 
 -- ---- what makes the laws over rankings hold of it

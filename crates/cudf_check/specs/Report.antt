@@ -1,5 +1,5 @@
 -- The report of a run: a function of the job and the inputs to a text and an outcome. Own.
-use Rattle.std.specs.Prelude.{ℕ, Bool, List, [], ◌∷◌, ◌++◌, take, codes, decimal, Option, Some, None, option_map, option_and_then, if◌then◌else◌}
+use Rattle.std.specs.Prelude.{ℕ, Bool, false, List, [], ◌∷◌, ◌++◌, take, codes, decimal, Option, Some, None, option_map, option_and_then, if◌then◌else◌}
 use Rattle.std.specs.List.{flat_map, last_or}
 use Rattle.std.specs.Str.{is_utf8}
 use Rattle.cudf_text.specs.declared.fault.Fault.{Fault}
@@ -10,6 +10,7 @@ use Rattle.cudf_text.specs.Joined.{problem_part, solution_part, is_fail}
 use Rattle.cudf_value.specs.Vpkgs.{PlainVpkg}
 use Rattle.cudf_value.specs.Printing.{vpkg_text, clause_text}
 use Rattle.cudf_document.specs.declared.mode.Mode.{Mode}
+use Rattle.cudf_document.specs.Details.{PlainDetail, fault_detail}
 use Rattle.cudf_document.specs.Faults.{least}
 use Rattle.cudf_document.specs.ProblemFaults.{problem_faults}
 use Rattle.cudf_document.specs.SolutionFaults.{solution_faults}
@@ -31,6 +32,7 @@ use Rattle.cudf_referee.specs.Instances.{PlainWhat, needs, conflicts_with, keep_
 use Rattle.cudf_referee.specs.Proposals.{Proposal, proposal}
 use Rattle.cudf_referee.specs.Violations.{listing, rest, met_by}
 use Rattle.cudf_referee.specs.Solutions.{is_solution}
+use Rattle.cudf_check.specs.Explanations.{instance_added, detail_added}
 use Rattle.cudf_check.specs.declared.job.Job.{Job}
 use Rattle.cudf_check.specs.declared.job.Job.TheVariants.{Lint, Check, Score}
 use Rattle.cudf_check.specs.declared.outcome.Outcome.{Outcome}
@@ -51,14 +53,21 @@ alone text outcome = record { text = line text; outcome = outcome }
 
 -- ---- faulty documents
 
--- `problem line 3: E9 value is not of its type`
-abbrev pub faulty : List ℕ → Fault → Report
-faulty whose f = alone (whose ++ codes " line " ++ decimal f.line ++ codes ": " ++ fault_text f.kind) Faulty
+-- `problem line 3: E9 value is not of its type`, and what the document says beside it, if that is told
+abbrev pub faulty : List ℕ → Fault → Option PlainDetail → Report
+faulty whose f detail = record {
+  text = whose ++ codes " line " ++ decimal f.line ++ codes ": " ++ fault_text f.kind ++ line (detail_added detail);
+  outcome = Faulty;
+}
 
--- the fault, if there is one, or else the report
-abbrev pub faulty_or : List ℕ → Option Fault → Report → Report
-faulty_or whose None report = report
-faulty_or whose (Some f) report = faulty whose f
+-- what a document says beside a fault of it, where lines are explained
+abbrev pub told : Bool → List ℕ → Fault → Option PlainDetail
+told explain bytes f = if explain then fault_detail (plain_text bytes) f else None
+
+-- the fault, if there is one, with what is told of it, or else the report
+abbrev pub faulty_or : List ℕ → (Fault → Option PlainDetail) → Option Fault → Report → Report
+faulty_or whose tell None report = report
+faulty_or whose tell (Some f) report = faulty whose f (tell f)
 
 -- the first fault of a problem: E1 where its bytes aren't UTF-8
 abbrev pub problem_fault : Mode → List ℕ → Option Fault
@@ -100,10 +109,12 @@ what_text (upgrade v) aspect met = upgrade_text v aspect
 what_text unknown aspect met = codes "not in the universe"
 
 -- `p1.depends.1 car 1 line 1: needs wheel > 2`
-abbrev pub instance_line : Proposal → PlainInstance → List ℕ
-instance_line s i =
-    let met = option_and_then (package_at s.problem) (met_by s.proposed i) in
-    line (key_text i.key ++ subject_text i.subject ++ codes " line " ++ decimal i.line ++ codes ": " ++ what_text i.what i.key.aspect met)
+abbrev pub met_text : PlainInstance → Option PlainPackage → List ℕ
+met_text i met = key_text i.key ++ subject_text i.subject ++ codes " line " ++ decimal i.line ++ codes ": " ++ what_text i.what i.key.aspect met
+
+-- its line, with what is added where lines are explained
+abbrev pub instance_line : Bool → Proposal → PlainInstance → List ℕ
+instance_line explain s i = met_text i (option_and_then (package_at s.problem) (met_by s.proposed i)) ++ line (instance_added explain s i)
 
 -- ---- pages of the listing
 
@@ -123,8 +134,8 @@ more_text s None = []
 more_text s (Some last) = if is_empty (rest last.key s) then [] else line (codes "more after " ++ key_text last.key)
 
 -- a line for each violated instance of the page, and where the next page begins
-abbrev pub check_text : Option PlainKey → Option ℕ → Proposal → List ℕ
-check_text after limit s = let page = limited limit (listed after s) in flat_map (instance_line s) page ++ more_text s (last_or None page)
+abbrev pub check_text : Bool → Option PlainKey → Option ℕ → Proposal → List ℕ
+check_text explain after limit s = let page = limited limit (listed after s) in flat_map (instance_line explain s) page ++ more_text s (last_or None page)
 
 -- ---- scores
 
@@ -173,21 +184,21 @@ proposal_of problem text = proposal problem (is_initial problem) (is_proposed pr
 -- ---- documents
 
 -- a problem and a solution: the problem's fault, or else the solution's, or else FAIL, or else what is found of the proposed status
-abbrev pub pair_report : Mode → (Proposal → List ℕ) → List ℕ → List ℕ → Report
-pair_report mode found problem solution =
-    faulty_or (codes "problem") (problem_fault mode problem)
-    (faulty_or (codes "solution") (solution_fault mode solution)
+abbrev pub pair_report : Bool → Mode → (Proposal → List ℕ) → List ℕ → List ℕ → Report
+pair_report explain mode found problem solution =
+    faulty_or (codes "problem") (told explain problem) (problem_fault mode problem)
+    (faulty_or (codes "solution") (told explain solution) (solution_fault mode solution)
     (if is_fail solution then alone (codes "solution FAIL") Fail
     else judged_report found (proposal_of (plain_problem (plain_text problem)) (plain_text solution))))
 
 -- ---- the report
 
 -- the second input is the solution; where there is none, the first one is cut
-abbrev pub inputs_report : Mode → (Proposal → List ℕ) → List ℕ → Option (List ℕ) → Report
-inputs_report mode found input None = pair_report mode found (problem_part input) (solution_part input)
-inputs_report mode found input (Some solution) = pair_report mode found input solution
+abbrev pub inputs_report : Bool → Mode → (Proposal → List ℕ) → List ℕ → Option (List ℕ) → Report
+inputs_report explain mode found input None = pair_report explain mode found (problem_part input) (solution_part input)
+inputs_report explain mode found input (Some solution) = pair_report explain mode found input solution
 
 unfoldable pub report : Job → Mode → List ℕ → Option (List ℕ) → Report
-report Lint mode input solution = faulty_or (codes "problem") (problem_fault mode input) (alone (codes "problem ok") Yes)
-report (Check after limit) mode input solution = inputs_report mode (check_text (option_map key_view after) limit) input solution
-report (Score aims) mode input solution = inputs_report mode (scored_text (option_map (λ list. list.items) aims)) input solution
+report (Lint explain) mode input solution = faulty_or (codes "problem") (told explain input) (problem_fault mode input) (alone (codes "problem ok") Yes)
+report (Check after limit explain) mode input solution = inputs_report explain mode (check_text explain (option_map key_view after) limit) input solution
+report (Score aims) mode input solution = inputs_report false mode (scored_text (option_map (λ list. list.items) aims)) input solution

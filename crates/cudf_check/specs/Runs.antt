@@ -55,12 +55,12 @@ job_report job mode input solutions = report job mode input (slice_get solutions
 
 -- the reader of a solution, where there is one and the job reads it
 abbrev pub read_for : Job → List (Change SourceState) → List (Change SourceState)
-read_for Lint solutions = []
+read_for (Lint explain) solutions = []
 read_for job solutions = solutions
 
 -- the solution isn't read: the job needs none, or the reading of the first input ended in an error
 abbrev pub SkipsSolution : Job → Change SourceState → Type 0
-SkipsSolution Lint input = Unit {0}
+SkipsSolution (Lint explain) input = Unit {0}
 SkipsSolution job input = IsStopped input
 
 -- the device behind an optional reference, if there is one, as it was lent

@@ -5,5 +5,6 @@ pub mod InTurn
 pub mod Judged
 pub mod Pages
 pub mod Paper
+pub mod Scribes
 pub mod Unjudged
 pub mod Writing

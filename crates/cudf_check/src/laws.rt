@@ -1,4 +1,5 @@
 //! What follows from the definitions alone.
+ghost use Rattle.cudf_check.specs.Promises.Laws.{AddsToInstances, AddsToFaults};
 ghost use Rattle.cudf_check.specs.RankReport.{EntrantsHaveOwnPlaces};
 ghost use Rattle.cudf_check.specs.Ranking.{RankingPermutes, RankingAscends, RankingIsAlone};
 
@@ -10,4 +11,11 @@ pub fn ranking()
     ensures ascends { RankingAscends }
     ensures alone { RankingIsAlone }
     ensures places { EntrantsHaveOwnPlaces }
+{}
+
+/// An explained line is the line without explanation with something added behind its text: a line of an instance, and
+/// the line of a fault.
+pub fn explained()
+    ensures instances { AddsToInstances }
+    ensures faults { AddsToFaults }
 {}

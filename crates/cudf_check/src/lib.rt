@@ -82,7 +82,7 @@ pub fn run<R: Source, S: Source, W: Sink>(
     };
     let first = read_all(alloc, input)?;
     match job {
-        Job::Lint => answer_job(setting, job, &first, None, out),
+        Job::Lint { .. } => answer_job(setting, job, &first, None, out),
         Job::Check { .. } | Job::Score { .. } => {
             let second = read_all(alloc, solution)?;
             answer_job(setting, job, &first, Some(&second), out)

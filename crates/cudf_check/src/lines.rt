@@ -1,11 +1,14 @@
 //! Prints the lines of reports. All memory is taken before the first byte is written.
 mod aims;
 mod alone;
+mod detail;
+mod explanation;
 mod instance;
 mod judged;
 mod page;
 mod ranks;
 mod score;
+mod scribe;
 
 pub(crate) use alone::{answer, answer_fault};
 pub(crate) use judged::answer_judged;

@@ -12,7 +12,7 @@ use crate::lines::{answer_faulty_solution, answer_ranked};
 use crate::outcome::{Outcome, RunError};
 use crate::ranking::{best_outcome, ranked};
 use crate::readings::problem_in;
-use crate::report::answer_unread;
+use crate::report::{Document, answer_unread};
 use crate::setting::Setting;
 use cudf_document::ReadError;
 use cudf_referee::Aim;
@@ -46,10 +46,15 @@ pub(crate) fn answer_ranking<W: Sink>(
     ensures { Answers (W.state out.old) (W.state out.new) (rank_report aims.now setting.mode problem.now (map (λ b. b.items) solutions.now)) result }
 {
     let alloc = setting.alloc;
+    let unexplained = Document {
+        whose: "problem",
+        bytes: problem,
+        explain: false,
+    };
     let mut room = Room::new(alloc);
     let problem = match problem_in(setting, problem, &mut room) {
         Ok(problem) => problem,
-        Err(error) => return answer_unread(alloc, out, "problem", error),
+        Err(error) => return answer_unread(alloc, out, unexplained, error),
     };
     let entrants = match judge_each(setting, &problem, solutions) {
         Ok(entrants) => entrants,

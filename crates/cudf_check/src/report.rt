@@ -1,14 +1,15 @@
 //! Decides which report the inputs have.
-ghost use Rattle.std.specs.Prelude.{◌≡◌, ℕ, List, Option, codes, option_copied, if◌then◌else◌};
+ghost use Rattle.std.specs.Prelude.{◌≡◌, ℕ, Bool, IfOk, IfSome, List, Option, codes, option_copied, option_map, if◌then◌else◌};
 ghost use Rattle.cudf_text.specs.Joined.{is_fail};
 ghost use Rattle.cudf_text.specs.declared.fault.Fault.{Fault};
 ghost use Rattle.cudf_document.specs.declared.mode.Mode.{Mode};
+ghost use Rattle.cudf_document.specs.Promises.Views.{detail_view};
 ghost use Rattle.cudf_referee.specs.Proposals.{Proposal};
 ghost use Rattle.cudf_check.specs.declared.outcome.Outcome.TheVariants.{Fail, Yes};
-ghost use Rattle.cudf_check.specs.Report.{Report, alone, faulty_or, problem_fault, solution_fault, pair_report, inputs_report, report};
+ghost use Rattle.cudf_check.specs.Report.{Report, alone, faulty_or, problem_fault, solution_fault, pair_report, inputs_report, report, told};
 ghost use Rattle.cudf_check.specs.Working.Answering.{Answers};
-ghost use Rattle.cudf_check.specs.Working.Found.{found_text};
-ghost use Rattle.cudf_check.specs.Working.Unjudged.{IsFaultOf, IsUnjudged};
+ghost use Rattle.cudf_check.specs.Working.Found.{explains, found_text};
+ghost use Rattle.cudf_check.specs.Working.Unjudged.{IsFaultOf, IsTextOr, IsUnjudged};
 
 use crate::device::Sink;
 use crate::job::Job;
@@ -16,22 +17,57 @@ use crate::lines::{answer, answer_fault, answer_judged};
 use crate::outcome::{Outcome, RunError};
 use crate::readings::{Unjudged, problem_beside, proposed_in, sound_in};
 use crate::setting::Setting;
-use cudf_document::ReadError;
-use cudf_text::{Room, cut_joined};
-use std::alloc::Global;
+use cudf_document::{Detail, ReadError, detail};
+use cudf_text::{Fault, Room, cut_joined, source_of};
+use std::alloc::{AllocError, Global};
+
+/// A document whose faults are told.
+#[derive(Clone, Copy)]
+pub(crate) struct Document<'t> {
+    /// Whose a fault of it is, in reports.
+    pub(crate) whose: &'static str,
+    pub(crate) bytes: &'t [u8],
+    /// Whether it is told what the document says beside the fault.
+    pub(crate) explain: bool,
+}
+
+/// What a document says beside its fault, where that is told. Bytes that are no text have a fault of which nothing is told.
+fn told<'t>(
+    alloc: Global,
+    document: Document<'t>,
+    room: &'t mut Room,
+    fault: Fault,
+) -> Result<Option<Detail<'t>>, AllocError>
+    ensures { IsTextOr document.entry.bytes.now fault
+        → IfOk result (λ detail. option_map detail_view detail ≡ told document.entry.explain document.entry.bytes.now fault) }
+{
+    if !document.explain {
+        return Ok(None);
+    }
+    match source_of(document.bytes) {
+        Ok(source) => detail(alloc, source, room, fault),
+        Err(_) => Ok(None),
+    }
+}
 
 /// Answers a document that isn't judged.
 pub(crate) fn answer_unread<W: Sink>(
     alloc: Global,
     out: &mut W,
-    whose: &'static str,
+    document: Document<'_>,
     error: ReadError,
 ) -> Result<Outcome, RunError>
-    ensures { (fault : Option Fault) → (report : Report) → IsFaultOf fault error
-        → Answers (W.state out.old) (W.state out.new) (faulty_or whose.now fault report) result }
+    ensures { (fault : Option Fault) → (report : Report) → IfSome fault (IsTextOr document.entry.bytes.now) → IsFaultOf fault error
+        → Answers (W.state out.old) (W.state out.new) (faulty_or document.entry.whose.now (told document.entry.explain document.entry.bytes.now) fault report) result }
 {
     match error {
-        ReadError::Fault(fault) => answer_fault(alloc, out, whose, fault),
+        ReadError::Fault(fault) => {
+            let mut room = Room::new(alloc);
+            match told(alloc, document, &mut room, fault) {
+                Ok(detail) => answer_fault(alloc, out, document.whose, fault, detail),
+                Err(_) => Err(RunError::Memory),
+            }
+        }
         ReadError::Memory(_) => Err(RunError::Memory),
     }
 }
@@ -40,14 +76,16 @@ pub(crate) fn answer_unread<W: Sink>(
 fn answer_unjudged<W: Sink>(
     alloc: Global,
     out: &mut W,
+    solution: Document<'_>,
     reason: Unjudged,
 ) -> Result<Outcome, RunError>
-    ensures { (mode : Mode) → (bytes : List ℕ) → (report : Report) → IsUnjudged mode bytes reason
-        → Answers (W.state out.old) (W.state out.new) (faulty_or (codes "solution") (solution_fault mode bytes) (if is_fail bytes then alone (codes "solution FAIL") Fail else report)) result }
+    ensures { (mode : Mode) → (report : Report) → IsUnjudged mode solution.entry.bytes.now reason
+        → Answers (W.state out.old) (W.state out.new) (faulty_or solution.entry.whose.now (told solution.entry.explain solution.entry.bytes.now) (solution_fault mode solution.entry.bytes.now)
+        (if is_fail solution.entry.bytes.now then alone (codes "solution FAIL") Fail else report)) result }
 {
     match reason {
         Unjudged::SaysFail => answer(alloc, out, "solution FAIL", Outcome::Fail),
-        Unjudged::Unread(error) => answer_unread(alloc, out, "solution", error),
+        Unjudged::Unread(error) => answer_unread(alloc, out, solution, error),
     }
 }
 
@@ -59,36 +97,48 @@ fn check<W: Sink>(
     problem: &[u8],
     solution: &[u8],
 ) -> Result<Outcome, RunError>
-    ensures { Answers (W.state out.old) (W.state out.new) (pair_report setting.mode (found_text job.now) problem.now solution.now) result }
+    ensures { Answers (W.state out.old) (W.state out.new) (pair_report (explains job.now) setting.mode (found_text job.now) problem.now solution.now) result }
 {
     let alloc = setting.alloc;
+    let explain = job.explains();
+    let problem = Document {
+        whose: "problem",
+        bytes: problem,
+        explain,
+    };
+    let solution = Document {
+        whose: "solution",
+        bytes: solution,
+        explain,
+    };
     let mut problem_room = Room::new(alloc);
     let mut solution_room = Room::new(alloc);
-    let problem = match problem_beside(setting, problem, &mut problem_room, solution) {
-        Ok(problem) => problem,
-        Err(error) => return answer_unread(alloc, out, "problem", error),
+    let judged = match problem_beside(setting, problem.bytes, &mut problem_room, solution.bytes) {
+        Ok(judged) => judged,
+        Err(error) => return answer_unread(alloc, out, problem, error),
     };
-    let solution = match proposed_in(setting, solution, &mut solution_room, &problem) {
-        Ok(solution) => solution,
-        Err(reason) => return answer_unjudged(alloc, out, reason),
+    let proposed = match proposed_in(setting, solution.bytes, &mut solution_room, &judged) {
+        Ok(proposed) => proposed,
+        Err(reason) => return answer_unjudged(alloc, out, solution, reason),
     };
-    answer_judged(alloc, out, job, &problem, &solution)
+    answer_judged(alloc, out, job, &judged, &proposed)
 }
 
 /// Says that a problem has no fault, or which one is its first.
-fn lint<W: Sink>(setting: Setting, out: &mut W, problem: &[u8]) -> Result<Outcome, RunError>
-    ensures { Answers (W.state out.old) (W.state out.new) (faulty_or (codes "problem") (problem_fault setting.mode problem.now) (alone (codes "problem ok") Yes)) result }
+fn lint<W: Sink>(setting: Setting, out: &mut W, problem: Document<'_>) -> Result<Outcome, RunError>
+    ensures { Answers (W.state out.old) (W.state out.new) (faulty_or problem.entry.whose.now (told problem.entry.explain problem.entry.bytes.now)
+        (problem_fault setting.mode problem.entry.bytes.now) (alone (codes "problem ok") Yes)) result }
 {
-    match sound_in(setting, problem) {
+    match sound_in(setting, problem.bytes) {
         Ok(()) => answer(setting.alloc, out, "problem ok", Outcome::Yes),
-        Err(error) => answer_unread(setting.alloc, out, "problem", error),
+        Err(error) => answer_unread(setting.alloc, out, problem, error),
     }
 }
 
 /// The problem and its solution: the second input is the solution; where there is none, the first is cut.
 fn parted<'t>(input: &'t [u8], solution: Option<&'t [u8]>) -> (&'t [u8], &'t [u8])
-    ensures { (mode : Mode) → (found : Proposal → List ℕ) → pair_report mode found result.0.now result.1.now
-        ≡ inputs_report mode found input.now (option_copied solution.entry) }
+    ensures { (explain : Bool) → (mode : Mode) → (found : Proposal → List ℕ) → pair_report explain mode found result.0.now result.1.now
+        ≡ inputs_report explain mode found input.now (option_copied solution.entry) }
 {
     match solution {
         Some(solution) => (input, solution),
@@ -108,7 +158,14 @@ pub(crate) fn answer_job<W: Sink>(
     ensures { Answers (W.state out.old) (W.state out.new) (report job.now setting.mode input.now (option_copied solution.entry)) result }
 {
     match job {
-        Job::Lint => lint(setting, out, input),
+        Job::Lint { explain } => {
+            let problem = Document {
+                whose: "problem",
+                bytes: input,
+                explain: *explain,
+            };
+            lint(setting, out, problem)
+        }
         Job::Check { .. } | Job::Score { .. } => {
             let (problem, solution) = parted(input, solution);
             check(setting, out, job, problem, solution)

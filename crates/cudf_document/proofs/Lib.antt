@@ -23,3 +23,4 @@ mod WalkLemmas
 mod PartsLemmas
 pub mod ThinLemmas
 pub mod ChosenLemmas
+pub mod DetailLemmas

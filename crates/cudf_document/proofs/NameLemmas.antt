@@ -71,7 +71,7 @@ AreNames-more names ps p more new_names are more_is names_is name =
 
 -- ---- names that a stanza has to have
 
-any_named : (name : List ℕ) (ps : List PlainProperty) → list_any (λ p. bytes_eq name p.name) ps ≡ list_any (has_name name) ps
+pub any_named : (name : List ℕ) (ps : List PlainProperty) → list_any (λ p. bytes_eq name p.name) ps ≡ list_any (has_name name) ps
 any_named name [] = refl
 any_named name (p ∷ ps) = (λ i. bytes_eq-sym name p.name i || any_named name ps i)
 

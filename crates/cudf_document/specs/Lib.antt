@@ -5,6 +5,7 @@ pub mod Ids
 pub mod Preamble
 pub mod ProblemFaults
 pub mod SolutionFaults
+pub mod Details
 pub mod Universe
 pub mod Statuses
 pub mod Promises

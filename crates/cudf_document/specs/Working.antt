@@ -1,4 +1,5 @@
 pub mod Chosen
+pub mod Details
 pub mod Enums
 pub mod Flags
 pub mod Identities

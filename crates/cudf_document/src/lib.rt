@@ -3,6 +3,7 @@
 #![tactic(auto)]
 
 mod declaration;
+mod details;
 mod error;
 mod fault;
 pub mod laws;
@@ -14,6 +15,8 @@ mod request;
 mod solution;
 mod stanza;
 
+pub use details::Detail;
+pub use details::of_fault::detail;
 pub use error::ReadError;
 pub use mode::Mode;
 pub use package::{Keep, Package};

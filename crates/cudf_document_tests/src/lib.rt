@@ -4,6 +4,8 @@
 #![tactic(auto)]
 
 #[cfg(test)]
+mod details;
+#[cfg(test)]
 mod documents;
 #[cfg(test)]
 mod large;

@@ -1,9 +1,9 @@
 //! The vectors of values.
 use crate::table::{Listed, prints};
 use cudf_value::{
-    Declaration, Relop, ValueType, Vpkg, fits, is_ident, is_pkgname, laws, read_bool,
-    read_declarations, read_formula, read_int, read_nat, read_posint, read_veqpkg, read_veqpkglist,
-    read_vpkg, read_vpkglist,
+    Declaration, Relop, ValueType, Vpkg, declaration_pieces, fits, is_ident, is_pkgname, laws,
+    misfit, read_bool, read_declaration, read_declarations, read_formula, read_int, read_nat,
+    read_posint, read_veqpkg, read_veqpkglist, read_vpkg, read_vpkglist,
 };
 use std::alloc::{AllocError, Global};
 
@@ -215,6 +215,70 @@ fn declarations(rt: HostRuntime) {
     }
 }
 
+/// A text, and the pieces of it as the value of a `property`.
+type PiecesRow = (&'static str, Option<&'static [&'static str]>);
+
+const PIECES: [PiecesRow; 4] = [
+    (
+        " a: int, b: vpkglist = [x, y] ",
+        Some(&["a: int", " b: vpkglist = [x, y]"]),
+    ),
+    (
+        "s: string = \"x, y\",c",
+        Some(&["s: string = \"x, y\"", "c"]),
+    ),
+    ("", Some(&[""])),
+    ("a: int, e: enum[x", None),
+];
+
+fn is_cut(alloc: Global, row: &PiecesRow) -> bool {
+    match (declaration_pieces(alloc, row.0), row.1) {
+        (Ok(Some(pieces)), Some(want)) => pieces.as_slice() == want,
+        (Ok(None), None) => true,
+        _ => false,
+    }
+}
+
+#[test]
+fn pieces(rt: HostRuntime) {
+    for row in &PIECES {
+        assert!(rt; is_cut(rt.alloc(), row), "{}", row.0);
+    }
+}
+
+/// A piece, and the name, the type's word and the default of its declaration.
+type PieceRow = (
+    &'static str,
+    Option<(&'static str, &'static str, Option<&'static str>)>,
+);
+
+const DECLARED: [PieceRow; 4] = [
+    (
+        " b: vpkglist = [x, y] ",
+        Some(("b", "vpkglist", Some("x, y"))),
+    ),
+    ("e: enum[x, y]", Some(("e", "enum", None))),
+    ("a: int, b: int", None),
+    ("", None),
+];
+
+fn is_declared(alloc: Global, row: &PieceRow) -> bool {
+    match (read_declaration(alloc, row.0), row.1) {
+        (Ok(Some(read)), Some(want)) => {
+            read.name == want.0 && read.kind.word() == want.1 && read.default == want.2
+        }
+        (Ok(None), None) => true,
+        _ => false,
+    }
+}
+
+#[test]
+fn declared(rt: HostRuntime) {
+    for row in &DECLARED {
+        assert!(rt; is_declared(rt.alloc(), row), "{}", row.0);
+    }
+}
+
 /// A text, and whether it is an enum of `red` and `green`, a `posint` and a `vpkglist`.
 type TypeRow = (&'static str, bool, bool, bool);
 
@@ -246,6 +310,32 @@ fn is_of(alloc: Global, kind: &ValueType<'_>, text: &str, want: bool) -> bool {
 fn types(rt: HostRuntime) {
     for row in &TYPES {
         assert!(rt; is_of_types(rt.alloc(), row), "{}", row.0);
+    }
+}
+
+/// A text, and the number of its first entry that is none in a `vpkgformula`, a `vpkglist` and a `veqpkglist`.
+type MisfitRow = (&'static str, Option<u64>, Option<u64>, Option<u64>);
+
+const MISFITS: [MisfitRow; 6] = [
+    ("a,,b", Some(2), Some(2), Some(2)),
+    ("a | , b", Some(1), Some(1), Some(1)),
+    ("a, b = x", Some(2), Some(2), Some(2)),
+    ("a = 1, b > 2", None, None, Some(2)),
+    ("a | b, true!", None, Some(1), Some(1)),
+    ("a, b", None, None, None),
+];
+
+fn has_misfits(row: &MisfitRow) -> bool {
+    misfit(&ValueType::Formula, row.0) == row.1
+        && misfit(&ValueType::List, row.0) == row.2
+        && misfit(&ValueType::ExactList, row.0) == row.3
+        && misfit(&ValueType::Signed, row.0).is_none()
+}
+
+#[test]
+fn misfits(rt: HostRuntime) {
+    for row in &MISFITS {
+        assert!(rt; has_misfits(row), "{}", row.0);
     }
 }
 

@@ -155,14 +155,14 @@ read_alone job mode text reader (bytes ∷ other ∷ texts) rest h = absurd h.1
 others_of : (job : Job) (mode : Mode) (text : List ℕ) (solution : Option (Change SourceState)) (texts : List (List ℕ)) (rest : List (Option (List ℕ)))
     → AllZip ReadsAll (read_for job (option_to_list solution)) texts → HasOthers job mode text texts (knowns solution rest)
 unfolding report
-others_of Lint mode text None [] rest h = ([], tt, refl)
-others_of Lint mode text None (bytes ∷ texts) rest h = absurd h
-others_of (Check after limit) mode text None [] rest h = ([], tt, refl)
-others_of (Check after limit) mode text None (bytes ∷ texts) rest h = absurd h
+others_of (Lint explain) mode text None [] rest h = ([], tt, refl)
+others_of (Lint explain) mode text None (bytes ∷ texts) rest h = absurd h
+others_of (Check after limit explain) mode text None [] rest h = ([], tt, refl)
+others_of (Check after limit explain) mode text None (bytes ∷ texts) rest h = absurd h
 others_of (Score aims) mode text None [] rest h = ([], tt, refl)
 others_of (Score aims) mode text None (bytes ∷ texts) rest h = absurd h
-others_of Lint mode text (Some reader) texts rest h = (map filling (knowns (Some reader) rest), filled (knowns (Some reader) rest), refl)
-others_of (Check after limit) mode text (Some reader) texts rest h = read_alone (Check after limit) mode text reader texts rest h
+others_of (Lint explain) mode text (Some reader) texts rest h = (map filling (knowns (Some reader) rest), filled (knowns (Some reader) rest), refl)
+others_of (Check after limit explain) mode text (Some reader) texts rest h = read_alone (Check after limit explain) mode text reader texts rest h
 others_of (Score aims) mode text (Some reader) texts rest h = read_alone (Score aims) mode text reader texts rest h
 
 of_run : (P : Report → Type 0) (job : Job) (mode : Mode) (input : Change SourceState) (solution : Option (Change SourceState)) (rest : List (Option (List ℕ)))

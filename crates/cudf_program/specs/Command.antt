@@ -128,7 +128,7 @@ takes_list_apart words = takes_list words && has_list_apart words
 
 -- ---- modes
 
--- `--strict` is among the words: a parse gives a flag the value `true`, and without the flag the value `false`
+-- a flag is among the words: a parse gives it the value `true`, and without it the value `false`
 abbrev pub is_given : Option (List ℕ) → Bool
 is_given flag = option_map_or (λ value. bytes_eq value (codes "true")) flag false
 
@@ -152,6 +152,7 @@ pub record Words : Type 0 where
   pub limit : Option (List ℕ)
   pub criteria : Option (List ℕ)
   pub strict : Option (List ℕ)
+  pub explain : Option (List ℕ)
 
 abbrev pub words_of : Found → Words
 words_of found = record {
@@ -162,6 +163,7 @@ words_of found = record {
   limit = first_value found (codes "limit");
   criteria = first_value found (codes "criteria");
   strict = first_value found (codes "strict");
+  explain = first_value found (codes "explain");
 }
 
 -- what a command takes of its words: its options, its files, and whether all that it needs is there
@@ -169,19 +171,20 @@ pub record Taken : Type 0 where
   pub after : Option (List ℕ)
   pub limit : Option (List ℕ)
   pub criteria : Option (List ℕ)
+  pub explain : Option (List ℕ)
   pub problem : Option (List ℕ)
   pub solutions : Option (List (List ℕ))
   pub is_whole : Bool
 
 -- the files alone
 abbrev pub files_alone : Option (List ℕ) → Option (List (List ℕ)) → Taken
-files_alone problem solutions = record { after = None; limit = None; criteria = None; problem = problem; solutions = solutions; is_whole = is_some problem }
+files_alone problem solutions = record { after = None; limit = None; criteria = None; explain = None; problem = problem; solutions = solutions; is_whole = is_some problem }
 
 abbrev pub lint_words : Words → Taken
-lint_words words = files_alone words.problem None
+lint_words words = record (files_alone words.problem None) { explain = words.explain }
 
 abbrev pub check_words : Words → Taken
-check_words words = record (files_alone words.problem words.solution) { after = words.after; limit = words.limit }
+check_words words = record (files_alone words.problem words.solution) { after = words.after; limit = words.limit; explain = words.explain }
 
 abbrev pub score_words : Words → Taken
 score_words words = record (files_alone words.problem words.solution) { criteria = words.criteria }
@@ -226,17 +229,17 @@ pub record IsOrder (work : Work) (mode : Mode) (problem : Option (List ℕ)) (so
 
 -- the work of each command, by the words that it takes
 abbrev pub Lints : Taken → Work → Type 0
-Lints taken work = work ≡ Run Lint
+Lints taken work = work ≡ Run (Lint (is_given taken.explain))
 
 abbrev pub Checks : Taken → Work → Type 0
-Checks taken (Run Lint) = ⊥
-Checks taken (Run (Check key number)) = IsAfter taken.after key × IsLimit taken.limit number
+Checks taken (Run (Lint explain)) = ⊥
+Checks taken (Run (Check key number explain)) = IsAfter taken.after key × IsLimit taken.limit number × (explain ≡ is_given taken.explain)
 Checks taken (Run (Score aims)) = ⊥
 Checks taken (Rank aims) = ⊥
 
 abbrev pub Scores : Taken → Work → Type 0
-Scores taken (Run Lint) = ⊥
-Scores taken (Run (Check key number)) = ⊥
+Scores taken (Run (Lint explain)) = ⊥
+Scores taken (Run (Check key number explain)) = ⊥
 Scores taken (Run (Score aims)) = IsList taken.criteria (option_map (λ v. v.items) aims)
 Scores taken (Rank aims) = ⊥
 
@@ -270,6 +273,7 @@ words_in rows = record {
   limit = first_of (codes "limit") rows;
   criteria = first_of (codes "criteria") rows;
   strict = first_of (codes "strict") rows;
+  explain = first_of (codes "explain") rows;
 }
 
 -- what the command that a parse met asks for, by its name and its rows; without one a word is missing

@@ -43,11 +43,15 @@ needed_criteria = record criteria_option { required = true }
 abbrev pub strict_flag : Rule
 strict_flag = record (new_rule (codes "strict")) { long = Some (codes "strict"); action = Some SetTrue }
 
+-- `--explain`
+abbrev pub explain_flag : Rule
+explain_flag = record (new_rule (codes "explain")) { long = Some (codes "explain"); action = Some SetTrue }
+
 abbrev pub lint_grammar : App
-lint_grammar = with_rule (with_rule (new_app (codes "lint")) problem_word) strict_flag
+lint_grammar = with_rule (with_rule (with_rule (new_app (codes "lint")) problem_word) strict_flag) explain_flag
 
 abbrev pub check_grammar : App
-check_grammar = with_rule (with_rule (with_rule (with_rule (with_rule (new_app (codes "check")) problem_word) solution_word) after_option) limit_option) strict_flag
+check_grammar = with_rule (with_rule (with_rule (with_rule (with_rule (with_rule (new_app (codes "check")) problem_word) solution_word) after_option) limit_option) strict_flag) explain_flag
 
 abbrev pub score_grammar : App
 score_grammar = with_rule (with_rule (with_rule (with_rule (new_app (codes "score")) problem_word) solution_word) criteria_option) strict_flag

@@ -2,12 +2,13 @@
 ghost use Rattle.std.specs.Prelude.{◌≡◌, IfOk, MatchResult, drop, is_some, map, option_map, string_bytes, true, false};
 ghost use Rattle.clap.specs.Matches.{found_of};
 ghost use Rattle.clap.specs.Words.{subcommand_rows_of};
-ghost use Rattle.cudf_program.specs.Command.{IsNamedBy, AreNamedBy, AreGivenBy, IsAfter, IsLimit, IsList, words_of, lint_words, check_words, score_words, rank_words, AnswersBy, Lints, Checks, Scores, Ranks, RefusesKey, RefusesLimit, RefusesList, Asks, IsAskedBy, IsRefusedBy, has_list_apart, mode_of, takes_list, takes_list_apart, takes_standard_twice};
+ghost use Rattle.cudf_program.specs.Command.{IsNamedBy, AreNamedBy, AreGivenBy, IsAfter, IsLimit, IsList, words_of, lint_words, check_words, score_words, rank_words, AnswersBy, Lints, Checks, Scores, Ranks, RefusesKey, RefusesLimit, RefusesList, Asks, IsAskedBy, IsRefusedBy, has_list_apart, is_given, mode_of, takes_list, takes_list_apart, takes_standard_twice};
 ghost use Rattle.cudf_program.specs.declared.refusal.Refusal.TheVariants.{Memory};
 ghost use Rattle.cudf_program.specs.Orders.{IsAskedFor, IsUnasked};
 
 use crate::grammar::{
-    AFTER, CHECK, CRITERIA, LIMIT, LINT, PROBLEM, RANK, SCORE, SOLUTION, SOLUTIONS, STRICT, program,
+    AFTER, CHECK, CRITERIA, EXPLAIN, LIMIT, LINT, PROBLEM, RANK, SCORE, SOLUTION, SOLUTIONS,
+    STRICT, program,
 };
 use crate::refusal::Refusal;
 use crate::topic::Topic;
@@ -163,7 +164,8 @@ fn order_of<'w>(alloc: Global, name: &str, found: &ArgMatches<'w>) -> Result<Ord
 fn lint_order<'w>(alloc: Global, found: &ArgMatches<'w>) -> Result<Order<'w>, Refusal<'w>>
     ensures { AnswersBy Lints (mode_of (words_of (found_of found.now)).strict) (lint_words (words_of (found_of found.now))) result }
 {
-    let work = Work::Run(Job::Lint);
+    let explain = is_given(found.get_str(EXPLAIN));
+    let work = Work::Run(Job::Lint { explain });
     let mode = mode(found.get_str(STRICT));
     Order::new(alloc, work, mode, found.get_str(PROBLEM), None)
 }
@@ -173,7 +175,12 @@ fn check_order<'w>(alloc: Global, found: &ArgMatches<'w>) -> Result<Order<'w>, R
 {
     let after = read_after(found.get_str(AFTER))?;
     let limit = read_limit(found.get_str(LIMIT))?;
-    let work = Work::Run(Job::Check { after, limit });
+    let explain = is_given(found.get_str(EXPLAIN));
+    let work = Work::Run(Job::Check {
+        after,
+        limit,
+        explain,
+    });
     let mode = mode(found.get_str(STRICT));
     Order::new(
         alloc,
@@ -218,9 +225,20 @@ fn rank_order<'w>(alloc: Global, found: &ArgMatches<'w>) -> Result<Order<'w>, Re
 fn mode(flag: Option<&str>) -> Mode
     ensures { result ≡ mode_of (option_map (λ w. w.now) flag.entry) }
 {
+    if is_given(flag) {
+        Mode::Strict
+    } else {
+        Mode::Lenient
+    }
+}
+
+/// Whether a flag is among the words, by its value.
+fn is_given(flag: Option<&str>) -> bool
+    ensures { result ≡ is_given (option_map (λ w. w.now) flag.entry) }
+{
     match flag {
-        Some("true") => Mode::Strict,
-        _ => Mode::Lenient,
+        Some("true") => true,
+        _ => false,
     }
 }
 

@@ -1,7 +1,7 @@
 //! The commands, their options and the texts of help.
 ghost use Rattle.std.specs.Prelude.{◌≡◌, IfOk, false};
 ghost use Rattle.clap.specs.Words.{rule_of};
-ghost use Rattle.cudf_program.specs.Grammar.{problem_word, solution_word, after_option, limit_option, solutions_word, criteria_option, needed_criteria, strict_flag, lint_grammar, check_grammar, score_grammar, rank_grammar, grammar, IsOf};
+ghost use Rattle.cudf_program.specs.Grammar.{problem_word, solution_word, after_option, limit_option, solutions_word, criteria_option, needed_criteria, strict_flag, explain_flag, lint_grammar, check_grammar, score_grammar, rank_grammar, grammar, IsOf};
 
 use clap::{Arg, ArgAction, Command};
 use std::alloc::{AllocError, Global};
@@ -30,6 +30,8 @@ pub(crate) const LIMIT: &str = "limit";
 pub(crate) const CRITERIA: &str = "criteria";
 
 pub(crate) const STRICT: &str = "strict";
+
+pub(crate) const EXPLAIN: &str = "explain";
 
 const ABOUT_SCORE: &str =
     "Counts what a solution changes and lacks, by the criteria of the MISC competition";
@@ -91,7 +93,8 @@ fn lint_command<'w>(alloc: Global) -> Result<Command<'w>, AllocError>
         .about("Says whether a file is a problem without fault")
         .after_help(STATUSES)
         .arg(problem(alloc))?
-        .arg(strict_problem(alloc))
+        .arg(strict_problem(alloc))?
+        .arg(explain_fault(alloc))
 }
 
 fn check_command<'w>(alloc: Global) -> Result<Command<'w>, AllocError>
@@ -104,7 +107,8 @@ fn check_command<'w>(alloc: Global) -> Result<Command<'w>, AllocError>
         .arg(solution(alloc))?
         .arg(after(alloc))?
         .arg(limit(alloc))?
-        .arg(strict(alloc))
+        .arg(strict(alloc))?
+        .arg(explain(alloc))
 }
 
 fn score_command<'w>(alloc: Global) -> Result<Command<'w>, AllocError>
@@ -218,5 +222,26 @@ fn strict_problem<'w>(alloc: Global) -> Arg<'w>
         .action(ArgAction::SetTrue)
         .help(
             "Refuses a package that lacks a property which the preamble declares without a default",
+        )
+}
+
+fn explain<'w>(alloc: Global) -> Arg<'w>
+    ensures rule { rule_of result ≡ explain_flag }
+    ensures local { result.global ≡ false }
+{
+    explain_fault(alloc).help(
+        "Adds to each line of a fault or a broken rule what the documents say beside it, as the first package that would do",
+    )
+}
+
+fn explain_fault<'w>(alloc: Global) -> Arg<'w>
+    ensures rule { rule_of result ≡ explain_flag }
+    ensures local { result.global ≡ false }
+{
+    Arg::new(alloc, EXPLAIN)
+        .long(EXPLAIN)
+        .action(ArgAction::SetTrue)
+        .help(
+            "Adds to the line of a fault what the problem says beside it, as the name that nothing declares",
         )
 }

@@ -5,6 +5,7 @@ pub mod EntryLemmas
 pub mod BeforeLemmas
 pub mod CursorLemmas
 pub mod Examples
+pub mod ExplanationLemmas
 pub mod GroundLemmas
 pub mod KeyLemmas
 pub mod KeyTellLemmas

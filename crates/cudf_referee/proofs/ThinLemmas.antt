@@ -1,7 +1,7 @@
 -- A problem in which only those that are proposed need something is judged as the whole one.
-use Rattle.std.proofs.Common.{◌≡◌, ℕ, suc, ◌+◌, ◌-◌, ◌==◌, Bool, true, false, not, ◌&&◌, List, [], ◌∷◌, ◌++◌, length, map, filter, cond, Some, None, refl, ap, sym, ◌∙◌, arith, ne_eqb}
-use Rattle.std.specs.Prelude.{bytes_eq, slice_get, unwrap_or, if◌then◌else◌}
-use Rattle.std.specs.List.{flat_map, count_by, enumerate_from}
+use Rattle.std.proofs.Common.{◌≡◌, ℕ, suc, ◌+◌, ◌-◌, ◌==◌, Bool, true, false, not, ◌&&◌, ◌||◌, List, [], ◌∷◌, ◌++◌, length, map, filter, cond, Some, None, refl, ap, sym, ◌∙◌, arith, ne_eqb}
+use Rattle.std.specs.Prelude.{bytes_eq, find, option_map, slice_get, unwrap_or, if◌then◌else◌}
+use Rattle.std.specs.List.{flat_map, count_by, list_any, enumerate_from}
 use Rattle.std.specs.Option.{option_or}
 use Rattle.std.proofs.lemmas.List.Folds.{flat_map-map}
 use Rattle.std.proofs.lemmas.Simd.{map-map}
@@ -11,16 +11,20 @@ use Rattle.cudf_document.specs.Ids.{Id}
 use Rattle.cudf_document.specs.Promises.Thin.{thinned, thin_package, thin_problem}
 use Rattle.cudf_document.specs.Universe.{PlainPackage, PlainProblem, PlainRequest, package_at, package_id}
 use Rattle.cudf_document.proofs.ListLemmas.{list_any-map}
-use Rattle.cudf_universe.specs.Satisfaction.{Placed, members, numbers_of, package_pairs, satisfies, satisfies_clause}
+use Rattle.cudf_value.specs.Formulas.{PlainAtom, truth_atom, falsehood_atom, named}
+use Rattle.cudf_universe.specs.Satisfaction.{Placed, first_named, meets_alone, members, numbers_of, package_pairs, satisfies, satisfies_atom, satisfies_clause}
 use Rattle.cudf_referee.specs.declared.key.Rule.TheVariants as rule
 use Rattle.cudf_referee.specs.declared.key.Aspect.TheVariants.{Unsatisfied, Many, Lower}
 use Rattle.cudf_referee.specs.Working.Standings.{names_of}
 use Rattle.cudf_referee.specs.Criteria.{universe, is_touched, each_once, versions_of, is_among, is_same_set, greatest, at_most_max, criteria}
 use Rattle.cudf_document.specs.Documents.{is_empty}
+use Rattle.cudf_referee.specs.Explanations.{would_do_for}
+use Rattle.cudf_referee.specs.Instances as whats
 use Rattle.cudf_referee.specs.Instances.{upgrade}
 use Rattle.cudf_referee.specs.Promises.Laws.{ThinIsEnough}
 use Rattle.cudf_referee.specs.Proposals.{Proposal, proposal, holds_place}
 use Rattle.cudf_referee.specs.Violations.{at_each, has_package, violated_keep, package_instances, are_many, are_lower, one_if, at_request, violated_install, violated_remove, violated_upgrade, unknown_instance, listing}
+use Rattle.cudf_referee.proofs.ExplanationLemmas.{first_of}
 use Rattle.cudf_referee.proofs.ListLemmas.{filter-map, count-map}
 use Rattle.cudf_referee.proofs.ListingLemmas.{package_rules, rules_of_members}
 use Rattle.cudf_referee.proofs.SolutionLemmas.{solution_is_empty}
@@ -172,6 +176,38 @@ criteria_same s t proposed recommends has versions all names touched = λ i. rec
   touched = at_most_max (touched i);
 }
 
+-- ---- explanations
+
+-- what passes a test that asks for no need stands at the same place
+first_same : (k : Id → Bool) (test : Placed → Bool) → ((p : Placed) → test (second (thin_package k) p) ≡ test p) → (qs : List Placed)
+    → first_of test (map (second (thin_package k)) qs) ≡ first_of test qs
+first_same k test same [] = refl
+first_same k test same (q ∷ qs) =
+    ap (λ b. option_map (λ (p : Placed). p.0) (cond b (Some (second (thin_package k) q)) (find test (map (second (thin_package k)) qs)))) (same q)
+    ∙ by (test q) (first_same k test same qs)
+  where
+    by : (b : Bool) → first_of test (map (second (thin_package k)) qs) ≡ first_of test qs
+        → option_map (λ (p : Placed). p.0) (cond b (Some (second (thin_package k) q)) (find test (map (second (thin_package k)) qs)))
+        ≡ option_map (λ (p : Placed). p.0) (cond b (Some q) (find test qs))
+    by true more = refl
+    by false more = more
+
+atom_same : (k : Id → Bool) (p : Placed) (atom : PlainAtom) → satisfies_atom (second (thin_package k) p ∷ []) atom ≡ satisfies_atom (p ∷ []) atom
+atom_same k p truth_atom = refl
+atom_same k p falsehood_atom = refl
+atom_same k p (named v) = refl
+
+would_do_same : (k : Id → Bool) (what : whats.PlainWhat) (qs : List Placed) → would_do_for (map (second (thin_package k)) qs) what ≡ would_do_for qs what
+would_do_same k (whats.needs clause) qs = first_same k (λ p. satisfies_clause (p ∷ []) clause) (λ p i. list_any (λ a. atom_same k p a i) clause) qs
+would_do_same k (whats.conflicts_with v) qs = refl
+would_do_same k whats.keep_version qs = refl
+would_do_same k whats.keep_package qs = refl
+would_do_same k (whats.keep_feature v) qs = refl
+would_do_same k (whats.install v) qs = first_same k (meets_alone v) (λ p. refl) qs
+would_do_same k (whats.remove v) qs = refl
+would_do_same k (whats.upgrade v) qs = first_same k (meets_alone v) (λ p. refl) qs
+would_do_same k whats.unknown qs = refl
+
 -- ---- all
 
 -- places are counted from 1
@@ -212,4 +248,7 @@ thin_is_enough problem k was is unknown covers =
           (λ name. ap (versions_of name) placed ∙ versions_same k name (universe whole))
           (ap names_of placed ∙ names_same k (universe whole))
           (touched_same k thin whole initial proposed placed);
+      would_do_is = λ i. ap (λ all. would_do_for all i.what) placed ∙ would_do_same k i.what (universe whole);
+      named_is = λ name. ap (λ all. first_named all name) placed ∙ first_same k (λ p. bytes_eq p.1.name name) (λ p. refl) (universe whole);
+      numbers_were = λ name. ap (numbers_of name) initial ∙ numbers_same k name whole.initial;
     }

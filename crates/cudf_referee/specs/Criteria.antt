@@ -20,7 +20,7 @@ each_once (name ∷ names) = name ∷ filter (λ other. not (bytes_eq name other
 
 -- the versions of the packages of a name
 abbrev pub versions_of : List ℕ → List Placed → List ℕ
-versions_of name packages = map (λ p. p.1.version) (filter (λ p. bytes_eq p.1.name name) packages)
+versions_of name packages = map (λ (place, p). p.version) (filter (λ (place, p). bytes_eq p.name name) packages)
 
 abbrev pub is_among : List ℕ → ℕ → Bool
 is_among numbers n = list_any (λ m. m == n) numbers
@@ -58,11 +58,11 @@ is_not_up_to_date s name =
 -- that the proposed status doesn't satisfy
 abbrev pub unsatisfied_recommends : Proposal → List (List ℕ × ℕ × ℕ)
 unsatisfied_recommends s =
-    flat_map (λ p. at_each (λ place clause. (p.1.name, p.1.version, place)) (λ clause. not (satisfies_clause s.proposed clause)) (recommended s p)) s.proposed
+    flat_map (λ (place, p). at_each (λ number clause. (p.name, p.version, number)) (λ clause. not (satisfies_clause s.proposed clause)) (recommended s (place, p))) s.proposed
 
 -- packages that are in one of the two statuses and not in the other; the name is own
 abbrev pub is_touched : Proposal → Placed → Bool
-is_touched s p = if holds_place s.initial p.0 then not (holds_place s.proposed p.0) else holds_place s.proposed p.0
+is_touched s (place, p) = if holds_place s.initial place then not (holds_place s.proposed place) else holds_place s.proposed place
 
 -- ---- the counts
 
@@ -72,7 +72,7 @@ at_most_max n = min n 18446744073709551615
 
 -- how many names of the universe, each once, pass a test
 abbrev pub count_names : (List ℕ → Bool) → Proposal → ℕ
-count_names test s = at_most_max (count_by test (each_once (map (λ p. p.1.name) (universe s))))
+count_names test s = at_most_max (count_by test (each_once (map (λ (place, p). p.name) (universe s))))
 
 unfoldable pub criteria : Proposal → Criteria
 criteria s = record {

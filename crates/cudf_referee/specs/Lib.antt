@@ -1,6 +1,7 @@
 pub mod Aims
 pub mod Comparing
 pub mod Criteria
+pub mod Explanations
 pub mod Instances
 pub mod KeyViews
 pub mod Keys

@@ -17,7 +17,7 @@ pub record Proposal : Type 0 where
 
 -- the status holds the package at this place
 abbrev pub holds_place : List Placed → ℕ → Bool
-holds_place status place = list_any (λ p. p.0 == place) status
+holds_place status place = list_any (λ (other, p). other == place) status
 
 -- the statuses are those of a problem's packages that these tests of places pick
 abbrev pub proposal : PlainProblem → (ℕ → Bool) → (ℕ → Bool) → List PlainUnknown → Proposal
@@ -30,4 +30,4 @@ proposal problem was_installed is_installed unknown = record {
 
 -- what a package recommends: its own conjuncts, else those of the declared default, else none
 abbrev pub recommended : Proposal → Placed → List (List PlainAtom)
-recommended s p = unwrap_or (option_or p.1.recommends s.problem.recommends) []
+recommended s (place, p) = unwrap_or (option_or p.recommends s.problem.recommends) []

@@ -13,18 +13,18 @@ use Rattle.cudf_referee.specs.Violations.{has_package}
 
 -- the status satisfies each conjunct of the package's `depends`
 abbrev pub has_its_depends : List Placed → Placed → Bool
-has_its_depends status p = list_all (satisfies_clause status) p.1.depends
+has_its_depends status (place, p) = list_all (satisfies_clause status) p.depends
 
 -- the status without the package satisfies no entry of its `conflicts`
 abbrev pub has_no_conflict : List Placed → Placed → Bool
-has_no_conflict status p = list_all (λ v. not (satisfies (without p.0 status) v)) p.1.conflicts
+has_no_conflict status (place, p) = list_all (λ v. not (satisfies (without place status) v)) p.conflicts
 
 -- what is to be kept of the package is there: itself, its name at some version, or all that it provides
 abbrev pub is_kept : List Placed → Keep → Placed → Bool
-is_kept status Version p = holds_place status p.0
-is_kept status Package p = has_package status p.1.name
-is_kept status Feature p = list_all (satisfies status) p.1.provides
-is_kept status Nothing p = true
+is_kept status Version (place, p) = holds_place status place
+is_kept status Package (place, p) = has_package status p.name
+is_kept status Feature (place, p) = list_all (satisfies status) p.provides
+is_kept status Nothing (place, p) = true
 
 -- all numbers are equal
 abbrev pub are_equal : List ℕ → Bool
@@ -47,7 +47,7 @@ is_solution s =
     is_empty s.unknown
     && list_all (has_its_depends s.proposed) s.proposed
     && list_all (has_no_conflict s.proposed) s.proposed
-    && list_all (λ p. is_kept s.proposed p.1.keep p) s.initial
+    && list_all (λ (place, p). is_kept s.proposed p.keep (place, p)) s.initial
     && list_all (satisfies s.proposed) s.problem.request.install
     && list_all (λ v. not (satisfies s.proposed v)) s.problem.request.remove
     && list_all (is_upgraded s.initial s.proposed) s.problem.request.upgrade

@@ -37,34 +37,34 @@ one_if test i = if test then i ∷ [] else []
 
 -- ---- packages
 
--- an instance of a package's rule at this place
+-- an instance of a package's rule, of its entry of this number
 abbrev pub at_package : Placed → Rule → ℕ → PlainWhat → PlainInstance
-at_package p rule place what = instance (package_key p.0 rule place) p.1.line (Some (p.1.name, p.1.version)) what
+at_package (place, p) rule number what = instance (package_key place rule number) p.line (Some (p.name, p.version)) what
 
 -- depends: a conjunct that the status doesn't satisfy
 abbrev pub violated_depends : List Placed → Placed → List PlainInstance
-violated_depends status p = at_each (λ place clause. at_package p rule.Depends place (needs clause)) (λ clause. not (satisfies_clause status clause)) p.1.depends
+violated_depends status (place, p) = at_each (λ number clause. at_package (place, p) rule.Depends number (needs clause)) (λ clause. not (satisfies_clause status clause)) p.depends
 
 -- conflicts: an entry that the status without the package satisfies
 abbrev pub violated_conflicts : List Placed → Placed → List PlainInstance
-violated_conflicts status p = at_each (λ place v. at_package p rule.Conflicts place (conflicts_with v)) (satisfies (without p.0 status)) p.1.conflicts
+violated_conflicts status (place, p) = at_each (λ number v. at_package (place, p) rule.Conflicts number (conflicts_with v)) (satisfies (without place status)) p.conflicts
 
 -- the status has a package of this name
 abbrev pub has_package : List Placed → List ℕ → Bool
-has_package status name = list_any (λ p. bytes_eq p.1.name name) status
+has_package status name = list_any (λ (place, p). bytes_eq p.name name) status
 
 -- keep: the package isn't installed, no package of its name is, or an entry of its `provides` isn't satisfied
 abbrev pub violated_keep : List Placed → Keep → Placed → List PlainInstance
-violated_keep status Version p = one_if (not (holds_place status p.0)) (at_package p rule.Keep 1 keep_version)
-violated_keep status Package p = one_if (not (has_package status p.1.name)) (at_package p rule.Keep 1 keep_package)
-violated_keep status Feature p = at_each (λ place v. at_package p rule.Keep place (keep_feature v)) (λ v. not (satisfies status v)) p.1.provides
-violated_keep status Nothing p = []
+violated_keep status Version (place, p) = one_if (not (holds_place status place)) (at_package (place, p) rule.Keep 1 keep_version)
+violated_keep status Package (place, p) = one_if (not (has_package status p.name)) (at_package (place, p) rule.Keep 1 keep_package)
+violated_keep status Feature (place, p) = at_each (λ number v. at_package (place, p) rule.Keep number (keep_feature v)) (λ v. not (satisfies status v)) p.provides
+violated_keep status Nothing (place, p) = []
 
 -- the instances of one package: depends and conflicts where it is to be installed, keep where it was
 abbrev pub package_instances : Proposal → Placed → List PlainInstance
-package_instances s p =
-    (if holds_place s.proposed p.0 then violated_depends s.proposed p ++ violated_conflicts s.proposed p else [])
-    ++ (if holds_place s.initial p.0 then violated_keep s.proposed p.1.keep p else [])
+package_instances s (place, p) =
+    (if holds_place s.proposed place then violated_depends s.proposed (place, p) ++ violated_conflicts s.proposed (place, p) else [])
+    ++ (if holds_place s.initial place then violated_keep s.proposed p.keep (place, p) else [])
 
 -- ---- the request
 

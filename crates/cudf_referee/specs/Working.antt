@@ -1,4 +1,5 @@
 pub mod Before
+pub mod Firsts
 pub mod Judged
 pub mod KeyTexts
 pub mod Named

@@ -4,7 +4,7 @@ ghost use Rattle.std.specs.Ordering.{is_lt, partial_lt};
 ghost use Rattle.cudf_referee.specs.KeyViews.{key_view};
 ghost use Rattle.cudf_referee.specs.Keys.{key_cmp};
 ghost use Rattle.cudf_referee.specs.Laws.{SolutionIsEmpty, ListingAscends};
-ghost use Rattle.cudf_referee.specs.Promises.Laws.{TextsTellKeys, PagesJoin, PagesSuffice, PagesAreBound, ThinIsEnough};
+ghost use Rattle.cudf_referee.specs.Promises.Laws.{TextsTellKeys, PagesJoin, PagesSuffice, PagesAreBound, ThinIsEnough, NothingDoes, WouldDo};
 
 use crate::key::Key;
 
@@ -43,7 +43,17 @@ pub fn pages()
 {}
 
 /// A proposed status is judged by what its own packages need: a problem in which others need nothing has the same
-/// violated instances, verdict and counts.
+/// violated instances, verdict and counts, and the same would do where one is violated.
 pub fn thin()
     ensures { ThinIsEnough }
+{}
+
+/// What would do does: a status that installs that package alone satisfies the clause.
+pub fn does()
+    ensures { WouldDo }
+{}
+
+/// Where no package of a universe alone would do, no status of it satisfies the clause, unless the clause needs none.
+pub fn nothing()
+    ensures { NothingDoes }
 {}

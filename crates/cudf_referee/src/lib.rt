@@ -17,4 +17,4 @@ pub use aims::{Aim, Sign, compare, read_criterion};
 pub use criteria::{Count, Criteria};
 pub use instance::{Instance, What};
 pub use key::{Aspect, Key, Part, Rule};
-pub use referee::{Instances, Referee};
+pub use referee::{Explainer, Instances, Referee};

@@ -9,6 +9,7 @@ ghost use Rattle.cudf_referee.specs.Working.Named.{has_kept_name};
 ghost use Rattle.cudf_referee.specs.Promises.Walks.{left};
 
 mod before;
+mod explainer;
 mod instances;
 mod numbered;
 
@@ -16,9 +17,10 @@ use crate::counting::count;
 use crate::criteria::Criteria;
 use crate::instance::{Instance, What};
 use crate::key::{Key, Part};
-use before::greatest_before;
+use before::{NumberedNames, greatest_before, numbered};
 use cudf_document::{Keep, Package, Problem, Solution, initial};
-use cudf_universe::Index;
+use cudf_universe::{Index, Providers};
+pub use explainer::Explainer;
 pub use instances::Instances;
 use numbered::keys_can_be_written;
 use std::alloc::{AllocError, Global};
@@ -112,13 +114,16 @@ fn has_none(mut instances: Instances<'_, '_, '_>) -> bool
 }
 
 impl<'p, 't> Referee<'p, 't> {
-    ghost use Rattle.std.specs.Prelude.{◌≡◌, ◌≤◌, All, IsTrue, IfOk, length, map};
+    ghost use Rattle.std.specs.Prelude.{◌≡◌, ◌≤◌, ℕ, List, All, IsTrue, IfOk, length, map};
     ghost use Rattle.cudf_document.specs.Promises.Views.{package_view};
     ghost use Rattle.std.specs.FinSet as set;
     ghost use Rattle.cudf_document.specs.Statuses.{is_initial, ascend_above};
     ghost use Rattle.cudf_document.specs.Promises.Views.{unknown_view};
     ghost use Rattle.cudf_universe.specs.Promises.Prices.{digits};
-    ghost use Rattle.cudf_referee.specs.Criteria.{criteria};
+    ghost use Rattle.cudf_universe.specs.Satisfaction.{numbers_of};
+    ghost use Rattle.cudf_referee.specs.Criteria.{criteria, universe};
+    ghost use Rattle.cudf_referee.specs.Explanations.{least_of, greatest_of};
+    ghost use Rattle.cudf_referee.specs.Working.Before.{kept_greatest};
     ghost use Rattle.cudf_document.specs.Documents.{is_empty};
     ghost use Rattle.cudf_referee.specs.KeyViews.{key_view};
     ghost use Rattle.cudf_referee.specs.Promises.Pages.{least_search};
@@ -168,6 +173,35 @@ impl<'p, 't> Referee<'p, 't> {
         ensures { map package_view result.now ≡ self.entry.now.problem.packages }
     {
         self.problem.packages()
+    }
+
+    /// What all packages of the universe give.
+    fn providers(&self, alloc: Global) -> Result<Providers<'p, 't>, AllocError>
+        ensures { IfOk result (λ providers. providers ≡ universe self.entry.now) }
+    {
+        Providers::build(alloc, self.problem)
+    }
+
+    /// The numbers of all names that the initial status gives: of `upgrade` alone they are kept already.
+    fn numbers_before(&self, alloc: Global) -> Result<NumberedNames<'t>, AllocError>
+        ensures { IfOk result (λ kept. (f : List ℕ) → kept_greatest f kept ≡ greatest_of (numbers_of f self.entry.now.initial)) }
+    {
+        let was_installed = initial(alloc, self.problem)?;
+        numbered(alloc, self.problem, &was_installed)
+    }
+
+    /// The least number that the proposed status gives of the name.
+    fn least(&self, name: &str) -> Option<u64>
+        ensures { result ≡ least_of (numbers_of name.now self.entry.now.proposed) }
+    {
+        self.now.least(name)
+    }
+
+    /// The greatest number that the proposed status gives of the name.
+    fn greatest(&self, name: &str) -> Option<u64>
+        ensures { result ≡ greatest_of (numbers_of name.now self.entry.now.proposed) }
+    {
+        self.now.greatest(name)
     }
 
     /// The walk over the violated instances, in key order. Their keys can be written.

@@ -6,6 +6,8 @@
 #[cfg(test)]
 mod aims;
 #[cfg(test)]
+mod explanations;
+#[cfg(test)]
 mod instances;
 #[cfg(test)]
 mod keys;

@@ -2,3 +2,4 @@
 
 mod index;
 mod large;
+mod providers;

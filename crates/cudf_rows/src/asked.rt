@@ -24,6 +24,7 @@ pub(crate) struct Asked {
 #[derive(Drop)]
 struct Options {
     mode: Mode,
+    explain: bool,
     after: Option<Key>,
     limit: Option<u64>,
     aims: Option<Vec<Aim>>,
@@ -35,6 +36,7 @@ pub(crate) fn read(alloc: Global, words: &str) -> Result<Option<Asked>, AllocErr
     let (command, rest) = words.split_once(" ").unwrap_or((words, ""));
     let mut options = Options {
         mode: Mode::Lenient,
+        explain: false,
         after: None,
         limit: None,
         aims: None,
@@ -54,6 +56,7 @@ impl Options {
         let (name, value) = option.split_once("=").unwrap_or((option, ""));
         match name {
             "--strict" => self.mode = Mode::Strict,
+            "--explain" => self.explain = true,
             "--also-long" => self.is_also_long = true,
             "--after" => {
                 self.after = Key::parse(value);
@@ -76,14 +79,19 @@ impl Options {
     fn asked(self, command: &str) -> Option<Asked> {
         let Options {
             mode,
+            explain,
             after,
             limit,
             aims,
             is_also_long,
         } = self;
         let task = match command {
-            "lint" => Task::Run(Job::Lint),
-            "check" => Task::Run(Job::Check { after, limit }),
+            "lint" => Task::Run(Job::Lint { explain }),
+            "check" => Task::Run(Job::Check {
+                after,
+                limit,
+                explain,
+            }),
             "score" => Task::Run(Job::Score { aims }),
             "rank" => Task::Rank(aims?),
             _ => return None,

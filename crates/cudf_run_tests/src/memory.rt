@@ -1,6 +1,7 @@
 //! Each call that takes memory, and a test of calls that take none. The tests pass with ample memory;
 //! `crosscheck/refusals.py` runs each of them with each growth refused in turn: then a call says so, or all is right.
-use cudf_referee::{Key, Referee, read_criterion};
+use cudf_check::{Device, Job, RunError, run};
+use cudf_referee::{Explainer, Key, Referee, read_criterion};
 use cudf_text::{Fault, Room, TextError, cut_joined, is_fail, read, stanzas};
 use cudf_universe::{
     Chosen, Index, Mode, Problem, ReadError, first_fault, initial, problem_for, problem_of,
@@ -46,6 +47,15 @@ impl From<ReadError> for Ended {
         match error {
             ReadError::Memory(_) => Ended::Refused,
             ReadError::Fault(_) => Ended::Faulty,
+        }
+    }
+}
+
+impl From<RunError> for Ended {
+    fn from(error: RunError) -> Ended {
+        match error {
+            RunError::Memory | RunError::Write => Ended::Refused,
+            RunError::Read | RunError::TooLong => Ended::Faulty,
         }
     }
 }
@@ -156,7 +166,16 @@ fn is_judged(alloc: Global, problem: &Problem<'_>) -> Result<bool, Ended> {
     }
     let solution = read_solution(alloc, &proposed, problem, Mode::Lenient)?;
     let referee = Referee::new(alloc, problem, &solution)?;
-    Ok(answers(&referee) && !referee.is_solution())
+    Ok(answers(&referee) && !referee.is_solution() && is_explained(alloc, &referee)?)
+}
+
+/// Whether what is told beside its instances is right.
+fn is_explained(alloc: Global, referee: &Referee<'_, '_>) -> Result<bool, Ended> {
+    let explainer = Explainer::new(alloc, referee)?;
+    Ok(
+        explainer.first_named("g") == Some(1)
+            && (explainer.least("g"), explainer.greatest_before("g")) == (Some(1), Some(2)),
+    )
 }
 
 /// Whether its listing from the start and behind a key, and its counts are right.
@@ -169,6 +188,45 @@ fn answers(referee: &Referee<'_, '_>) -> bool {
     (referee.instances().take(9).count(), behind) == (5, 3)
         && criteria.paranoid() == [0, 1]
         && criteria.trendy() == [0, 0, 0, 0]
+}
+
+/// The fault of a problem, with what the problem says beside it.
+const FAULTS: [(&[u8], &[u8]); 3] = [
+    (
+        b"package: g\nversion: 1\n\npackage: g\nversion: 1\n\nrequest: r\n",
+        b"problem line 5: E11 package repeated; g 1 stands on line 1\n",
+    ),
+    (
+        b"preamble:\nproperty: a: nat,\n a: nat\n\nrequest: r\n",
+        b"problem line 2: E10 bad declaration; declaration 2\n",
+    ),
+    (
+        b"package: g\nversion: 1\ndepends: a,\n b,\n <\n\nrequest: r\n",
+        b"problem line 3: E9 value is not of its type; depends is no vpkgformula, entry 3\n",
+    ),
+];
+
+/// Whether a run that explains its lines tells this of the problem.
+fn tells(alloc: Global, problem: &[u8], report: &[u8]) -> Result<bool, Ended> {
+    let mut input = Device::new(problem);
+    let mut out = Device::new(Vec::new(alloc));
+    let job = Job::Lint { explain: true };
+    run::<_, Device<&[u8]>, _>(alloc, &job, Mode::Lenient, &mut input, None, &mut out)?;
+    Ok(out.into_inner().as_slice() == report)
+}
+
+fn tells_faults(alloc: Global) -> Result<bool, Ended> {
+    for (problem, report) in FAULTS {
+        if !tells(alloc, problem, report)? {
+            return Ok(false);
+        }
+    }
+    Ok(true)
+}
+
+#[test]
+fn explained_faults(rt: HostRuntime) {
+    expect(&rt, tells_faults(rt.alloc()));
 }
 
 #[test]

@@ -6,6 +6,7 @@ use std::alloc::Global;
 const CHECK: Job = Job::Check {
     after: None,
     limit: None,
+    explain: false,
 };
 
 /// The last turn of a reader, and the most bytes that it may give.
@@ -76,7 +77,7 @@ fn lints_beside_a_solution(rt: HostRuntime) {
     );
     let answer = run(
         rt.alloc(),
-        &Job::Lint,
+        &Job::Lint { explain: false },
         Mode::Lenient,
         &mut input,
         Some(&mut solution),

@@ -49,7 +49,7 @@ fn limit_of(job: &str) -> Option<u64> {
 
 fn job_of(job: &str, aims: Option<Vec<Aim>>) -> Job {
     if job.starts_with("lint") {
-        return Job::Lint;
+        return Job::Lint { explain: false };
     }
     if job.starts_with("score") {
         return Job::Score { aims };
@@ -57,6 +57,7 @@ fn job_of(job: &str, aims: Option<Vec<Aim>>) -> Job {
     Job::Check {
         after: after_of(job),
         limit: limit_of(job),
+        explain: false,
     }
 }
 

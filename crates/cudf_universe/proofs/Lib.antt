@@ -8,6 +8,7 @@ pub mod GatheringLemmas
 pub mod FoundLemmas
 pub mod FirstLemmas
 pub mod TreeLemmas
+pub mod VersionLemmas
 pub mod PriceLemmas
 pub mod ShareLemmas
 pub mod SearchedLemmas

@@ -7,6 +7,7 @@ use Rattle.std.proofs.lemmas.List.Elements.{filter-append}
 use Rattle.cudf_document.specs.Universe.{PlainPackage}
 use Rattle.cudf_universe.specs.Satisfaction.{Placed, members}
 
+-- one element more, with the next number
 enumerate-push : (n : ℕ) (xs : List PlainPackage) (x : PlainPackage) → enumerate_from n (xs ++ x ∷ []) ≡ enumerate_from n xs ++ (n + length xs, x) ∷ []
 enumerate-push n [] x = ap (λ k. (k, x) ∷ []) (omega arith)
 enumerate-push n (y ∷ ys) x =
@@ -18,6 +19,16 @@ members-push : (holds : ℕ → Bool) (xs : List PlainPackage) (x : PlainPackage
 members-push holds xs x =
     ap (filter (λ (p : Placed). holds p.0)) (enumerate-push 1 xs x)
     ∙ filter-append (λ (p : Placed). holds p.0) (enumerate_from 1 xs) ((1 + length xs, x) ∷ [])
+
+-- of elements as they are viewed
+pub enumerate-more : {A : Type 0} (view : A → PlainPackage) (xs : List A) (i : ℕ) (d : A) → i < length xs
+    → enumerate_from 1 (map view (take (i + 1) xs)) ≡ enumerate_from 1 (map view (take i xs)) ++ (i + 1, view (get_or xs i d)) ∷ []
+enumerate-more view xs i d inside =
+    let place : 1 + length (map view (take i xs)) ≡ i + 1 = omega (arith, length-map (take i xs) view, length-take-le i xs (omega arith)) in
+    ap (λ ys. enumerate_from 1 (map view ys)) (take_more xs i d inside)
+    ∙ ap (enumerate_from 1) (map_push view (take i xs) (get_or xs i d))
+    ∙ enumerate-push 1 (map view (take i xs)) (view (get_or xs i d))
+    ∙ ap (λ n. enumerate_from 1 (map view (take i xs)) ++ (n, view (get_or xs i d)) ∷ []) place
 
 module _ {A : Type 0} (view : A → PlainPackage) (holds : ℕ → Bool) (xs : List A) (i : ℕ) (d : A) (inside : i < length xs) where
   members-more : members holds (map view (take (i + 1) xs)) ≡ members holds (map view (take i xs)) ++ cond (holds (i + 1)) ((i + 1, view (get_or xs i d)) ∷ []) []

@@ -17,11 +17,11 @@ Placed = ℕ × PlainPackage
 
 -- the packages of a universe that a status holds, in the order of their places
 abbrev pub members : (ℕ → Bool) → List PlainPackage → List Placed
-members holds packages = filter (λ p. holds p.0) (enumerate_from 1 packages)
+members holds packages = filter (λ (place, p). holds place) (enumerate_from 1 packages)
 
 -- a status less the package at one place
 abbrev pub without : ℕ → List Placed → List Placed
-without place status = filter (λ p. not (p.0 == place)) status
+without place status = filter (λ (other, p). not (other == place)) status
 
 -- ---- what they give
 
@@ -39,11 +39,11 @@ package_pairs p = (p.name, p.version) ∷ filter_map entry_pair p.provides
 
 -- the pairs that a status gives
 abbrev pub gives : List Placed → List Id
-gives status = flat_map (λ p. package_pairs p.1) status
+gives status = flat_map (λ (place, p). package_pairs p) status
 
 -- the names that a status gives at all versions
 abbrev pub gives_all_versions : List Placed → List (List ℕ)
-gives_all_versions status = flat_map (λ p. filter_map unversioned_name p.1.provides) status
+gives_all_versions status = flat_map (λ (place, p). filter_map unversioned_name p.provides) status
 
 -- the numbers that a status gives of a name
 abbrev pub numbers_of : List ℕ → List Placed → List ℕ
@@ -84,4 +84,12 @@ meets_alone v p = satisfies (p ∷ []) v
 
 -- the least place of a status whose package alone satisfies the vpkg
 abbrev pub first_meeting : List Placed → PlainVpkg → Option ℕ
-first_meeting status v = option_map (λ p. p.0) (find (meets_alone v) status)
+first_meeting status v = option_map (λ (place, p). place) (find (meets_alone v) status)
+
+-- the least place of a status whose package alone satisfies the clause
+abbrev pub first_satisfying : List Placed → List PlainAtom → Option ℕ
+first_satisfying status clause = option_map (λ (place, p). place) (find (λ placed. satisfies_clause (placed ∷ []) clause) status)
+
+-- the least place of a status whose package has this name
+abbrev pub first_named : List Placed → List ℕ → Option ℕ
+first_named status name = option_map (λ (place, p). place) (find (λ (place, p). bytes_eq p.name name) status)

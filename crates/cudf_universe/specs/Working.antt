@@ -3,6 +3,7 @@ pub mod Numbers
 pub mod Kept
 pub mod Gathering
 pub mod FirstPlaces
+pub mod NamedTrees
 pub mod Trees
 pub mod TreeFalls
 pub mod Shares

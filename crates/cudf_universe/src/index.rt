@@ -10,13 +10,14 @@ ghost use Rattle.cudf_universe.specs.Promises.Members.{IsLeast, IsGreatest, othe
 ghost use Rattle.cudf_universe.specs.Working.Gathering.{row_of, given_of};
 ghost use Rattle.cudf_universe.specs.Working.Kept.{Keeps};
 ghost use Rattle.cudf_universe.specs.Working.Members.{member_view};
-ghost use Rattle.cudf_universe.specs.Working.FirstPlaces.{tree_items};
 
 mod entries;
 mod gathered_names;
 mod member;
 pub(crate) mod metered;
+mod named_trees;
 mod numbers;
+pub(crate) mod providers;
 mod share;
 mod sorted;
 mod tree;
@@ -26,14 +27,13 @@ use cudf_document::{Problem, Status};
 use cudf_value::{Atom, Clause, Vpkg};
 use entries::{Entries, Met};
 use gathered_names::{GatheredNames, entries_of};
-use indexmap::IndexSet;
 use member::Member;
 use metered::Metered;
+use named_trees::NamedTrees;
 use share::{Share, shares_of};
 use std::alloc::{AllocError, Global};
 use std::fmt;
 use std::marker::Model;
-use tree::{ProvisionTree, trees_of};
 
 /// The packages of a status, to be asked what they give and satisfy. Places are from 1, and the bounds of vpkgs are
 /// taken to be at least 1, as readers give them (CUDF 2.0, installations and features).
@@ -43,11 +43,10 @@ use tree::{ProvisionTree, trees_of};
 pub struct Index<'p, 't> {
     problem: &'p Problem<'t>,
     status: Status,
-    names: IndexSet<&'t str>,
-    /// What the status gives of each name.
+    /// What the status gives of each name, in the order of the places.
+    given: NamedTrees<'t>,
+    /// The same of each of these names, counted.
     entries: Vec<Entries>,
-    /// The same, in the order of the places.
-    trees: Vec<ProvisionTree>,
     /// What each package with many provisions gives, in the order of the places.
     shares: Vec<Share<'p, 't>>,
 }
@@ -58,14 +57,14 @@ impl<'p, 't> Model for Index<'p, 't> {
     ghost use Rattle.cudf_universe.specs.Satisfaction.{Placed, members};
     ghost use Rattle.cudf_universe.specs.Working.Gathering.{given_of};
     ghost use Rattle.cudf_universe.specs.Working.Kept.{Keeps, found};
-    ghost use Rattle.cudf_universe.specs.Working.FirstPlaces.{tree_items};
+    ghost use Rattle.cudf_universe.specs.Working.NamedTrees.{tree_of};
     ghost use Rattle.cudf_universe.specs.Working.Shares.{AreShares};
 
     ghost Value = { List Placed };
 
     ghost view = { λ i. members (set.contains i.status) i.problem.now.packages };
 
-    ghost invariant = { λ i. ((name : List ℕ) → (Keeps name (members (set.contains i.status) i.problem.now.packages) (found (λ k. bytes_eq name k.now) i.names.keys i.entries.items)) × (tree_items (found (λ k. bytes_eq name k.now) i.names.keys i.trees.items) ≡ given_of name (members (set.contains i.status) i.problem.now.packages))) × AreShares (members (set.contains i.status) i.problem.now.packages) i.shares.items };
+    ghost invariant = { λ i. ((name : List ℕ) → (Keeps name (members (set.contains i.status) i.problem.now.packages) (found (λ k. bytes_eq name k.now) i.given.names.keys i.entries.items)) × (tree_of name i.given ≡ given_of name (members (set.contains i.status) i.problem.now.packages))) × AreShares (members (set.contains i.status) i.problem.now.packages) i.shares.items };
 }
 
 /// Its status: all else that it keeps follows from that and the problem.
@@ -92,14 +91,13 @@ impl<'p, 't> Index<'p, 't> {
     {
         let gathered = gathered(alloc, problem, status)?;
         let entries = entries_of(alloc, &gathered.rows)?;
-        let trees = trees_of(alloc, gathered.rows)?;
+        let given = NamedTrees::of(alloc, gathered)?;
         let shares = shares_of(alloc, problem, status)?;
         Ok(Index {
             problem,
             status: status.copy(alloc)?,
-            names: gathered.names,
+            given,
             entries,
-            trees,
             shares,
         })
     }
@@ -139,10 +137,7 @@ impl<'p, 't> Index<'p, 't> {
     pub fn first_meeting(&self, vpkg: &Vpkg<'_>, except: Option<u64>) -> Option<u64>
         ensures { result ≡ first_meeting (other_than except self.now) (vpkg_view vpkg.now) }
     {
-        match self.tree(vpkg.name) {
-            Some(tree) => tree.first(vpkg.bound, except),
-            None => None,
-        }
+        self.given.first_meeting(vpkg, except)
     }
 
     /// The least number that the status gives of the name, as a version or by a versioned
@@ -288,18 +283,8 @@ impl<'p, 't> Index<'p, 't> {
     fn kept(&self, name: &str) -> Option<&Entries>
         ensures { Keeps name.now self.now (option_map (λ e. e.now) result) }
     {
-        match self.names.get_index_of(&name) {
+        match self.given.names.get_index_of(&name) {
             Some(number) => self.entries.get(number),
-            None => None,
-        }
-    }
-
-    /// What the status gives of a name, in the order of the places.
-    fn tree(&self, name: &str) -> Option<&ProvisionTree>
-        ensures { tree_items (option_map (λ t. t.now) result) ≡ given_of name.now self.now }
-    {
-        match self.names.get_index_of(&name) {
-            Some(number) => self.trees.get(number),
             None => None,
         }
     }

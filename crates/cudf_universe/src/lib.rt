@@ -12,4 +12,5 @@ pub use cudf_document::{
 };
 pub use index::Index;
 pub use index::metered::Metered;
+pub use index::providers::Providers;
 pub use steps::Steps;

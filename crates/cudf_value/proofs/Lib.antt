@@ -8,6 +8,7 @@ pub mod PartsLemmas
 pub mod PiecesLemmas
 pub mod SpotLemmas
 mod MadeLemmas
+pub mod MisfitLemmas
 pub mod PrintingLemmas
 pub mod ReadBack
 mod TokenLemmas

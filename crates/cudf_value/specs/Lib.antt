@@ -4,6 +4,7 @@ pub mod Numbers
 pub mod Parts
 pub mod Vpkgs
 pub mod Formulas
+pub mod Misfits
 pub mod Printing
 pub mod Types
 pub mod Spots

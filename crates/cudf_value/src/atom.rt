@@ -119,7 +119,7 @@ fn end_from(text: &str, n: usize) -> AtomEnd<'_>
 
 /// The atom, with blanks or none round it.
 #[inline(never)]
-fn atom_of(part: &str) -> Option<Atom<'_>>
+pub(crate) fn atom_of(part: &str) -> Option<Atom<'_>>
     ensures { option_map atom_view result ≡ atom_part part.now }
 {
     match trim(part) {

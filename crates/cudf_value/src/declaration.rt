@@ -2,7 +2,8 @@
 ghost use Rattle.std.specs.Prelude.{◌≡◌, map, option_map, IfOk};
 ghost use Rattle.cudf_text.specs.Chars.{trim};
 ghost use Rattle.cudf_value.specs.Promises.Types.{type_view, declaration_view};
-ghost use Rattle.cudf_value.specs.Declarations.{with_kind, declarations};
+ghost use Rattle.cudf_value.specs.Declarations.{with_kind, declaration, declarations};
+ghost use Rattle.cudf_value.specs.Spots.{pieces};
 ghost use Rattle.cudf_value.specs.Working.Rests.{declaration_piece, read_pieces};
 
 use crate::class::Class;
@@ -64,7 +65,7 @@ fn pieces_of(alloc: Global, text: &str) -> Result<Option<Vec<Declaration<'_>>>, 
         let Some((piece, next)) = cut_piece(rest) else {
             return Ok(None);
         };
-        match declaration_of(alloc, piece)? {
+        match read_declaration(alloc, piece)? {
             Some(declaration) => declarations.push(declaration)?,
             None => return Ok(None),
         }
@@ -75,9 +76,49 @@ fn pieces_of(alloc: Global, text: &str) -> Result<Option<Vec<Declaration<'_>>>, 
     }
 }
 
-/// The declaration, with blanks or none round it.
-fn declaration_of(alloc: Global, piece: &str) -> Result<Option<Declaration<'_>>, AllocError>
-    ensures { IfOk result (λ r. option_map declaration_view r ≡ declaration_piece piece.now) }
+/// The pieces of the value of a `property` (CUDF 2.0, preamble), with blanks or none round it: its parts between the
+/// commas outside quotes and brackets, with the blanks round each. There is one at least, so of the empty text an empty
+/// one.
+///
+/// `None` is answered where a quote or a bracket is wrong or isn't closed.
+///
+/// # Errors
+///
+/// `AllocError` where memory for the list is refused.
+pub fn declaration_pieces(alloc: Global, text: &str) -> Result<Option<Vec<&str>>, AllocError>
+    ensures { IfOk result (λ r. option_map (λ v. map (λ piece. piece.now) v.items) r ≡ pieces (trim text.now)) }
+{
+    cut_pieces(alloc, trim(text))
+}
+
+/// The pieces of a text, one at least.
+fn cut_pieces(alloc: Global, text: &str) -> Result<Option<Vec<&str>>, AllocError>
+    ensures { IfOk result (λ r. option_map (λ v. map (λ piece. piece.now) v.items) r ≡ pieces text.now) }
+{
+    let mut found = Vec::new(alloc);
+    let mut rest = text;
+    loop {
+        let Some((piece, next)) = cut_piece(rest) else {
+            return Ok(None);
+        };
+        found.push(piece)?;
+        match next {
+            Some(more) => rest = more,
+            None => return Ok(Some(found)),
+        }
+    }
+}
+
+/// Reads a piece of the value of a `property` (CUDF 2.0, preamble), with blanks or none round it: one declaration, as
+/// `read_declarations` has it.
+///
+/// `None` is answered where the piece is no declaration.
+///
+/// # Errors
+///
+/// `AllocError` where memory for an enum's idents is refused.
+pub fn read_declaration(alloc: Global, piece: &str) -> Result<Option<Declaration<'_>>, AllocError>
+    ensures { IfOk result (λ r. option_map declaration_view r ≡ declaration (trim piece.now)) }
 {
     let (name, rest) = split_run(trim(piece), Class::Ident);
     let rest = trim_start(rest);

@@ -8,6 +8,7 @@ mod default;
 mod formula;
 pub mod laws;
 mod lex_state;
+mod misfits;
 mod number;
 mod piece;
 mod printing;
@@ -21,8 +22,9 @@ mod word;
 
 pub use atom::Atom;
 pub use cudf_text::is_ident;
-pub use declaration::{Declaration, read_declarations};
+pub use declaration::{Declaration, declaration_pieces, read_declaration, read_declarations};
 pub use formula::{Clause, Formula, is_formula, read_formula};
+pub use misfits::misfit;
 pub use number::{read_int, read_nat, read_posint};
 pub use relop::{Relop, meets};
 pub use value_type::{ValueType, fits, is_of_type};

@@ -44,6 +44,33 @@ pub enum ValueType<'t> {
     ExactList,
 }
 
+impl ValueType<'_> {
+    ghost use Rattle.std.specs.Prelude.{◌≡◌};
+    ghost use Rattle.cudf_value.specs.Misfits.{type_word};
+    ghost use Rattle.cudf_value.specs.Promises.Types.{type_view};
+
+    /// The type's word (CUDF 2.0, the type library), which for each enum is `enum`.
+    pub fn word(&self) -> &'static str
+        ensures { result.now ≡ type_word (type_view self.now) }
+    {
+        match self {
+            ValueType::Positive => "posint",
+            ValueType::Natural => "nat",
+            ValueType::Signed => "int",
+            ValueType::Truth => "bool",
+            ValueType::Words => "string",
+            ValueType::Name => "pkgname",
+            ValueType::Ident => "ident",
+            ValueType::Choice(_) => "enum",
+            ValueType::Versioned => "vpkg",
+            ValueType::Exact => "veqpkg",
+            ValueType::Formula => "vpkgformula",
+            ValueType::List => "vpkglist",
+            ValueType::ExactList => "veqpkglist",
+        }
+    }
+}
+
 /// Whether the whole text, but for blanks round it, is of the type. Takes no memory, and always
 /// succeeds.
 pub fn fits(alloc: Global, kind: &ValueType<'_>, text: &str) -> Result<bool, AllocError>

@@ -1,14 +1,22 @@
--- A report that was made in memory, for proofs.
+-- A report that was made in memory, and jobs that judge, for proofs.
 use Rattle.std.specs.Prelude.{◌≡◌, ◌⊎◌, List, ℕ}
 use Rattle.std.specs.List.{All}
 use Rattle.cudf_check.specs.Readers.{OfOne}
 use Rattle.cudf_check.specs.Report.{Report}
 use Rattle.cudf_check.specs.Runs.{outcome_status}
+use Rattle.cudf_check.specs.declared.job.Job.{Job}
+use Rattle.cudf_check.specs.declared.job.Job.TheVariants.{Lint, Check, Score}
 use Rattle.cudf_c.specs.Calls.{IsLong, IsShort, Left, Shows, ShowsNothing}
 use Rattle.cudf_c.specs.Working.Stops.{stop_status}
 use Rattle.cudf_c.specs.declared.made.Made.{Made}
 use Rattle.cudf_c.specs.declared.stop.Stop.{Stop}
 use Rattle.cudf_c.specs.declared.stop.Stop.TheVariants.{TooLong, Memory}
+
+-- the job reads a solution
+abbrev pub Judges : Job → Type 0
+Judges (Lint explain) = ⊥
+Judges (Check after limit explain) = Unit {0}
+Judges (Score aims) = Unit {0}
 
 -- it is this report, on documents of which none is too long
 pub record IsMade (documents : List (List ℕ)) (answer : Report) (made : Made) : Type 0 where

@@ -1,13 +1,19 @@
--- What stands before the verdict.
-use Rattle.std.specs.Prelude.{ℕ, List, [], option_map}
+-- What stands before the verdict, and whether lines are explained.
+use Rattle.std.specs.Prelude.{ℕ, Bool, false, List, [], option_map}
 use Rattle.cudf_referee.specs.KeyViews.{key_view}
 use Rattle.cudf_referee.specs.Proposals.{Proposal}
 use Rattle.cudf_check.specs.Report.{check_text, scored_text}
 use Rattle.cudf_check.specs.declared.job.Job.{Job}
 use Rattle.cudf_check.specs.declared.job.Job.TheVariants.{Lint, Check, Score}
 
+-- the job asks for lines with what is added to them
+abbrev pub explains : Job → Bool
+explains (Lint explain) = explain
+explains (Check after limit explain) = explain
+explains (Score aims) = false
+
 -- what is found for the job: nothing to lint
 abbrev pub found_text : Job → Proposal → List ℕ
-found_text Lint s = []
-found_text (Check after limit) s = check_text (option_map key_view after) limit s
+found_text (Lint explain) s = []
+found_text (Check after limit explain) s = check_text explain (option_map key_view after) limit s
 found_text (Score aims) s = scored_text (option_map (λ list. list.items) aims) s

@@ -1,14 +1,18 @@
 //! Reports of one line.
-ghost use Rattle.std.specs.Prelude.{◌++◌, codes, decimal};
+ghost use Rattle.std.specs.Prelude.{◌++◌, codes, decimal, option_map};
 ghost use Rattle.cudf_text.specs.Faults.{fault_text};
+ghost use Rattle.cudf_document.specs.Promises.Views.{detail_view};
+ghost use Rattle.cudf_check.specs.Explanations.{detail_added};
 ghost use Rattle.cudf_check.specs.Report.{line, alone, faulty};
 ghost use Rattle.cudf_check.specs.Working.Answering.{Answers};
 ghost use Rattle.cudf_check.specs.Working.Paper.{Says};
 
 use crate::buffer::ReportBuffer;
 use crate::device::Sink;
+use crate::lines::detail::print_added;
 use crate::outcome::{Outcome, RunError};
 use crate::paper::Paper;
+use cudf_document::Detail;
 use cudf_text::Fault;
 use std::alloc::Global;
 
@@ -28,29 +32,35 @@ pub(crate) fn answer<W: Sink>(
     paper.finish(outcome)
 }
 
-/// Prints where a fault stands and which it is, behind whose it is, and ends the line.
-pub(crate) fn print_fault<W: Sink>(paper: &mut Paper<'_, W>, fault: Fault)
-    ensures { Says W.state paper.old paper.new (line (codes " line " ++ decimal fault.line ++ codes ": " ++ fault_text fault.kind)) }
+/// Prints where a fault stands and which it is, behind whose it is, and ends the line behind the detail.
+pub(crate) fn print_fault<W: Sink>(
+    paper: &mut Paper<'_, W>,
+    fault: Fault,
+    detail: Option<Detail<'_>>,
+)
+    ensures { Says W.state paper.old paper.new (codes " line " ++ decimal fault.line ++ codes ": " ++ fault_text fault.kind ++ line (detail_added (option_map detail_view detail.entry))) }
 {
     paper.text(" line ");
     paper.number(fault.line);
     paper.text(": ");
     paper.text(fault.kind.text());
+    print_added(paper, detail);
     paper.text("\n");
 }
 
-/// Writes the report of a faulty document.
+/// Writes the report of a faulty document, with the detail.
 pub(crate) fn answer_fault<W: Sink>(
     alloc: Global,
     out: &mut W,
     whose: &'static str,
     fault: Fault,
+    detail: Option<Detail<'_>>,
 ) -> Result<Outcome, RunError>
-    ensures { Answers (W.state out.old) (W.state out.new) (faulty whose.now fault) result }
+    ensures { Answers (W.state out.old) (W.state out.new) (faulty whose.now fault (option_map detail_view detail.entry)) result }
 {
     let mut waiting = ReportBuffer::new(alloc)?;
     let mut paper = Paper::new(out, &mut waiting);
     paper.text(whose);
-    print_fault(&mut paper, fault);
+    print_fault(&mut paper, fault, detail);
     paper.finish(Outcome::Faulty)
 }

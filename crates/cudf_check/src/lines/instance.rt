@@ -1,4 +1,4 @@
-//! Prints the line of an instance.
+//! Prints an instance, and keys.
 ghost use Rattle.std.specs.Prelude.{◌≡◌, ◌++◌, Some, map, option_map, option_and_then};
 ghost use Rattle.cudf_value.specs.Promises.Views.{vpkg_view, atom_view, clause_view};
 ghost use Rattle.cudf_value.specs.Printing.{vpkg_text, atom_text, clause_text};
@@ -7,7 +7,8 @@ ghost use Rattle.cudf_document.specs.Universe.{PlainProblem, package_at};
 ghost use Rattle.cudf_referee.specs.Keys.{key_text, part_text, aspect_text};
 ghost use Rattle.cudf_referee.specs.KeyViews.{key_view};
 ghost use Rattle.cudf_referee.specs.Promises.Views.{instance_view, what_view};
-ghost use Rattle.cudf_check.specs.Report.{meeting_text, upgrade_text, what_text, subject_text, instance_line};
+ghost use Rattle.cudf_referee.specs.Violations.{met_by};
+ghost use Rattle.cudf_check.specs.Report.{meeting_text, upgrade_text, what_text, subject_text, met_text};
 ghost use Rattle.cudf_check.specs.Working.Paper.{Says};
 
 use crate::device::Sink;
@@ -189,28 +190,30 @@ fn print_subject<W: Sink>(paper: &mut Paper<'_, W>, subject: Option<(&str, u64)>
     }
 }
 
-/// The package that meets an instance's entry.
-fn meeting<'x, 't>(packages: &'x [Package<'t>], place: Option<u64>) -> Option<&'x Package<'t>>
+/// The package at a place, if there is one.
+pub(crate) fn package_at<'x, 't>(
+    packages: &'x [Package<'t>],
+    place: Option<u64>,
+) -> Option<&'x Package<'t>>
     ensures { (problem : PlainProblem) → map package_view packages.now ≡ problem.packages
         → option_map (λ p. package_view p.now) result ≡ option_and_then (package_at problem) place }
 {
     packages.get((place? as usize).checked_sub(1)?)
 }
 
-/// Prints the line of an instance.
+/// Prints an instance, without the end of its line.
 pub(crate) fn print_instance<W: Sink>(
     paper: &mut Paper<'_, W>,
     referee: &Referee<'_, '_>,
     instance: &Instance<'_, '_>,
 )
-    ensures { Says W.state paper.old paper.new (instance_line referee.entry.now (instance_view instance.now)) }
+    ensures { Says W.state paper.old paper.new (met_text (instance_view instance.now) (option_and_then (package_at referee.entry.now.problem) (met_by referee.entry.now.proposed (instance_view instance.now)))) }
 {
-    let met = meeting(referee.packages(), referee.met_by(instance));
+    let met = package_at(referee.packages(), referee.met_by(instance));
     print_key(paper, instance.key);
     print_subject(paper, instance.subject);
     paper.text(" line ");
     paper.number(instance.line);
     paper.text(": ");
     print_what(paper, &instance.what, instance.key.aspect(), met);
-    paper.text("\n");
 }

@@ -1,12 +1,13 @@
 //! The report of a judged solution: what was found, and the verdict.
-ghost use Rattle.std.specs.Prelude.{◌≡◌, IsTrue, map, option_map};
+ghost use Rattle.std.specs.Prelude.{◌≡◌, IsTrue, false, map, option_map};
 ghost use Rattle.std.specs.FinSet as set;
 ghost use Rattle.cudf_document.specs.Statuses.{is_initial, ascend_above};
 ghost use Rattle.cudf_document.specs.Promises.Views.{unknown_view};
 ghost use Rattle.cudf_referee.specs.Proposals.{proposal};
+ghost use Rattle.cudf_referee.specs.Solutions.{is_solution};
 ghost use Rattle.cudf_check.specs.Report.{verdict, judged_report, scored_text};
 ghost use Rattle.cudf_check.specs.Working.Answering.{Answers};
-ghost use Rattle.cudf_check.specs.Working.Found.{found_text};
+ghost use Rattle.cudf_check.specs.Working.Found.{explains, found_text};
 ghost use Rattle.cudf_check.specs.Working.Pages.{Ascends};
 ghost use Rattle.cudf_check.specs.Working.Paper.{Says};
 
@@ -16,6 +17,7 @@ use crate::job::Job;
 use crate::lines::aims::print_aim_lines;
 use crate::lines::page::print_page;
 use crate::lines::score::print_score;
+use crate::lines::scribe::Scribe;
 use crate::outcome::{Outcome, RunError};
 use crate::paper::Paper;
 use cudf_document::{Problem, Solution};
@@ -52,19 +54,39 @@ fn print_counted<W: Sink>(
 }
 
 /// Prints what is found for the job.
-fn print_found<W: Sink>(paper: &mut Paper<'_, W>, referee: &Referee<'_, '_>, job: &Job)
-    requires ascending { Ascends referee.now }
-    ensures { Says W.state paper.old paper.new (found_text job.now referee.entry.now) }
+fn print_found<W: Sink>(paper: &mut Paper<'_, W>, scribe: &Scribe<'_, '_, '_>, job: &Job)
+    requires ascending { Ascends scribe.now.judged }
+    requires explained { is_solution scribe.now.judged ≡ false → scribe.now.explain ≡ explains job.now }
+    ensures { Says W.state paper.old paper.new (found_text job.now scribe.entry.now.judged) }
 {
+    let referee = scribe.referee();
     match job {
-        Job::Lint => {}
+        Job::Lint { .. } => {}
         // A solution's listing is empty, so no place is judged again for a page of it.
         Job::Check { .. } if referee.is_solution() => {}
-        Job::Check { after, limit } => {
-            let _walk = print_page(paper, referee, *after, *limit);
+        Job::Check { after, limit, .. } => {
+            let _walk = print_page(paper, scribe, *after, *limit);
         }
         Job::Score { aims } => print_counted(paper, referee, aims),
     }
+}
+
+/// Writes the report that a scribe makes for the job: what is found, and the verdict.
+fn answer_by<W: Sink>(
+    alloc: Global,
+    out: &mut W,
+    scribe: &Scribe<'_, '_, '_>,
+    job: &Job,
+) -> Result<Outcome, RunError>
+    requires ascending { Ascends scribe.now.judged }
+    requires explained { is_solution scribe.now.judged ≡ false → scribe.now.explain ≡ explains job.now }
+    ensures { Answers (W.state out.old) (W.state out.new) (judged_report (found_text job.now) scribe.entry.now.judged) result }
+{
+    let mut waiting = ReportBuffer::new(alloc)?;
+    let mut paper = Paper::new(out, &mut waiting);
+    print_found(&mut paper, scribe, job);
+    let outcome = print_verdict(&mut paper, scribe.referee().is_solution());
+    paper.finish(outcome)
 }
 
 /// Judges what a solution proposes, and writes the report: what is found for the job, and the verdict.
@@ -84,9 +106,10 @@ pub(crate) fn answer_judged<W: Sink>(
         Ok(referee) => referee,
         Err(_) => return Err(RunError::Memory),
     };
-    let mut waiting = ReportBuffer::new(alloc)?;
-    let mut paper = Paper::new(out, &mut waiting);
-    print_found(&mut paper, &referee, job);
-    let outcome = print_verdict(&mut paper, referee.is_solution());
-    paper.finish(outcome)
+    // Where the status is a solution, there is no line to explain.
+    let explain = job.explains() && !referee.is_solution();
+    match Scribe::new(alloc, &referee, explain) {
+        Ok(scribe) => answer_by(alloc, out, &scribe, job),
+        Err(_) => Err(RunError::Memory),
+    }
 }

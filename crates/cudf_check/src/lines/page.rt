@@ -12,16 +12,18 @@ ghost use Rattle.cudf_check.specs.Working.Pages.{Ascends, IsEnded, IsSpent, more
 ghost use Rattle.cudf_check.specs.Working.Paper.{Says};
 
 use crate::device::Sink;
-use crate::lines::instance::{print_instance, print_key};
+use crate::lines::instance::print_key;
+use crate::lines::scribe::Scribe;
 use crate::paper::Paper;
-use cudf_referee::{Instances, Key, Referee};
+use cudf_referee::{Instances, Key};
 
 /// The walk over the violated instances with greater keys than `after`, over all of them where it isn't given.
-fn walk_after<'r, 'p, 't>(referee: &'r Referee<'p, 't>, after: Option<Key>) -> Instances<'r, 'p, 't>
-    ensures judged { result.judged ≡ referee.entry.now }
+fn walk_after<'r, 'p, 't>(scribe: &Scribe<'r, 'p, 't>, after: Option<Key>) -> Instances<'r, 'p, 't>
+    ensures judged { result.judged ≡ scribe.entry.now.judged }
     ensures position { result.position ≡ behind (option_map key_view after) }
-    ensures price { result.steps ≤ digits (length referee.entry.now.unknown) }
+    ensures price { result.steps ≤ digits (length scribe.entry.now.judged.unknown) }
 {
+    let referee = scribe.referee();
     match after {
         Some(key) => referee.after(key),
         None => referee.instances(),
@@ -31,15 +33,15 @@ fn walk_after<'r, 'p, 't>(referee: &'r Referee<'p, 't>, after: Option<Key>) -> I
 /// Prints the lines of all instances that are left. Where a write has failed, the walk goes no further.
 fn print_rest<W: Sink>(
     paper: &mut Paper<'_, W>,
-    referee: &Referee<'_, '_>,
+    scribe: &Scribe<'_, '_, '_>,
     instances: &mut Instances<'_, '_, '_>,
 )
-    ensures printed { Says W.state paper.old paper.new (flat_map (instance_line referee.entry.now) (left instances.old)) }
+    ensures printed { Says W.state paper.old paper.new (flat_map (instance_line scribe.entry.now.explain scribe.entry.now.judged) (left instances.old)) }
     ensures price { instances.new.steps ≤ instances.old.steps
         + cost_along instances.old.judged instances.old.position (calls (left instances.old) (length (left instances.old))) }
 {
     while let Some(instance) = instances.next() {
-        print_instance(paper, referee, &instance);
+        scribe.print_line(paper, &instance);
         if paper.has_failed() {
             return;
         }
@@ -50,11 +52,11 @@ fn print_rest<W: Sink>(
 /// one, where there are so many; if not, the walk is at its end, or a write has failed.
 fn print_first<W: Sink>(
     paper: &mut Paper<'_, W>,
-    referee: &Referee<'_, '_>,
+    scribe: &Scribe<'_, '_, '_>,
     instances: &mut Instances<'_, '_, '_>,
     limit: u64,
 ) -> Option<Key>
-    ensures printed { Says W.state paper.old paper.new (flat_map (instance_line referee.entry.now) (take limit (left instances.old))) }
+    ensures printed { Says W.state paper.old paper.new (flat_map (instance_line scribe.entry.now.explain scribe.entry.now.judged) (take limit (left instances.old))) }
     ensures end { IsEnded limit (left instances.old) (left instances.new) result paper.new.has_failed }
     ensures spent { IsSpent limit instances.old instances.new result }
     ensures price { instances.new.steps ≤ instances.old.steps
@@ -64,7 +66,7 @@ fn print_first<W: Sink>(
     for turn in 0..limit {
         match instances.next() {
             Some(instance) => {
-                print_instance(paper, referee, &instance);
+                scribe.print_line(paper, &instance);
                 if paper.has_failed() {
                     return None;
                 }
@@ -102,21 +104,21 @@ fn print_next<W: Sink>(paper: &mut Paper<'_, W>, instances: &mut Instances<'_, '
 /// too: that counted the steps.
 pub(crate) fn print_page<'r, 'p, 't, W: Sink>(
     paper: &mut Paper<'_, W>,
-    referee: &'r Referee<'p, 't>,
+    scribe: &Scribe<'r, 'p, 't>,
     after: Option<Key>,
     limit: Option<u64>,
 ) -> Instances<'r, 'p, 't>
-    requires ascending { Ascends referee.now }
-    ensures printed { Says W.state paper.old paper.new (check_text (option_map key_view after) limit referee.entry.now) }
-    ensures price { result.steps ≤ page_price referee.entry.now (option_map key_view after)
-        (page_size limit (listed (option_map key_view after) referee.entry.now)) }
+    requires ascending { Ascends scribe.now.judged }
+    ensures printed { Says W.state paper.old paper.new (check_text scribe.entry.now.explain (option_map key_view after) limit scribe.entry.now.judged) }
+    ensures price { result.steps ≤ page_price scribe.entry.now.judged (option_map key_view after)
+        (page_size limit (listed (option_map key_view after) scribe.entry.now.judged)) }
 {
-    let mut instances = walk_after(referee, after);
+    let mut instances = walk_after(scribe, after);
     let Some(limit) = limit else {
-        print_rest(paper, referee, &mut instances);
+        print_rest(paper, scribe, &mut instances);
         return instances;
     };
-    match print_first(paper, referee, &mut instances, limit) {
+    match print_first(paper, scribe, &mut instances, limit) {
         Some(last) => {
             print_next(paper, &mut instances, last);
             instances

@@ -1,5 +1,5 @@
 //! The report of a ranking: a line for each solution, the best first; or the fault of one.
-ghost use Rattle.std.specs.Prelude.{◌++◌, codes, decimal};
+ghost use Rattle.std.specs.Prelude.{◌++◌, None, codes, decimal};
 ghost use Rattle.std.specs.List.{flat_map};
 ghost use Rattle.cudf_check.specs.RankReport.{aim_count, judgement_text, rank_line, ranking_text};
 ghost use Rattle.cudf_check.specs.Report.{faulty};
@@ -101,12 +101,12 @@ pub(crate) fn answer_faulty_solution<W: Sink>(
     place: u64,
     fault: Fault,
 ) -> Result<Outcome, RunError>
-    ensures { Answers (W.state out.old) (W.state out.new) (faulty (codes "solution " ++ decimal place) fault) result }
+    ensures { Answers (W.state out.old) (W.state out.new) (faulty (codes "solution " ++ decimal place) fault None) result }
 {
     let mut waiting = ReportBuffer::new(alloc)?;
     let mut paper = Paper::new(out, &mut waiting);
     paper.text("solution ");
     paper.number(place);
-    print_fault(&mut paper, fault);
+    print_fault(&mut paper, fault, None);
     paper.finish(Outcome::Faulty)
 }

@@ -2,7 +2,7 @@
 ghost use Rattle.std.specs.Prelude.{◌≡◌, false, not, ◌&&◌, ◌||◌, [], ◌∷◌, ◌++◌, map, take, length, filter_map, find, is_some, Some, None, option_map, option_to_list, unwrap_or, bytes_eq, IfOk, OnOk, IsTrue, if◌then◌else◌};
 ghost use Rattle.std.specs.List.{list_any};
 ghost use Rattle.cudf_value.specs.Promises.Views.{formula_view};
-ghost use Rattle.cudf_value.specs.Promises.Types.{declaration_view};
+ghost use Rattle.cudf_value.specs.Promises.Types.{type_view, declaration_view};
 ghost use Rattle.cudf_document.specs.Values.{declared_test};
 ghost use Rattle.cudf_value.specs.Parts.{look_up};
 ghost use Rattle.cudf_document.specs.ProblemFaults.{required_names};
@@ -13,7 +13,7 @@ ghost use Rattle.cudf_document.specs.Working.PackageFields.{wrong_kind};
 use crate::declaration::declared::Declared;
 use crate::mode::Mode;
 use cudf_text::Kind;
-use cudf_value::{Declaration, Formula, read_declarations};
+use cudf_value::{Declaration, Formula, ValueType, read_declarations};
 use indexmap::IndexMap;
 use std::alloc::{AllocError, Global};
 use std::marker::Model;
@@ -64,6 +64,17 @@ impl<'t> Declarations<'t> {
             return self.known.values().find(|declared| declared.name() == name);
         }
         self.known.get(name)
+    }
+
+    /// The type that this name is declared with first.
+    pub(crate) fn kind(&self, name: &str) -> Option<&ValueType<'t>>
+        ensures { option_map (λ kind. type_view kind.now) result
+            ≡ option_map (λ d. d.kind) (find (λ d. bytes_eq name.now d.name) self.now) }
+    {
+        match self.find(name) {
+            Some(declared) => Some(declared.kind()),
+            None => None,
+        }
     }
 
     /// What is wrong with a property of this name: it isn't declared, or its value isn't of the
@@ -196,7 +207,11 @@ impl<'t> Declarations<'t> {
     }
 
     /// Adds the declaration and answers true, if it can stand here.
-    fn insert(&mut self, alloc: Global, declaration: Declaration<'t>) -> Result<bool, AllocError>
+    pub(crate) fn insert(
+        &mut self,
+        alloc: Global,
+        declaration: Declaration<'t>,
+    ) -> Result<bool, AllocError>
         ensures is_added { IfOk result (λ is_added.
             is_added ≡ is_declarable (self.old, declaration_view declaration.entry)) }
         ensures added { IfOk result (λ is_added.

@@ -34,7 +34,7 @@ impl<'t> Declared<'t> {
     ghost use Rattle.cudf_text.specs.Chars.{trim};
     ghost use Rattle.cudf_value.specs.Types.{is_of_type};
     ghost use Rattle.cudf_value.specs.Promises.Views.{formula_view};
-    ghost use Rattle.cudf_value.specs.Promises.Types.{declaration_view};
+    ghost use Rattle.cudf_value.specs.Promises.Types.{type_view, declaration_view};
     ghost use Rattle.cudf_document.specs.Preamble.{is_formula_type};
     ghost use Rattle.cudf_document.specs.Working.Reads.{formula_value};
 
@@ -52,6 +52,13 @@ impl<'t> Declared<'t> {
         ensures { result.now ≡ self.now.name }
     {
         self.declaration.name
+    }
+
+    /// The declared type.
+    pub(crate) fn kind(&self) -> &ValueType<'t>
+        ensures { type_view result.now ≡ self.now.kind }
+    {
+        &self.declaration.kind
     }
 
     pub(crate) fn has_default(&self) -> bool

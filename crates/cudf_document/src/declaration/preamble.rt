@@ -1,5 +1,5 @@
 //! The preamble: what it declares.
-ghost use Rattle.std.specs.Prelude.{◌≡◌, [], ◌++◌, bytes_eq, Some, None, IfOk, OnOk, if◌then◌else◌};
+ghost use Rattle.std.specs.Prelude.{◌≡◌, [], ◌++◌, map, bytes_eq, Some, None, IfOk, OnOk, if◌then◌else◌};
 ghost use Rattle.indexmap.specs.IndexSet.{insert_key};
 ghost use Rattle.cudf_text.specs.Promises.Views.{property_view, stanza_view};
 ghost use Rattle.cudf_document.specs.Faults.{least};
@@ -70,4 +70,34 @@ fn fault_unless(is_well: bool, line: u64, kind: Kind) -> Option<Fault>
     } else {
         Some(Fault { line, kind })
     }
+}
+
+/// Adds what these properties of a preamble declare, each in its turn; a bad declaration adds nothing.
+pub(crate) fn declare_all<'t>(
+    alloc: Global,
+    declarations: &mut Declarations<'t>,
+    properties: &[PropertyRef<'t>],
+) -> Result<(), AllocError>
+    ensures { OnOk result (declarations.new
+        ≡ declared_after declarations.old (map property_view properties.now)) }
+{
+    for property in properties {
+        declare(alloc, declarations, property)?;
+    }
+    Ok(())
+}
+
+/// Adds what a property of a preamble declares.
+pub(crate) fn declare<'t>(
+    alloc: Global,
+    declarations: &mut Declarations<'t>,
+    property: &PropertyRef<'t>,
+) -> Result<(), AllocError>
+    ensures { OnOk result (declarations.new
+        ≡ declarations.old ++ added_by declarations.old (property_view property.now)) }
+{
+    if property.name == "property" {
+        declarations.add(alloc, property.value)?;
+    }
+    Ok(())
 }

@@ -1,4 +1,4 @@
-//! The numbers that the initial status gives of the names that are to be upgraded.
+//! The numbers that the initial status gives.
 ghost use Rattle.std.specs.Prelude.{◌≡◌, List, ℕ, None, map, bytes_eq, IfOk, OnOk, if◌then◌else◌};
 ghost use Rattle.std.specs.FinSet as set;
 ghost use Rattle.cudf_value.specs.Promises.Views.{vpkg_view};
@@ -14,7 +14,7 @@ use std::alloc::{AllocError, Global};
 /// Names with the greatest number of each, as a version or by a versioned feature; features without
 /// a number don't count (own).
 #[derive(Drop)]
-struct NumberedNames<'t> {
+pub(super) struct NumberedNames<'t> {
     greatest: IndexMap<&'t str, u64>,
 }
 
@@ -58,7 +58,7 @@ impl<'t> NumberedNames<'t> {
     }
 
     /// The greatest number of the name.
-    fn find(&self, name: &str) -> Option<u64>
+    pub(super) fn find(&self, name: &str) -> Option<u64>
         ensures { result ≡ kept_greatest name.now self.now }
     {
         self.greatest.get(name).copied()
@@ -66,7 +66,7 @@ impl<'t> NumberedNames<'t> {
 }
 
 /// The numbers of all names that the status gives.
-fn numbered<'t>(
+pub(super) fn numbered<'t>(
     alloc: Global,
     problem: &Problem<'t>,
     status: &Status,

@@ -1,8 +1,9 @@
 //! Statuses of few and of many packages, provisions and numbers: what is kept of each is built, and memory is missed in
 //! none.
-use cudf_referee::Referee;
+use cudf_referee::{Explainer, Referee};
 use cudf_text::{Text, is_fail, read};
-use cudf_universe::{Index, Mode, Problem, initial, read_problem, read_solution};
+use cudf_universe::{Index, Mode, Problem, Providers, initial, read_problem, read_solution};
+use cudf_value::{Relop, Vpkg};
 use std::alloc::{AllocError, Global};
 
 /// How many versions of `p` there are, from 1 on; how many of `f`, from 1 on, each of them provides; whether they are
@@ -41,7 +42,11 @@ fn is_kept(alloc: Global, row: &Row) -> bool {
 
 fn is_kept_of(alloc: Global, text: &Text<'_>, row: &Row) -> bool {
     match read_problem(alloc, text, Mode::Lenient) {
-        Ok(problem) => is_indexed(alloc, &problem, row) && is_judged(alloc, &problem, text),
+        Ok(problem) => {
+            is_indexed(alloc, &problem, row)
+                && is_provided(alloc, &problem, row)
+                && is_judged(alloc, &problem, text, row)
+        }
         Err(_) => false,
     }
 }
@@ -56,16 +61,41 @@ fn is_indexed(alloc: Global, problem: &Problem<'_>, row: &Row) -> bool {
     }
 }
 
-/// Whether the problem's own text, as a solution, is one.
-fn is_judged(alloc: Global, problem: &Problem<'_>, text: &Text<'_>) -> bool {
+/// Whether the first package is found that has the name `p`, and the first that gives the last `f`, installed or not.
+fn is_provided(alloc: Global, problem: &Problem<'_>, row: &Row) -> bool {
+    let first = if row.0 > 0 { Some(1) } else { None };
+    let first_given = if row.1 > 0 { first } else { None };
+    let last = Vpkg {
+        name: "f",
+        bound: Some((Relop::Eq, row.1)),
+    };
+    match Providers::build(alloc, problem) {
+        Ok(providers) => (providers.first_named("p"), providers.first_meeting(&last))
+            == (first, first_given),
+        Err(_) => false,
+    }
+}
+
+/// Whether the problem's own text, as a solution, is one, and its numbers are those of before.
+fn is_judged(alloc: Global, problem: &Problem<'_>, text: &Text<'_>, row: &Row) -> bool {
     if is_fail(text.source) {
         return false;
     }
     match read_solution(alloc, text, problem, Mode::Lenient) {
         Ok(solution) => match Referee::new(alloc, problem, &solution) {
-            Ok(referee) => referee.is_solution(),
+            Ok(referee) => referee.is_solution() && is_explained(alloc, &referee, row),
             Err(_) => false,
         },
+        Err(_) => false,
+    }
+}
+
+fn is_explained(alloc: Global, referee: &Referee<'_, '_>, row: &Row) -> bool {
+    match Explainer::new(alloc, referee) {
+        Ok(explainer) => {
+            (explainer.greatest("p"), explainer.greatest_before("p")) == (row.3, row.3)
+                && (explainer.greatest("f"), explainer.greatest_before("f")) == (row.4, row.4)
+        }
         Err(_) => false,
     }
 }

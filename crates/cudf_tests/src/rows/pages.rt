@@ -23,6 +23,7 @@ fn page(alloc: Global, inputs: Inputs<'_>, after: Option<Key>, limit: u64) -> Op
     let job = Job::Check {
         after,
         limit: Some(limit),
+        explain: false,
     };
     let answer = run(
         alloc,

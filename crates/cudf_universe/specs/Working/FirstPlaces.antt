@@ -22,6 +22,10 @@ meets_beside except bound g = is_other except g.place && number_meets bound g.nu
 abbrev pub first_place_of : Option ℕ → Option (Relop × ℕ) → List Provision → Option ℕ
 first_place_of except bound row = option_map (λ g. g.place) (find (meets_beside except bound) row)
 
+-- the place of the first provision that is a package's own version
+abbrev pub first_version_of : List Provision → Option ℕ
+first_version_of row = option_map (λ g. g.place) (find (λ g. g.is_version) row)
+
 -- the place that is named is the only one
 abbrev pub is_sole : Option ℕ → Option ℕ → Bool
 is_sole None sole = false

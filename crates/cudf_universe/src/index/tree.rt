@@ -1,7 +1,7 @@
 //! The provisions of a name in the order of their places, to be searched by halves.
 ghost use Rattle.std.specs.Prelude.{◌≡◌, IfOk, map};
 ghost use Rattle.cudf_universe.specs.Working.Members.{is_other};
-ghost use Rattle.cudf_universe.specs.Working.FirstPlaces.{first_place_of, number_meets, is_sole, may_meet};
+ghost use Rattle.cudf_universe.specs.Working.FirstPlaces.{first_place_of, first_version_of, number_meets, is_sole, may_meet};
 
 use crate::index::entries::{Entries, Met, is_below_one};
 use crate::index::gathered_names::{Provision, completed};
@@ -103,6 +103,25 @@ impl ProvisionTree {
             }
         }
     }
+
+    /// The place of the first of them that is a package's own version. A half is entered only where it holds one, or
+    /// is read one by one.
+    pub(crate) fn first_version(&self) -> Option<u64>
+        ensures { result ≡ first_version_of self.now }
+    {
+        match &self.node {
+            Node::Few(few) => first_version_of(few),
+            Node::Halves(entries, front, back) => {
+                if !entries.is_package {
+                    return None;
+                }
+                match front.first_version() {
+                    None => back.first_version(),
+                    found => found,
+                }
+            }
+        }
+    }
 }
 
 /// Whether one of the provisions meets the bound, and not all of them are at `except`.
@@ -133,6 +152,14 @@ fn first_of(row: &[Provision], bound: Option<(Relop, u64)>, except: Option<u64>)
 {
     row.iter()
         .find(|provision| is_other(except, provision.place) && meets_bound(**provision, bound))
+        .map(|provision| provision.place)
+}
+
+fn first_version_of(row: &[Provision]) -> Option<u64>
+    ensures { result ≡ first_version_of row.now }
+{
+    row.iter()
+        .find(|provision| provision.is_version)
         .map(|provision| provision.place)
 }
 

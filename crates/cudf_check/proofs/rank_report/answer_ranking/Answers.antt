@@ -4,6 +4,7 @@ use Rattle.cudf_document.specs.Universe.{plain_problem}
 use Rattle.cudf_check.specs.RankReport.{rank_report, ranked_report, placed_faults, first_faulty_or, entrants}
 use Rattle.cudf_check.specs.Report.{problem_fault}
 use Rattle.cudf_check.proofs.AnswerLemmas.{memory_first}
+use Rattle.cudf_check.proofs.ReadingLemmas.{problem_is_text}
 use Rattle.cudf_check.proofs.rank_report.answer_ranking.Goals as goal
 
 pub returns-in-Err : goal.returns-in-Err
@@ -13,7 +14,7 @@ returns-in-Err g c =
     let solutions = map (λ b. b.items) c.args.solutions.now in
     c.answer_unread.ensures (problem_fault mode c.args.problem.now)
     (first_faulty_or (placed_faults mode solutions) (ranked_report c.args.aims.now (entrants (plain_problem (plain_text c.args.problem.now)) solutions)))
-    c.in-Err.ensures.fault
+    (problem_is_text mode c.args.problem.now) c.in-Err.ensures.fault
 
 pub returns : goal.returns
 returns g c = memory_first _ _

@@ -1,16 +1,19 @@
 use Rattle.std.proofs.Common.{if◌then◌else◌, sym, subst, codes}
 use Rattle.cudf_text.specs.Joined.{is_fail}
 use Rattle.cudf_check.specs.declared.outcome.Outcome.TheVariants.{Fail}
-use Rattle.cudf_check.specs.Report.{alone, faulty_or, solution_fault}
+use Rattle.cudf_check.specs.Report.{alone, faulty_or, solution_fault, told}
 use Rattle.cudf_check.specs.Working.Unjudged.{IsUnjudged}
 use Rattle.cudf_check.proofs.AnswerLemmas.{answers_as}
+use Rattle.cudf_check.proofs.ReadingLemmas.{solution_is_text}
 use Rattle.cudf_check.proofs.report.answer_unjudged.Goals as goal
 
 pub returns-in-SaysFail : goal.returns-in-SaysFail
-returns-in-SaysFail g c = λ mode bytes report is.
+returns-in-SaysFail g c = λ mode report is.
+    let bytes = c.args.solution.bytes.now in
     let unjudged = subst (IsUnjudged mode bytes) c.in-SaysFail.is is in
-    answers_as _ _ _ _ _ (λ k. faulty_or (codes "solution") (sym unjudged.0 k) (if sym unjudged.1 k then alone (codes "solution FAIL") Fail else report)) c.answer.ensures
+    answers_as _ _ _ _ _ (λ k. faulty_or c.args.solution.whose.now (told c.args.solution.explain bytes) (sym unjudged.0 k) (if sym unjudged.1 k then alone (codes "solution FAIL") Fail else report)) c.answer.ensures
 
 pub returns-in-Unread : goal.returns-in-Unread
-returns-in-Unread g c = λ mode bytes report is.
-    c.answer_unread.ensures (solution_fault mode bytes) (if is_fail bytes then alone (codes "solution FAIL") Fail else report) (subst (IsUnjudged mode bytes) c.in-Unread.is is)
+returns-in-Unread g c = λ mode report is.
+    let bytes = c.args.solution.bytes.now in
+    c.answer_unread.ensures (solution_fault mode bytes) (if is_fail bytes then alone (codes "solution FAIL") Fail else report) (solution_is_text mode bytes) (subst (IsUnjudged mode bytes) c.in-Unread.is is)

@@ -9,7 +9,6 @@ pub returns : goal.returns
 returns g c =
     let s = c.args.referee.now in
     let what = what_view c.args.instance.now.what in
-    let met = c.meeting-met.ensures s.problem c.packages.ensures ∙ ap (option_and_then (package_at s.problem)) c.met_by.ensures in
+    let met = c.package_at-met.ensures s.problem c.packages.ensures ∙ ap (option_and_then (package_at s.problem)) c.met_by.ensures in
     c.print_key.ensures ▸ c.print_subject.ensures ▸ c.text.ensures ▸ c.number.ensures ▸ c.text-2.ensures
     ▸ Says-as _ _ _ _ _ (λ k. what_text what (c.aspect.ensures k) (met k)) c.print_what.ensures
-    ▸ c.text-3.ensures

@@ -1,0 +1,22 @@
+-- Laws of explained lines, over the definitions alone: own.
+use Rattle.std.specs.Prelude.{◌≡◌, ℕ, true, false, List, ◌++◌, Option, None}
+use Rattle.cudf_text.specs.declared.fault.Fault.{Fault}
+use Rattle.cudf_document.specs.Details.{PlainDetail}
+use Rattle.cudf_referee.specs.Instances.{PlainInstance}
+use Rattle.cudf_referee.specs.Proposals.{Proposal}
+use Rattle.cudf_check.specs.Report.{line, faulty, instance_line}
+
+-- the explained line is the plain one with something added behind its text
+pub record AddsBehind (plain explained : List ℕ) : Type 0 where
+  pub text : List ℕ
+  pub added : List ℕ
+  pub plain_is : plain ≡ line text
+  pub explained_is : explained ≡ text ++ line added
+
+-- so are the lines of instances
+abbrev pub AddsToInstances : Type 0
+AddsToInstances = (s : Proposal) (i : PlainInstance) → AddsBehind (instance_line false s i) (instance_line true s i)
+
+-- and those of faults
+abbrev pub AddsToFaults : Type 0
+AddsToFaults = (whose : List ℕ) (f : Fault) (detail : Option PlainDetail) → AddsBehind (faulty whose f None).text (faulty whose f detail).text

@@ -1,0 +1,8 @@
+-- What contracts see of who prints the lines of instances.
+use Rattle.std.specs.Prelude.{Bool}
+use Rattle.cudf_referee.specs.Proposals.{Proposal}
+
+-- what is judged, and whether lines are explained
+pub record Wording : Type 0 where
+  pub judged : Proposal
+  pub explain : Bool

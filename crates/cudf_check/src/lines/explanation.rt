@@ -1,0 +1,142 @@
+//! Prints what the problem says beside a violated instance.
+ghost use Rattle.std.specs.Prelude.{◌++◌, Some, option_map, true};
+ghost use Rattle.cudf_document.specs.Promises.Views.{package_view};
+ghost use Rattle.cudf_referee.specs.Promises.Views.{instance_view};
+ghost use Rattle.cudf_check.specs.Explanations.{stanza_text, would_do_text, named_text, number_text, upgrade_added, unknown_added, instance_added};
+ghost use Rattle.cudf_check.specs.Working.Paper.{Says};
+
+use crate::device::Sink;
+use crate::lines::instance::package_at;
+use crate::paper::Paper;
+use cudf_document::Package;
+use cudf_referee::{Aspect, Explainer, Instance, What};
+
+/// Prints where a package stands.
+fn print_stanza<W: Sink>(paper: &mut Paper<'_, W>, package: &Package<'_>)
+    ensures { Says W.state paper.old paper.new (stanza_text (package_view «package».now)) }
+{
+    paper.text(package.name);
+    paper.text(" ");
+    paper.number(package.version);
+    paper.text(" line ");
+    paper.number(package.line);
+}
+
+/// Prints the package that alone would do, or that none would.
+fn print_would_do<W: Sink>(paper: &mut Paper<'_, W>, does: Option<&Package<'_>>)
+    ensures { Says W.state paper.old paper.new (would_do_text (option_map (λ p. package_view p.now) does.entry)) }
+{
+    match does {
+        Some(package) => {
+            paper.text("; ");
+            print_stanza(paper, package);
+            paper.text(" would do");
+        }
+        None => paper.text("; nothing in the problem would do"),
+    }
+}
+
+/// Prints the first package of a name, or that there is none.
+fn print_named<W: Sink>(paper: &mut Paper<'_, W>, name: &str, named: Option<&Package<'_>>)
+    ensures { Says W.state paper.old paper.new (named_text name.now (option_map (λ p. package_view p.now) named.entry)) }
+{
+    match named {
+        Some(package) => {
+            paper.text("; the problem has ");
+            print_stanza(paper, package);
+        }
+        None => {
+            paper.text("; the problem has no ");
+            paper.text(name);
+        }
+    }
+}
+
+/// Prints a number of an entry of `upgrade` that is violated by it, and a text behind it.
+fn print_number<W: Sink>(paper: &mut Paper<'_, W>, number: Option<u64>, behind: &str)
+    ensures { Says W.state paper.old paper.new (number_text number ++ behind.now) }
+{
+    paper.number(number.unwrap_or(0));
+    paper.text(behind);
+}
+
+/// Prints what is added where an entry of `upgrade` is violated in this way.
+fn print_aspect<W: Sink>(
+    paper: &mut Paper<'_, W>,
+    explainer: &Explainer<'_, '_, '_>,
+    name: &str,
+    does: Option<&Package<'_>>,
+    aspect: Aspect,
+)
+    ensures { Says W.state paper.old paper.new (upgrade_added explainer.now name.now (option_map (λ p. package_view p.now) does.entry) (Some aspect)) }
+{
+    match aspect {
+        Aspect::Unsatisfied => print_would_do(paper, does),
+        Aspect::Many => {
+            paper.text("; ");
+            print_number(paper, explainer.least(name), " and ");
+            print_number(paper, explainer.greatest(name), " now");
+        }
+        Aspect::Lower => {
+            paper.text("; ");
+            print_number(paper, explainer.least(name), " now, ");
+            print_number(paper, explainer.greatest_before(name), " before");
+        }
+    }
+}
+
+/// Prints what is added to an entry of `upgrade`.
+fn print_upgrade<W: Sink>(
+    paper: &mut Paper<'_, W>,
+    explainer: &Explainer<'_, '_, '_>,
+    name: &str,
+    does: Option<&Package<'_>>,
+    aspect: Option<Aspect>,
+)
+    ensures { Says W.state paper.old paper.new (upgrade_added explainer.now name.now (option_map (λ p. package_view p.now) does.entry) aspect) }
+{
+    if let Some(aspect) = aspect {
+        print_aspect(paper, explainer, name, does, aspect);
+    }
+}
+
+/// Prints what is added to a stanza that isn't in the universe.
+fn print_unknown<W: Sink>(
+    paper: &mut Paper<'_, W>,
+    explainer: &Explainer<'_, '_, '_>,
+    subject: Option<(&str, u64)>,
+)
+    ensures { Says W.state paper.old paper.new (unknown_added explainer.now (option_map (λ s. (s.0.now, s.1)) subject.entry)) }
+{
+    if let Some((name, _)) = subject {
+        let packages = explainer.referee().packages();
+        print_named(
+            paper,
+            name,
+            package_at(packages, explainer.first_named(name)),
+        );
+    }
+}
+
+/// Prints what is added to the line of an instance.
+pub(crate) fn print_explanation<W: Sink>(
+    paper: &mut Paper<'_, W>,
+    explainer: &Explainer<'_, '_, '_>,
+    instance: &Instance<'_, '_>,
+)
+    ensures { Says W.state paper.old paper.new (instance_added true explainer.now (instance_view instance.now)) }
+{
+    let packages = explainer.referee().packages();
+    let does = package_at(packages, explainer.would_do(instance));
+    let aspect = instance.key.aspect();
+    match instance.what {
+        What::Needs(_) | What::Install(_) => print_would_do(paper, does),
+        What::Upgrade(vpkg) => print_upgrade(paper, explainer, vpkg.name, does, aspect),
+        What::Unknown => print_unknown(paper, explainer, instance.subject),
+        What::ConflictsWith(_)
+        | What::KeepVersion
+        | What::KeepPackage
+        | What::KeepFeature(_)
+        | What::Remove(_) => {}
+    }
+}

@@ -1,0 +1,85 @@
+//! Prints the lines of violated instances, each with what is added to it, where lines are explained.
+use crate::device::Sink;
+use crate::lines::explanation::print_explanation;
+use crate::lines::instance::print_instance;
+use crate::paper::Paper;
+use cudf_referee::{Explainer, Instance, Referee};
+use std::alloc::{AllocError, Global};
+use std::marker::Model;
+
+/// Prints what a referee finds. Contracts see what is judged, and whether lines are explained.
+#[derive(Drop)]
+pub(crate) struct Scribe<'r, 'p, 't> {
+    referee: &'r Referee<'p, 't>,
+    explainer: Option<Explainer<'r, 'p, 't>>,
+}
+
+impl<'r, 'p, 't> Model for Scribe<'r, 'p, 't> {
+    ghost use Rattle.std.specs.Prelude.{◌≡◌, is_some, IfSome};
+    ghost use Rattle.cudf_check.specs.Working.Scribes.{Wording};
+
+    ghost Value = { Wording };
+
+    ghost view = { λ s. record { judged = s.referee.now; explain = is_some s.explainer } };
+
+    ghost invariant = { λ s. IfSome s.explainer (λ e. e ≡ s.referee.now) };
+}
+
+impl<'r, 'p, 't> Scribe<'r, 'p, 't> {
+    ghost use Rattle.std.specs.Prelude.{◌≡◌, IfOk};
+    ghost use Rattle.cudf_referee.specs.Promises.Views.{instance_view};
+    ghost use Rattle.cudf_check.specs.Explanations.{instance_added};
+    ghost use Rattle.cudf_check.specs.Report.{line, instance_line};
+    ghost use Rattle.cudf_check.specs.Working.Paper.{Says};
+
+    /// The scribe of a referee. Memory for what is added to lines is taken here.
+    ///
+    /// # Errors
+    ///
+    /// `AllocError` where that is refused.
+    pub(crate) fn new(
+        alloc: Global,
+        referee: &'r Referee<'p, 't>,
+        explain: bool,
+    ) -> Result<Self, AllocError>
+        ensures { IfOk result (λ s. s ≡ record { judged = referee.entry.now; explain = explain }) }
+    {
+        if !explain {
+            return Ok(Scribe {
+                referee,
+                explainer: None,
+            });
+        }
+        let explainer = Explainer::new(alloc, referee)?;
+        Ok(Scribe {
+            referee,
+            explainer: Some(explainer),
+        })
+    }
+
+    /// The referee.
+    pub(crate) fn referee(&self) -> &'r Referee<'p, 't>
+        ensures { result.now ≡ self.now.judged }
+    {
+        self.referee
+    }
+
+    /// Prints the line of an instance.
+    pub(crate) fn print_line<W: Sink>(&self, paper: &mut Paper<'_, W>, instance: &Instance<'_, '_>)
+        ensures { Says W.state paper.old paper.new (instance_line self.now.explain self.now.judged (instance_view instance.now)) }
+    {
+        print_instance(paper, self.referee, instance);
+        self.print_end(paper, instance);
+    }
+
+    /// Prints the end of the line of an instance, behind what is added to it.
+    fn print_end<W: Sink>(&self, paper: &mut Paper<'_, W>, instance: &Instance<'_, '_>)
+        ensures { Says W.state paper.old paper.new (line (instance_added self.now.explain self.now.judged (instance_view instance.now))) }
+    {
+        match &self.explainer {
+            Some(explainer) => print_explanation(paper, explainer, instance),
+            None => {}
+        }
+        paper.text("\n");
+    }
+}

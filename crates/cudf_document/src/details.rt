@@ -1,0 +1,53 @@
+//! What a document says beside its first fault.
+
+pub(crate) mod found;
+pub(crate) mod lacking;
+pub(crate) mod misdeclared;
+pub(crate) mod mistyped;
+pub(crate) mod of_fault;
+pub(crate) mod of_stanza;
+pub(crate) mod pair;
+
+/// What a document says beside its first fault (own). Lines count from 1 in the text that the fault is of.
+#[derive(Clone, Copy, Debug, PartialEq, Eq)]
+pub enum Detail<'t> {
+    /// Of E4: the name of the stanza's first property.
+    BeginsWith {
+        name: &'t str,
+    },
+    /// Of E6: the line of the request.
+    RequestOn {
+        line: u64,
+    },
+    /// Of E7: the name and the line of the first property of the stanza that has it.
+    NameOn {
+        name: &'t str,
+        line: u64,
+    },
+    /// Of E8: the name that nothing declares.
+    Undeclared {
+        name: &'t str,
+    },
+    /// Of E9: the property's name and the word of its type. Where a value is a list: the number of the
+    /// first entry between commas that is none of the type. It counts from 1.
+    Mistyped {
+        name: &'t str,
+        word: &'static str,
+        entry: Option<u64>,
+    },
+    /// Of E10: the number of the first declaration of the value that is none or that can't stand there. It
+    /// counts from 1.
+    Misdeclared {
+        declaration: u64,
+    },
+    /// Of E11 and E15: the pair and the postmark's line of the first package that has it.
+    PackageOn {
+        name: &'t str,
+        version: u64,
+        line: u64,
+    },
+    /// Of E14: the first name that is declared without a default and that the package lacks.
+    Lacking {
+        name: &'t str,
+    },
+}

@@ -1,0 +1,60 @@
+//! The detail of a fault, by its kind.
+ghost use Rattle.std.specs.Prelude.{◌≡◌, option_map, IfOk};
+ghost use Rattle.cudf_text.specs.Stanzas.{plain_text};
+ghost use Rattle.cudf_document.specs.Details.{fault_detail};
+ghost use Rattle.cudf_document.specs.Promises.Views.{detail_view};
+ghost use Rattle.cudf_document.specs.Working.Details.{is_of_pair, is_of_stanza};
+
+use crate::details::Detail;
+use crate::details::found::find_stanza;
+use crate::details::of_stanza::told;
+use crate::details::pair::earlier_package;
+use cudf_text::{Fault, Kind, Room, Stanzas};
+use std::alloc::{AllocError, Global};
+
+/// What a document, be it a problem or a solution, says beside this fault of it (own). It may be asked of any
+/// fault, whether or not the document has it.
+///
+/// `None` is answered of the kinds E1, E2, E3, E5, E12 and E13, for which nothing is read; of E10 where
+/// quotes or brackets are wrong; and where the document has nothing of what the kind tells. The document
+/// is read as far as the fault's line, and twice for E11 and E15.
+///
+/// # Errors
+///
+/// `AllocError` where memory is refused.
+pub fn detail<'t>(
+    alloc: Global,
+    source: &'t str,
+    room: &'t mut Room,
+    fault: Fault,
+) -> Result<Option<Detail<'t>>, AllocError>
+    ensures { IfOk result (λ d. option_map detail_view d ≡ fault_detail (plain_text source.now) fault) }
+{
+    if is_of_pair(fault.kind) {
+        return earlier_package(alloc, source, room, fault.line);
+    }
+    if !is_of_stanza(fault.kind) {
+        return Ok(None);
+    }
+    match find_stanza(alloc, Stanzas::new(alloc, source, room), fault.line)? {
+        Some(found) => told(alloc, &found, fault),
+        None => Ok(None),
+    }
+}
+
+/// Whether the kind speaks of an earlier package with the same name and version.
+fn is_of_pair(kind: Kind) -> bool
+    ensures { result ≡ is_of_pair kind }
+{
+    matches!(kind, Kind::E11 | Kind::E15)
+}
+
+/// Whether it is another kind of which something is told.
+fn is_of_stanza(kind: Kind) -> bool
+    ensures { result ≡ is_of_stanza kind }
+{
+    matches!(
+        kind,
+        Kind::E4 | Kind::E6 | Kind::E7 | Kind::E8 | Kind::E9 | Kind::E10 | Kind::E14
+    )
+}

@@ -1,0 +1,256 @@
+//! What a document says beside a fault, by kinds.
+use crate::table::shows;
+use cudf_document::detail;
+use cudf_text::{Fault, Kind, Room};
+use std::alloc::Global;
+
+/// A document, the line and the kind of a fault, and what is said beside it, as programmers are shown it.
+type DetailRow = (&'static str, u64, Kind, &'static str);
+
+/// Declared names, of which one has a default. The package has the others.
+const DECLARED: &str =
+    "preamble: 1\nproperty: a: nat = [1], b: nat\nproperty: c: enum[red,green], d: vpkglist\n\npackage: p\nversion: 1\nb: 2\nc: blue\nd: x, y z,\n";
+
+/// A preamble whose second value declares nothing, since its second declaration is none.
+const EARLIER: &str =
+    "preamble: 1\nproperty: a: int\nproperty: b: int, c\nproperty: b: nat, c: nat, a: nat\nproperty: b: nat,\n s: string = [\"x, y\"],\n b: int\n";
+
+/// Three packages of one pair, behind another of the name.
+const PAIRS: &str =
+    "package: a\nversion: 2\n\npackage: a\nversion: 1\n\npackage: a\nversion: 01\n\npackage: a\ninstalled: true\nversion: 001\n";
+
+const STANZAS: [DetailRow; 9] = [
+    (
+        "version: 1\nname: a\n\nrequest:\n",
+        1,
+        Kind::E4,
+        "Some(BeginsWith { name: \"version\" })",
+    ),
+    (
+        "package: a\nversion: 1\ninstalled: true\n\n# c\nmaker: x\npackage: b\n",
+        6,
+        Kind::E4,
+        "Some(BeginsWith { name: \"maker\" })",
+    ),
+    (
+        "package: a\nversion: 1\n\nrequest: r\n\npackage: b\nversion: 1\n",
+        6,
+        Kind::E6,
+        "Some(RequestOn { line: 4 })",
+    ),
+    (
+        "request: r\n\nrequest: s\n\npackage: b\nversion: 1\n",
+        5,
+        Kind::E6,
+        "Some(RequestOn { line: 1 })",
+    ),
+    (
+        "preamble: 1\nproperty: a: nat = [1], b: nat, c: nat\nproperty: d: int\n\npackage: p\nversion: 1\nb: 1\n",
+        7,
+        Kind::E14,
+        "Some(Lacking { name: \"c\" })",
+    ),
+    (
+        "package: a\nversion: 1\n\npackage: a\nversion: 01\n\nrequest:\n",
+        5,
+        Kind::E11,
+        "Some(PackageOn { name: \"a\", version: 1, line: 1 })",
+    ),
+    (
+        PAIRS,
+        12,
+        Kind::E11,
+        "Some(PackageOn { name: \"a\", version: 1, line: 4 })",
+    ),
+    (
+        PAIRS,
+        8,
+        Kind::E15,
+        "Some(PackageOn { name: \"a\", version: 1, line: 4 })",
+    ),
+    (
+        "package: lib\n c\nversion: 1\n\npackage: libc\nversion: 2\n\npackage:\n libc\nversion: +2\n",
+        10,
+        Kind::E15,
+        "Some(PackageOn { name: \"libc\", version: 2, line: 5 })",
+    ),
+];
+
+const PROPERTIES: [DetailRow; 20] = [
+    (
+        "package: a\nversion: 1\nversion: 1\n\nrequest:\n",
+        3,
+        Kind::E7,
+        "Some(NameOn { name: \"version\", line: 2 })",
+    ),
+    (
+        "request: r\nnote: x\n y\nnote:\nnote: z\n",
+        5,
+        Kind::E7,
+        "Some(NameOn { name: \"note\", line: 2 })",
+    ),
+    (
+        "package: a\nversion: 1\nsize: 3\n\nrequest:\n",
+        3,
+        Kind::E8,
+        "Some(Undeclared { name: \"size\" })",
+    ),
+    (
+        "package: a\nversion: 0\n\nrequest:\n",
+        2,
+        Kind::E9,
+        "Some(Mistyped { name: \"version\", word: \"posint\", entry: None })",
+    ),
+    (
+        "package: a b\nversion: 1\n",
+        1,
+        Kind::E9,
+        "Some(Mistyped { name: \"package\", word: \"pkgname\", entry: None })",
+    ),
+    (
+        "package: a\nversion: 1\ninstalled: yes\n",
+        3,
+        Kind::E9,
+        "Some(Mistyped { name: \"installed\", word: \"bool\", entry: None })",
+    ),
+    (
+        "package: a\nversion: 1\nkeep: never\n",
+        3,
+        Kind::E9,
+        "Some(Mistyped { name: \"keep\", word: \"enum\", entry: None })",
+    ),
+    (
+        "package: a\nversion: 1\ndepends: b | c, d\n |, e =\n",
+        3,
+        Kind::E9,
+        "Some(Mistyped { name: \"depends\", word: \"vpkgformula\", entry: Some(2) })",
+    ),
+    (
+        "package: a\nversion: 1\nconflicts:\n ,b\n",
+        3,
+        Kind::E9,
+        "Some(Mistyped { name: \"conflicts\", word: \"vpkglist\", entry: Some(1) })",
+    ),
+    (
+        "package: a\nversion: 1\nprovides: b = 1, c, d > 1\n",
+        3,
+        Kind::E9,
+        "Some(Mistyped { name: \"provides\", word: \"veqpkglist\", entry: Some(3) })",
+    ),
+    (
+        "package: a\nversion: 1\n\nrequest: r\nremove: b, c, d e\n",
+        5,
+        Kind::E9,
+        "Some(Mistyped { name: \"remove\", word: \"vpkglist\", entry: Some(3) })",
+    ),
+    (
+        DECLARED,
+        8,
+        Kind::E9,
+        "Some(Mistyped { name: \"c\", word: \"enum\", entry: None })",
+    ),
+    (
+        DECLARED,
+        9,
+        Kind::E9,
+        "Some(Mistyped { name: \"d\", word: \"vpkglist\", entry: Some(2) })",
+    ),
+    (
+        "preamble:\nproperty: version: int\n\nrequest:\n",
+        2,
+        Kind::E10,
+        "Some(Misdeclared { declaration: 1 })",
+    ),
+    (
+        "preamble:\nproperty: a: int\nproperty: b: nat, keep: int\n",
+        3,
+        Kind::E10,
+        "Some(Misdeclared { declaration: 2 })",
+    ),
+    (
+        EARLIER,
+        3,
+        Kind::E10,
+        "Some(Misdeclared { declaration: 2 })",
+    ),
+    (
+        EARLIER,
+        4,
+        Kind::E10,
+        "Some(Misdeclared { declaration: 3 })",
+    ),
+    (
+        EARLIER,
+        5,
+        Kind::E10,
+        "Some(Misdeclared { declaration: 3 })",
+    ),
+    (
+        "preamble:\nproperty: s: string = [\"x]\n",
+        2,
+        Kind::E10,
+        "None",
+    ),
+    ("preamble:\nproperty: e: enum[a, b\n", 2, Kind::E10, "None"),
+];
+
+/// Kinds of which nothing is told, and faults that the document hasn't.
+const NOTHING: [DetailRow; 13] = [
+    (DECLARED, 9, Kind::E14, "None"),
+    ("request r\n", 1, Kind::E1, "None"),
+    ("request r\n", 1, Kind::E2, "None"),
+    (" x\nrequest:\n", 1, Kind::E3, "None"),
+    (
+        "package: a\nversion: 1\n\npreamble:\n\nrequest:\n",
+        4,
+        Kind::E5,
+        "None",
+    ),
+    ("package: a\n\nrequest:\n", 1, Kind::E12, "None"),
+    ("package: a\nversion: 1\n", 2, Kind::E13, "None"),
+    ("package: a\nversion: 1\n", 3, Kind::E4, "None"),
+    ("package: a\nversion: 1\n", 1, Kind::E6, "None"),
+    ("package: a\n x\nversion: 1\n", 2, Kind::E7, "None"),
+    (
+        "package: a\nversion: 1\nwas-installed: x\n",
+        3,
+        Kind::E9,
+        "None",
+    ),
+    ("package: a\nversion: 1\n", 2, Kind::E11, "None"),
+    ("package: a\nversion: 1\n", 2, Kind::E14, "None"),
+];
+
+/// Whether this is said beside the row's fault.
+fn says(alloc: Global, row: &DetailRow) -> bool {
+    let mut room = Room::new(alloc);
+    let fault = Fault {
+        line: row.1,
+        kind: row.2,
+    };
+    match detail(alloc, row.0, &mut room, fault) {
+        Ok(detail) => shows(alloc, &detail, row.3),
+        Err(_) => false,
+    }
+}
+
+#[test]
+fn stanzas(rt: HostRuntime) {
+    for row in &STANZAS {
+        assert!(rt; says(rt.alloc(), row), "{}", row.3);
+    }
+}
+
+#[test]
+fn properties(rt: HostRuntime) {
+    for row in &PROPERTIES {
+        assert!(rt; says(rt.alloc(), row), "{}", row.3);
+    }
+}
+
+#[test]
+fn nothing(rt: HostRuntime) {
+    for row in &NOTHING {
+        assert!(rt; says(rt.alloc(), row), "{}", row.0);
+    }
+}

@@ -1,0 +1,5 @@
+use Rattle.cudf_referee.proofs.ExplanationLemmas.{nothing_does}
+use Rattle.cudf_referee.proofs.laws.nothing.Goals as goal
+
+pub returns : goal.returns
+returns c = nothing_does

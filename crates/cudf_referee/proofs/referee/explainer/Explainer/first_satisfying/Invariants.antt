@@ -1,0 +1,8 @@
+use Rattle.std.proofs.Common.{◌≡◌, map, take}
+use Rattle.cudf_value.specs.Promises.Views.{atom_view}
+use Rattle.cudf_universe.specs.Satisfaction.{first_satisfying}
+use Rattle.cudf_referee.specs.Criteria.{universe}
+use Rattle.cudf_referee.proofs.referee.explainer.Explainer.first_satisfying.Given as goal
+
+abbrev pub invariant-loop-atom : goal.invariant-loop-atom
+invariant-loop-atom l = l.first ≡ first_satisfying (universe l.self) (map atom_view (take l.atom-index l.atom-items))

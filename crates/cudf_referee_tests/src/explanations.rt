@@ -1,0 +1,79 @@
+//! What would help where an instance is violated.
+use cudf_referee::{Explainer, Referee, laws};
+use cudf_text::{Text, is_fail, read};
+use cudf_universe::{Mode, Problem, read_problem, read_solution};
+use std::alloc::Global;
+
+/// Two versions of one name that can't both be there, and of another name what gives a feature.
+const CARS: &str =
+    "package: car\nversion: 1\ndepends: wheel > 1 | door, seat\nconflicts: car\n\npackage: car\nversion: 2\ninstalled: true\n\npackage: wheel\nversion: 3\n\npackage: bus\nversion: 4\nprovides: door\n\nrequest: r\ninstall: bus > 4, bus = 4\nupgrade: car > 2, car\n";
+
+/// The first version alone, and a pair that isn't in the universe.
+const FIRST_CAR: &str =
+    "package: car\nversion: 1\ninstalled: true\n\npackage: car\nversion: 9\ninstalled: true\n";
+
+/// For each violated instance the package that would do: of `depends` the wheel, which comes before the bus, and no
+/// seat; of `install` no bus above 4, and the bus; of `upgrade` no car above 2, neither of the entry that isn't satisfied
+/// nor of the one that is lower, and the first car; and none for the pair beyond the universe.
+const WOULD_DO: [Option<u64>; 8] = [Some(3), None, None, Some(4), None, None, Some(1), None];
+
+fn is_explained(alloc: Global, referee: &Referee<'_, '_>) -> bool {
+    match Explainer::new(alloc, referee) {
+        Ok(explainer) => would_do(&explainer) && has_numbers(&explainer),
+        Err(_) => false,
+    }
+}
+
+fn would_do(explainer: &Explainer<'_, '_, '_>) -> bool {
+    let mut place = 0;
+    for instance in explainer.referee().instances() {
+        if WOULD_DO.get(place) != Some(&explainer.would_do(&instance)) {
+            return false;
+        }
+        place += 1;
+    }
+    place == WOULD_DO.len()
+}
+
+fn has_numbers(explainer: &Explainer<'_, '_, '_>) -> bool {
+    (explainer.least("car"), explainer.greatest("car")) == (Some(1), Some(1))
+        && (explainer.least("bus"), explainer.greatest("bus")) == (None, None)
+        && (
+            explainer.greatest_before("car"),
+            explainer.greatest_before("bus"),
+        ) == (Some(2), None)
+        && (explainer.first_named("car"), explainer.first_named("door")) == (Some(1), None)
+}
+
+fn is_judged(alloc: Global, problem: &Problem<'_>, text: &Text<'_>) -> bool {
+    if is_fail(text.source) {
+        return false;
+    }
+    match read_solution(alloc, text, problem, Mode::Lenient) {
+        Ok(solution) => match Referee::new(alloc, problem, &solution) {
+            Ok(referee) => is_explained(alloc, &referee),
+            Err(_) => false,
+        },
+        Err(_) => false,
+    }
+}
+
+fn is_judged_of_cars(alloc: Global) -> bool {
+    match (
+        read(alloc, CARS.as_bytes()),
+        read(alloc, FIRST_CAR.as_bytes()),
+    ) {
+        (Ok(problem), Ok(solution)) => match read_problem(alloc, &problem, Mode::Lenient) {
+            Ok(problem) => is_judged(alloc, &problem, &solution),
+            Err(_) => false,
+        },
+        _ => false,
+    }
+}
+
+#[test]
+fn explanations(rt: HostRuntime) {
+    assert!(rt; is_judged_of_cars(rt.alloc()));
+    laws::does();
+    laws::nothing();
+}

@@ -1,0 +1,10 @@
+-- The provisions of each name, in the order of their places (own).
+use Rattle.std.specs.Prelude.{ℕ, List, bytes_eq}
+use Rattle.cudf_universe.specs.Working.FirstPlaces.{tree_items}
+use Rattle.cudf_universe.specs.Working.Kept.{found}
+use Rattle.cudf_universe.specs.declared.index.gathered_names.Provision.{Provision}
+use Rattle.cudf_universe.specs.declared.index.named_trees.NamedTrees.{NamedTrees}
+
+-- the provisions of a name
+abbrev pub tree_of : List ℕ → NamedTrees → List Provision
+tree_of f named = tree_items (found (λ k. bytes_eq f k.now) named.names.keys named.trees.items)

@@ -1,0 +1,145 @@
+"""What `--explain` adds to the lines of a second implementation, as docs/FORMAT.md tells it. Python's standard library
+alone.
+"""
+import re
+
+from documents import declared_by, package_id, read_stanzas
+from universe import satisfies, satisfies_clause
+from values import ENTRIES, WORDS, read_declarations, wrong_declaration, wrong_entry
+
+
+def behind(line, added):
+    """A line with what is added to it."""
+    return f"{line}; {added}" if added else line
+
+
+# ---- instances
+
+
+def place_of(package):
+    return f"{package.words()} line {package.line}"
+
+
+class Explainer:
+    """What the whole problem has for what isn't satisfied, each clause and entry looked up once."""
+
+    def __init__(self, packages):
+        self.packages, self.known = packages, {}
+
+    def would_do(self, wanted, is_satisfied):
+        """The first package that alone does it."""
+        if wanted not in self.known:
+            found = next((package for package in self.packages if is_satisfied([package], wanted)), None)
+            self.known[wanted] = f"{place_of(found)} would do" if found else "nothing in the problem would do"
+        return self.known[wanted]
+
+    def clause(self, clause):
+        return self.would_do(clause, satisfies_clause)
+
+    def entry(self, vpkg):
+        return self.would_do(vpkg, satisfies)
+
+    def name(self, name):
+        """The first package of a name."""
+        found = next((package for package in self.packages if package.name == name), None)
+        return f"the problem has {place_of(found)}" if found else f"the problem has no {name}"
+
+
+def many(now):
+    return f"{min(now)} and {max(now)} now"
+
+
+def lower(now, before):
+    return f"{min(now)} now, {max(before)} before"
+
+
+# ---- faults: of a line, the stanza in which it stands, and all stanzas
+
+
+def property_on(line, stanza):
+    """The name and the value of the property that begins on this line."""
+    return next((name, value) for on, name, value in stanza.properties if on == line)
+
+
+def without_postmark(_line, stanza, _stanzas):
+    return f"it begins with {stanza.mark()}"
+
+
+def behind_the_request(_line, _stanza, stanzas):
+    request = next(stanza for stanza in stanzas if stanza.mark() == "request")
+    return f"the request stands on line {request.line}"
+
+
+def repeated_property(line, stanza, _stanzas):
+    name, _ = property_on(line, stanza)
+    return f"{name} stands on line {stanza.line_of(name)}"
+
+
+def undeclared(line, stanza, _stanzas):
+    return f"nothing declares {property_on(line, stanza)[0]}"
+
+
+def type_word(name, stanza, stanzas):
+    """The word of a property's type; a declared name may be one of the request's."""
+    if stanza.mark() == "request":
+        return "vpkglist"
+    return WORDS[name] if name in WORDS else declared_by(stanzas)[name].kind
+
+
+def wrong_value(line, stanza, stanzas):
+    name, value = property_on(line, stanza)
+    word = type_word(name, stanza, stanzas)
+    entry = f", entry {wrong_entry(word, value)}" if word in ENTRIES else ""
+    return f"{name} is no {word}{entry}"
+
+
+def bad_declaration(line, stanza, _stanzas):
+    before = {}
+    for on, name, value in stanza.properties:
+        if on == line:
+            place = wrong_declaration(value, before)
+            return f"declaration {place}" if place else ""
+        before.update(read_declarations(value, before) or {} if name == "property" else {})
+    raise ValueError(f"no property begins on line {line}")
+
+
+def repeated_pair(_line, stanza, stanzas):
+    pair = package_id(stanza)
+    first = next(other for other in stanzas if other.mark() == "package" and package_id(other) == pair)
+    return f"{pair[0]} {pair[1]} stands on line {first.line}"
+
+
+def missing_property(_line, stanza, stanzas):
+    declared = declared_by(stanzas).items()
+    return "it lacks " + next(name for name, known in declared if known.default is None and stanza.value(name) is None)
+
+
+ADDED = {
+    4: without_postmark, 6: behind_the_request, 7: repeated_property, 8: undeclared, 9: wrong_value, 10: bad_declaration,
+    11: repeated_pair, 14: missing_property, 15: repeated_pair,
+}
+
+
+def fault_detail(data, fault):
+    """What is added to the first fault of a document; nothing where its kind has nothing."""
+    line, kind = fault
+    if kind not in ADDED:
+        return ""
+    stanzas = read_stanzas(data.decode())[0]
+    stanza = next(stanza for stanza in stanzas if stanza.line <= line <= stanza.last)
+    return ADDED[kind](line, stanza, stanzas)
+
+
+# ---- how often each was told
+
+KINDS = (
+    r": (E9) .*; \S+ is no (\w+), entry (\d+)", r": (E9) .*; \S+ is no (\w+)", r": (E10) .*; (declaration) (\d+)", r": (E\d+) .*;",
+    r": (E10) bad declaration$", r"^\w+\.(depends|install|upgrade)\..*; (nothing)\b", r"^\w+\.(depends|install|upgrade)\..* (do)",
+    r"^s\.(unknown)\..* (no) \S+$", r"^s\.(unknown)\..*;", r"^r\.upgrade\.\d+\.(many|lower) .*;",
+)
+
+
+def kind_of(line):
+    """What kind of thing a line was told with, or None."""
+    found = next((found for kind in KINDS if (found := re.search(kind, line))), None)
+    return found and " ".join("N" if part.isdecimal() and part != "1" else part for part in found.groups())
