@@ -1,4 +1,4 @@
-//! Prints an instance, and keys.
+//! Prints the parts of an instance, and keys.
 ghost use Rattle.std.specs.Prelude.{◌≡◌, ◌++◌, Some, map, option_map, option_and_then};
 ghost use Rattle.cudf_value.specs.Promises.Views.{vpkg_view, atom_view, clause_view};
 ghost use Rattle.cudf_value.specs.Printing.{vpkg_text, atom_text, clause_text};
@@ -6,15 +6,14 @@ ghost use Rattle.cudf_document.specs.Promises.Views.{package_view};
 ghost use Rattle.cudf_document.specs.Universe.{PlainProblem, package_at};
 ghost use Rattle.cudf_referee.specs.Keys.{key_text, part_text, aspect_text};
 ghost use Rattle.cudf_referee.specs.KeyViews.{key_view};
-ghost use Rattle.cudf_referee.specs.Promises.Views.{instance_view, what_view};
-ghost use Rattle.cudf_referee.specs.Violations.{met_by};
-ghost use Rattle.cudf_check.specs.Report.{meeting_text, upgrade_text, what_text, subject_text, met_text};
+ghost use Rattle.cudf_referee.specs.Promises.Views.{what_view};
+ghost use Rattle.cudf_check.specs.Report.{meeting_text, upgrade_text, what_text, subject_text};
 ghost use Rattle.cudf_check.specs.Working.Paper.{Says};
 
 use crate::device::Sink;
 use crate::paper::Paper;
 use cudf_document::Package;
-use cudf_referee::{Aspect, Instance, Key, Part, Referee, What};
+use cudf_referee::{Aspect, Key, Part, What};
 use cudf_value::{Atom, Clause, Vpkg};
 
 /// Prints a vpkg, with its bound, if it has one.
@@ -112,7 +111,7 @@ fn print_met<W: Sink>(
 }
 
 /// Prints what is wrong, with the package that meets the entry.
-fn print_what<W: Sink>(
+pub(crate) fn print_what<W: Sink>(
     paper: &mut Paper<'_, W>,
     what: &What<'_, '_>,
     aspect: Option<Aspect>,
@@ -179,7 +178,7 @@ pub(crate) fn print_key<W: Sink>(paper: &mut Paper<'_, W>, key: Key)
 }
 
 /// Prints the name and version that an instance is about, if there are any.
-fn print_subject<W: Sink>(paper: &mut Paper<'_, W>, subject: Option<(&str, u64)>)
+pub(crate) fn print_subject<W: Sink>(paper: &mut Paper<'_, W>, subject: Option<(&str, u64)>)
     ensures { Says W.state paper.old paper.new (subject_text (option_map (λ s. (s.0.now, s.1)) subject.entry)) }
 {
     if let Some((name, version)) = subject {
@@ -199,21 +198,4 @@ pub(crate) fn package_at<'x, 't>(
         → option_map (λ p. package_view p.now) result ≡ option_and_then (package_at problem) place }
 {
     packages.get((place? as usize).checked_sub(1)?)
-}
-
-/// Prints an instance, without the end of its line.
-pub(crate) fn print_instance<W: Sink>(
-    paper: &mut Paper<'_, W>,
-    referee: &Referee<'_, '_>,
-    instance: &Instance<'_, '_>,
-)
-    ensures { Says W.state paper.old paper.new (met_text (instance_view instance.now) (option_and_then (package_at referee.entry.now.problem) (met_by referee.entry.now.proposed (instance_view instance.now)))) }
-{
-    let met = package_at(referee.packages(), referee.met_by(instance));
-    print_key(paper, instance.key);
-    print_subject(paper, instance.subject);
-    paper.text(" line ");
-    paper.number(instance.line);
-    paper.text(": ");
-    print_what(paper, &instance.what, instance.key.aspect(), met);
 }

@@ -71,24 +71,6 @@ fn print_found<W: Sink>(paper: &mut Paper<'_, W>, scribe: &Scribe<'_, '_, '_>, j
     }
 }
 
-/// Writes the report that a scribe makes for the job: what is found, and the verdict.
-fn answer_by<W: Sink>(
-    alloc: Global,
-    out: &mut W,
-    scribe: &Scribe<'_, '_, '_>,
-    job: &Job,
-) -> Result<Outcome, RunError>
-    requires ascending { Ascends scribe.now.judged }
-    requires explained { is_solution scribe.now.judged ≡ false → scribe.now.explain ≡ explains job.now }
-    ensures { Answers (W.state out.old) (W.state out.new) (judged_report (found_text job.now) scribe.entry.now.judged) result }
-{
-    let mut waiting = ReportBuffer::new(alloc)?;
-    let mut paper = Paper::new(out, &mut waiting);
-    print_found(&mut paper, scribe, job);
-    let outcome = print_verdict(&mut paper, scribe.referee().is_solution());
-    paper.finish(outcome)
-}
-
 /// Judges what a solution proposes, and writes the report: what is found for the job, and the verdict.
 pub(crate) fn answer_judged<W: Sink>(
     alloc: Global,
@@ -106,10 +88,15 @@ pub(crate) fn answer_judged<W: Sink>(
         Ok(referee) => referee,
         Err(_) => return Err(RunError::Memory),
     };
+    let mut waiting = ReportBuffer::new(alloc)?;
     // Where the status is a solution, there is no line to explain.
     let explain = job.explains() && !referee.is_solution();
-    match Scribe::new(alloc, &referee, explain) {
-        Ok(scribe) => answer_by(alloc, out, &scribe, job),
-        Err(_) => Err(RunError::Memory),
-    }
+    let scribe = match Scribe::new(alloc, &referee, explain) {
+        Ok(scribe) => scribe,
+        Err(_) => return Err(RunError::Memory),
+    };
+    let mut paper = Paper::new(out, &mut waiting);
+    print_found(&mut paper, &scribe, job);
+    let outcome = print_verdict(&mut paper, referee.is_solution());
+    paper.finish(outcome)
 }

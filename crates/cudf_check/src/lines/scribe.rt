@@ -1,7 +1,7 @@
 //! Prints the lines of violated instances, each with what is added to it, where lines are explained.
 use crate::device::Sink;
 use crate::lines::explanation::print_explanation;
-use crate::lines::instance::print_instance;
+use crate::lines::instance::{package_at, print_key, print_subject, print_what};
 use crate::paper::Paper;
 use cudf_referee::{Explainer, Instance, Referee};
 use std::alloc::{AllocError, Global};
@@ -68,7 +68,14 @@ impl<'r, 'p, 't> Scribe<'r, 'p, 't> {
     pub(crate) fn print_line<W: Sink>(&self, paper: &mut Paper<'_, W>, instance: &Instance<'_, '_>)
         ensures { Says W.state paper.old paper.new (instance_line self.now.explain self.now.judged (instance_view instance.now)) }
     {
-        print_instance(paper, self.referee, instance);
+        let referee = self.referee;
+        let met = package_at(referee.packages(), referee.met_by(instance));
+        print_key(paper, instance.key);
+        print_subject(paper, instance.subject);
+        paper.text(" line ");
+        paper.number(instance.line);
+        paper.text(": ");
+        print_what(paper, &instance.what, instance.key.aspect(), met);
         self.print_end(paper, instance);
     }
 
