@@ -60,32 +60,7 @@ fn print_number<W: Sink>(paper: &mut Paper<'_, W>, number: Option<u64>, behind: 
     paper.text(behind);
 }
 
-/// Prints what is added where an entry of `upgrade` is violated in this way.
-fn print_aspect<W: Sink>(
-    paper: &mut Paper<'_, W>,
-    explainer: &Explainer<'_, '_, '_>,
-    name: &str,
-    does: Option<&Package<'_>>,
-    aspect: Aspect,
-)
-    ensures { Says W.state paper.old paper.new (upgrade_added explainer.now name.now (option_map (λ p. package_view p.now) does.entry) (Some aspect)) }
-{
-    match aspect {
-        Aspect::Unsatisfied => print_would_do(paper, does),
-        Aspect::Many => {
-            paper.text("; ");
-            print_number(paper, explainer.least(name), " and ");
-            print_number(paper, explainer.greatest(name), " now");
-        }
-        Aspect::Lower => {
-            paper.text("; ");
-            print_number(paper, explainer.least(name), " now, ");
-            print_number(paper, explainer.greatest_before(name), " before");
-        }
-    }
-}
-
-/// Prints what is added to an entry of `upgrade`.
+/// Prints what is added to an entry of `upgrade` that is violated in this way.
 fn print_upgrade<W: Sink>(
     paper: &mut Paper<'_, W>,
     explainer: &Explainer<'_, '_, '_>,
@@ -95,8 +70,19 @@ fn print_upgrade<W: Sink>(
 )
     ensures { Says W.state paper.old paper.new (upgrade_added explainer.now name.now (option_map (λ p. package_view p.now) does.entry) aspect) }
 {
-    if let Some(aspect) = aspect {
-        print_aspect(paper, explainer, name, does, aspect);
+    match aspect {
+        None => {}
+        Some(Aspect::Unsatisfied) => print_would_do(paper, does),
+        Some(Aspect::Many) => {
+            paper.text("; ");
+            print_number(paper, explainer.least(name), " and ");
+            print_number(paper, explainer.greatest(name), " now");
+        }
+        Some(Aspect::Lower) => {
+            paper.text("; ");
+            print_number(paper, explainer.least(name), " now, ");
+            print_number(paper, explainer.greatest_before(name), " before");
+        }
     }
 }
 
