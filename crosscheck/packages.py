@@ -265,9 +265,9 @@ OPTION = re.compile(r"(?<![\w-])(?:-\w|--\w+)\b")
 
 def named_in_zsh(text):
     """The options of each command, by the texts of its arm and of the lists that the arm names."""
-    lists = dict(re.findall(r"local -a (common|judging)=\((.*)\)$", text, re.M))
+    lists = dict(re.findall(r"local -a (common|judging|explaining)=\((.*)\)$", text, re.M))
     lists["judging"] = lists["judging"].replace("$common", lists["common"])
-    text = re.sub(r"_arguments( -\w)*", "", re.sub(r"\$(common|judging)", lambda found: lists[found[1]], text))
+    text = re.sub(r"_arguments( -\w)*", "", re.sub(r"\$(common|judging|explaining)", lambda found: lists[found[1]], text))
     arms = {"": re.search(r"^     (.*'1:command:.*)", text, re.M)[1]}
     arms.update(re.findall(r"^        (\w+)\)((?:.*\n)*?.*;;)$", text, re.M))
     return re.findall(r"^        '(\w+):", text, re.M), {name: set(OPTION.findall(arm)) for name, arm in arms.items()}
