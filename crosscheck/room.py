@@ -11,7 +11,7 @@ memory was asked for), the most bytes that were held at once, and the calls of r
 - at most 64 bytes of memory for each byte of the input, and 1 MB more; behind a fault, where nothing is kept, 3 bytes;
 - no block that is held at the end;
 - of a file, at most a read for each 65,536 bytes, and 8 more; of a pipe that gives a byte at a time, one for each byte;
-- for twice the input, at most 2.6 times the processor time (the least of some runs, in turns; of more runs where the
+- for twice the input, at most 3 times the processor time, where a square takes 4 (the least of some runs, in turns; of more runs where the
   first ones say otherwise).
 
 Some of the cases are made for `--explain`: what it adds has to be found in about the same time for each line.
@@ -46,8 +46,8 @@ CHUNK = 65_536
 MEGABYTE = 1 << 20
 BYTES_PER_BYTE, FAULTY_BYTES_PER_BYTE, MORE_BYTES = 64, 3, MEGABYTE
 MORE_GROWTHS, MORE_READS = 500, 8
-GROWTHS_DOUBLED, TIME_DOUBLED = 2.2, 2.6
-TURNS, ROUNDS = 3, 5
+GROWTHS_DOUBLED, TIME_DOUBLED = 2.2, 3.0
+TURNS, ROUNDS = 3, 8
 LONG = "cudf_check: {} is longer than 268435456 bytes; give a shorter one\n"
 OK, YES, NO = "problem ok\n", "solution yes\n", "solution no\n"
 
