@@ -18,15 +18,15 @@ CRATE = "cudf_text"
 # by the edit's name: its lines, and how what is told of it must begin
 PLANTS = {
     "callee": (
-        "file: src/blanks.rt\nold: byte == b' ' || byte == b'\\t'\nnew: byte == b' ' || byte == b'\\t' || byte == b'\\r'\n",
+        "file: src/source.rt\nold: **byte == b'\\n'\nnew: **byte == b'\\r'\n",
         "refused: ",
     ),
     "comment": (
-        "file: src/cut.rt\nold: // Both cut beside an ASCII byte\nnew: // Each cuts beside an ASCII byte\n",
+        "file: src/scan.rt\nold: // Both cut beside an ASCII byte\nnew: // Each cuts beside an ASCII byte\n",
         "missed: NOT REFUSED",
     ),
     "equal_caller": (
-        "file: src/blanks.rt\nold: bytes.iter().all(|byte| is_blank(*byte))\nnew: bytes.iter().all(|one| is_blank(*one))\n",
+        "file: src/source.rt\nold: Ok(source) => Ok(source),\nnew: Ok(text) => Ok(text),\n",
         "missed: NOT REFUSED",
     ),
     "equal_without_a_step": (
@@ -40,11 +40,11 @@ PLANTS = {
         "refused: ",
     ),
     "no_type": (
-        "file: src/blanks.rt\nold: let mut n = bytes.len();\nnew: let mut n = true;\n",
+        "file: src/scan.rt\nold: let mut n = bytes.len();\nnew: let mut n = true;\n",
         "bad: BAD EDIT",
     ),
     "no_place": (
-        "file: src/blanks.rt\nold: byte == b'no such byte'\nnew: byte == b' '\n",
+        "file: src/scan.rt\nold: byte == b'no such byte'\nnew: byte == b' '\n",
         "bad: BAD EDIT",
     ),
 }

@@ -1,6 +1,7 @@
+mod Boundary
+mod ClassLemmas
 mod CountLemmas
 mod Examples
-mod IdentLemmas
 mod JoinedLemmas
 mod LawLemmas
 mod LineLemmas

@@ -1,20 +1,12 @@
 -- Where the first line of a text ends.
-use Rattle.std.proofs.Common.{◌≡◌, ℕ, ◌+◌, ◌-◌, suc, ◌<◌, ◌≤◌, List, [], ◌∷◌, length, take, drop, get_or, Option, Some, None, unwrap_or, IsUtf8, refl, sym, ◌∙◌, ap, subst, inl, inr, min, eqb, arith}
+use Rattle.std.proofs.Common.{◌≡◌, ℕ, ◌+◌, suc, ◌<◌, ◌≤◌, List, [], ◌∷◌, length, take, drop, Option, Some, None, unwrap_or, refl, sym, ◌∙◌, ap, inl, inr, min, eqb, arith}
 use Rattle.std.specs.List.{position_or_len, before_first, onto_first}
 use Rattle.std.proofs.lemmas.List.{take-take, get_or-take, length-take, take_min, drop_min}
 use Rattle.std.proofs.lemmas.List.Sums.{position_or_len_is, prefix_len-le-length, fails_before_first, passes_at_first}
 use Rattle.std.proofs.lemmas.Bool.{cases_Bool, false_from_ne_true}
-use Rattle.std.proofs.lemmas.Str.{lead_after_ascii}
 use Rattle.memchr.specs.Find.{IsFirstByte, is_byte}
 use Rattle.std.specs.Str.Lines.{strip_carriage_return}
 use Rattle.cudf_text.specs.Lines.{is_lf, raw_lines, line_text}
-
--- after an ASCII byte a character begins
-pub boundary_after : (bs : List ℕ) (n : ℕ) → IsUtf8 bs → 0 < n → (n < length bs → get_or bs (n - 1) 0 < 128) → n < length bs → 128 ≤ get_or bs n 0 → 192 ≤ get_or bs n 0
-boundary_after bs n u pos ascii l =
-    let e : n - 1 + 1 ≡ n = omega arith in
-    let P : ℕ → Type 0 = λ m. 128 ≤ get_or bs m 0 → 192 ≤ get_or bs m 0 in
-    subst P e (lead_after_ascii bs (n - 1) u (ascii l) (omega arith))
 
 -- what a search for a byte gives
 pub place-is : (b : ℕ) (text : List ℕ) (r : Option ℕ) → IsFirstByte (is_byte b) text r → unwrap_or r (length text) ≡ position_or_len (λ x. eqb x b) text

@@ -1,6 +1,6 @@
--- Blanks, the characters of idents, and trimming: CUDF 2.0, the type library.
-use Rattle.std.specs.Prelude.{ℕ, ◌-◌, Bool, ◌&&◌, ◌||◌, ◌==◌, List, length, take, drop, slice_index}
-use Rattle.std.specs.List.{list_all, prefix_len, suffix_len}
+-- Classes of characters, and trimming: CUDF 2.0, the type library.
+use Rattle.std.specs.Prelude.{ℕ, ◌-◌, Bool, ◌&&◌, ◌||◌, ◌==◌, List, length, take, drop, slice_index, codes}
+use Rattle.std.specs.List.{list_all, list_any, prefix_len, suffix_len}
 use Rattle.std.specs.Str.{byte}
 use Rattle.std.specs.Char.{is_ascii_alphabetic, is_ascii_alphanumeric}
 
@@ -31,3 +31,15 @@ is_ident_char b = is_ascii_alphanumeric b || b == byte "-" || b == byte "_"
 -- a letter of ASCII, then characters of idents
 unfoldable pub is_ident : List ℕ → Bool
 is_ident text = is_ascii_alphabetic (slice_index text 0) && list_all is_ident_char text
+
+-- a character of a package's name, of a superset of CUDF's (own)
+abbrev pub is_pkgname_char : ℕ → Bool
+is_pkgname_char b = is_ascii_alphanumeric b || list_any (λ c. c == b) (codes "+-./@()%_:~")
+
+-- a character of an operator
+abbrev pub is_operator_char : ℕ → Bool
+is_operator_char b = list_any (λ c. c == b) (codes "!<=>")
+
+-- what follows the characters at the front that pass the test
+abbrev pub rest_after : (ℕ → Bool) → List ℕ → List ℕ
+rest_after test text = drop (prefix_len test text) text

@@ -1,4 +1,5 @@
 pub mod Borrows
+pub mod Classes
 pub mod Cursor
 pub mod Errors
 pub mod Joins

@@ -1,3 +1,4 @@
+pub mod ClassBits
 pub mod LineView
 pub mod Marks
 pub mod Steps

@@ -1,8 +1,8 @@
 ghost use Rattle.std.specs.Prelude.{◌≡◌};
 ghost use Rattle.cudf_text.specs.Joined.{is_fail, says_something};
 
-use crate::blanks::{is_blank_text, trim};
-use crate::lines::first_line;
+use crate::line::first_line;
+use crate::scan::{Class, are_all, first_byte, trim};
 
 /// Whether a solution says `FAIL` (own): its first line that is neither blank nor a comment is
 /// that word, between blanks. What follows doesn't matter. Takes no memory.
@@ -23,6 +23,5 @@ pub fn is_fail(text: &str) -> bool
 fn says_something(line: &str) -> bool
     ensures { result ≡ says_something line.now }
 {
-    let bytes = line.as_bytes();
-    !(is_blank_text(bytes) || bytes.first().copied().unwrap_or(0) == b'#')
+    !(are_all(line.as_bytes(), Class::Blank) || first_byte(line) == b'#')
 }

@@ -4,8 +4,8 @@ ghost use Rattle.cudf_text.specs.Joined.{behind, problem_part, solution_part};
 ghost use Rattle.cudf_text.specs.Lines.{raw_lines};
 ghost use Rattle.cudf_text.specs.Working.Marks.{marks};
 
-use crate::blanks::is_blank_text;
-use crate::lines::line_end;
+use crate::line::line_end;
+use crate::scan::{Class, are_all};
 
 /// Cuts one input into the problem and the solution (own). The problem goes through the first
 /// blank line after the first line that begins with the bytes `request:`. Where there is no
@@ -34,7 +34,7 @@ impl Mark {
     {
         match self {
             Mark::Request => line.starts_with(b"request:"),
-            Mark::Blank => is_blank_text(line),
+            Mark::Blank => are_all(line, Class::Blank),
         }
     }
 }

@@ -2,28 +2,27 @@
 //! solution in one input, and the solution `FAIL`.
 #![tactic(auto)]
 
-mod blanks;
+mod continuation;
 mod cursor;
-mod cut;
 mod fail;
 mod fault;
-mod ident;
 mod joined;
 pub mod laws;
 mod lending;
 mod line;
-mod lines;
 mod reading;
 mod room;
+pub mod scan;
+mod source;
 mod text;
 
-pub use blanks::trim;
 pub use cursor::{Next, Stanzas};
 pub use fail::is_fail;
 pub use fault::{Fault, Kind};
-pub use ident::is_ident;
 pub use joined::cut_joined;
 pub use lending::lend;
-pub use reading::{read, source_of, stanzas};
+pub use reading::read;
 pub use room::Room;
+pub use scan::{is_ident, trim};
+pub use source::{source_of, stanzas};
 pub use text::{Property, PropertyRef, Stanza, StanzaRef, Text, TextError};

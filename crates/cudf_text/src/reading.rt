@@ -1,17 +1,16 @@
-ghost use Rattle.std.specs.Prelude.{◌≡◌, ◌+◌, IfErr, IfOk, IsUtf8, alloc_error, count_by, map};
-ghost use Rattle.cudf_text.specs.Lines.{is_lf};
+//! Reading a document whole.
+ghost use Rattle.std.specs.Prelude.{◌≡◌, IfErr, IfOk, IsUtf8, alloc_error, map};
 ghost use Rattle.cudf_text.specs.Stanzas.{plain_text};
 ghost use Rattle.cudf_text.specs.Promises.Borrows.{joined_values};
 ghost use Rattle.cudf_text.specs.Promises.Views.{IsText, owned_values, text_view};
 ghost use Rattle.cudf_text.specs.LineFaults.{utf8_fault};
 ghost use Rattle.cudf_text.specs.Working.Tracked.{tracked_properties, tracked_property};
 
-use crate::cursor::{Next, Place, Stanzas, owned, read_stanza};
-use crate::fault::{Fault, Kind};
-use crate::room::Room;
+use crate::continuation::owned;
+use crate::cursor::{Next, Place, read_stanza};
+use crate::source::source_of;
 use crate::text::{Property, PropertyRef, Stanza, Text, TextError};
 use std::alloc::{AllocError, Global};
-use std::str;
 
 /// Reads the stanzas of a document (CUDF 2.0, syntax of stanzas and properties), up to its first
 /// faulty line, which is no error: `Text::fault` has it.
@@ -87,47 +86,4 @@ fn take_all<'a>(
     }
     taken.append(others)?;
     Ok(taken)
-}
-
-/// The stanzas of a document, each of which is read as it is asked for. Values that are joined are
-/// put into the room. Takes no memory.
-///
-/// # Errors
-///
-/// E1 exactly where the bytes aren't UTF-8, on the line at which their longest UTF-8 prefix ends.
-pub fn stanzas<'t>(alloc: Global, bytes: &'t [u8], room: &'t mut Room) -> Result<Stanzas<'t>, Fault>
-    ensures utf8 { IfOk result (λ s. IsUtf8 bytes.now × (s ≡ plain_text bytes.now)) }
-    ensures fault { IfErr result (λ f. (¬ (IsUtf8 bytes.now)) × (f ≡ utf8_fault bytes.now)) }
-{
-    match source_of(bytes) {
-        Ok(source) => Ok(Stanzas::new(alloc, source, room)),
-        Err(fault) => Err(fault),
-    }
-}
-
-/// The bytes as a text. Takes no memory.
-///
-/// # Errors
-///
-/// E1 exactly where the bytes aren't UTF-8, on the line at which their longest UTF-8 prefix ends.
-pub fn source_of(bytes: &[u8]) -> Result<&str, Fault>
-    ensures utf8 { IfOk result (λ source. IsUtf8 bytes.now × (source.now ≡ bytes.now)) }
-    ensures fault { IfErr result (λ f. (¬ (IsUtf8 bytes.now)) × (f ≡ utf8_fault bytes.now)) }
-{
-    match str::from_utf8(bytes) {
-        Ok(source) => Ok(source),
-        Err(error) => {
-            let line = 1 + lf_count(&bytes[..error.valid_up_to()]);
-            Err(Fault {
-                line,
-                kind: Kind::E1,
-            })
-        }
-    }
-}
-
-fn lf_count(bytes: &[u8]) -> u64
-    ensures { result ≡ count_by is_lf bytes.now }
-{
-    bytes.iter().filter(|byte| **byte == b'\n').count() as u64
 }

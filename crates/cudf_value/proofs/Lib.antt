@@ -1,8 +1,6 @@
 pub mod AtomLemmas
 pub mod EntryLemmas
-mod ClassLemmas
 mod Examples
-pub mod Boundary
 pub mod NumberLemmas
 pub mod PartsLemmas
 pub mod PiecesLemmas

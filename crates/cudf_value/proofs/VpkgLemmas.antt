@@ -10,8 +10,7 @@ use Rattle.std.proofs.lemmas.Bool.{true≢false, or_cases, and_from, and_parts, 
 use Rattle.std.proofs.lemmas.List.{append_assoc, append-nil, take-append-drop, get_or_append_left, get_or-append_right, length-append}
 use Rattle.std.proofs.lemmas.List.Folds.{list_all-append}
 use Rattle.std.proofs.lemmas.List.Sums.{suffix_len_is, AllPass-from_list_all}
-use Rattle.cudf_text.specs.Chars.{is_blank, is_blank_text, trim_start, trim_end, trim}
-use Rattle.cudf_value.specs.Chars.{is_pkgname_char, is_operator_char, rest_after}
+use Rattle.cudf_text.specs.Chars.{is_blank, is_blank_text, trim_start, trim_end, trim, is_pkgname_char, is_operator_char, rest_after}
 use Rattle.cudf_value.specs.declared.relop.Relop.{Relop}
 use Rattle.cudf_value.specs.declared.relop.Relop.TheVariants.{Eq, Neq, Geq, Gt, Leq, Lt}
 use Rattle.cudf_value.specs.Parts.{some_if}

@@ -1,11 +1,10 @@
 -- The value of the preamble's `property` (syntax of the preamble): declarations of extra package properties.
-use Rattle.std.specs.Prelude.{ℕ, ◌+◌, Bool, false, not, ◌&&◌, ◌==◌, List, [], length, take, drop, map, take_while, position, slice_index, Option, Some, None, option_map, option_and_then, bytes_eq, codes, if◌then◌else◌}
+use Rattle.std.specs.Prelude.{ℕ, ◌+◌, ◌-◌, Bool, false, not, ◌&&◌, ◌==◌, nat_le, List, [], length, take, drop, map, take_while, position, slice_index, Option, Some, None, option_map, option_and_then, bytes_eq, codes, if◌then◌else◌}
 use Rattle.std.specs.List.{list_any}
 use Rattle.std.specs.Option.{option_map_or}
 use Rattle.std.specs.Str.{byte}
 use Rattle.std.specs.Char.{is_ascii_alphabetic}
-use Rattle.cudf_text.specs.Chars.{is_ident_char, trim_start, trim, is_ident}
-use Rattle.cudf_value.specs.Chars.{rest_after, between}
+use Rattle.cudf_text.specs.Chars.{is_ident_char, trim_start, trim, is_ident, rest_after}
 use Rattle.cudf_value.specs.Parts.{some_if, trimmed, all_some, look_up, read_parts}
 use Rattle.cudf_value.specs.Types.{types, PlainType, word_type, enum_type, is_one_of, is_of_type}
 use Rattle.cudf_value.specs.Spots.{quote_mark, is_quotable, pieces}
@@ -32,6 +31,11 @@ enum_at text = if slice_index text 0 == byte "[" then option_and_then (enum_to (
 abbrev pub type_at : List ℕ → Option (PlainType × List ℕ)
 type_at text = let word = take_while is_ascii_alphabetic text in let rest = rest_after is_ascii_alphabetic text in
     if bytes_eq word (codes "enum") then enum_at (trim_start rest) else option_map (λ test. (word_type word, rest)) (look_up word types)
+
+-- the text between a first and a last character, where it begins and ends with these
+abbrev pub between : ℕ → ℕ → List ℕ → Option (List ℕ)
+between first last text = some_if (nat_le 2 (length text) && slice_index text 0 == first && slice_index text (length text - 1) == last)
+    (take (length text - 2) (drop 1 text))
 
 -- the text without brackets, where it begins with `[` and ends with `]`, whether or not they belong together
 abbrev pub without_brackets : List ℕ → List ℕ

@@ -1,4 +1,3 @@
-pub mod Chars
 pub mod Words
 pub mod Numbers
 pub mod Parts

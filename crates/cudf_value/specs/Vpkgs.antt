@@ -2,8 +2,7 @@
 use Rattle.std.specs.Prelude.{ℕ, Bool, true, false, not, ◌==◌, nat_lt, nat_le, List, [], ◌∷◌, length, take_while, find, Option, Some, None, option_map, option_and_then, bytes_eq, codes, if◌then◌else◌}
 use Rattle.cudf_value.specs.declared.relop.Relop.{Relop}
 use Rattle.cudf_value.specs.declared.relop.Relop.TheVariants.{Eq, Neq, Geq, Gt, Leq, Lt}
-use Rattle.cudf_text.specs.Chars.{trim_start}
-use Rattle.cudf_value.specs.Chars.{is_pkgname_char, is_operator_char, rest_after}
+use Rattle.cudf_text.specs.Chars.{trim_start, is_pkgname_char, is_operator_char, rest_after}
 use Rattle.cudf_value.specs.Parts.{some_if}
 use Rattle.cudf_value.specs.Numbers.{positive}
 

@@ -1,7 +1,7 @@
 -- The types `bool` and `pkgname` (the type library).
 use Rattle.std.specs.Prelude.{ℕ, Bool, true, false, ◌&&◌, nat_lt, List, length, Option, Some, None, bytes_eq, codes, if◌then◌else◌}
 use Rattle.std.specs.List.{list_all}
-use Rattle.cudf_value.specs.Chars.{is_pkgname_char}
+use Rattle.cudf_text.specs.Chars.{is_pkgname_char}
 
 -- the value of a `bool`
 unfoldable pub truth : List ℕ → Option Bool

@@ -1,5 +1,4 @@
 pub mod Atoms
-pub mod Classes
 pub mod Entries
 pub mod Rests
 pub mod Spots

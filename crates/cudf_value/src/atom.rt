@@ -4,8 +4,8 @@ ghost use Rattle.std.specs.List.{list_all};
 ghost use Rattle.cudf_value.specs.Promises.Views.{atom_view};
 ghost use Rattle.cudf_value.specs.Working.Atoms.{atom_part, ends_atom, is_inside, end_text, end_rest, values, values_of};
 
-use crate::text::{after, before};
 use crate::vpkg::{Vpkg, vpkg_at, vpkg_of};
+use cudf_text::scan::{after, before};
 use cudf_text::trim;
 
 /// An atom of a clause.

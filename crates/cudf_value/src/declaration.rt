@@ -6,12 +6,11 @@ ghost use Rattle.cudf_value.specs.Declarations.{with_kind, declaration, declarat
 ghost use Rattle.cudf_value.specs.Spots.{pieces};
 ghost use Rattle.cudf_value.specs.Working.Rests.{declaration_piece, read_pieces};
 
-use crate::class::Class;
 use crate::default::{is_default, without_brackets};
 use crate::piece::cut_piece;
-use crate::text::{after, first_byte, split_run, trim_start};
 use crate::type_reading::type_of;
 use crate::value_type::ValueType;
+use cudf_text::scan::{Class, after, first_byte, split_run, trim_start};
 use cudf_text::{is_ident, trim};
 use std::alloc::{AllocError, Global};
 

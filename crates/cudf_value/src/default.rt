@@ -1,12 +1,12 @@
 //! Defaults of declarations.
-ghost use Rattle.std.specs.Prelude.{◌≡◌};
+ghost use Rattle.std.specs.Prelude.{◌≡◌, ◌<◌, option_copied};
 ghost use Rattle.cudf_value.specs.Promises.Types.{type_view};
 ghost use Rattle.cudf_value.specs.Spots.{is_quotable};
-ghost use Rattle.cudf_value.specs.Declarations.{without_brackets, takes_quoted, is_default};
+ghost use Rattle.cudf_value.specs.Declarations.{between, without_brackets, takes_quoted, is_default};
 
 use crate::lex_state::LexState;
-use crate::text::{between, first_byte};
 use crate::value_type::{ValueType, is_of_type, is_one_of};
+use cudf_text::scan::{after, before, first_byte};
 use cudf_text::trim;
 
 /// The text without brackets round it.
@@ -17,6 +17,20 @@ pub(crate) fn without_brackets(text: &str) -> &str
         Some(inner) => trim(inner),
         None => text,
     }
+}
+
+/// The text between a first and a last character, where it begins and ends with these.
+fn between(text: &str, first: u8, last: u8) -> Option<&str>
+    requires first_ascii { first < 128 }
+    requires last_ascii { last < 128 }
+    ensures { option_copied result ≡ between first last text.now }
+{
+    let bytes = text.as_bytes();
+    let len = bytes.len();
+    if len < 2 || bytes[0] != first || bytes[len - 1] != last {
+        return None;
+    }
+    Some(before(after(text, 1), len - 2))
 }
 
 /// Whether the text is a default of the type.

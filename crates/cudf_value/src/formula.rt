@@ -8,7 +8,7 @@ ghost use Rattle.cudf_value.specs.Formulas.{clause, formula};
 ghost use Rattle.cudf_value.specs.Working.Atoms.{with_clauses};
 
 use crate::atom::{Atom, AtomEnd, first_atom};
-use crate::text::room_for;
+use crate::parts::room_for;
 use cudf_text::trim;
 use std::alloc::{AllocError, Global};
 

@@ -2,7 +2,6 @@
 #![tactic(auto)]
 
 mod atom;
-mod class;
 mod declaration;
 mod default;
 mod formula;
@@ -10,10 +9,10 @@ pub mod laws;
 mod lex_state;
 mod misfits;
 mod number;
+mod parts;
 mod piece;
 mod printing;
 mod relop;
-mod text;
 mod type_reading;
 mod value_type;
 mod vpkg;

@@ -6,9 +6,9 @@ ghost use Rattle.cudf_value.specs.Promises.Types.{type_view};
 ghost use Rattle.cudf_value.specs.Types.{types, word_type};
 ghost use Rattle.cudf_value.specs.Declarations.{ident_part, enum_at, type_at};
 
-use crate::class::Class;
-use crate::text::{after, before, cut, find, first_byte, split_run, trim_start};
+use crate::parts::{cut, find};
 use crate::value_type::ValueType;
+use cudf_text::scan::{Class, after, before, first_byte, split_run, trim_start};
 use cudf_text::{is_ident, trim};
 use std::alloc::{AllocError, Global};
 

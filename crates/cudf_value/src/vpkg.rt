@@ -5,10 +5,9 @@ ghost use Rattle.cudf_value.specs.Promises.Views.{vpkg_view};
 ghost use Rattle.cudf_value.specs.Vpkgs.{vpkg, veqpkg, is_exact};
 ghost use Rattle.cudf_value.specs.Working.Rests.{BeginsWith, BoundBegins, vpkg_after};
 
-use crate::class::Class;
 use crate::number::posint_of;
 use crate::relop::Relop;
-use crate::text::{split_run, trim_start};
+use cudf_text::scan::{Class, split_run, trim_start};
 use cudf_text::trim;
 
 /// A package or a feature by its name, at the versions that the bound admits, or at all (CUDF 2.0, the type library).

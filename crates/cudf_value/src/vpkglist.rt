@@ -9,8 +9,9 @@ ghost use Rattle.cudf_value.specs.Formulas.{vpkglist, veqpkglist};
 ghost use Rattle.cudf_value.specs.Working.Rests.{parts_after};
 ghost use Rattle.cudf_value.specs.Working.Entries.{vpkg_part, first_part, ends_entry, entry_end};
 
-use crate::text::{after, cut, first_byte, room_for};
+use crate::parts::{cut, room_for};
 use crate::vpkg::{Vpkg, is_exact, veqpkg_of, vpkg_at, vpkg_of};
+use cudf_text::scan::{after, first_byte};
 use cudf_text::trim;
 use std::alloc::{AllocError, Global};
 

@@ -1,11 +1,9 @@
 //! The types `bool` and `pkgname`.
 ghost use Rattle.std.specs.Prelude.{◌≡◌};
-ghost use Rattle.std.specs.List.{list_all};
 ghost use Rattle.cudf_text.specs.Chars.{trim};
-ghost use Rattle.cudf_value.specs.Working.Classes.{is_in_class};
 ghost use Rattle.cudf_value.specs.Words.{truth, is_pkgname};
 
-use crate::class::Class;
+use cudf_text::scan::{Class, are_all};
 use cudf_text::trim;
 
 /// Reads a `bool` (CUDF 2.0, the type library), with blanks or none round it: `true` or `false`.
@@ -34,12 +32,5 @@ pub(crate) fn bool_of(text: &str) -> Option<bool>
 pub fn is_pkgname(text: &str) -> bool
     ensures { result ≡ is_pkgname text.now }
 {
-    !text.is_empty() && are_all(text, Class::Name)
-}
-
-/// Whether each character is of the class.
-fn are_all(text: &str, class: Class) -> bool
-    ensures { result ≡ list_all (is_in_class class) text.now }
-{
-    text.as_bytes().iter().all(|b| class.has(*b))
+    !text.is_empty() && are_all(text.as_bytes(), Class::Name)
 }
