@@ -6,9 +6,14 @@ ghost use Rattle.cudf_value.specs.Declarations.{with_kind, declaration, declarat
 ghost use Rattle.cudf_value.specs.Spots.{pieces};
 ghost use Rattle.cudf_value.specs.Working.Rests.{declaration_piece, read_pieces};
 
-use crate::default::{is_default, without_brackets};
-use crate::piece::cut_piece;
-use crate::type_reading::type_of;
+mod default;
+mod lex_state;
+mod piece;
+mod type_reading;
+
+use crate::declaration::default::{is_default, without_brackets};
+use crate::declaration::piece::cut_piece;
+use crate::declaration::type_reading::type_of;
 use crate::value_type::ValueType;
 use cudf_text::scan::{Class, after, first_byte, split_run, trim_start};
 use cudf_text::{is_ident, trim};

@@ -3,17 +3,13 @@
 
 mod atom;
 mod declaration;
-mod default;
 mod formula;
 pub mod laws;
-mod lex_state;
 mod misfits;
 mod number;
 mod parts;
-mod piece;
 mod printing;
 mod relop;
-mod type_reading;
 mod value_type;
 mod vpkg;
 mod vpkglist;

@@ -1,7 +1,7 @@
 use Rattle.std.proofs.Common.{ℕ, Bool, List, bytes_eq, Bor, ap, sym, ◌∙◌}
 use Rattle.std.specs.List.{list_any}
 use Rattle.cudf_value.proofs.TypeLemmas.{list_any-map}
-use Rattle.cudf_value.proofs.default.takes_quoted.Goals as goal
+use Rattle.cudf_value.proofs.declaration.default.takes_quoted.Goals as goal
 
 pub returns-in-Choice : goal.returns-in-Choice
 returns-in-Choice c =

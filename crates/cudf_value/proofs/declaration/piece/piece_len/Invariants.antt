@@ -2,7 +2,7 @@ use Rattle.std.proofs.Common.{◌≡◌, ◌+◌, ◌-◌, ◌≤◌, false, len
 use Rattle.std.specs.List.{fold, position_or_len}
 use Rattle.cudf_value.specs.Spots.{unquoted, next_spot, with_spots, separates}
 use Rattle.cudf_value.specs.Working.Spots.{spot_of}
-use Rattle.cudf_value.proofs.piece.piece_len.Given as goal
+use Rattle.cudf_value.proofs.declaration.piece.piece_len.Given as goal
 
 abbrev pub invariant-loop-n : goal.invariant-loop-n
 invariant-loop-n l = record {

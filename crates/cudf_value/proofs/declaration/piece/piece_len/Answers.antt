@@ -1,7 +1,7 @@
 use Rattle.std.proofs.Common.{arith, sym, ◌∙◌}
 use Rattle.cudf_value.specs.Working.Spots.{spot_of}
 use Rattle.cudf_value.proofs.SpotLemmas.{len_step, spot_step}
-use Rattle.cudf_value.proofs.piece.piece_len.Goals as goal
+use Rattle.cudf_value.proofs.declaration.piece.piece_len.Goals as goal
 
 pub loop-n-preserved : goal.loop-n-preserved
 loop-n-preserved c = record {

@@ -5,7 +5,7 @@ use denote.Shadow.{shadow}
 use Rattle.cudf_value.specs.Parts.{read_parts}
 use Rattle.cudf_value.specs.Declarations.{ident_part}
 use Rattle.cudf_value.proofs.PartsLemmas.{onto}
-use Rattle.cudf_value.proofs.type_reading.idents_of.Given as goal
+use Rattle.cudf_value.proofs.declaration.type_reading.idents_of.Given as goal
 
 abbrev pub invariant-loop-ident : goal.invariant-loop-ident
 invariant-loop-ident l = shadow (Utf8 l.rest)

@@ -2,7 +2,7 @@ use Rattle.std.proofs.Common.{ap, sym, ◌∙◌}
 use Rattle.cudf_value.specs.Spots.{is_quotable}
 use Rattle.cudf_value.specs.Working.Spots.{spot_of}
 use Rattle.cudf_value.proofs.SpotLemmas.{quotable_closed}
-use Rattle.cudf_value.proofs.default.is_quotable.Goals as goal
+use Rattle.cudf_value.proofs.declaration.default.is_quotable.Goals as goal
 
 pub returns-then-is_outside : goal.returns-then-is_outside
 returns-then-is_outside c =

@@ -4,7 +4,7 @@ ghost use Rattle.cudf_value.specs.Promises.Types.{type_view};
 ghost use Rattle.cudf_value.specs.Spots.{is_quotable};
 ghost use Rattle.cudf_value.specs.Declarations.{between, without_brackets, takes_quoted, is_default};
 
-use crate::lex_state::LexState;
+use crate::declaration::lex_state::LexState;
 use crate::value_type::{ValueType, is_of_type, is_one_of};
 use cudf_text::scan::{after, before, first_byte};
 use cudf_text::trim;

@@ -5,7 +5,7 @@ ghost use Rattle.cudf_value.specs.Spots.{unquoted, next_spot, with_spots, separa
 ghost use Rattle.cudf_value.specs.Working.Rests.{pieces_after};
 ghost use Rattle.cudf_value.specs.Working.Spots.{spot_of};
 
-use crate::lex_state::LexState;
+use crate::declaration::lex_state::LexState;
 use cudf_text::scan::{after, before};
 
 /// The first piece, and what stands after its comma, if there is one; `None` where quotes or brackets are at fault in

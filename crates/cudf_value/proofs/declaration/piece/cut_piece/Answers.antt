@@ -2,7 +2,7 @@ use Rattle.std.proofs.Common.{◌<◌, ◌∷◌, length, option_map, drop, ◌+
 use Rattle.cudf_value.specs.Spots.{pieces}
 use Rattle.cudf_value.specs.Working.Spots.{spot_of}
 use Rattle.cudf_value.proofs.SpotLemmas.{pieces_more, whole_piece}
-use Rattle.cudf_value.proofs.piece.cut_piece.Goals as goal
+use Rattle.cudf_value.proofs.declaration.piece.cut_piece.Goals as goal
 
 pub returns-then-n-text-clause-pieces : goal.returns-then-n-text-clause-pieces
 returns-then-n-text-clause-pieces c =
