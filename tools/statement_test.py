@@ -144,8 +144,8 @@ class Types(Copy):
              "    ghost view = { rest };\n}\n\nfn mark_named(")
 
     def test_crate_private_type(self):
-        self.plant("cudf_document/src/stanza/postmark.rt", "fn mark_named(", self.MODEL)
-        self.assertIn("pub(crate) enum Postmark", (self.root / "crates/cudf_document/src/stanza/postmark.rt").read_text())
+        self.plant("cudf_document/src/postmark.rt", "fn mark_named(", self.MODEL)
+        self.assertIn("pub(crate) enum Postmark", (self.root / "crates/cudf_document/src/postmark.rt").read_text())
         self.assert_refused(1, "the headline rests on crates/cudf_document/specs/Working/Judging.antt")
 
     def test_type_of_a_field(self):

@@ -13,7 +13,7 @@ use Rattle.cudf_value.specs.Declarations.{PlainDeclaration, declaration}
 use Rattle.cudf_value.specs.Parts.{look_up}
 use Rattle.cudf_value.specs.Types.{PlainType}
 use Rattle.cudf_value.specs.Misfits.{type_word}
-use Rattle.cudf_document.specs.declared.stanza.postmark.Postmark.TheVariants.{Package}
+use Rattle.cudf_document.specs.declared.postmark.Postmark.TheVariants.{Package}
 use Rattle.cudf_document.specs.declared.mode.Mode.TheVariants.{Strict}
 use Rattle.cudf_document.specs.declared.details.found.Passed.{Passed}
 use Rattle.cudf_document.specs.Details.{PlainDetail, request_on, package_on, undeclared, misdeclared, lacking, stanza_on, property_on, package_words, words, bad_piece, package_detail, repeated_detail, misdeclared_detail, property_detail, stanza_detail, fault_detail}

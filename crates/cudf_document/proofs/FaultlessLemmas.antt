@@ -15,8 +15,8 @@ use Rattle.cudf_text.specs.declared.fault.Kind.TheVariants.{E4, E5, E6, E9, E11,
 use Rattle.cudf_text.specs.Stanzas.{PlainProperty, PlainStanza, PlainText}
 use Rattle.cudf_value.specs.Declarations.{PlainDeclaration}
 use Rattle.cudf_document.specs.declared.mode.Mode.{Mode}
-use Rattle.cudf_document.specs.declared.stanza.postmark.Postmark.{Postmark}
-use Rattle.cudf_document.specs.declared.stanza.postmark.Postmark.TheVariants.{Preamble, Package, Request}
+use Rattle.cudf_document.specs.declared.postmark.Postmark.{Postmark}
+use Rattle.cudf_document.specs.declared.postmark.Postmark.TheVariants.{Preamble, Package, Request}
 use Rattle.cudf_document.specs.Faults.{fault_if}
 use Rattle.cudf_document.specs.Documents.{is_empty, with_earlier, postmark_named, postmark, marks_preamble, marks_package, is_request, has_name, value_of, line_of}
 use Rattle.cudf_document.specs.Promises.Packages.{is_package, are_distinct, packages_in}

@@ -8,8 +8,8 @@ use Rattle.cudf_text.specs.declared.fault.Kind.TheVariants.{E4, E5, E6, E7, E8, 
 use Rattle.cudf_text.specs.Stanzas.{PlainProperty, PlainStanza, PlainText}
 use Rattle.cudf_value.specs.Declarations.{PlainDeclaration}
 use Rattle.cudf_document.specs.declared.mode.Mode.TheVariants.{Lenient, Strict}
-use Rattle.cudf_document.specs.declared.stanza.postmark.Postmark.{Postmark}
-use Rattle.cudf_document.specs.declared.stanza.postmark.Postmark.TheVariants.{Package}
+use Rattle.cudf_document.specs.declared.postmark.Postmark.{Postmark}
+use Rattle.cudf_document.specs.declared.postmark.Postmark.TheVariants.{Package}
 use Rattle.cudf_document.specs.Faults.{fault_if}
 use Rattle.cudf_document.specs.Documents.{is_empty, with_earlier, postmark, marks_preamble, marks_package, is_request, line_of}
 use Rattle.cudf_document.specs.Working.Judging.{same_name, fails, faults_or, properties_faults}

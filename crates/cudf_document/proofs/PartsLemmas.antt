@@ -5,10 +5,10 @@ use Rattle.std.proofs.lemmas.List.{map-append}
 use Rattle.cudf_text.specs.Stanzas.{PlainStanza, PlainText}
 use Rattle.cudf_value.specs.Declarations.{PlainDeclaration}
 use Rattle.cudf_document.specs.declared.mode.Mode.{Mode}
-use Rattle.cudf_document.specs.declared.problem.parts.Parts.{Parts}
+use Rattle.cudf_document.specs.declared.problem.keeping.Parts.{Parts}
 use Rattle.cudf_document.specs.declared.problem.walk.Walk.{Walk}
-use Rattle.cudf_document.specs.declared.stanza.postmark.Postmark.{Postmark}
-use Rattle.cudf_document.specs.declared.stanza.postmark.Postmark.TheVariants.{Preamble, Package, Request}
+use Rattle.cudf_document.specs.declared.postmark.Postmark.{Postmark}
+use Rattle.cudf_document.specs.declared.postmark.Postmark.TheVariants.{Preamble, Package, Request}
 use Rattle.cudf_document.specs.Documents.{is_empty, postmark, marks_package, marks_request, is_request}
 use Rattle.cudf_document.specs.Promises.Packages.{is_package, are_distinct, packages_in}
 use Rattle.cudf_document.specs.Ids.{Id, id_of}

@@ -5,7 +5,7 @@ use Rattle.indexmap.specs.IndexSet.{insert_key}
 use Rattle.cudf_text.specs.declared.fault.Fault.{Fault}
 use Rattle.cudf_text.specs.Stanzas.{PlainProperty}
 use Rattle.cudf_value.specs.Declarations.{PlainDeclaration}
-use Rattle.cudf_document.specs.declared.stanza.postmark.Postmark.{Postmark}
+use Rattle.cudf_document.specs.declared.postmark.Postmark.{Postmark}
 use Rattle.cudf_document.specs.Documents.{with_earlier}
 use Rattle.cudf_document.specs.ProblemFaults.{property_faults}
 use Rattle.cudf_document.specs.Working.SeenNames.{AreNames}

@@ -3,8 +3,8 @@ use Rattle.std.specs.Prelude.{ℕ, Bool, true, false, List, [], ◌∷◌, ◌++
 use Rattle.std.specs.Option.{option_map_or}
 use Rattle.cudf_text.specs.Stanzas.{PlainProperty, PlainStanza}
 use Rattle.cudf_value.specs.Parts.{look_up}
-use Rattle.cudf_document.specs.declared.stanza.postmark.Postmark.{Postmark}
-use Rattle.cudf_document.specs.declared.stanza.postmark.Postmark.TheVariants.{Preamble, Package, Request}
+use Rattle.cudf_document.specs.declared.postmark.Postmark.{Postmark}
+use Rattle.cudf_document.specs.declared.postmark.Postmark.TheVariants.{Preamble, Package, Request}
 
 -- ---- lists
 

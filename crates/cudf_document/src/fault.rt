@@ -1,5 +1,5 @@
 //! Faults, alone and compared.
-ghost use Rattle.std.specs.Prelude.{◌≡◌};
+ghost use Rattle.std.specs.Prelude.{◌≡◌, Some, None, if◌then◌else◌};
 ghost use Rattle.cudf_document.specs.Faults.{precedes, lesser, least, fault_if};
 ghost use Rattle.cudf_document.specs.Working.PackageFields.{fault_on};
 
@@ -48,4 +48,11 @@ pub(crate) fn fault_on(line: u64, kind: Option<Kind>) -> Option<Fault>
     ensures { result ≡ fault_on line kind }
 {
     kind.map(|kind| Fault { line, kind })
+}
+
+/// `E9` where a value isn't of its type.
+pub(crate) fn mistyped_unless(fits: bool) -> Option<Kind>
+    ensures { result ≡ (if fits then None else Some Kind.E9) }
+{
+    if fits { None } else { Some(Kind::E9) }
 }

@@ -2,18 +2,18 @@
 //! proposes, and the first fault of a document that has one.
 #![tactic(auto)]
 
-mod declaration;
+mod declarations;
 mod details;
 mod error;
 mod fault;
 pub mod laws;
 mod mode;
+mod names;
 mod package;
+mod postmark;
 mod problem;
-mod property;
 mod request;
 mod solution;
-mod stanza;
 
 pub use details::Detail;
 pub use details::of_fault::detail;
@@ -22,9 +22,8 @@ pub use mode::Mode;
 pub use package::{Keep, Package};
 pub use problem::Problem;
 pub use problem::chosen::Chosen;
-pub use problem::lint::first_fault;
-pub use problem::reader::read_problem;
-pub use problem::source::{problem_for, problem_of};
+pub use problem::held::read_problem;
+pub use problem::reading::{first_fault, problem_for, problem_of};
 pub use request::Request;
 pub use solution::reader::{read_solution, solution_of};
 pub use solution::status::{Status, initial};

@@ -7,6 +7,7 @@ pub(crate) mod fields;
 pub(crate) mod identity;
 pub(crate) mod ids;
 pub(crate) mod property;
+pub(crate) mod reading;
 
 use cudf_value::{Formula, Vpkg};
 

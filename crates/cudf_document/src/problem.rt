@@ -1,9 +1,8 @@
 //! Problems: a universe and a request.
 pub(crate) mod chosen;
-pub(crate) mod lint;
-pub(crate) mod parts;
-pub(crate) mod reader;
-pub(crate) mod source;
+pub(crate) mod held;
+pub(crate) mod keeping;
+pub(crate) mod reading;
 pub(crate) mod walk;
 
 use crate::package::Package;

@@ -1,5 +1,5 @@
 //! The request: CUDF 2.0, request properties.
-pub(crate) mod fields;
+pub(crate) mod lists;
 
 use cudf_value::Vpkg;
 

@@ -7,7 +7,7 @@ use Rattle.cudf_text.specs.declared.fault.Kind.TheVariants.{E4, E5, E6}
 use Rattle.cudf_text.specs.Stanzas.{PlainProperty, PlainStanza}
 use Rattle.cudf_value.specs.Formulas.{PlainAtom}
 use Rattle.cudf_value.specs.Declarations.{PlainDeclaration}
-use Rattle.cudf_document.specs.declared.stanza.postmark.Postmark.{Postmark}
+use Rattle.cudf_document.specs.declared.postmark.Postmark.{Postmark}
 use Rattle.cudf_document.specs.Faults.{fault_if}
 use Rattle.cudf_document.specs.Documents.{is_request, is_empty, with_earlier, marks_preamble, marks_package, value_of}
 use Rattle.cudf_document.specs.Ids.{Id}

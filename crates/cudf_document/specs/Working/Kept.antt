@@ -2,7 +2,7 @@
 use Rattle.std.specs.Prelude.{◌≡◌, Bool, true, List, map, Option, Some, None, option_map, IsSome}
 use Rattle.std.specs.Borrow.{Bor}
 use Rattle.cudf_text.specs.Stanzas.{PlainStanza}
-use Rattle.cudf_document.specs.declared.problem.parts.Parts.{Parts}
+use Rattle.cudf_document.specs.declared.problem.keeping.Parts.{Parts}
 use Rattle.cudf_document.specs.declared.problem.walk.Walk.{Walk}
 use Rattle.cudf_document.specs.Promises.Packages.{are_distinct, packages_in}
 use Rattle.cudf_document.specs.Ids.{Id, is_among}

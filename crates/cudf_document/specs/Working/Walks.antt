@@ -6,8 +6,8 @@ use Rattle.cudf_text.specs.Stanzas.{PlainStanza, PlainText}
 use Rattle.cudf_text.specs.declared.fault.Fault.{Fault}
 use Rattle.cudf_value.specs.Declarations.{PlainDeclaration}
 use Rattle.cudf_document.specs.declared.mode.Mode.{Mode}
-use Rattle.cudf_document.specs.declared.stanza.postmark.Postmark.{Postmark}
-use Rattle.cudf_document.specs.declared.stanza.postmark.Postmark.TheVariants.{Package}
+use Rattle.cudf_document.specs.declared.postmark.Postmark.{Postmark}
+use Rattle.cudf_document.specs.declared.postmark.Postmark.TheVariants.{Package}
 use Rattle.cudf_document.specs.declared.problem.walk.Walk.{Walk}
 use Rattle.cudf_document.specs.Faults.{least}
 use Rattle.cudf_document.specs.Documents.{is_empty, with_earlier, is_request}

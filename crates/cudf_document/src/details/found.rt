@@ -5,9 +5,9 @@ ghost use Rattle.cudf_document.specs.Documents.{is_request};
 ghost use Rattle.cudf_document.specs.Preamble.{declared};
 ghost use Rattle.cudf_document.specs.Working.Details.{nothing_passed, found_in, found_view};
 
-use crate::declaration::declarations::Declarations;
-use crate::declaration::preamble::declare_all;
-use crate::stanza::postmark::{Postmark, is_preamble, postmark_of};
+use crate::declarations::Declarations;
+use crate::declarations::preamble::declare_all;
+use crate::postmark::{Postmark, is_preamble, postmark_of};
 use cudf_text::{Next, StanzaRef, Stanzas};
 use std::alloc::{AllocError, Global};
 

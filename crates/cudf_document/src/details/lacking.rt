@@ -6,10 +6,10 @@ ghost use Rattle.cudf_document.specs.Promises.Views.{detail_view};
 ghost use Rattle.cudf_document.specs.Working.Details.{lacking_after};
 ghost use Rattle.cudf_document.specs.Working.SeenNames.{AreNames};
 
-use crate::declaration::declarations::Declarations;
+use crate::declarations::Declarations;
 use crate::details::Detail;
 use crate::mode::Mode;
-use crate::property::seen_names::SeenNames;
+use crate::names::SeenNames;
 use cudf_text::{PropertyRef, StanzaRef};
 use std::alloc::{AllocError, Global};
 

@@ -7,8 +7,8 @@ ghost use Rattle.cudf_document.specs.Details.{misdeclared, bad_piece};
 ghost use Rattle.cudf_document.specs.Promises.Views.{detail_view};
 ghost use Rattle.cudf_document.specs.Working.Details.{misdeclared_in};
 
-use crate::declaration::declarations::Declarations;
-use crate::declaration::preamble::declare;
+use crate::declarations::Declarations;
+use crate::declarations::preamble::declare;
 use crate::details::Detail;
 use cudf_text::StanzaRef;
 use cudf_value::{declaration_pieces, read_declaration};

@@ -11,7 +11,7 @@ use crate::details::found::Found;
 use crate::details::lacking::lacking;
 use crate::details::misdeclared::misdeclared;
 use crate::details::mistyped::mistyped;
-use crate::property::named::first_named;
+use crate::names::first_named;
 use cudf_text::{Fault, Kind, PropertyRef, StanzaRef};
 use std::alloc::{AllocError, Global};
 

@@ -10,7 +10,7 @@ ghost use Rattle.cudf_document.specs.Working.Details.{pair_line};
 use crate::details::Detail;
 use crate::details::found::find_stanza;
 use crate::package::identity::Identity;
-use crate::stanza::postmark::{Postmark, postmark_of};
+use crate::postmark::{Postmark, postmark_of};
 use cudf_text::{Next, Room, StanzaRef, Stanzas};
 use std::alloc::{AllocError, Global};
 

@@ -6,14 +6,14 @@ ghost use Rattle.cudf_document.specs.Working.Judging.{properties_faults};
 ghost use Rattle.cudf_document.specs.Working.Identities.{IsIdentity};
 ghost use Rattle.cudf_document.specs.Working.PackageFields.{package_fields_view, package_fields_of, without_needs, is_need};
 ghost use Rattle.cudf_document.specs.Working.SeenNames.{AreNames};
-ghost use Rattle.cudf_document.specs.declared.stanza.postmark.Postmark.TheVariants.{Package as PackageMark};
+ghost use Rattle.cudf_document.specs.declared.postmark.Postmark.TheVariants.{Package as PackageMark};
 
-use crate::declaration::declarations::Declarations;
+use crate::declarations::Declarations;
+use crate::names::SeenNames;
 use crate::package::fields::PackageFields;
 use crate::package::identity::Identity;
 use crate::package::property::PackageProperty;
-use crate::property::fields::{Fields, judge_property, read_properties};
-use crate::property::seen_names::SeenNames;
+use crate::package::reading::{Fields, judge_property, read_properties};
 use cudf_text::{Fault, Kind, PropertyRef, StanzaRef};
 use std::alloc::{AllocError, Global};
 

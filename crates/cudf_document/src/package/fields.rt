@@ -1,10 +1,11 @@
 //! The values of a package's properties.
 
-use crate::declaration::declarations::{Declarations, mistyped_unless};
+use crate::declarations::Declarations;
+use crate::fault::mistyped_unless;
 use crate::package::identity::Identity;
 use crate::package::property::PackageProperty;
+use crate::package::reading::Fields;
 use crate::package::{Keep, Package, read_keep};
-use crate::property::fields::Fields;
 use cudf_text::{Kind, PropertyRef};
 use cudf_value::{Formula, Vpkg, read_bool, read_formula, read_veqpkglist, read_vpkglist};
 use std::alloc::{AllocError, Global};

@@ -4,7 +4,7 @@ ghost use Rattle.cudf_text.specs.Promises.Views.{stanza_view};
 ghost use Rattle.cudf_document.specs.Documents.{value_of};
 ghost use Rattle.cudf_document.specs.Values.{name_value};
 
-use crate::property::named::first_named;
+use crate::names::first_named;
 use cudf_text::StanzaRef;
 use cudf_value::{is_pkgname, read_posint};
 

@@ -11,23 +11,23 @@ ghost use Rattle.cudf_document.specs.Working.Judging.{properties_faults, placed_
 ghost use Rattle.cudf_document.specs.Working.Identities.{IsIdentity};
 ghost use Rattle.cudf_document.specs.Working.SeenNames.{AreNames};
 ghost use Rattle.cudf_document.specs.Working.Walks.{texts, IsWhole};
-ghost use Rattle.cudf_document.specs.declared.stanza.postmark.Postmark.TheVariants.{Preamble as PreambleMark, Package as PackageMark};
+ghost use Rattle.cudf_document.specs.declared.postmark.Postmark.TheVariants.{Preamble as PreambleMark, Package as PackageMark};
 
-use crate::declaration::declarations::Declarations;
-use crate::declaration::preamble::read_preamble;
-use crate::declaration::required::{lacks_one, require};
+use crate::declarations::Declarations;
+use crate::declarations::preamble::read_preamble;
+use crate::declarations::required::{lacks_one, require};
 use crate::fault::{fault_if, keep_lesser, lesser};
 use crate::mode::Mode;
+use crate::names::SeenNames;
 use crate::package::identity::Identity;
 use crate::package::ids::Ids;
-use crate::property::fields::judge_package;
-use crate::property::seen_names::SeenNames;
-use crate::stanza::postmark::{Postmark, is_preamble, postmark_of};
+use crate::package::reading::judge_package;
+use crate::postmark::{Postmark, is_preamble, postmark_of};
 use cudf_text::{Fault, Kind, Next, StanzaRef, Stanzas};
 use std::alloc::{AllocError, Global};
 
-/// What is kept of a problem's stanzas on the walk.
-pub(crate) trait Kept<'a>: Sized + Drop {
+/// What keeps a part of a problem's stanzas on the walk.
+pub(crate) trait Keeper<'a>: Sized + Drop {
     ghost use Rattle.std.specs.Prelude.{◌≡◌, Bool, ◌++◌, ◌∷◌, [], List, Some, false, IfOk, OnOk};
     ghost use Rattle.cudf_text.specs.Stanzas.{PlainStanza};
     ghost use Rattle.cudf_text.specs.Promises.Views.{stanza_view};
@@ -39,7 +39,7 @@ pub(crate) trait Kept<'a>: Sized + Drop {
     ghost use Rattle.cudf_document.specs.Working.Judging.{properties_faults};
     ghost use Rattle.cudf_document.specs.Working.Identities.{IsIdentity};
     ghost use Rattle.cudf_document.specs.Working.SeenNames.{AreNames};
-    ghost use Rattle.cudf_document.specs.declared.stanza.postmark.Postmark.TheVariants.{Package as PackageMark, Request as RequestMark};
+    ghost use Rattle.cudf_document.specs.declared.postmark.Postmark.TheVariants.{Package as PackageMark, Request as RequestMark};
 
     // This was kept of the stanzas, where the test tells of which packages what they need is kept.
     ghost IsKept: { (Id → Bool) → List PlainStanza → Self → Type 0 };
@@ -92,7 +92,7 @@ pub(crate) trait Kept<'a>: Sized + Drop {
 }
 
 /// Walks over all stanzas. Before them nothing is kept.
-pub(crate) fn walk_all<'t, K: Kept<'t>>(
+pub(crate) fn walk_all<'t, K: Keeper<'t>>(
     alloc: Global,
     stanzas: Stanzas<'t>,
     kept: K,
@@ -156,7 +156,7 @@ impl<'a> Walk<'a> {
     ghost use Rattle.cudf_document.specs.Preamble.{declared, declared_after};
     ghost use Rattle.cudf_document.specs.ProblemFaults.{required_names};
     ghost use Rattle.cudf_document.specs.Working.Judging.{properties_faults};
-    ghost use Rattle.cudf_document.specs.declared.stanza.postmark.Postmark.TheVariants.{Preamble as PreambleMark, Package as PackageMark};
+    ghost use Rattle.cudf_document.specs.declared.postmark.Postmark.TheVariants.{Preamble as PreambleMark, Package as PackageMark};
 
     /// No stanza.
     pub(crate) fn new(alloc: Global) -> Self
@@ -174,7 +174,7 @@ impl<'a> Walk<'a> {
     }
 
     /// Takes the next stanza.
-    pub(crate) fn take<K: Kept<'a>>(
+    pub(crate) fn take<K: Keeper<'a>>(
         &mut self,
         alloc: Global,
         kept: &mut K,
@@ -197,7 +197,7 @@ impl<'a> Walk<'a> {
     }
 
     /// Takes the first stanza, with what it declares.
-    fn take_first<K: Kept<'a>>(
+    fn take_first<K: Keeper<'a>>(
         &mut self,
         alloc: Global,
         kept: &mut K,
@@ -240,7 +240,7 @@ impl<'a> Walk<'a> {
     }
 
     /// Takes the next stanza; what it declares is left out.
-    fn take_other<K: Kept<'a>>(
+    fn take_other<K: Keeper<'a>>(
         &mut self,
         alloc: Global,
         kept: &mut K,
@@ -273,7 +273,7 @@ impl<'a> Walk<'a> {
     }
 
     /// The first fault inside a stanza; a package's name and version are added.
-    fn judge<K: Kept<'a>>(
+    fn judge<K: Keeper<'a>>(
         &mut self,
         alloc: Global,
         kept: &mut K,
@@ -310,7 +310,7 @@ impl<'a> Walk<'a> {
     }
 
     /// Adds the name and version of a package, and answers the first fault inside it.
-    fn take_package<K: Kept<'a>>(
+    fn take_package<K: Keeper<'a>>(
         &mut self,
         alloc: Global,
         kept: &mut K,
@@ -365,7 +365,7 @@ impl<'a> Walk<'a> {
 
 /// The first fault of a package's properties. Behind a fault nothing is kept of them, since no problem
 /// is made.
-fn take_properties<'a, K: Kept<'a>>(
+fn take_properties<'a, K: Keeper<'a>>(
     alloc: Global,
     kept: &mut K,
     first: Option<Fault>,

@@ -7,8 +7,7 @@ ghost use Rattle.cudf_document.specs.Documents.{with_earlier};
 ghost use Rattle.cudf_document.specs.SolutionFaults.{value_faults};
 ghost use Rattle.cudf_document.specs.Working.SolutionPackages.{solution_property_named, solution_package_view, solution_package_of};
 
-use crate::declaration::declarations::mistyped_unless;
-use crate::fault::{fault_on, keep_lesser};
+use crate::fault::{fault_on, keep_lesser, mistyped_unless};
 use crate::package::identity::read_name;
 use cudf_text::{Fault, Kind, PropertyRef, StanzaRef};
 use cudf_value::{read_bool, read_posint};

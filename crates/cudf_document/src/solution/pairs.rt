@@ -8,8 +8,8 @@ ghost use Rattle.cudf_document.specs.ProblemFaults.{version_property};
 
 use crate::fault::{fault_if, keep_lesser};
 use crate::mode::Mode;
+use crate::names::first_named;
 use crate::package::ids::Ids;
-use crate::property::named::first_named;
 use cudf_text::{Fault, Kind, StanzaRef};
 use std::alloc::{AllocError, Global};
 

@@ -14,13 +14,13 @@ ghost use Rattle.cudf_document.specs.Statuses.{is_proposed, installed_id, unknow
 use crate::error::ReadError;
 use crate::fault::{fault_if, lesser};
 use crate::mode::Mode;
+use crate::postmark::{Postmark, postmark_of};
 use crate::problem::Problem;
 use crate::solution::Solution;
 use crate::solution::builder::SolutionBuilder;
 use crate::solution::package::read_solution_package;
 use crate::solution::pairs::Pairs;
 use crate::solution::status::Status;
-use crate::stanza::postmark::{Postmark, postmark_of};
 use cudf_text::{Fault, Kind, Next, StanzaRef, Stanzas, Text, lend};
 use std::alloc::{AllocError, Global};
 

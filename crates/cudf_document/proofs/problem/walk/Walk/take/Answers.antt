@@ -5,14 +5,14 @@ use Rattle.cudf_document.proofs.problem.walk.Walk.take.Goals as goal
 
 pub returns-then-is_first : goal.returns-then-is_first
 returns-then-is_first g c = λ is_kept mode before first required so_far.
-    IsSoFar-first c.take_first.result mode (λ ss. g.K.Kept.IsKept is_kept ss c.args.kept.now) (λ ss. g.K.Kept.IsKept is_kept ss c.take_first.new.kept)
+    IsSoFar-first c.take_first.result mode (λ ss. g.K.Keeper.IsKept is_kept ss c.args.kept.now) (λ ss. g.K.Keeper.IsKept is_kept ss c.take_first.new.kept)
     c.args.self.now c.take_first.new.self before (stanza_view c.args.stanza.now)
     (sym c.if-is_first.true ∙ first) so_far
     (c.take_first.ensures.known mode) c.take_first.ensures.declared c.take_first.ensures.first (c.take_first.ensures.kept is_kept)
 
 pub returns : goal.returns
 returns g c = λ is_kept mode before first required so_far.
-    IsSoFar-next c.take_other.result mode (λ ss. g.K.Kept.IsKept is_kept ss c.args.kept.now) (λ ss. g.K.Kept.IsKept is_kept ss c.take_other.new.kept)
+    IsSoFar-next c.take_other.result mode (λ ss. g.K.Keeper.IsKept is_kept ss c.args.kept.now) (λ ss. g.K.Keeper.IsKept is_kept ss c.take_other.new.kept)
     c.args.self.now c.take_other.new.self before (stanza_view c.args.stanza.now)
     (sym c.if-is_first.false ∙ first) so_far
     (c.take_other.ensures.known mode before (sym c.if-is_first.false ∙ first) so_far.declared_are required so_far.known)

@@ -3,7 +3,7 @@ use Rattle.std.proofs.lemmas.List.{append_assoc}
 use Rattle.std.specs.List.{list_any, flat_map}
 use Rattle.cudf_text.specs.declared.fault.Kind.TheVariants.{E11, E12, E14}
 use Rattle.cudf_text.specs.Promises.Views.{stanza_view}
-use Rattle.cudf_document.specs.declared.stanza.postmark.Postmark.TheVariants.{Package}
+use Rattle.cudf_document.specs.declared.postmark.Postmark.TheVariants.{Package}
 use Rattle.cudf_document.specs.Faults.{lesser, least, fault_if}
 use Rattle.cudf_document.specs.Documents.{with_earlier, line_of}
 use Rattle.cudf_document.specs.Ids.{is_known}

@@ -1,3 +1,0 @@
-//! What a stanza is.
-
-pub(crate) mod postmark;
