@@ -1,15 +1,14 @@
 //! Prints what the problem says beside a violated instance.
 ghost use Rattle.std.specs.Prelude.{◌++◌, Some, option_map, true};
 ghost use Rattle.cudf_document.specs.Promises.Views.{package_view};
-ghost use Rattle.cudf_referee.specs.Promises.Views.{instance_view};
-ghost use Rattle.cudf_check.specs.Explanations.{stanza_text, would_do_text, named_text, number_text, upgrade_added, unknown_added, instance_added};
+ghost use Rattle.cudf_check.specs.Explanations.{stanza_text, would_do_text, named_text, number_text, upgrade_added, unknown_added};
 ghost use Rattle.cudf_check.specs.Working.Paper.{Says};
 
 use crate::device::Sink;
 use crate::lines::instance::package_at;
 use crate::paper::Paper;
 use cudf_document::Package;
-use cudf_referee::{Aspect, Explainer, Instance, What};
+use cudf_referee::{Aspect, Explainer};
 
 /// Prints where a package stands.
 fn print_stanza<W: Sink>(paper: &mut Paper<'_, W>, package: &Package<'_>)
@@ -23,7 +22,7 @@ fn print_stanza<W: Sink>(paper: &mut Paper<'_, W>, package: &Package<'_>)
 }
 
 /// Prints the package that alone would do, or that none would.
-fn print_would_do<W: Sink>(paper: &mut Paper<'_, W>, does: Option<&Package<'_>>)
+pub(crate) fn print_would_do<W: Sink>(paper: &mut Paper<'_, W>, does: Option<&Package<'_>>)
     ensures { Says W.state paper.old paper.new (would_do_text (option_map (λ p. package_view p.now) does.entry)) }
 {
     match does {
@@ -61,7 +60,7 @@ fn print_number<W: Sink>(paper: &mut Paper<'_, W>, number: Option<u64>, behind: 
 }
 
 /// Prints what is added to an entry of `upgrade` that is violated in this way.
-fn print_upgrade<W: Sink>(
+pub(crate) fn print_upgrade<W: Sink>(
     paper: &mut Paper<'_, W>,
     explainer: &Explainer<'_, '_, '_>,
     name: &str,
@@ -87,7 +86,7 @@ fn print_upgrade<W: Sink>(
 }
 
 /// Prints what is added to a stanza that isn't in the universe.
-fn print_unknown<W: Sink>(
+pub(crate) fn print_unknown<W: Sink>(
     paper: &mut Paper<'_, W>,
     explainer: &Explainer<'_, '_, '_>,
     subject: Option<(&str, u64)>,
@@ -101,28 +100,5 @@ fn print_unknown<W: Sink>(
             name,
             package_at(packages, explainer.first_named(name)),
         );
-    }
-}
-
-/// Prints what is added to the line of an instance.
-pub(crate) fn print_explanation<W: Sink>(
-    paper: &mut Paper<'_, W>,
-    explainer: &Explainer<'_, '_, '_>,
-    instance: &Instance<'_, '_>,
-)
-    ensures { Says W.state paper.old paper.new (instance_added true explainer.now (instance_view instance.now)) }
-{
-    let packages = explainer.referee().packages();
-    let does = package_at(packages, explainer.would_do(instance));
-    let aspect = instance.key.aspect();
-    match instance.what {
-        What::Needs(_) | What::Install(_) => print_would_do(paper, does),
-        What::Upgrade(vpkg) => print_upgrade(paper, explainer, vpkg.name, does, aspect),
-        What::Unknown => print_unknown(paper, explainer, instance.subject),
-        What::ConflictsWith(_)
-        | What::KeepVersion
-        | What::KeepPackage
-        | What::KeepFeature(_)
-        | What::Remove(_) => {}
     }
 }

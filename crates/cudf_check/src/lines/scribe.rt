@@ -1,9 +1,9 @@
 //! Prints the lines of violated instances, each with what is added to it, where lines are explained.
 use crate::device::Sink;
-use crate::lines::explanation::print_explanation;
+use crate::lines::explanation::{print_unknown, print_upgrade, print_would_do};
 use crate::lines::instance::{package_at, print_key, print_subject, print_what};
 use crate::paper::Paper;
-use cudf_referee::{Explainer, Instance, Referee};
+use cudf_referee::{Explainer, Instance, Referee, What};
 use std::alloc::{AllocError, Global};
 use std::marker::Model;
 
@@ -29,7 +29,7 @@ impl<'r, 'p, 't> Scribe<'r, 'p, 't> {
     ghost use Rattle.std.specs.Prelude.{◌≡◌, IfOk};
     ghost use Rattle.cudf_referee.specs.Promises.Views.{instance_view};
     ghost use Rattle.cudf_check.specs.Explanations.{instance_added};
-    ghost use Rattle.cudf_check.specs.Report.{line, instance_line};
+    ghost use Rattle.cudf_check.specs.Report.{instance_line};
     ghost use Rattle.cudf_check.specs.Working.Paper.{Says};
 
     /// The scribe of a referee. Memory for what is added to lines is taken here.
@@ -76,17 +76,29 @@ impl<'r, 'p, 't> Scribe<'r, 'p, 't> {
         paper.number(instance.line);
         paper.text(": ");
         print_what(paper, &instance.what, instance.key.aspect(), met);
-        self.print_end(paper, instance);
+        self.print_added(paper, instance);
+        paper.text("\n");
     }
 
-    /// Prints the end of the line of an instance, behind what is added to it.
-    fn print_end<W: Sink>(&self, paper: &mut Paper<'_, W>, instance: &Instance<'_, '_>)
-        ensures { Says W.state paper.old paper.new (line (instance_added self.now.explain self.now.judged (instance_view instance.now))) }
+    /// Prints what the problem says beside an instance, where lines are explained.
+    fn print_added<W: Sink>(&self, paper: &mut Paper<'_, W>, instance: &Instance<'_, '_>)
+        ensures { Says W.state paper.old paper.new (instance_added self.now.explain self.now.judged (instance_view instance.now)) }
     {
-        match &self.explainer {
-            Some(explainer) => print_explanation(paper, explainer, instance),
-            None => {}
+        let Some(explainer) = &self.explainer else {
+            return;
+        };
+        let packages = explainer.referee().packages();
+        let does = package_at(packages, explainer.would_do(instance));
+        let aspect = instance.key.aspect();
+        match instance.what {
+            What::Needs(_) | What::Install(_) => print_would_do(paper, does),
+            What::Upgrade(vpkg) => print_upgrade(paper, explainer, vpkg.name, does, aspect),
+            What::Unknown => print_unknown(paper, explainer, instance.subject),
+            What::ConflictsWith(_)
+            | What::KeepVersion
+            | What::KeepPackage
+            | What::KeepFeature(_)
+            | What::Remove(_) => {}
         }
-        paper.text("\n");
     }
 }

@@ -14,4 +14,4 @@ returns g c =
     ∙ ap (λ w. option_and_then (package_at w.judged.problem) (met_by w.judged.proposed i)) c.self.view_is in
     c.print_key.ensures ▸ c.print_subject.ensures ▸ c.text.ensures ▸ c.number.ensures ▸ c.text-2.ensures
     ▸ Says-as _ _ _ _ _ (λ k. what_text i.what (c.aspect.ensures k) (met k)) c.print_what.ensures
-    ▸ c.print_end.ensures
+    ▸ (c.print_added.ensures ▸ c.text-3.ensures)
