@@ -34,7 +34,8 @@ impl<'w, W: Sink> Paper<'w, W> {
         }
     }
 
-    /// Prints a text.
+    /// Prints a text. It stands in each caller, so that a short one is put into the buffer without a call.
+    #[inline(always)]
     pub(crate) fn text(&mut self, text: &str)
         ensures { Says W.state self.old self.new text.now }
     {
