@@ -4,6 +4,7 @@ pub mod MemberLemmas
 pub mod CountLemmas
 pub mod TakenOffLemmas
 pub mod EndLemmas
+pub mod BoundLemmas
 pub mod GatheringLemmas
 pub mod FoundLemmas
 pub mod FirstLemmas

@@ -5,6 +5,7 @@ use Rattle.std.specs.List.Sorted.{IsNonDecreasing}
 use Rattle.std.proofs.lemmas.Bool.{lt-ltb, le-ltb}
 use Rattle.std.proofs.lemmas.List.{get_or_default}
 use Rattle.cudf_universe.specs.Promises.Prices.{digits}
+use Rattle.cudf_universe.specs.Working.Ends.{StandsUnder}
 use Rattle.cudf_universe.proofs.CountLemmas.{count-point}
 use Rattle.cudf_universe.proofs.PriceLemmas.{digits-halved}
 
@@ -64,3 +65,10 @@ module _ (xs : List ℕ) (bound : ℕ) where
         (λ k d a b. lt-ltb (get_or xs k d) bound (omega (arith, s.below k b, get_or_default xs k d 0 (omega (arith, s.order, s.within))))),
         (λ k d a b. le-ltb (get_or xs k d) bound (omega (arith, s.above k (omega arith) b, get_or_default xs k d 0 b))),
       )
+
+  pub searched_stands : (low high from to : ℕ) → Searched xs bound low high from to → high ≤ low → StandsUnder xs bound low
+  searched_stands low high from to s closed = record {
+    within = omega (arith, s.order, s.within);
+    below = s.below;
+    above = λ k h l. s.above k (omega arith) l;
+  }

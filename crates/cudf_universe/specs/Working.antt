@@ -1,5 +1,6 @@
 pub mod Members
 pub mod Numbers
+pub mod Ends
 pub mod Kept
 pub mod Gathering
 pub mod FirstPlaces

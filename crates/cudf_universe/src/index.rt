@@ -173,7 +173,7 @@ impl<'p, 't> Index<'p, 't> {
         ensures grows { steps.old + 1 ≤ steps.new }
     {
         match self.look_up(vpkg.name, steps) {
-            Some(entries) => entries.met(vpkg.bound, steps).exceeds(Met::none()),
+            Some(entries) => entries.any(vpkg.bound, steps),
             None => false,
         }
     }

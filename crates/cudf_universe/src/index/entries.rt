@@ -46,6 +46,15 @@ impl Met {
 }
 
 impl Entries {
+    /// Whether one of them meets the bound.
+    pub(crate) fn any(&self, bound: Option<(Relop, u64)>, steps: &mut Steps) -> bool
+        ensures answer { result ≡ (nat_lt 0 (count_by (meets bound) self.now.numbers) || nat_lt 0 (if is_below_one bound then 0 else self.now.unversioned)) }
+        ensures price { steps.new ≤ steps.old + 2 * digits (length self.now.numbers) }
+        ensures grows { steps.old ≤ steps.new }
+    {
+        self.numbers.any(bound, steps) || self.unversioned_met(bound) > 0
+    }
+
     /// How many of them meet the bound.
     pub(crate) fn met(&self, bound: Option<(Relop, u64)>, steps: &mut Steps) -> Met
         ensures numbers { result.numbers ≡ count_by (meets bound) self.now.numbers }
@@ -53,15 +62,20 @@ impl Entries {
         ensures price { steps.new ≤ steps.old + 2 * digits (length self.now.numbers) }
         ensures grows { steps.old ≤ steps.new }
     {
-        let numbers = self.numbers.count(bound, steps);
-        let unversioned = if is_below_one(bound) {
+        Met {
+            numbers: self.numbers.count(bound, steps),
+            unversioned: self.unversioned_met(bound),
+        }
+    }
+
+    /// How many of those without a number meet the bound.
+    fn unversioned_met(&self, bound: Option<(Relop, u64)>) -> usize
+        ensures { result ≡ (if is_below_one bound then 0 else self.now.unversioned) }
+    {
+        if is_below_one(bound) {
             0
         } else {
             self.unversioned
-        };
-        Met {
-            numbers,
-            unversioned,
         }
     }
 }

@@ -1,5 +1,5 @@
 //! What the packages of a status give, gathered by name.
-ghost use Rattle.std.specs.Prelude.{◌≡◌, ◌<◌, ℕ, List, [], ◌∷◌, ◌++◌, map, length, false, bytes_eq, cond, OnOk, IfOk, slice_get, option_to_list};
+ghost use Rattle.std.specs.Prelude.{◌≡◌, ◌<◌, ℕ, List, Some, [], ◌∷◌, ◌++◌, map, length, false, bytes_eq, cond, OnOk, IfOk, slice_get, option_to_list};
 ghost use Rattle.std.specs.List.{position_or_len, list_any};
 ghost use Rattle.cudf_value.specs.Promises.Views.{vpkg_view};
 ghost use Rattle.cudf_universe.specs.Working.Gathering.{row_of, given_by, provisions_of, sole_place, Completes, CompletesAt};
@@ -143,6 +143,9 @@ pub(crate) fn entries_of(alloc: Global, rows: &[Vec<Provision>]) -> Result<Vec<E
 pub(crate) fn completed(alloc: Global, row: &[Provision]) -> Result<Entries, AllocError>
     ensures { IfOk result (Completes row.now) }
 {
+    if let [provision] = row {
+        return Ok(alone(alloc, *provision));
+    }
     let mut numbers = Vec::with_capacity(alloc, row.len())?;
     for provision in row {
         push_some(&mut numbers, provision.number)?;
@@ -154,6 +157,27 @@ pub(crate) fn completed(alloc: Global, row: &[Provision]) -> Result<Entries, All
         sole: sole_place(row),
         is_package: any_version(row),
     })
+}
+
+/// What is kept of a row of one provision, as most rows are. It takes no memory.
+fn alone(alloc: Global, provision: Provision) -> Entries
+    ensures { Completes (provision ∷ []) result }
+{
+    let Provision {
+        number,
+        place,
+        is_version,
+    } = provision;
+    let (numbers, unversioned) = match number {
+        Some(number) => (Sorted::one(number), 0),
+        None => (Sorted::none(alloc), 1),
+    };
+    Entries {
+        numbers,
+        unversioned,
+        sole: Some(place),
+        is_package: is_version,
+    }
 }
 
 /// The place of these provisions, where all stand at the same.

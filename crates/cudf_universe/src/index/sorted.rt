@@ -1,14 +1,16 @@
 //! Numbers in ascending order, to be counted.
-ghost use Rattle.std.specs.Prelude.{◌≡◌, ◌==◌, ◌<◌, ◌≤◌, ◌+◌, ◌*◌, ℕ, Bool, nat_lt, nat_le, length, slice_index_or};
+ghost use Rattle.std.specs.Prelude.{◌≡◌, ◌==◌, ◌<◌, ◌≤◌, ◌+◌, ◌*◌, ℕ, Bool, None, [], ◌∷◌, nat_lt, nat_le, length, slice_index_or};
 ghost use Rattle.std.specs.List.{count_by};
 ghost use Rattle.std.specs.List.Sorted.{IsNonDecreasing};
 ghost use Rattle.cudf_value.specs.Vpkgs.{meets};
 ghost use Rattle.cudf_universe.specs.Promises.Members.{IsLeast, IsGreatest};
 ghost use Rattle.cudf_universe.specs.Promises.Prices.{digits};
+ghost use Rattle.cudf_universe.specs.Working.Ends.{only_number, StandsUnder};
 
 use crate::index::numbers::Numbers;
 use crate::steps::Steps;
-use cudf_value::Relop;
+use cudf_value::{Relop, meets};
+use std::alloc::Global;
 use std::marker::Model;
 
 /// Numbers in ascending order, with repeats.
@@ -30,6 +32,24 @@ impl Model for Sorted {
 }
 
 impl Sorted {
+    /// No numbers. It takes no memory.
+    pub(crate) fn none(alloc: Global) -> Self
+        ensures { result ≡ [] }
+    {
+        Sorted {
+            numbers: Numbers::Others(Vec::new(alloc)),
+        }
+    }
+
+    /// One number. It takes no memory.
+    pub(crate) fn one(number: u64) -> Self
+        ensures { result ≡ number ∷ [] }
+    {
+        Sorted {
+            numbers: Numbers::One(number),
+        }
+    }
+
     /// These numbers, in ascending order.
     pub(crate) fn new(numbers: Vec<u64>) -> Self
         ensures counts { (p : ℕ → Bool) → count_by p result ≡ count_by p numbers.items }
@@ -40,6 +60,49 @@ impl Sorted {
         Sorted {
             numbers: Numbers::new(numbers),
         }
+    }
+
+    /// Whether one of them meets the bound: by both ends, or by one search.
+    pub(crate) fn any(&self, bound: Option<(Relop, u64)>, steps: &mut Steps) -> bool
+        ensures answer { result ≡ nat_lt 0 (count_by (meets bound) self.now) }
+        ensures price { steps.new ≤ steps.old + 2 * digits (length self.now) }
+        ensures grows { steps.old ≤ steps.new }
+    {
+        match only_number(bound) {
+            Some(number) => self.holds(number, steps),
+            None => self.any_end(bound, steps),
+        }
+    }
+
+    /// Whether the least or the greatest of them meets the bound, as one does where any does.
+    fn any_end(&self, bound: Option<(Relop, u64)>, steps: &mut Steps) -> bool
+        requires { only_number bound ≡ None }
+        ensures answer { result ≡ nat_lt 0 (count_by (meets bound) self.now) }
+        ensures price { steps.new ≤ steps.old + 2 * digits (length self.now) }
+        ensures grows { steps.old ≤ steps.new }
+    {
+        let _ = &self.numbers;
+        let len = self.len();
+        if len == 0 {
+            return false;
+        }
+        let least = self.at(0, steps);
+        let greatest = self.at(len - 1, steps);
+        meets(bound, least) | meets(bound, greatest)
+    }
+
+    /// Whether the number is one of them.
+    fn holds(&self, number: u64, steps: &mut Steps) -> bool
+        ensures answer { result ≡ nat_lt 0 (count_by (λ n. n == number) self.now) }
+        ensures price { steps.new ≤ steps.old + 2 * digits (length self.now) }
+        ensures grows { steps.old ≤ steps.new }
+    {
+        let _ = &self.numbers;
+        let under = self.under(number, steps);
+        if under == self.len() {
+            return false;
+        }
+        self.at(under, steps) == number
     }
 
     /// How many of them meet the bound.
@@ -103,6 +166,7 @@ impl Sorted {
 
     fn under(&self, number: u64, steps: &mut Steps) -> usize
         ensures counted { result ≡ count_by (λ n. nat_lt n number) self.now }
+        ensures stands { StandsUnder self.now number result }
         ensures price { steps.new ≤ steps.old + digits (length self.now) }
         ensures grows { steps.old ≤ steps.new }
     {
@@ -119,6 +183,7 @@ impl Sorted {
 
     fn below(&self, bound: u128, steps: &mut Steps) -> usize
         ensures counted { result ≡ count_by (λ n. nat_lt n bound) self.now }
+        ensures stands { StandsUnder self.now bound result }
         ensures price { steps.new ≤ steps.old + digits (length self.now) }
         ensures grows { steps.old ≤ steps.new }
     {
@@ -144,5 +209,15 @@ impl Sorted {
     {
         steps.tick();
         self.numbers.as_slice()[place]
+    }
+}
+
+/// The number that alone meets the bound, where the bound is such.
+fn only_number(bound: Option<(Relop, u64)>) -> Option<u64>
+    ensures { result ≡ only_number bound }
+{
+    match bound {
+        Some((Relop::Eq, number)) => Some(number),
+        _ => None,
     }
 }

@@ -3,7 +3,7 @@ ghost use Rattle.std.specs.Prelude.{◌≡◌, IfOk, map};
 ghost use Rattle.cudf_universe.specs.Working.Members.{is_other};
 ghost use Rattle.cudf_universe.specs.Working.FirstPlaces.{first_place_of, first_version_of, number_meets, is_sole, may_meet};
 
-use crate::index::entries::{Entries, Met, is_below_one};
+use crate::index::entries::{Entries, is_below_one};
 use crate::index::gathered_names::{Provision, completed};
 use crate::steps::Steps;
 use cudf_value::{Relop, meets};
@@ -131,7 +131,7 @@ fn may_meet(entries: &Entries, bound: Option<(Relop, u64)>, except: Option<u64>)
     if is_sole(except, entries.sole) {
         return false;
     }
-    entries.met(bound, &mut Steps::new()).exceeds(Met::none())
+    entries.any(bound, &mut Steps::new())
 }
 
 /// Whether `except` is the only place.

@@ -1,6 +1,9 @@
-use Rattle.std.proofs.Common.{◌≡◌, None, Some, sym, ap, ◌∙◌, length, arith}
+use Rattle.std.proofs.Common.{◌≡◌, None, Some, refl, sym, ap, ◌∙◌, length, arith}
+use Rattle.std.specs.Prelude.{if◌then◌else◌}
+use Rattle.std.specs.List.{count_by}
 use Rattle.cudf_value.specs.Promises.Views.{vpkg_view}
-use Rattle.cudf_universe.specs.Satisfaction.{numbers_of}
+use Rattle.cudf_value.specs.Vpkgs.{meets}
+use Rattle.cudf_universe.specs.Satisfaction.{numbers_of, is_below_one}
 use Rattle.cudf_universe.specs.Working.Kept.{Keeps}
 use Rattle.cudf_universe.specs.Promises.Prices.{digits}
 use Rattle.cudf_universe.proofs.EndLemmas.{length_same}
@@ -11,8 +14,8 @@ pub returns-in-Some-clause-answer : goal.returns-in-Some-clause-answer
 returns-in-Some-clause-answer c =
     let v = vpkg_view c.args.vpkg.now in
     let keeps : Keeps v.name c.args.self.now (Some c.in-Some.entries.now) = rw c.in-Some.is at c.look_up.ensures.kept in
-    (rw c.none.ensures at c.exceeds.ensures)
-    ∙ kept_exceeds v.name c.args.self.now (Some c.in-Some.entries.now) keeps 0 0 c.met.result.numbers c.met.result.unversioned v.bound c.met.ensures.numbers c.met.ensures.unversioned
+    c.any.ensures.answer
+    ∙ kept_exceeds v.name c.args.self.now (Some c.in-Some.entries.now) keeps 0 0 (count_by (meets v.bound) c.in-Some.entries.now.numbers) (if is_below_one v.bound then 0 else c.in-Some.entries.now.unversioned) v.bound refl refl
     ∙ sym (satisfies-counted c.args.self.now v)
 
 pub returns-in-None-clause-answer : goal.returns-in-None-clause-answer
@@ -26,4 +29,4 @@ returns-in-Some-clause-price c =
     let v = vpkg_view c.args.vpkg.now in
     let keeps : Keeps v.name c.args.self.now (Some c.in-Some.entries.now) = rw c.in-Some.is at c.look_up.ensures.kept in
     let same : digits (length c.in-Some.entries.now.numbers) ≡ digits (length (numbers_of v.name c.args.self.now)) = ap digits (length_same c.in-Some.entries.now.numbers (numbers_of v.name c.args.self.now) keeps.numbers) in
-    omega (arith, same, c.met.ensures.price, c.look_up.ensures.price)
+    omega (arith, same, c.any.ensures.price, c.look_up.ensures.price)

@@ -1,7 +1,7 @@
 use Rattle.std.proofs.Common.{◌≡◌, ℕ, refl, ap, sym, ◌∙◌, subst, List, length}
 use Rattle.cudf_universe.specs.Working.Numbers.{numbers_in}
 use Rattle.std.specs.List.Sorted.{IsNonDecreasing}
-use Rattle.cudf_universe.proofs.SearchedLemmas.{Searched, searched_start, searched_right, searched_left, searched_end}
+use Rattle.cudf_universe.proofs.SearchedLemmas.{Searched, searched_start, searched_right, searched_left, searched_end, searched_stands}
 use Rattle.cudf_universe.proofs.index.sorted.Sorted.below.Goals as goal
 
 started : (xs now : List ℕ) (bound len from : ℕ) → IsNonDecreasing xs → xs ≡ now → len ≡ length xs → Searched now bound 0 len from from
@@ -21,3 +21,6 @@ loop-low-preserved c =
 
 pub returns-clause-counted : goal.returns-clause-counted
 returns-clause-counted c = searched_end c.args.self.now c.args.bound c.loop-low.low c.loop-low.high c.args.steps.now c.loop-low.steps c.loop-low.invariant c.loop-low-test.false
+
+pub returns-clause-stands : goal.returns-clause-stands
+returns-clause-stands c = searched_stands c.args.self.now c.args.bound c.loop-low.low c.loop-low.high c.args.steps.now c.loop-low.steps c.loop-low.invariant c.loop-low-test.false
