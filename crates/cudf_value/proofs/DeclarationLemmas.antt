@@ -9,8 +9,8 @@ use Rattle.std.proofs.lemmas.List.{append_assoc}
 use Rattle.std.proofs.lemmas.Slice.Eq.{bytes_eq-Decides}
 use Rattle.cudf_text.specs.Chars.{is_blank, is_blank_text, trim_start, is_ident_char, is_ident}
 use Rattle.cudf_value.specs.Parts.{look_up}
-use Rattle.cudf_value.specs.Types.{types, word_type}
-use Rattle.cudf_value.specs.Declarations.{type_at, declaration}
+use Rattle.cudf_value.specs.Types.{types, PlainType, word_type}
+use Rattle.cudf_value.specs.Declarations.{enum_at, type_at, with_kind, declaration}
 use Rattle.cudf_value.specs.Promises.Laws.{IsDeclaredSpaced}
 use Rattle.cudf_value.proofs.ReadBack.{prefix_through}
 use Rattle.cudf_value.proofs.VpkgLemmas.{blank_is, apart, none_passes, blanks_off, blanks_then}
@@ -39,22 +39,29 @@ no_letter : (rest : List ℕ) → is_ascii_alphabetic (slice_index rest 0) ≡ f
 no_letter [] none = refl
 no_letter (b ∷ rest) none = rw none refl
 
-ident_chars : (name : List ℕ) → is_ident name ≡ true → list_all is_ident_char name ≡ true
+pub ident_chars : (name : List ℕ) → is_ident name ≡ true → list_all is_ident_char name ≡ true
 unfolding is_ident
 ident_chars name is = (and_parts (is_ascii_alphabetic (slice_index name 0)) (list_all is_ident_char name) is).1
+
+-- the type at the front of a word of letters, which no letter follows
+pub type_from : (word rest : List ℕ) → list_all is_ascii_alphabetic word ≡ true → prefix_len is_ascii_alphabetic rest ≡ 0
+    → type_at (word ++ rest) ≡ (if bytes_eq word (codes "enum") then enum_at (trim_start rest) else option_map (λ test. (word_type word, rest)) (look_up word types))
+type_from word rest letters none =
+    rw (
+      prefix_through is_ascii_alphabetic word rest letters none,
+      take-append_seam word rest,
+      drop-append_seam word rest,
+    )
+    refl
 
 -- the type at the front of its word
 typed_at : (word rest : List ℕ) → is_some (look_up word types) ≡ true → is_ascii_alphabetic (slice_index rest 0) ≡ false → type_at (word ++ rest) ≡ Some (word_type word, rest)
 typed_at word rest has_type none =
     let whole = and_parts (nat_lt 0 (length word) && list_all is_ascii_alphabetic word) (not (bytes_eq word (codes "enum"))) (row_test is_type_word word types refl has_type) in
     let letters = and_parts (nat_lt 0 (length word)) (list_all is_ascii_alphabetic word) whole.0 in
-    rw (
-      prefix_through is_ascii_alphabetic word rest letters.1 (no_letter rest none),
-      take-append_seam word rest,
-      drop-append_seam word rest,
-      not-true (bytes_eq word (codes "enum")) whole.1,
-    )
-    (mapped (word_type word, rest) (look_up word types) has_type)
+    type_from word rest letters.1 (no_letter rest none)
+    ∙ ap (λ b. if b then enum_at (trim_start rest) else option_map (λ test. (word_type word, rest)) (look_up word types)) (not-true (bytes_eq word (codes "enum")) whole.1)
+    ∙ mapped (word_type word, rest) (look_up word types) has_type
 
 -- a type's word begins with no blank
 word_start : (word rest : List ℕ) → is_some (look_up word types) ≡ true → prefix_len is_blank (word ++ rest) ≡ 0
@@ -63,17 +70,15 @@ word_start word rest has_type =
     let letters = and_parts (nat_lt 0 (length word)) (list_all is_ascii_alphabetic word) whole.0 in
     none_passes is_blank is_ascii_alphabetic (apart is_blank is_ascii_alphabetic (blank_is is_ascii_alphabetic false refl refl)) word rest (ltb-true 0 (length word) letters.0) letters.1
 
-pub declared_spaced : (name gap space word rest : List ℕ) → is_ident name ≡ true → is_blank_text gap ≡ true → is_blank_text space ≡ true
-    → is_some (look_up word types) ≡ true → not (is_ascii_alphabetic (slice_index rest 0)) ≡ true → IsDeclaredSpaced name gap space word rest
-declared_spaced name gap space word rest is_name gap_blank space_blank has_type none =
-    let colon = codes ":" in
-    let typed = word ++ rest in
+-- a declaration, by the type that stands behind the colon
+pub declared_by : (name gap space typed : List ℕ) (kind : PlainType) (rest : List ℕ) → is_ident name ≡ true → is_blank_text gap ≡ true → is_blank_text space ≡ true
+    → prefix_len is_blank typed ≡ 0 → type_at typed ≡ Some (kind, rest) → declaration (name ++ gap ++ codes ":" ++ space ++ typed) ≡ with_kind name kind (trim_start rest)
+declared_by name gap space typed kind rest is_name gap_blank space_blank begins is_type =
     let behind = 58 ∷ (space ++ typed) in
-    let grouped : name ++ gap ++ colon ++ space ++ word ++ rest ≡ name ++ (gap ++ behind) =
-    append_assoc (name ++ gap ++ colon ++ space) word rest ∙ append_assoc (name ++ gap ++ colon) space typed
-    ∙ append_assoc (name ++ gap) colon (space ++ typed) ∙ append_assoc name gap behind in
+    let grouped : name ++ gap ++ codes ":" ++ space ++ typed ≡ name ++ (gap ++ behind) =
+    append_assoc (name ++ gap ++ codes ":") space typed ∙ append_assoc (name ++ gap) (codes ":") (space ++ typed) ∙ append_assoc name gap behind in
     let start : trim_start (gap ++ behind) ≡ behind = blanks_off gap behind gap_blank in
-    let type_start : trim_start (space ++ typed) ≡ typed = blanks_off space typed space_blank ∙ ap (λ k. drop k typed) (word_start word rest has_type) in
+    let type_start : trim_start (space ++ typed) ≡ typed = blanks_off space typed space_blank ∙ ap (λ k. drop k typed) begins in
     ap declaration grouped
     ∙ rw (
       prefix_through is_ident_char name (gap ++ behind) (ident_chars name is_name) (blanks_then is_ident_char (blank_is is_ident_char false refl refl) gap behind gap_blank refl),
@@ -82,6 +87,13 @@ declared_spaced name gap space word rest is_name gap_blank space_blank has_type 
       start,
       is_name,
       type_start,
-      typed_at word rest has_type (not-true (is_ascii_alphabetic (slice_index rest 0)) none),
+      is_type,
     )
     refl
+
+pub declared_spaced : (name gap space word rest : List ℕ) → is_ident name ≡ true → is_blank_text gap ≡ true → is_blank_text space ≡ true
+    → is_some (look_up word types) ≡ true → not (is_ascii_alphabetic (slice_index rest 0)) ≡ true → IsDeclaredSpaced name gap space word rest
+declared_spaced name gap space word rest is_name gap_blank space_blank has_type none =
+    ap declaration (append_assoc (name ++ gap ++ codes ":" ++ space) word rest)
+    ∙ declared_by name gap space (word ++ rest) (word_type word) rest is_name gap_blank space_blank (word_start word rest has_type)
+    (typed_at word rest has_type (not-true (is_ascii_alphabetic (slice_index rest 0)) none))

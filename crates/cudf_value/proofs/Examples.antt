@@ -1,5 +1,5 @@
 -- The definitions at texts whose values are known from outside.
-use Rattle.std.proofs.Common.{◌≡◌, refl, ℕ, pos, negsuc, true, false, List, [], ◌∷◌, Some, None, codes}
+use Rattle.std.proofs.Common.{◌≡◌, arith, refl, ℕ, pos, negsuc, true, false, List, [], ◌∷◌, Some, None, codes}
 use Rattle.std.specs.Fmt.{digits}
 use Rattle.cudf_value.specs.declared.relop.Relop.{Relop}
 use Rattle.cudf_value.specs.declared.relop.Relop.TheVariants.{Eq, Neq, Geq, Gt}
@@ -10,7 +10,9 @@ use Rattle.cudf_value.specs.Vpkgs.{PlainVpkg, vpkg, veqpkg}
 use Rattle.cudf_value.specs.Formulas.{truth_atom, falsehood_atom, named, formula, vpkglist, veqpkglist}
 use Rattle.cudf_value.specs.Printing.{vpkg_text, clause_text}
 use Rattle.cudf_value.specs.Types.{PlainType, word_type, enum_type}
-use Rattle.cudf_value.specs.Declarations.{PlainDeclaration, declarations}
+use Rattle.cudf_value.specs.Declarations.{PlainDeclaration, declaration, declarations}
+use Rattle.cudf_value.specs.Promises.Laws.{SpacedIdent}
+use Rattle.cudf_value.proofs.EnumLemmas.{enum_declared}
 
 trimmed : trim (codes " \t a b \t") ≡ codes "a b"
 trimmed = refl
@@ -274,6 +276,20 @@ declared_enum = refl
 declared_enum_plain : declarations (codes "e: enum[a]=a") ≡ Some (defaulted (codes "e") (enum_type (codes "a" ∷ [])) (codes "a") ∷ [])
 unfolding declarations is_ident
 declared_enum_plain = refl
+
+declared_enum_blanks : declarations (codes "e\t: \tenum \t[\tb ,a , a\t]") ≡ Some (without_default (codes "e") (enum_type (codes "b" ∷ codes "a" ∷ codes "a" ∷ [])) ∷ [])
+unfolding declarations is_ident
+declared_enum_blanks = refl
+
+-- the same by the law, with a default
+abbrev spaced : List ℕ → List ℕ → List ℕ → SpacedIdent
+spaced before ident behind = record { before = before; ident = ident; behind = behind }
+
+declared_enum_law : declaration (codes "e\t: \tenum \t[\tb ,a , a\t] = a") ≡ Some (defaulted (codes "e") (enum_type (codes "b" ∷ codes "a" ∷ codes "a" ∷ [])) (codes "a"))
+unfolding is_ident
+declared_enum_law =
+    enum_declared (codes "e") (codes "\t") (codes " \t") (codes " \t") (codes " = a") refl refl refl refl
+    (spaced (codes "\t") (codes "b") (codes " ") ∷ spaced [] (codes "a") (codes " ") ∷ spaced (codes " ") (codes "a") (codes "\t") ∷ []) (omega arith) refl
 
 declared_enum_blank_in_quotes : declarations (codes "e: enum[a] = [\" a\"]") ≡ None
 unfolding declarations is_ident

@@ -13,3 +13,4 @@ mod TokenLemmas
 pub mod TypeLemmas
 pub mod VpkgLemmas
 pub mod DeclarationLemmas
+mod EnumLemmas

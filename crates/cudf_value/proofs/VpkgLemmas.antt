@@ -87,7 +87,7 @@ all_pass one other passes (b ∷ text) all =
     let each = and_parts (one b) (list_all one text) all in
     rw (passes b each.0) (all_pass one other passes text each.1)
 
-both_pass : (test : ℕ → Bool) (xs ys : List ℕ) → list_all test xs ≡ true → list_all test ys ≡ true → list_all test (xs ++ ys) ≡ true
+pub both_pass : (test : ℕ → Bool) (xs ys : List ℕ) → list_all test xs ≡ true → list_all test ys ≡ true → list_all test (xs ++ ys) ≡ true
 both_pass test xs ys all more = list_all-append test xs ys ∙ (λ i. all i && more i)
 
 -- the run at the front, and what stands after it
@@ -159,11 +159,15 @@ plain name = record { name = name; bound = None }
 named_vpkg : (name : List ℕ) → list_all is_pkgname_char name ≡ true → 0 < length name → vpkg name ≡ Some (plain name)
 named_vpkg name all some = ap vpkg (sym (append-nil name)) ∙ cut_at_name name [] (name_is name all some) refl
 
+pub name_trimmed : (before name behind : List ℕ) → list_all is_blank before ≡ true → list_all is_pkgname_char name ≡ true → 0 < length name → list_all is_blank behind ≡ true
+    → trim (before ++ (name ++ behind)) ≡ name
+name_trimmed before name behind blank_before all some blank_behind =
+    trimmed before name behind blank_before (none_passes is_blank is_pkgname_char name_no_blank name behind some all) (end_off [] name behind all some blank_behind)
+
 named_part : (before name behind : List ℕ) → list_all is_blank before ≡ true → list_all is_pkgname_char name ≡ true → 0 < length name → list_all is_blank behind ≡ true
     → vpkg (trim (before ++ (name ++ behind))) ≡ Some (plain name)
 named_part before name behind blank_before all some blank_behind =
-    ap vpkg (trimmed before name behind blank_before (none_passes is_blank is_pkgname_char name_no_blank name behind some all) (end_off [] name behind all some blank_behind))
-    ∙ named_vpkg name all some
+    ap vpkg (name_trimmed before name behind blank_before all some blank_behind) ∙ named_vpkg name all some
 
 -- the name at the front of a text, and what stands after it and blanks
 abbrev pub name_of : List ℕ → List ℕ

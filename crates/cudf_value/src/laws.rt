@@ -5,7 +5,7 @@ ghost use Rattle.cudf_text.specs.Chars.{is_blank_text, is_ident};
 ghost use Rattle.cudf_value.specs.Parts.{look_up};
 ghost use Rattle.cudf_value.specs.Types.{types};
 ghost use Rattle.cudf_value.specs.Words.{is_pkgname};
-ghost use Rattle.cudf_value.specs.Promises.Laws.{IsCutAtCommas, IsMadeOfTokens, IsDeclaredSpaced, IsPosintBound, IsQuotableAsMade, IsReadBack, IsReadSpaced, PiecesJoinToText};
+ghost use Rattle.cudf_value.specs.Promises.Laws.{IsCutAtCommas, IsMadeOfTokens, IsDeclaredSpaced, IsEnumDeclared, IsPosintBound, IsQuotableAsMade, IsReadBack, IsReadSpaced, PiecesJoinToText};
 
 use crate::relop::Relop;
 
@@ -33,6 +33,17 @@ pub fn declared(_name: &str, _gap: &str, _space: &str, _word: &str, _rest: &str)
     requires word { IsTrue (is_some (look_up _word.now types)) }
     requires rest { IsTrue (not (is_ascii_alphabetic (slice_index _rest.now 0))) }
     ensures { IsDeclaredSpaced _name.now _gap.now _space.now _word.now _rest.now }
+{}
+
+/// An `ident`, a colon, `enum` and `ident`s between commas in brackets, one at least, declare the ident of the enum of
+/// these, in their order, with blanks or none round the colon, before the brackets and round each of them; what stands
+/// behind the brackets is read as nothing or a default.
+pub fn declared_enum(_name: &str, _gap: &str, _space: &str, _blanks: &str, _rest: &str)
+    requires name { IsTrue (is_ident _name.now) }
+    requires gap { IsTrue (is_blank_text _gap.now) }
+    requires space { IsTrue (is_blank_text _space.now) }
+    requires blanks { IsTrue (is_blank_text _blanks.now) }
+    ensures declares { IsEnumDeclared _name.now _gap.now _space.now _blanks.now _rest.now }
 {}
 
 /// A declaration's pieces, with commas between them, are its text; and a text of characters, quoted texts and texts in

@@ -1,10 +1,10 @@
 -- Laws over the definitions alone.
-use Rattle.std.specs.Prelude.{◌≡◌, ℕ, ◌^◌, ◌<◌, true, List, ◌++◌, codes, map, Option, Some, IfSome, ◌↔◌}
+use Rattle.std.specs.Prelude.{◌≡◌, ℕ, ◌^◌, ◌<◌, Bool, true, ◌&&◌, List, ◌++◌, codes, length, map, Option, Some, IfSome, ◌↔◌}
 use Rattle.std.specs.List.{list_all, flat_map, slice_split, join_with_byte}
 use Rattle.std.specs.Str.{byte}
 use Rattle.cudf_value.specs.declared.relop.Relop.{Relop}
-use Rattle.cudf_text.specs.Chars.{trim_start}
-use Rattle.cudf_value.specs.Types.{word_type}
+use Rattle.cudf_text.specs.Chars.{is_blank_text, trim_start, is_ident}
+use Rattle.cudf_value.specs.Types.{word_type, enum_type}
 use Rattle.cudf_value.specs.Declarations.{with_kind, declaration}
 use Rattle.cudf_value.specs.Spots.{pieces, is_quotable}
 use Rattle.cudf_value.specs.Promises.Tokens.{Inner, Token, is_inner, is_token, is_comma, inner_text, text_of}
@@ -30,6 +30,29 @@ IsReadSpaced name gap r space number = IfSome (positive number) (λ n.
 abbrev pub IsDeclaredSpaced : List ℕ → List ℕ → List ℕ → List ℕ → List ℕ → Type 0
 IsDeclaredSpaced name gap space word rest =
     declaration (name ++ gap ++ codes ":" ++ space ++ word ++ rest) ≡ with_kind name (word_type word) (trim_start rest)
+
+-- an ident of an enum, with the blanks before and behind it
+pub record SpacedIdent : Type 0 where
+  pub before : List ℕ
+  pub ident : List ℕ
+  pub behind : List ℕ
+
+abbrev pub is_spaced_ident : SpacedIdent → Bool
+is_spaced_ident i = is_blank_text i.before && is_ident i.ident && is_blank_text i.behind
+
+abbrev pub spaced_text : SpacedIdent → List ℕ
+spaced_text i = i.before ++ i.ident ++ i.behind
+
+-- an enum, with what stands between its word and its bracket
+abbrev pub enum_text : List ℕ → List SpacedIdent → List ℕ
+enum_text blanks idents = codes "enum" ++ blanks ++ codes "[" ++ join_with_byte (byte ",") (map spaced_text idents) ++ codes "]"
+
+-- a name, a colon and an enum of one ident or more, with any blanks round the colon, before the bracket and round each
+-- ident, declare the name of the enum of these idents, in their order; what stands behind the brackets is read as
+-- nothing or a default
+abbrev pub IsEnumDeclared : List ℕ → List ℕ → List ℕ → List ℕ → List ℕ → Type 0
+IsEnumDeclared name gap space blanks rest = (idents : List SpacedIdent) → 0 < length idents → list_all is_spaced_ident idents ≡ true →
+    declaration (name ++ gap ++ codes ":" ++ space ++ enum_text blanks idents ++ rest) ≡ with_kind name (enum_type (map (λ i. i.ident) idents)) (trim_start rest)
 
 -- the pieces, with a comma between each two, are the text
 abbrev pub PiecesJoinToText : List ℕ → Type 0
