@@ -35,7 +35,6 @@ static CLASSES: [u8; 256] = [
 
 impl Class {
     /// Whether the byte is of the class.
-    #[inline(always)]
     pub(crate) fn has(self, byte: u8) -> bool
         ensures value { result ≡ is_in_class self byte }
         ensures ascii { IsTrue result → byte < 128 }
@@ -43,7 +42,6 @@ impl Class {
         CLASSES[byte as usize] & self.bit() != 0
     }
 
-    #[inline(always)]
     fn bit(self) -> u8
         ensures { result ≡ class_bit self }
     {
@@ -65,7 +63,6 @@ pub fn are_all(bytes: &[u8], class: Class) -> bool
 }
 
 /// How many bytes of the class stand at the front.
-#[inline(always)]
 pub(crate) fn run_len(bytes: &[u8], class: Class) -> usize
     ensures inside { result ≤ length bytes.now }
     ensures len { result ≡ prefix_len (is_in_class class) bytes.now }
@@ -79,7 +76,6 @@ pub(crate) fn run_len(bytes: &[u8], class: Class) -> usize
 }
 
 /// The characters of the class at the front, and what follows them.
-#[inline(always)]
 pub fn split_run(text: &str, class: Class) -> (&str, &str)
     ensures run { result.0.now ≡ take_while (is_in_class class) text.now }
     ensures rest { result.1.now ≡ rest_after (is_in_class class) text.now }
@@ -97,7 +93,6 @@ pub fn is_ident(text: &str) -> bool
 }
 
 /// The text without the spaces and tabs at its front.
-#[inline(always)]
 pub fn trim_start(text: &str) -> &str
     ensures { result.now ≡ trim_start text.now }
 {
