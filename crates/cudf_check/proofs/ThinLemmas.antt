@@ -4,7 +4,7 @@ use Rattle.std.specs.List.{flat_map, enumerate_from, last_or}
 use Rattle.std.specs.Option.{option_map_or}
 use Rattle.std.specs.Ordering.{is_lt}
 use Rattle.std.proofs.lemmas.Option.{slice_get-map}
-use Rattle.cudf_text.specs.Stanzas.{PlainStanza, PlainText, plain_text}
+use Rattle.cudf_text.specs.Stanzas.{PlainStanza, PlainText}
 use Rattle.cudf_document.specs.Ids.{Id, is_among}
 use Rattle.cudf_document.specs.Statuses.{is_initial, is_proposed, installed_id, installed_ids, unknown_with, unknown_of, unknown_stanzas}
 use Rattle.cudf_document.specs.Promises.Thin.{thin_package, thin_problem}
@@ -23,7 +23,7 @@ use Rattle.cudf_referee.specs.declared.key.Aspect.TheVariants.{Unsatisfied, Many
 use Rattle.cudf_universe.specs.Satisfaction.{first_named, numbers_of}
 use Rattle.cudf_check.specs.Explanations.{would_do_text, named_text, number_text, upgrade_added, unknown_added, what_added, instance_added}
 use Rattle.cudf_check.specs.Report.{line, subject_text, what_text, instance_line, listed, limited, more_text, aim_line, criteria_text, verdict, judged_report, proposal_of}
-use Rattle.cudf_check.specs.Working.Chosen.{AreChosen, ReportsAlike}
+use Rattle.cudf_check.specs.Working.Alike.{ReportsAlike}
 use Rattle.cudf_check.specs.Working.Found.{found_text}
 use Rattle.cudf_check.specs.declared.job.Job.{Job}
 use Rattle.cudf_check.specs.declared.job.Job.TheVariants.{Lint, Check, Score}
@@ -168,10 +168,10 @@ proposal-same k problem text = λ i. proposal (thin_problem k problem)
 
 -- ---- the report
 
-judged-thin : ThinIsEnough → (is_chosen : Id → Bool) (thin whole : PlainProblem) → thin ≡ thin_problem is_chosen whole
-    → (text : PlainText) → ((id : Id) → is_chosen id ≡ is_among (installed_ids text.stanzas) id)
-    → (job : Job) → judged_report (found_text job) (proposal_of thin text) ≡ judged_report (found_text job) (proposal_of whole text)
-judged-thin law is_chosen thin whole is text same job =
+-- a problem that is thinned for what a text installs has the report of the whole one
+pub report-thin : ThinIsEnough → (is_chosen : Id → Bool) (thin whole : PlainProblem) → thin ≡ thin_problem is_chosen whole
+    → (text : PlainText) → ((id : Id) → is_chosen id ≡ is_among (installed_ids text.stanzas) id) → ReportsAlike text thin whole
+report-thin law is_chosen thin whole is text same job =
     ap (λ problem. judged_report (found_text job) (proposal_of problem text)) is
     ∙ ap (judged_report (found_text job)) (proposal-same is_chosen whole text)
     ∙ judged-same is_chosen
@@ -182,8 +182,3 @@ judged-thin law is_chosen thin whole is text same job =
     premise : (place : ℕ) (p : PlainPackage) → package_at whole place ≡ Some p → is_proposed whole text.stanzas place ≡ true → is_chosen (package_id p) ≡ true
     premise place p there proposed =
         same (package_id p) ∙ sym (ap (λ o. option_map_or (λ q. is_among (installed_ids text.stanzas) (package_id q)) o false) there) ∙ proposed
-
--- a problem that is thinned for what the bytes install has the report of the whole one
-pub report-thin : ThinIsEnough → (chosen : List Id) (thin whole : PlainProblem) → thin ≡ thin_problem (is_among chosen) whole
-    → (bytes : List ℕ) → AreChosen chosen bytes → ReportsAlike bytes thin whole
-report-thin law chosen thin whole is bytes same = λ utf8 job. judged-thin law (is_among chosen) thin whole is (plain_text bytes) (same utf8) job

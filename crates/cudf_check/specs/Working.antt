@@ -1,5 +1,5 @@
+pub mod Alike
 pub mod Answering
-pub mod Chosen
 pub mod Found
 pub mod InTurn
 pub mod Judged

@@ -10,7 +10,7 @@ ghost use Rattle.cudf_check.specs.Working.Unjudged.{IsFaultOf, IsUnjudged};
 use crate::ranking::{Entrant, Judgement};
 use crate::readings::{Unjudged, proposed_in};
 use crate::setting::Setting;
-use cudf_document::{Problem, ReadError};
+use cudf_document::{Problem, ReadError, solution_of};
 use cudf_referee::Referee;
 use cudf_text::Room;
 use std::alloc::AllocError;
@@ -50,12 +50,14 @@ fn judge(setting: Setting, problem: &Problem<'_>, bytes: &[u8]) -> Result<Judgem
     ensures judged { IfOk result (IsJudged setting.mode problem.now bytes.now) }
     ensures fault { IfErr result (IsFaultOf (solution_fault setting.mode bytes.now)) }
 {
-    let mut room = Room::new(setting.alloc);
-    match proposed_in(setting, bytes, &mut room, problem) {
-        Ok(solution) => match Referee::new(setting.alloc, problem, &solution) {
-            Ok(referee) => Ok(judgement_by(&referee)),
-            Err(error) => Err(ReadError::Memory(error)),
-        },
+    let alloc = setting.alloc;
+    let mut room = Room::new(alloc);
+    match proposed_in(setting, bytes, &mut room) {
+        Ok(proposed) => {
+            let solution = solution_of(alloc, proposed, problem)?;
+            let referee = Referee::new(alloc, problem, &solution)?;
+            Ok(judgement_by(&referee))
+        }
         Err(reason) => said_fail(reason),
     }
 }

@@ -17,7 +17,7 @@ use crate::lines::{answer, answer_fault, answer_judged};
 use crate::outcome::{Outcome, RunError};
 use crate::readings::{Unjudged, problem_beside, proposed_in, sound_in};
 use crate::setting::Setting;
-use cudf_document::{Detail, ReadError, detail};
+use cudf_document::{Detail, ReadError, detail, solution_of};
 use cudf_text::{Fault, Room, cut_joined, source_of};
 use std::alloc::{AllocError, Global};
 
@@ -72,24 +72,33 @@ pub(crate) fn answer_unread<W: Sink>(
     }
 }
 
-/// Answers a solution that isn't judged.
+/// Answers a solution that isn't judged; before it the problem's fault is told.
 fn answer_unjudged<W: Sink>(
-    alloc: Global,
+    setting: Setting,
     out: &mut W,
+    problem: Document<'_>,
     solution: Document<'_>,
     reason: Unjudged,
 ) -> Result<Outcome, RunError>
-    ensures { (mode : Mode) → (report : Report) → IsUnjudged mode solution.entry.bytes.now reason
-        → Answers (W.state out.old) (W.state out.new) (faulty_or solution.entry.whose.now (told solution.entry.explain solution.entry.bytes.now) (solution_fault mode solution.entry.bytes.now)
-        (if is_fail solution.entry.bytes.now then alone (codes "solution FAIL") Fail else report)) result }
+    ensures { (report : Report) → IsUnjudged setting.mode solution.entry.bytes.now reason
+        → Answers (W.state out.old) (W.state out.new) (faulty_or problem.entry.whose.now (told problem.entry.explain problem.entry.bytes.now) (problem_fault setting.mode problem.entry.bytes.now)
+        (faulty_or solution.entry.whose.now (told solution.entry.explain solution.entry.bytes.now) (solution_fault setting.mode solution.entry.bytes.now)
+        (if is_fail solution.entry.bytes.now then alone (codes "solution FAIL") Fail else report))) result }
 {
+    if matches!(reason, Unjudged::Unread(ReadError::Memory(_))) {
+        return Err(RunError::Memory);
+    }
+    if let Err(error) = sound_in(setting, problem.bytes) {
+        return answer_unread(setting.alloc, out, problem, error);
+    }
     match reason {
-        Unjudged::SaysFail => answer(alloc, out, "solution FAIL", Outcome::Fail),
-        Unjudged::Unread(error) => answer_unread(alloc, out, solution, error),
+        Unjudged::SaysFail => answer(setting.alloc, out, "solution FAIL", Outcome::Fail),
+        Unjudged::Unread(error) => answer_unread(setting.alloc, out, solution, error),
     }
 }
 
-/// Judges a solution of a problem.
+/// Judges a solution of a problem. It is read first, since what it installs says what of the problem
+/// has to be kept.
 fn check<W: Sink>(
     setting: Setting,
     out: &mut W,
@@ -113,15 +122,25 @@ fn check<W: Sink>(
     };
     let mut problem_room = Room::new(alloc);
     let mut solution_room = Room::new(alloc);
-    let judged = match problem_beside(setting, problem.bytes, &mut problem_room, solution.bytes) {
+    let proposed = match proposed_in(setting, solution.bytes, &mut solution_room) {
+        Ok(proposed) => proposed,
+        Err(reason) => return answer_unjudged(setting, out, problem, solution, reason),
+    };
+    let read = problem_beside(
+        setting,
+        problem.bytes,
+        &mut problem_room,
+        solution.bytes,
+        &proposed,
+    );
+    let judged = match read {
         Ok(judged) => judged,
         Err(error) => return answer_unread(alloc, out, problem, error),
     };
-    let proposed = match proposed_in(setting, solution.bytes, &mut solution_room, &judged) {
-        Ok(proposed) => proposed,
-        Err(reason) => return answer_unjudged(alloc, out, solution, reason),
-    };
-    answer_judged(alloc, out, job, &judged, &proposed)
+    match solution_of(alloc, proposed, &judged) {
+        Ok(placed) => answer_judged(alloc, out, job, &judged, &placed),
+        Err(_) => Err(RunError::Memory),
+    }
 }
 
 /// Says that a problem has no fault, or which one is its first.

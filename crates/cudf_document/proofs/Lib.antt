@@ -15,12 +15,12 @@ pub mod LawLemmas
 mod ModeLemmas
 pub mod SolutionPackageLemmas
 mod PairLemmas
-pub mod SolutionBuilderLemmas
-mod SolutionReaderLemmas
+mod ProposedLemmas
+mod PlacedLemmas
 mod Examples
 pub mod StatusLemmas
 mod WalkLemmas
 mod PartsLemmas
 pub mod ThinLemmas
-pub mod ChosenLemmas
+mod ChosenLemmas
 pub mod DetailLemmas

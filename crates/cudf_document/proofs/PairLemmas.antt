@@ -8,7 +8,7 @@ use Rattle.cudf_text.specs.declared.fault.Kind.TheVariants.{E15}
 use Rattle.cudf_text.specs.Stanzas.{PlainStanza}
 use Rattle.cudf_document.specs.declared.mode.Mode.{Mode}
 use Rattle.cudf_document.specs.declared.mode.Mode.TheVariants.{Lenient, Strict}
-use Rattle.cudf_document.specs.declared.solution.pairs.Pairs.{Pairs}
+use Rattle.cudf_document.specs.declared.proposed.pairs.Pairs.{Pairs}
 use Rattle.cudf_document.specs.Documents.{line_of}
 use Rattle.cudf_document.specs.Faults.{lesser, least, fault_if}
 use Rattle.cudf_document.specs.Ids.{Id, is_id, is_among, is_known, id_of}

@@ -1,4 +1,3 @@
-pub mod Chosen
 pub mod Details
 pub mod Enums
 pub mod Flags
@@ -6,12 +5,12 @@ pub mod Identities
 pub mod Kept
 pub mod Pairs
 pub mod PackageFields
+pub mod Placed
 pub mod ProblemBuilders
+pub mod Proposed
 pub mod Reads
 pub mod RequestFields
 pub mod SeenNames
-pub mod SolutionBuilders
 pub mod SolutionPackages
-pub mod SolutionReaders
 pub mod Walks
 pub mod Judging

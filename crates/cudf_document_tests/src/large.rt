@@ -1,8 +1,8 @@
 //! Values, lists and documents at the sizes at which a reader may take another way, and far beyond them: each is read,
 //! and memory is missed in none.
 use cudf_document::{
-    Chosen, Mode, Problem, ReadError, Solution, first_fault, problem_for, problem_of, read_problem,
-    read_solution, solution_of,
+    Chosen, Mode, Problem, Proposed, ReadError, Solution, first_fault, problem_for, problem_of,
+    proposed_of, read_problem, read_solution, solution_of,
 };
 use cudf_text::{Room, Text, is_fail, read, stanzas};
 use cudf_value::{read_formula, read_veqpkglist, read_vpkglist};
@@ -219,22 +219,36 @@ fn all_is_read(alloc: Global, problem: &[u8], solution: &[u8], count: u64) -> bo
 fn is_proposed(alloc: Global, problem: &Problem<'_>, solution: &[u8], count: u64) -> bool {
     let mut room = Room::new(alloc);
     match stanzas(alloc, solution, &mut room) {
-        Ok(stanzas) => is_installed(
-            problem,
-            solution_of(alloc, stanzas, problem, Mode::Lenient),
-            count,
-        ),
+        Ok(stanzas) => match proposed_of(alloc, stanzas, Mode::Lenient) {
+            Ok(proposed) => is_installed(problem, placed(alloc, proposed, problem), count),
+            Err(_) => false,
+        },
         Err(_) => false,
     }
+}
+
+fn placed<'t>(
+    alloc: Global,
+    proposed: Proposed<'t>,
+    problem: &Problem<'_>,
+) -> Result<Solution<'t>, ReadError> {
+    Ok(solution_of(alloc, proposed, problem)?)
 }
 
 fn chosen_is_read(alloc: Global, problem: &[u8], solution: &[u8], count: u64) -> bool {
     let mut room = Room::new(alloc);
     match stanzas(alloc, solution, &mut room) {
-        Ok(stanzas) => match Chosen::of(alloc, stanzas) {
-            Ok(chosen) => is_read_for(alloc, problem, &chosen, count),
+        Ok(stanzas) => match proposed_of(alloc, stanzas, Mode::Lenient) {
+            Ok(proposed) => proposed_is_read(alloc, problem, &proposed, count),
             Err(_) => false,
         },
+        Err(_) => false,
+    }
+}
+
+fn proposed_is_read(alloc: Global, problem: &[u8], proposed: &Proposed<'_>, count: u64) -> bool {
+    match Chosen::of(alloc, proposed) {
+        Ok(chosen) => is_read_for(alloc, problem, &chosen, count),
         Err(_) => false,
     }
 }

@@ -1,6 +1,6 @@
 //! What is found of one answer, and of two.
 use crate::error::ExampleError;
-use cudf_document::{Mode, Problem, solution_of};
+use cudf_document::{Mode, Problem, proposed_of, solution_of};
 use cudf_referee::{Aim, Criteria, Instance, Instances, Key, Referee, What, compare};
 use cudf_text::{Room, stanzas};
 use std::alloc::Global;
@@ -16,7 +16,8 @@ pub(crate) fn print_violations<W: Write>(
 ) -> Result<(), ExampleError> {
     let mut room = Room::new(alloc);
     let stanzas = stanzas(alloc, answer, &mut room)?;
-    let solution = solution_of(alloc, stanzas, problem, Mode::Lenient)?;
+    let proposed = proposed_of(alloc, stanzas, Mode::Lenient)?;
+    let solution = solution_of(alloc, proposed, problem)?;
     let referee = Referee::new(alloc, problem, &solution)?;
     for instance in walk(&referee, after) {
         print_instance(&instance, out)?;
@@ -79,7 +80,8 @@ pub(crate) fn better<'a>(
 fn counts(alloc: Global, problem: &Problem<'_>, answer: &[u8]) -> Result<Criteria, ExampleError> {
     let mut room = Room::new(alloc);
     let stanzas = stanzas(alloc, answer, &mut room)?;
-    let solution = solution_of(alloc, stanzas, problem, Mode::Lenient)?;
+    let proposed = proposed_of(alloc, stanzas, Mode::Lenient)?;
+    let solution = solution_of(alloc, proposed, problem)?;
     let referee = Referee::new(alloc, problem, &solution)?;
     if referee.is_solution() {
         Ok(referee.criteria())

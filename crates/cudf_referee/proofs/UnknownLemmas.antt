@@ -1,7 +1,7 @@
 -- The unknown stanzas with numbers above one, found by halves.
 use Rattle.std.proofs.Common.{◌≡◌, ℕ, zero, suc, ◌+◌, ◌-◌, ◌<◌, ◌≤◌, ◌/◌, true, nat_lt, List, [], ◌∷◌, length, get_or, map, drop, cond, refl, ap, arith}
 use Rattle.std.proofs.lemmas.Bool.{ltb-true, lt-ltb, le-ltb}
-use Rattle.cudf_document.specs.declared.solution.Unknown.{Unknown}
+use Rattle.cudf_document.specs.declared.proposed.Unknown.{Unknown}
 use Rattle.cudf_document.specs.Statuses.{PlainUnknown, ascend_above}
 use Rattle.cudf_document.specs.Promises.Views.{unknown_view}
 use Rattle.cudf_universe.specs.Promises.Prices.{digits_within, digits}

@@ -8,7 +8,7 @@ use Rattle.std.proofs.lemmas.List.Elements.{All-nil, All-cons, All-head, All-tai
 use Rattle.cudf_value.specs.Vpkgs.{PlainVpkg}
 use Rattle.cudf_document.specs.declared.package.Keep.{Keep}
 use Rattle.cudf_document.specs.declared.package.Keep.TheVariants.{Version, Package, Feature, Nothing}
-use Rattle.cudf_document.specs.declared.solution.Unknown.{Unknown}
+use Rattle.cudf_document.specs.declared.proposed.Unknown.{Unknown}
 use Rattle.cudf_document.specs.Statuses.{PlainUnknown, ascend_above}
 use Rattle.cudf_document.specs.Promises.Views.{unknown_view}
 use Rattle.cudf_universe.specs.Satisfaction.{Placed}

@@ -5,7 +5,7 @@ use cudf_referee::{Explainer, Key, Referee, read_criterion};
 use cudf_text::{Fault, Room, TextError, cut_joined, is_fail, read, stanzas};
 use cudf_universe::{
     Chosen, Index, Mode, Problem, ReadError, first_fault, initial, problem_for, problem_of,
-    read_problem, read_solution, solution_of,
+    proposed_of, read_problem, read_solution, solution_of,
 };
 use cudf_value::{
     ValueType, fits, read_declarations, read_formula, read_posint, read_veqpkglist, read_vpkg,
@@ -120,18 +120,23 @@ fn reads_stanzas(alloc: Global) -> Result<bool, Ended> {
         Mode::Lenient,
     )?;
     let mut room_of_solution = Room::new(alloc);
-    let solution = solution_of(
+    let proposed = proposed_of(
         alloc,
         stanzas(alloc, SOLUTION, &mut room_of_solution)?,
-        &problem,
         Mode::Strict,
     )?;
+    let solution = solution_of(alloc, proposed, &problem)?;
     Ok(fault.is_none() && solution.unknown.len() == 1 && reads_chosen(alloc)?)
 }
 
 fn reads_chosen(alloc: Global) -> Result<bool, Ended> {
     let mut room_of_chosen = Room::new(alloc);
-    let chosen = Chosen::of(alloc, stanzas(alloc, SOLUTION, &mut room_of_chosen)?)?;
+    let proposed = proposed_of(
+        alloc,
+        stanzas(alloc, SOLUTION, &mut room_of_chosen)?,
+        Mode::Lenient,
+    )?;
+    let chosen = Chosen::of(alloc, &proposed)?;
     let mut room = Room::new(alloc);
     let problem = problem_for(
         alloc,

@@ -7,8 +7,9 @@ pub mod laws;
 mod steps;
 
 pub use cudf_document::{
-    Chosen, Keep, Mode, Package, Problem, ReadError, Request, Solution, Status, Unknown,
-    first_fault, initial, problem_for, problem_of, read_problem, read_solution, solution_of,
+    Chosen, Keep, Mode, Package, Problem, Proposed, ReadError, Request, Solution, Status, Unknown,
+    first_fault, initial, problem_for, problem_of, proposed_of, read_problem, read_solution,
+    solution_of,
 };
 pub use index::Index;
 pub use index::metered::Metered;

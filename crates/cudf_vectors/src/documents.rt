@@ -3,7 +3,7 @@ use crate::shown::{agreed, push_list};
 use crate::texts::shown_fault;
 use cudf_document::{
     Chosen, Keep, Mode, Package, Problem, ReadError, Request, Solution, Status, Unknown,
-    first_fault, problem_for, problem_of, read_problem, read_solution, solution_of,
+    first_fault, problem_for, problem_of, proposed_of, read_problem, read_solution, solution_of,
 };
 use cudf_text::{Fault, Room, TextError, cut_joined, is_fail, read, stanzas};
 use cudf_value::Formula;
@@ -137,8 +137,7 @@ fn shown_problem(
 ) -> Result<String, AllocError> {
     match problem {
         Ok(problem) => told_problem(alloc, &problem),
-        Err(ReadError::Fault(fault)) => shown_fault(alloc, fault),
-        Err(ReadError::Memory(error)) => Err(error),
+        Err(error) => shown_error(alloc, error),
     }
 }
 
@@ -168,10 +167,10 @@ pub(crate) fn thin(alloc: Global, bytes: &[u8]) -> Result<String, AllocError> {
     let (problem, solution) = cut_joined(bytes);
     let mut room = Room::new(alloc);
     match stanzas(alloc, solution, &mut room) {
-        Ok(stanzas) => {
-            let chosen = Chosen::of(alloc, stanzas)?;
-            thin_problem(alloc, problem, &chosen)
-        }
+        Ok(stanzas) => match proposed_of(alloc, stanzas, Mode::Lenient) {
+            Ok(proposed) => thin_problem(alloc, problem, &Chosen::of(alloc, &proposed)?),
+            Err(error) => shown_error(alloc, error),
+        },
         Err(fault) => shown_fault(alloc, fault),
     }
 }
@@ -225,15 +224,10 @@ fn told_solution(
     Ok(shown)
 }
 
-fn shown_solution(
-    alloc: Global,
-    problem: &Problem<'_>,
-    solution: Result<Solution<'_>, ReadError>,
-) -> Result<String, AllocError> {
-    match solution {
-        Ok(solution) => told_solution(alloc, problem, &solution),
-        Err(ReadError::Fault(fault)) => shown_fault(alloc, fault),
-        Err(ReadError::Memory(error)) => Err(error),
+fn shown_error(alloc: Global, error: ReadError) -> Result<String, AllocError> {
+    match error {
+        ReadError::Fault(fault) => shown_fault(alloc, fault),
+        ReadError::Memory(error) => Err(error),
     }
 }
 
@@ -272,9 +266,10 @@ fn walked_solution(
 ) -> Result<String, AllocError> {
     let mut room = Room::new(alloc);
     match stanzas(alloc, bytes, &mut room) {
-        Ok(stanzas) => {
-            shown_solution(alloc, problem, solution_of(alloc, stanzas, problem, mode))
-        }
+        Ok(stanzas) => match proposed_of(alloc, stanzas, mode) {
+            Ok(proposed) => told_solution(alloc, problem, &solution_of(alloc, proposed, problem)?),
+            Err(error) => shown_error(alloc, error),
+        },
         Err(fault) => shown_fault(alloc, fault),
     }
 }
@@ -290,7 +285,10 @@ fn held_solution(
             if is_fail(text.source) {
                 return String::from_str(alloc, "FAIL");
             }
-            shown_solution(alloc, problem, read_solution(alloc, &text, problem, mode))
+            match read_solution(alloc, &text, problem, mode) {
+                Ok(solution) => told_solution(alloc, problem, &solution),
+                Err(error) => shown_error(alloc, error),
+            }
         }
         Err(error) => error.to_string(alloc),
     }

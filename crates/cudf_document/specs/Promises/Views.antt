@@ -7,7 +7,7 @@ use Rattle.cudf_value.specs.Promises.Views.{vpkg_view, formula_view}
 use Rattle.cudf_document.specs.declared.package.Package.{Package}
 use Rattle.cudf_document.specs.declared.request.Request.{Request}
 use Rattle.cudf_document.specs.Universe.{PlainPackage, PlainRequest}
-use Rattle.cudf_document.specs.declared.solution.Unknown.{Unknown}
+use Rattle.cudf_document.specs.declared.proposed.Unknown.{Unknown}
 use Rattle.cudf_document.specs.Statuses.{PlainUnknown}
 use Rattle.cudf_document.specs.Details.{PlainDetail, begins_with, request_on, name_on, undeclared, mistyped, misdeclared, package_on, lacking}
 use Rattle.cudf_document.specs.declared.details.Detail.{Detail}

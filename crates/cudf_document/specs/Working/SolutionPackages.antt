@@ -5,9 +5,9 @@ use Rattle.std.specs.List.{list_any}
 use Rattle.cudf_text.specs.declared.fault.Kind.{Kind}
 use Rattle.cudf_text.specs.declared.fault.Kind.TheVariants.{E7, E9}
 use Rattle.cudf_text.specs.Stanzas.{PlainProperty}
-use Rattle.cudf_document.specs.declared.solution.package.SolutionProperty.{SolutionProperty}
-use Rattle.cudf_document.specs.declared.solution.package.SolutionProperty.TheVariants.{Package, Version, Installed}
-use Rattle.cudf_document.specs.declared.solution.package.SolutionPackage.{SolutionPackage}
+use Rattle.cudf_document.specs.declared.proposed.package.SolutionProperty.{SolutionProperty}
+use Rattle.cudf_document.specs.declared.proposed.package.SolutionProperty.TheVariants.{Package, Version, Installed}
+use Rattle.cudf_document.specs.declared.proposed.package.SolutionPackage.{SolutionPackage}
 use Rattle.cudf_document.specs.Documents.{has_name, value_of}
 use Rattle.cudf_document.specs.Ids.{Id}
 use Rattle.cudf_document.specs.Values.{name_value, truth_value}

@@ -1,7 +1,6 @@
 //! What a solution chooses of a universe.
 use crate::package::ids::Ids;
-use crate::solution::reader::read_stanza;
-use cudf_text::{Next, StanzaRef, Stanzas};
+use crate::proposed::Proposed;
 use std::alloc::{AllocError, Global};
 use std::fmt;
 use std::marker::Model;
@@ -28,11 +27,11 @@ impl fmt::Debug for Chosen<'_> {
 }
 
 impl<'a> Chosen<'a> {
-    ghost use Rattle.std.specs.Prelude.{◌≡◌, [], IfOk, OnOk};
-    ghost use Rattle.cudf_text.specs.Promises.Views.{stanza_view};
+    ghost use Rattle.std.specs.Prelude.{◌≡◌, List, [], IfOk};
+    ghost use Rattle.cudf_text.specs.Stanzas.{PlainStanza};
     ghost use Rattle.cudf_document.specs.Ids.{Id, is_among};
-    ghost use Rattle.cudf_document.specs.Promises.Packages.{with_id};
-    ghost use Rattle.cudf_document.specs.Statuses.{installed_id, installed_ids};
+    ghost use Rattle.cudf_document.specs.Promises.Statuses.{installed_stanzas};
+    ghost use Rattle.cudf_document.specs.Statuses.{installed_ids};
 
     /// Those of a solution that installs nothing. Takes no memory.
     pub fn none(alloc: Global) -> Self
@@ -43,41 +42,21 @@ impl<'a> Chosen<'a> {
         }
     }
 
-    /// Those of a solution's stanzas, each stanza as it is asked for. Its faults are passed over.
+    /// Those that a solution proposes.
     ///
     /// # Errors
     ///
     /// `AllocError` where memory for them is refused.
-    pub fn of(alloc: Global, stanzas: Stanzas<'a>) -> Result<Self, AllocError>
-        ensures { IfOk result (λ c.
-            (id : Id) → is_among c id ≡ is_among (installed_ids stanzas.entry.stanzas) id) }
+    pub fn of(alloc: Global, proposed: &Proposed<'a>) -> Result<Self, AllocError>
+        ensures { (stanzas : List PlainStanza) →
+            proposed.now ≡ installed_stanzas stanzas →
+            IfOk result (λ c. (id : Id) → is_among c id ≡ is_among (installed_ids stanzas) id) }
     {
-        let mut stanzas = stanzas;
-        let mut chosen = Chosen::none(alloc);
-        let mut stanza = StanzaRef {
-            line: 0,
-            last: 0,
-            properties: Vec::new(alloc),
-        };
-        'stanzas: loop {
-            match stanzas.next(alloc, &mut stanza.properties)? {
-                Next::Stanza { line, last } => {
-                    stanza.line = line;
-                    stanza.last = last;
-                    chosen.take(&stanza)?;
-                }
-                Next::End { .. } => return Ok(chosen),
-            }
+        let mut ids = Ids::new(alloc);
+        for stanza in proposed.installed() {
+            ids.insert(stanza.name, stanza.version)?;
         }
-    }
-
-    /// Adds the pair that a stanza installs, if it installs one.
-    fn take(&mut self, stanza: &StanzaRef<'a>) -> Result<(), AllocError>
-        ensures { OnOk result (self.new ≡ with_id self.old (installed_id (stanza_view stanza.now))) }
-    {
-        let said = read_stanza(stanza);
-        self.ids.insert_some(said.installed)?;
-        Ok(())
+        Ok(Chosen { ids })
     }
 
     /// Whether the pair is one of them.

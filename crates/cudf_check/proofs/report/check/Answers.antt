@@ -10,7 +10,7 @@ use Rattle.cudf_check.specs.Report.{alone, faulty_or, problem_fault, solution_fa
 use Rattle.cudf_check.specs.Working.Found.{explains, found_text}
 use Rattle.cudf_check.specs.declared.outcome.Outcome.TheVariants.{Fail}
 use Rattle.cudf_check.proofs.AnswerLemmas.{answers_as}
-use Rattle.cudf_check.proofs.ReadingLemmas.{pair_judged, problem_is_text}
+use Rattle.cudf_check.proofs.ReadingLemmas.{pair_judged, problem_is_text, put_forward}
 use Rattle.cudf_check.proofs.report.check.Goals as goal
 
 pub returns-in-Err : goal.returns-in-Err
@@ -20,17 +20,31 @@ returns-in-Err g c =
     let problem = c.args.problem.now in
     let solution = c.args.solution.now in
     answers_as _ _ _ _ _ (ap (λ explain. pair_report explain mode found problem solution) c.explains-explain.ensures)
+    (c.answer_unjudged.ensures (judged_report found (proposal_of (plain_problem (plain_text problem)) (plain_text solution))) c.in-Err.ensures.unjudged)
+
+pub returns-in-Err-read : goal.returns-in-Err-read
+returns-in-Err-read g c =
+    let mode = c.args.setting.mode in
+    let found = found_text c.args.job.now in
+    let problem = c.args.problem.now in
+    let solution = c.args.solution.now in
+    answers_as _ _ _ _ _ (ap (λ explain. pair_report explain mode found problem solution) c.explains-explain.ensures)
     (c.answer_unread.ensures (problem_fault mode problem)
     (faulty_or (codes "solution") (told c.explains-explain.result solution) (solution_fault mode solution) (if is_fail solution then alone (codes "solution FAIL") Fail
     else judged_report found (proposal_of (plain_problem (plain_text problem)) (plain_text solution))))
-    (problem_is_text mode problem) c.in-Err.ensures.fault)
+    (problem_is_text mode problem) c.in-Err-read.ensures.fault)
 
-pub returns : goal.returns
-returns g c =
-    let read = c.in-Ok.ensures in
-    let proposed = c.in-Ok-proposed_in.ensures in
+pub returns-in-Ok-solution_of : goal.returns-in-Ok-solution_of
+returns-in-Ok-solution_of g c =
+    let read = c.in-Ok-read.ensures in
+    let proposed = c.in-Ok.ensures in
+    let text = plain_text c.args.solution.now in
+    let of = c.in-Ok-solution_of.ensures in
+    let placed = c.in-Ok-solution_of.placed in
+    let judged = c.in-Ok-read.judged in
     answers_as _ _ _ _ _
-    (pair_judged (explains c.args.job.now) c.args.setting.mode c.args.job.now c.args.problem.now c.args.solution.now c.in-Ok.judged
-    (proposal c.in-Ok.judged (is_initial c.in-Ok.judged) (set.contains c.in-Ok-proposed_in.proposed.status) (map unknown_view c.in-Ok-proposed_in.proposed.unknown.items))
-    read.sound proposed.sound proposed.goes_on proposed.utf8 read.problem proposed.proposal)
+    (pair_judged (explains c.args.job.now) c.args.setting.mode c.args.job.now c.args.problem.now c.args.solution.now judged
+    (proposal judged (is_initial judged) (set.contains placed.status) (map unknown_view placed.unknown.items))
+    read.sound proposed.sound proposed.goes_on read.problem
+    (put_forward judged text (set.contains placed.status) (map unknown_view placed.unknown.items) (of.status text.stanzas proposed.proposed) (of.unknown text.stanzas proposed.proposed)))
     c.answer_judged.ensures

@@ -4,7 +4,7 @@ use Rattle.std.proofs.lemmas.List.{length-map}
 use Rattle.std.proofs.lemmas.List.Elements.{All-map}
 use Rattle.cudf_document.specs.declared.package.Package.{Package}
 use Rattle.cudf_document.specs.declared.request.Request.{Request}
-use Rattle.cudf_document.specs.declared.solution.Unknown.{Unknown}
+use Rattle.cudf_document.specs.declared.proposed.Unknown.{Unknown}
 use Rattle.cudf_document.specs.Statuses.{PlainUnknown, ascend_above}
 use Rattle.cudf_document.specs.Promises.Views.{unknown_view, package_view, request_view}
 use Rattle.cudf_document.specs.Universe.{PlainPackage, PlainRequest, PlainProblem}
