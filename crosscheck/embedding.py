@@ -42,6 +42,8 @@ INCLUDE = "-I" + os.path.join(ROOT, "include")
 DRIVER = os.path.join(HERE, "embedding.c")
 STATIC, SHARED = "libcudf_check.a", "libcudf_check.so.1"
 LIMIT_SECONDS = 120
+# a section's name, size and flags, as readelf -SW tells them
+SECTION = re.compile(r"^ *\[ *\d+\] (\S+) +[A-Z_]+ +[0-9a-f]+ [0-9a-f]+ ([0-9a-f]+) [0-9a-f]+ +([A-Z]*) ", re.M)
 WARNINGS = ("-O1", "-Wall", "-Wextra", "-pedantic", "-Werror")
 CALLS = ("lint", "check", "score", "rank")
 PAIRS, THREADS, TURNS, SOME = 500, 8, 10_000, 60
@@ -564,10 +566,12 @@ def symbols(trial):
 
 
 def data(trial):
-    """Calls at once have nothing to share: there is no writable data, but a byte whose address stands for refused memory."""
-    status, output, _ = run(["size", trial.static()], trial.folder)
-    sizes = [tuple(map(int, line.split()[1:3])) for line in output.decode().splitlines()[1:]]
-    trial.note("writable data", (status, sum(map(sum, sizes)) <= 1, bool(sizes)), (0, True, True))
+    """Calls at once have nothing to share: there is no writable data, but a byte whose address stands for refused memory.
+    Tables of addresses (.data.rel.ro) are filled in while the library is loaded, and read-only from then on."""
+    status, output, _ = run(["readelf", "-SW", trial.static()], trial.folder)
+    sections = SECTION.findall(output.decode())
+    writable = [int(size, 16) for name, size, flags in sections if "W" in flags and not name.startswith(".data.rel.ro")]
+    trial.note("writable data", (status, sum(writable) <= 1, bool(writable)), (0, True, True))
 
 
 def main(program, library):
