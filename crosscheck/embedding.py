@@ -43,7 +43,7 @@ DRIVER = os.path.join(HERE, "embedding.c")
 STATIC, SHARED = "libcudf_check.a", "libcudf_check.so.1"
 LIMIT_SECONDS = 120
 # a section's name, size and flags, as readelf -SW tells them
-SECTION = re.compile(r"^ *\[ *\d+\] (\S+) +[A-Z_]+ +[0-9a-f]+ [0-9a-f]+ ([0-9a-f]+) [0-9a-f]+ +([A-Z]*) ", re.M)
+SECTION = re.compile(r"^ *\[ *\d+\] (\S.*?) +\S+ +[0-9a-f]{16} [0-9a-f]+ ([0-9a-f]+) [0-9a-f]+ +([A-Za-z]*) ", re.M)
 WARNINGS = ("-O1", "-Wall", "-Wextra", "-pedantic", "-Werror")
 CALLS = ("lint", "check", "score", "rank")
 PAIRS, THREADS, TURNS, SOME = 500, 8, 10_000, 60
