@@ -1,9 +1,10 @@
 -- What packages give, gathered by name.
-use Rattle.std.proofs.Common.{◌≡◌, ℕ, ◌+◌, ◌<◌, zero, suc, Bool, true, false, cond, ◌||◌, List, [], ◌∷◌, ◌++◌, length, get_or, take, map, Option, Some, None, refl, sym, ap, ◌∙◌, arith, bytes_eq, subst, Bor}
+use Rattle.std.proofs.Common.{◌≡◌, ℕ, ◌+◌, ◌<◌, zero, suc, Bool, true, false, not, cond, ◌||◌, List, [], ◌∷◌, ◌++◌, length, get_or, take, map, Option, Some, None, refl, sym, ap, ◌∙◌, arith, bytes_eq, subst, Bor}
 use Rattle.std.specs.Prelude.{filter, filter_map, option_map, slice_get, option_to_list, option_and_then, position, if◌then◌else◌}
 use Rattle.std.specs.Option.{is_none, IfSome}
 use Rattle.std.specs.List.{count_by, cons_option, enumerate_from, list_any}
 use Rattle.std.specs.Global.{Vec}
+use Rattle.std.proofs.Math.Bool.{or-false, or-true}
 use Rattle.std.proofs.lemmas.List.{map-append, flat_map_more}
 use Rattle.std.proofs.lemmas.List.Elements.{filter-append, filter_map-append}
 use Rattle.cudf_value.specs.Vpkgs.{PlainVpkg}
@@ -11,6 +12,7 @@ use Rattle.cudf_universe.specs.declared.index.entries.Entries.{Entries}
 use Rattle.cudf_universe.specs.declared.index.gathered_names.Provision.{Provision}
 use Rattle.std.proofs.lemmas.List.Folds.{list_any-append}
 use Rattle.cudf_value.specs.declared.relop.Relop.{Relop}
+use Rattle.cudf_document.specs.Documents.{is_empty}
 use Rattle.cudf_document.specs.Universe.{PlainPackage}
 use Rattle.cudf_universe.specs.Satisfaction.{Placed, members, entry_pair, unversioned_name, package_pairs, gives, gives_all_versions, numbers_of}
 use Rattle.cudf_document.specs.Ids.{Id}
@@ -264,3 +266,11 @@ module _ (f : List ℕ) where
       (subst (CompletesAt (option_and_then (slice_get rows) (position (λ k. bytes_eq f k.now) keys))) (sym (found_at (λ k. bytes_eq f k.now) keys entries))
       (completes_found rows entries (position (λ k. bytes_eq f k.now) keys) whole)))
       same
+
+-- ---- which names have rows
+
+-- a provision more of this name or of another
+pub filled-push : (row : List Provision) (provision : Provision) (has own : Bool) → has ≡ not (is_empty row) → (has || own) ≡ not (is_empty (row ++ cond own (provision ∷ []) []))
+filled-push [] provision has true is = or-true has
+filled-push [] provision has false is = or-false has ∙ is
+filled-push (first ∷ row) provision has own is = ap (λ b. b || own) is

@@ -6,6 +6,7 @@ pub mod TakenOffLemmas
 pub mod EndLemmas
 pub mod BoundLemmas
 pub mod GatheringLemmas
+pub mod GivenLemmas
 pub mod FoundLemmas
 pub mod FirstLemmas
 pub mod TreeLemmas

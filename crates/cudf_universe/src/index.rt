@@ -1,13 +1,14 @@
 //! What a status gives and satisfies: CUDF 2.0, installations and features.
-ghost use Rattle.std.specs.Prelude.{◌≡◌, ◌≤◌, ◌+◌, ◌==◌, ◌*◌, ℕ, List, Some, length, bytes_eq, option_map, find, IfOk, IfSome};
+ghost use Rattle.std.specs.Prelude.{◌≡◌, ◌≤◌, ◌+◌, ◌==◌, ◌*◌, ℕ, not, List, Some, length, bytes_eq, option_map, find, IfOk, IfSome};
 ghost use Rattle.std.specs.List.{count_by, list_any};
 ghost use Rattle.std.specs.FinSet as set;
 ghost use Rattle.cudf_value.specs.Promises.Views.{atom_view, clause_view, vpkg_view};
+ghost use Rattle.cudf_document.specs.Documents.{is_empty};
 ghost use Rattle.cudf_value.specs.Vpkgs.{meets};
 ghost use Rattle.cudf_universe.specs.Promises.Prices.{digits, search_cost, atom_cost, atom_lookups, clause_cost, clause_lookups, own_cost};
 ghost use Rattle.cudf_universe.specs.Satisfaction.{members, satisfies, satisfies_atom, satisfies_clause, without, first_meeting, numbers_of, gives_all_versions};
 ghost use Rattle.cudf_universe.specs.Promises.Members.{IsLeast, IsGreatest, other_than};
-ghost use Rattle.cudf_universe.specs.Working.Gathering.{row_of, given_of};
+ghost use Rattle.cudf_universe.specs.Working.Gathering.{row_of, given_of, AreFilled};
 ghost use Rattle.cudf_universe.specs.Working.Kept.{Keeps};
 ghost use Rattle.cudf_universe.specs.Working.Members.{member_view};
 
@@ -57,14 +58,14 @@ impl<'p, 't> Model for Index<'p, 't> {
     ghost use Rattle.cudf_universe.specs.Satisfaction.{Placed, members};
     ghost use Rattle.cudf_universe.specs.Working.Gathering.{given_of};
     ghost use Rattle.cudf_universe.specs.Working.Kept.{Keeps, found};
-    ghost use Rattle.cudf_universe.specs.Working.NamedTrees.{tree_of};
+    ghost use Rattle.cudf_universe.specs.Working.NamedTrees.{tree_of, AreGiven};
     ghost use Rattle.cudf_universe.specs.Working.Shares.{AreShares};
 
     ghost Value = { List Placed };
 
     ghost view = { λ i. members (set.contains i.status) i.problem.now.packages };
 
-    ghost invariant = { λ i. ((name : List ℕ) → (Keeps name (members (set.contains i.status) i.problem.now.packages) (found (λ k. bytes_eq name k.now) i.given.names.keys i.entries.items)) × (tree_of name i.given ≡ given_of name (members (set.contains i.status) i.problem.now.packages))) × AreShares (members (set.contains i.status) i.problem.now.packages) i.shares.items };
+    ghost invariant = { λ i. ((name : List ℕ) → (Keeps name (members (set.contains i.status) i.problem.now.packages) (found (λ k. bytes_eq name k.now) i.given.names.keys i.entries.items)) × (tree_of name i.given ≡ given_of name (members (set.contains i.status) i.problem.now.packages))) × AreShares (members (set.contains i.status) i.problem.now.packages) i.shares.items × AreGiven i.given };
 }
 
 /// Its status: all else that it keeps follows from that and the problem.
@@ -172,6 +173,9 @@ impl<'p, 't> Index<'p, 't> {
         ensures price { steps.new ≤ steps.old + search_cost self.now vpkg.now.name.now }
         ensures grows { steps.old + 1 ≤ steps.new }
     {
+        if vpkg.bound.is_none() {
+            return self.gives(vpkg.name, steps);
+        }
         match self.look_up(vpkg.name, steps) {
             Some(entries) => entries.any(vpkg.bound, steps),
             None => false,
@@ -270,7 +274,16 @@ impl<'p, 't> Index<'p, 't> {
         }
     }
 
-    /// What is kept of a name, for one step: the only look-up of the calls that count.
+    /// Whether the status gives the name, for one step: whatever it gives meets a vpkg without a bound.
+    fn gives(&self, name: &str, steps: &mut Steps) -> bool
+        ensures answer { result ≡ not (is_empty (given_of name.now self.now)) }
+        ensures price { steps.new ≡ steps.old + 1 }
+    {
+        steps.tick();
+        self.given.has(name)
+    }
+
+    /// What is kept of a name, for one step: the only other look-up of the calls that count.
     fn look_up(&self, name: &str, steps: &mut Steps) -> Option<&Entries>
         ensures kept { Keeps name.now self.now (option_map (λ e. e.now) result) }
         ensures price { steps.new ≡ steps.old + 1 }
@@ -353,7 +366,8 @@ fn gathered<'t>(
     problem: &Problem<'t>,
     status: &Status,
 ) -> Result<GatheredNames<'t>, AllocError>
-    ensures { IfOk result (λ g. (f : List ℕ) → row_of f g ≡ given_of f (members (set.contains status.now) problem.now.packages)) }
+    ensures rows { IfOk result (λ g. (f : List ℕ) → row_of f g ≡ given_of f (members (set.contains status.now) problem.now.packages)) }
+    ensures filled { IfOk result AreFilled }
 {
     let mut gathered = GatheredNames::new(alloc);
     for (before, package) in problem.packages().iter().enumerate() {

@@ -1,11 +1,12 @@
 -- What an index gathers of each name before it is put in order (own).
-use Rattle.std.specs.Prelude.{◌≡◌, ℕ, ◌==◌, Bool, true, false, List, [], ◌∷◌, ◌++◌, bytes_eq, map, filter, filter_map, Option, Some, None, option_map, if◌then◌else◌}
+use Rattle.std.specs.Prelude.{◌≡◌, ℕ, ◌==◌, Bool, true, false, not, List, [], ◌∷◌, ◌++◌, bytes_eq, map, filter, filter_map, Option, Some, None, option_map, if◌then◌else◌}
 use Rattle.std.specs.List.{flat_map, count_by, list_any, list_all}
 use Rattle.std.specs.List.Sorted.{IsNonDecreasing}
 use Rattle.std.specs.Option.{is_none}
 use Rattle.std.specs.Global.{Vec}
 use Rattle.cudf_value.specs.declared.relop.Relop.TheVariants.{Eq}
 use Rattle.cudf_value.specs.Vpkgs.{PlainVpkg}
+use Rattle.cudf_document.specs.Documents.{is_empty}
 use Rattle.cudf_document.specs.Universe.{PlainPackage}
 use Rattle.cudf_universe.specs.Satisfaction.{Placed}
 use Rattle.cudf_universe.specs.Working.Kept.{found}
@@ -20,6 +21,14 @@ row_items (Some row) = row.items
 -- the provisions that were gathered of a name
 abbrev pub row_of : List ℕ → GatheredNames → List Provision
 row_of f g = row_items (found (λ k. bytes_eq f k.now) g.names.keys g.rows.items)
+
+-- the name has a row
+abbrev pub has_row : List ℕ → GatheredNames → Bool
+has_row f g = list_any (λ k. bytes_eq f k.now) g.names.keys
+
+-- each name that has a row has a provision in it
+abbrev pub AreFilled : GatheredNames → Type 0
+AreFilled g = (f : List ℕ) → has_row f g ≡ not (is_empty (row_of f g))
 
 -- the provisions that entries of a package give of a name, where the entries are its version, or features
 abbrev pub provisions_of : Bool → List ℕ → ℕ → List PlainVpkg → List Provision

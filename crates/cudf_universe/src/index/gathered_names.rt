@@ -1,8 +1,8 @@
 //! What the packages of a status give, gathered by name.
-ghost use Rattle.std.specs.Prelude.{◌≡◌, ◌<◌, ℕ, List, Some, [], ◌∷◌, ◌++◌, map, length, false, bytes_eq, cond, OnOk, IfOk, slice_get, option_to_list};
+ghost use Rattle.std.specs.Prelude.{◌≡◌, ◌<◌, ℕ, List, Some, [], ◌∷◌, ◌++◌, ◌||◌, map, length, false, bytes_eq, cond, OnOk, IfOk, slice_get, option_to_list};
 ghost use Rattle.std.specs.List.{position_or_len, list_any};
 ghost use Rattle.cudf_value.specs.Promises.Views.{vpkg_view};
-ghost use Rattle.cudf_universe.specs.Working.Gathering.{row_of, given_by, provisions_of, sole_place, Completes, CompletesAt};
+ghost use Rattle.cudf_universe.specs.Working.Gathering.{row_of, has_row, AreFilled, given_by, provisions_of, sole_place, Completes, CompletesAt};
 ghost use Rattle.cudf_universe.specs.Working.Members.{member_view};
 
 use crate::index::entries::Entries;
@@ -32,6 +32,7 @@ impl<'t> GatheredNames<'t> {
     pub(crate) fn new(alloc: Global) -> Self
         ensures lengths { length result.rows.items ≡ length result.names.keys }
         ensures rows { (f : List ℕ) → row_of f result ≡ [] }
+        ensures filled { AreFilled result }
     {
         GatheredNames {
             names: IndexSet::new(alloc),
@@ -49,6 +50,7 @@ impl<'t> GatheredNames<'t> {
         requires { length self.old.rows.items ≡ length self.old.names.keys }
         ensures lengths { OnOk result (length self.new.rows.items ≡ length self.new.names.keys) }
         ensures rows { OnOk result ((f : List ℕ) → row_of f self.new ≡ row_of f self.old ++ cond (bytes_eq name.now f) (provision ∷ []) []) }
+        ensures filled { OnOk result (AreFilled self.old → AreFilled self.new) }
     {
         let number = self.number_of(alloc, name)?;
         push_provision(&mut self.rows[number], provision)?;
@@ -61,6 +63,7 @@ impl<'t> GatheredNames<'t> {
         ensures lengths { OnOk result (length self.new.rows.items ≡ length self.new.names.keys) }
         ensures number { IfOk result (λ n. n ≡ position_or_len (λ k. bytes_eq name.now k.now) self.new.names.keys) }
         ensures within { IfOk result (λ n. n < length self.new.names.keys) }
+        ensures names { OnOk result ((f : List ℕ) → has_row f self.new ≡ (has_row f self.old || bytes_eq f name.now)) }
         ensures rows { OnOk result ((f : List ℕ) → row_of f self.new ≡ row_of f self.old) }
     {
         let (number, is_new) = self.names.insert_full(name)?;
@@ -80,6 +83,7 @@ impl<'t> GatheredNames<'t> {
         requires { length self.old.rows.items ≡ length self.old.names.keys }
         ensures lengths { OnOk result (length self.new.rows.items ≡ length self.new.names.keys) }
         ensures rows { OnOk result ((f : List ℕ) → row_of f self.new ≡ row_of f self.old ++ given_by f (member_view member.entry)) }
+        ensures filled { OnOk result (AreFilled self.old → AreFilled self.new) }
     {
         let place = member.place;
         let package = member.package;
@@ -102,6 +106,7 @@ impl<'t> GatheredNames<'t> {
         requires { length self.old.rows.items ≡ length self.old.names.keys }
         ensures lengths { OnOk result (length self.new.rows.items ≡ length self.new.names.keys) }
         ensures rows { OnOk result ((f : List ℕ) → row_of f self.new ≡ row_of f self.old ++ provisions_of false f place (map vpkg_view entries.now)) }
+        ensures filled { OnOk result (AreFilled self.old → AreFilled self.new) }
     {
         for entry in entries {
             let number = entry.bound.map(|(_, number)| number);

@@ -1,5 +1,6 @@
 //! The provisions of each name, in the order of their places.
-ghost use Rattle.std.specs.Prelude.{◌≡◌, ℕ, List, IfOk, option_map};
+ghost use Rattle.std.specs.Prelude.{◌≡◌, ℕ, List, bytes_eq, IfOk, option_map};
+ghost use Rattle.std.specs.List.{list_any};
 ghost use Rattle.cudf_value.specs.Promises.Views.{vpkg_view};
 ghost use Rattle.cudf_universe.specs.Working.FirstPlaces.{first_place_of, first_version_of, tree_items};
 ghost use Rattle.cudf_universe.specs.Working.Gathering.{row_of};
@@ -29,6 +30,13 @@ impl<'t> NamedTrees<'t> {
             names: gathered.names,
             trees,
         })
+    }
+
+    /// Whether the name has a tree.
+    pub(crate) fn has(&self, name: &str) -> bool
+        ensures { result ≡ list_any (λ k. bytes_eq name.now k.now) self.now.names.keys }
+    {
+        self.names.contains(&name)
     }
 
     /// The provisions of a name.

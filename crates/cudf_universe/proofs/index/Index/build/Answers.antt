@@ -1,6 +1,8 @@
-use Rattle.std.proofs.Common.{ap, sym, ◌∙◌, subst, bytes_eq}
+use Rattle.std.proofs.Common.{ap, sym, ◌∙◌, subst, bytes_eq, not}
 use Rattle.std.specs.Prelude.{slice_get}
 use Rattle.std.specs.FinSet as set
+use Rattle.std.specs.List.{list_any}
+use Rattle.cudf_document.specs.Documents.{is_empty}
 use Rattle.cudf_universe.specs.Satisfaction.{members}
 use Rattle.cudf_universe.specs.Working.Kept.{Keeps, found}
 use Rattle.cudf_universe.specs.Working.Gathering.{given_of, CompletesAt}
@@ -18,9 +20,11 @@ invariant_of-result c =
         subst (λ names. Keeps name (members (set.contains c.in_ok-copy.field-0) packages) (found (λ k. bytes_eq name k.now) names entries)) (ap (λ names. names.keys) (sym c.in_ok-given.ensures.names))
             (subst (λ status. Keeps name (members (set.contains status) packages) (found (λ k. bytes_eq name k.now) keys entries)) (sym c.in_ok-copy.ensures)
             (keeps_found name (members (set.contains c.args.status.now) packages) keys rows entries
-            (λ k. subst (λ rs. CompletesAt (slice_get rs k) (slice_get entries k)) c.deref.ensures.value (c.in_ok-entries.ensures k)) (c.in_ok-gathered.ensures name))),
-        c.in_ok-given.ensures.trees name ∙ c.in_ok-gathered.ensures name
+            (λ k. subst (λ rs. CompletesAt (slice_get rs k) (slice_get entries k)) c.deref.ensures.value (c.in_ok-entries.ensures k)) (c.in_ok-gathered.ensures.rows name))),
+        c.in_ok-given.ensures.trees name ∙ c.in_ok-gathered.ensures.rows name
             ∙ ap (λ status. given_of name (members (set.contains status) packages)) (sym c.in_ok-copy.ensures),
       ),
       subst (λ status. AreShares (members (set.contains status) packages) c.in_ok-shares.shares.items) (sym c.in_ok-copy.ensures) c.in_ok-shares.ensures,
+      λ name. ap (λ names. list_any (λ k. bytes_eq name k.now) names.keys) c.in_ok-given.ensures.names ∙ c.in_ok-gathered.ensures.filled name
+          ∙ ap (λ row. not (is_empty row)) (sym (c.in_ok-given.ensures.trees name)),
     )

@@ -1,14 +1,30 @@
-use Rattle.std.proofs.Common.{◌≡◌, None, Some, refl, sym, ap, ◌∙◌, length, arith}
+use Rattle.std.proofs.Common.{◌≡◌, ℕ, Option, None, Some, true, refl, sym, ap, ◌∙◌, length, arith}
 use Rattle.std.specs.Prelude.{if◌then◌else◌}
 use Rattle.std.specs.List.{count_by}
+use Rattle.std.specs.Option.{is_none}
+use Rattle.std.proofs.lemmas.Grind.{common_steps}
+use Rattle.cudf_value.specs.declared.relop.Relop.{Relop}
 use Rattle.cudf_value.specs.Promises.Views.{vpkg_view}
 use Rattle.cudf_value.specs.Vpkgs.{meets}
-use Rattle.cudf_universe.specs.Satisfaction.{numbers_of, is_below_one}
+use Rattle.cudf_universe.specs.Satisfaction.{numbers_of, is_below_one, satisfies}
 use Rattle.cudf_universe.specs.Working.Kept.{Keeps}
 use Rattle.cudf_universe.specs.Promises.Prices.{digits}
 use Rattle.cudf_universe.proofs.EndLemmas.{length_same}
+use Rattle.cudf_universe.proofs.GivenLemmas.{given-bare}
 use Rattle.cudf_universe.proofs.TakenOffLemmas.{kept_exceeds, none_kept, satisfies-counted}
 use Rattle.cudf_universe.proofs.index.Index.satisfies_counting.Goals as goal
+
+-- a vpkg without a bound
+unbounded : (o : Option (Relop × ℕ)) → is_none o ≡ true → o ≡ None
+unbounded None h = refl
+unbounded (Some bound) h = absurd cc
+
+pub returns-then-is_none-clause-answer : goal.returns-then-is_none-clause-answer
+returns-then-is_none-clause-answer c =
+    let v = vpkg_view c.args.vpkg.now in
+    let none : is_none v.bound ≡ true = grind (arith, common_steps) in
+    c.gives.ensures.answer ∙ given-bare v.name c.args.self.now
+    ∙ ap (λ bound. satisfies c.args.self.now (record { name = v.name; bound = bound })) (sym (unbounded v.bound none))
 
 pub returns-in-Some-clause-answer : goal.returns-in-Some-clause-answer
 returns-in-Some-clause-answer c =

@@ -21,4 +21,5 @@ pub loop-entry-preserved : goal.loop-entry-preserved
 loop-entry-preserved c = (
   c.in_ok-add.ensures.lengths,
   λ f. entries_more f c.args.place c.args.entries.now c.loop-entry.entry-index _ c.map-number.result (row_of f c.args.self.now) (row_of f c.loop-entry.self) (row_of f c.add.new.self) c.loop-entry-test.true (search rules) (c.loop-entry.invariant.1 f) (c.in_ok-add.ensures.rows f),
+  λ filled. c.in_ok-add.ensures.filled (c.loop-entry.invariant.2 filled),
 )
