@@ -1,10 +1,11 @@
 -- The exit statuses where the program wrote no whole report.
-use Rattle.std.specs.Prelude.{◌≡◌, ◌≢◌, ◌<◌, ◌⊎◌, ℕ, Result, Ok, Err}
+use Rattle.std.specs.Prelude.{◌≡◌, ◌≢◌, ◌<◌, ◌⊎◌, ℕ, List, [], string_bytes, Result, Ok, Err}
+use Rattle.std.specs.Io.KnownBytes.{Appends}
 use Rattle.std.specs.declared.io.Error.{Error}
 use Rattle.std.specs.declared.io.ErrorKind.{ErrorKind}
 use Rattle.std.specs.declared.io.ErrorKind.TheVariants.{OutOfMemory}
 use Rattle.cudf_check.specs.Device.{SinkState}
-use Rattle.cudf_check.specs.Runs.{error_status, outcome_status}
+use Rattle.cudf_check.specs.Runs.{AppendsPrefix, error_status, outcome_status}
 use Rattle.cudf_check.specs.declared.outcome.Outcome.{Outcome}
 use Rattle.cudf_check.specs.declared.outcome.RunError.{RunError}
 use Rattle.cudf_program.specs.Usage.{usage_status}
@@ -34,6 +35,16 @@ open_failure _ name error = Open name error
 pub record IsStatusOf (failure : Failure) (before after : SinkState) (status : ℕ) : Type 0 where
   pub told : failure_status failure ≡ 0 → (status ≡ 0) ⊎ ((status ≡ 5) × (before.failures < after.failures))
   pub failed : failure_status failure ≢ 0 → status ≡ failure_status failure
+
+-- what a failure has to print: help or the version, and nothing of any other
+abbrev pub failure_text : Failure → List ℕ
+failure_text (Usage (usage.Told text)) = string_bytes text
+failure_text failure = []
+
+-- a prefix of that was printed, and with status 0 the whole
+pub record Prints (failure : Failure) (before after : SinkState) (status : ℕ) : Type 0 where
+  pub prefix : AppendsPrefix before.contents after.contents (failure_text failure)
+  pub whole : status ≡ 0 → Appends before.contents after.contents (failure_text failure)
 
 -- the status of a run's answer
 abbrev pub answer_status : Result Outcome RunError → ℕ

@@ -14,7 +14,7 @@ use Rattle.cudf_check.specs.declared.device.Device.{Device}
 use Rattle.cudf_check.specs.declared.outcome.Outcome.{Outcome}
 use Rattle.cudf_check.specs.declared.outcome.RunError.{RunError}
 use Rattle.cudf_check.specs.declared.outcome.RunError.TheVariants.{Write}
-use Rattle.cudf_program.specs.Failure.{IsStatusOf, answer_status, failure_status, open_failure}
+use Rattle.cudf_program.specs.Failure.{IsStatusOf, Prints, answer_status, failure_status, open_failure}
 use Rattle.cudf_program.specs.Orders.{IsAskedFor, IsUnasked}
 use Rattle.cudf_program.specs.declared.Task.{Task}
 use Rattle.cudf_program.specs.declared.command.FileName.{FileName}
@@ -146,11 +146,13 @@ IsOfFile reason.Memory = Unit {0}
 abbrev pub IsUnopened : FileName → Failure → Type 0
 IsUnopened name failure = (error : Error) × (failure ≡ open_failure (error_kind error) name error)
 
--- no run was begun, and the status says why: something is printed only where help or the version was asked for
+-- no run was begun, and the status says why: something is printed only where help or the version was asked for,
+-- of which a prefix is printed, and with status 0 the whole
 pub record Fails (words : List (List ℕ)) (before after : SinkState) (status : ℕ) : Type 0 where
   pub failure : Failure
   pub comes_of : IsFailureOf words failure
   pub status_is : IsStatusOf failure before after status
+  pub printed : Prints failure before after status
   pub untouched : failure_status failure ≢ 0 → Keeps before.contents after.contents
 
 -- what the program does with the words, where standard input holds these bytes and standard output had these

@@ -4,7 +4,7 @@
 ghost use Rattle.std.specs.Prelude.{◌≡◌, ◌≢◌, IfOk, IfErr, MatchResult, map, string_bytes};
 ghost use Rattle.std.specs.Io.KnownBytes.{Keeps};
 ghost use Rattle.std.specs.Vec.Iter.{into_iter_items};
-ghost use Rattle.cudf_program.specs.Failure.{IsStatusOf, failure_status};
+ghost use Rattle.cudf_program.specs.Failure.{IsStatusOf, Prints, failure_status};
 ghost use Rattle.cudf_program.specs.Program.{AreOpened, Did, Finishes, IsPrepared, IsFailureOf, IsOfFile, IsOpened, IsTask, IsUnopened, Responds, left_of};
 
 mod command;
@@ -209,6 +209,7 @@ fn perform<I: Read + Drop, W: Sink>(
 /// write fault.
 fn fail<W: Sink, E: Write>(failure: Failure<'_>, out: &mut W, errors: &mut E) -> u8
     ensures status { IsStatusOf failure.entry (W.state out.old) (W.state out.new) result }
+    ensures printed { Prints failure.entry (W.state out.old) (W.state out.new) result }
     ensures quiet { failure_status failure.entry ≢ 0 → out.new ≡ out.old }
 {
     if let Failure::Usage(Usage::Told(text)) = &failure {
