@@ -9,7 +9,6 @@ pub mod PagePriceLemmas
 pub mod PaperLemmas
 pub mod RankExamples
 pub mod RankingLawLemmas
-pub mod RankingLemmas
 pub mod ReadingLemmas
 pub mod RunLemmas
 pub mod ThinLemmas

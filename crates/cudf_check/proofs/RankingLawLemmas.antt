@@ -1,12 +1,16 @@
 -- The ranking has all entrants, and each precedes all later ones.
-use Rattle.std.proofs.Common.{◌≡◌, ◌+◌, ◌<◌, ℕ, Bool, true, false, not, ◌&&◌, ◌==◌, cond, if◌then◌else◌, List, [], ◌∷◌, ◌++◌, ◌⊎◌, inl, inr, Some, find, map, IsTrue, IsPermutation, refl, sym, ap, ◌∙◌, subst, append-nil, eqb-true, arith}
-use Rattle.std.proofs.lemmas.Bool.{eq-eqb, and_from as both}
+use Rattle.std.proofs.Common.{◌≡◌, ◌+◌, ◌<◌, ◌≤◌, ℕ, zero, suc, Bool, true, false, not, ◌&&◌, ◌==◌, cond, if◌then◌else◌, List, [], ◌∷◌, ◌++◌, ◌⊎◌, inl, inr, Some, find, map, length, get_or, IsTrue, IsPermutation, refl, sym, ap, ◌∙◌, subst, append-nil, eqb-true, arith}
+use Rattle.std.proofs.lemmas.Bool.{eq-eqb, cases_lt, and_from as both}
+use Rattle.std.proofs.lemmas.Bool.Decides.{nat_tests}
 use Rattle.std.proofs.lemmas.Cmp.{ranked, tied_itself, nat_cmp_total, on_total, then_total, back_total}
 use Rattle.std.proofs.lemmas.List.Elements.{All-from_recursion, recursion_from_All}
 use Rattle.std.proofs.lemmas.List.Sorted.{All-permutation, IsPermutation-refl, IsPermutation-sym, IsPermutation-trans, IsPermutation-append_left, IsPermutation-middle, IsPermutation-insert}
-use Rattle.std.specs.Cmp.{IsTotalOrder}
-use Rattle.std.specs.List.{AllByRecursion, list_all, position_or_len, enumerate_from}
+use Rattle.std.specs.Cmp.{IsTotalOrder, IsStrictWeakOrder}
+use Rattle.std.specs.List.{AllByRecursion, IsDistinct, list_all, position_or_len, insert, enumerate_from}
+use Rattle.std.specs.List.Sorted.{IsSortedBy}
 use Rattle.std.specs.Option.{option_map_or}
+use Rattle.std.proofs.lemmas.List.MinMax.{ranks_by}
+use Rattle.std.proofs.lemmas.Map.Keys.{apart_from_distinct, IsDistinct-IsPermutation}
 use Rattle.std.specs.Ordering.{nat_cmp, ordering_then, ordering_reverse, is_lt, on, then_cmp}
 use Rattle.std.specs.declared.cmp.Ordering.{Ordering}
 use Rattle.std.specs.declared.cmp.Ordering.TheVariants.{Less, Equal, Greater}
@@ -23,7 +27,21 @@ use Rattle.cudf_check.specs.declared.ranking.Judgement.{Judgement}
 use Rattle.cudf_check.specs.declared.ranking.Judgement.TheVariants.{Solution, NoSolution, SaysFail}
 use Rattle.cudf_check.specs.declared.ranking.Entrant.{Entrant}
 use Rattle.cudf_check.proofs.CommonLemmas.{and_left, and_right, is_less}
-use Rattle.cudf_check.proofs.RankingLemmas.{inserted}
+
+-- to insert before the first that it precedes is to put in place
+inserted : (aims : List Aim) (x : Entrant) (ys : List Entrant) → insert ys (position_or_len (precedes aims x) ys) x ≡ put aims x ys
+inserted aims x [] = refl
+inserted aims x (y ∷ ys) = here (precedes aims x y) (inserted aims x ys)
+  where
+    n : ℕ
+    n = position_or_len (precedes aims x) ys
+
+    next : 1 + n ≡ suc n
+    next = omega arith
+
+    here : (b : Bool) → insert ys n x ≡ put aims x ys → insert (y ∷ ys) (cond (not b) (1 + n) 0) x ≡ (if b then x ∷ y ∷ ys else y ∷ put aims x ys)
+    here true below = refl
+    here false below = ap (λ m. insert (y ∷ ys) m x) next ∙ ap (λ zs. y ∷ zs) below
 
 clash : (b : Bool) → b ≡ true → b ≡ false → ⊥
 clash true h k = absurd (cc k)
@@ -278,6 +296,67 @@ ranking_alone aims xs ys own same h =
     let all = ranking_permutes aims xs in
     ascend_same aims ys (ranking aims xs) (permuted_within _ _ (IsPermutation-trans _ _ _ (IsPermutation-sym _ _ all) same))
     (permuted_within _ _ (IsPermutation-trans _ _ _ (IsPermutation-sym _ _ same) all)) h (ranking_ascends aims xs own)
+
+-- ---- what a sort gives
+
+pub precedes_weak : (aims : List Aim) → IsStrictWeakOrder (precedes aims)
+precedes_weak aims = subst IsStrictWeakOrder (λ i x y. sym (precedes_is aims x y) i) (ranks_by (rank_total aims) (λ s. s))
+
+-- none precedes one that stands before it
+none_back : (aims : List Aim) (ys : List Entrant) → IsSortedBy (precedes aims) ys → (j i : ℕ) (d : Entrant) → i < j → j < length ys → precedes aims (get_or ys j d) (get_or ys i d) ≡ false
+none_back aims ys sorted zero i d below within = absurd (omega arith)
+none_back aims ys sorted (suc j) i d below within = by (λ before. none_back aims ys sorted j i d before (omega arith)) (cases_lt i j)
+  where
+    next : j + 1 ≡ suc j
+    next = omega arith
+
+    beside : precedes aims (get_or ys (suc j) d) (get_or ys j d) ≡ false
+    beside = subst (λ n. precedes aims (get_or ys n d) (get_or ys j d) ≡ false) next (sorted j d (omega arith) (omega arith))
+
+    by : (i < j → precedes aims (get_or ys j d) (get_or ys i d) ≡ false) → (i < j) ⊎ (j ≤ i) → precedes aims (get_or ys (suc j) d) (get_or ys i d) ≡ false
+    by earlier (inl before) = (precedes_weak aims).chain (get_or ys (suc j) d) (get_or ys j d) (get_or ys i d) beside (earlier before)
+    by earlier (inr after) = let same : j ≡ i = omega arith in subst (λ n. precedes aims (get_or ys (suc j) d) (get_or ys n d) ≡ false) same beside
+
+each_apart : (x : Entrant) (ys : List Entrant) → list_all (λ y. not (x.place == y.place)) ys ≡ true → AllByRecursion (λ y. (x.place == y.place) ≡ false) ys
+each_apart x [] h = tt
+each_apart x (y ∷ ys) h = (other (x.place == y.place) (and_left (not (x.place == y.place)) (list_all (λ z. not (x.place == z.place)) ys) h), each_apart x ys (and_right (not (x.place == y.place)) (list_all (λ z. not (x.place == z.place)) ys) h))
+  where
+    other : (b : Bool) → not b ≡ true → b ≡ false
+    other true differs = absurd (cc differs)
+    other false differs = refl
+
+own_distinct : (xs : List Entrant) → have_own_places xs ≡ true → IsDistinct (λ x y. x.place == y.place) xs
+unfolding IsDistinct
+own_distinct [] h = tt
+own_distinct (x ∷ xs) h = (
+  each_apart x xs (and_left (list_all (λ y. not (x.place == y.place)) xs) (have_own_places xs) h),
+  own_distinct xs (and_right (list_all (λ y. not (x.place == y.place)) xs) (have_own_places xs) h),
+)
+
+first_precedes : (aims : List Aim) (x : Entrant) (ys : List Entrant) → ((j : ℕ) (d : Entrant) → j < length ys → precedes aims x (get_or ys j d) ≡ true) → list_all (precedes aims x) ys ≡ true
+first_precedes aims x [] h = refl
+first_precedes aims x (y ∷ ys) h = both (precedes aims x y) (list_all (precedes aims x) ys) (h 0 y (omega arith)) (first_precedes aims x ys (λ j d within. h (suc j) d (omega arith)))
+
+ascends : (aims : List Aim) (ys : List Entrant) → ((i j : ℕ) (d : Entrant) → i < j → j < length ys → precedes aims (get_or ys i d) (get_or ys j d) ≡ true) → ascend aims ys ≡ true
+ascends aims [] h = refl
+ascends aims (y ∷ ys) h = both (list_all (precedes aims y) ys) (ascend aims ys) (first_precedes aims y ys (λ j d within. h 0 (suc j) d (omega arith) (omega arith)))
+    (ascends aims ys (λ i j d before within. h (suc i) (suc j) d (omega arith) (omega arith)))
+
+-- entrants with places of their own that are sorted are ranked
+pub sorted_is_ranking : (aims : List Aim) (xs ys : List Entrant) → IsTrue (have_own_places xs) → IsPermutation xs ys → IsSortedBy (precedes aims) ys → ys ≡ ranking aims xs
+sorted_is_ranking aims xs ys own same sorted =
+    ranking_alone aims xs ys own same
+    (ascends aims ys (λ i j d before within. one_precedes aims (get_or ys j d) (get_or ys i d) (apart i j d before within) (none_back aims ys sorted j i d before within)))
+  where
+    flips : (x y : Entrant) → (x.place == y.place) ≡ (y.place == x.place)
+    flips x y = grind (arith, nat_tests)
+
+    distinct : IsDistinct (λ x y. x.place == y.place) ys
+    distinct = IsDistinct-IsPermutation (λ x y. x.place == y.place) flips xs ys same (own_distinct xs own)
+
+    apart : (i j : ℕ) (d : Entrant) → i < j → j < length ys → (get_or ys j d).place ≡ (get_or ys i d).place → ⊥
+    apart i j d before within e =
+        clash ((get_or ys i d).place == (get_or ys j d).place) (eq-eqb (get_or ys i d).place (get_or ys j d).place (sym e)) (apart_from_distinct (λ x y. x.place == y.place) ys i j d distinct before within)
 
 -- ---- the places of a problem's solutions
 

@@ -21,10 +21,14 @@ abbrev pub compare_counts : List Aim → Judgement → Judgement → Ordering
 compare_counts aims (Solution c) (Solution d) = compare aims c d
 compare_counts aims left right = Equal
 
--- a comes before b: by class, then by the aims, then by place
+-- two entrants are compared by class, then by the aims, then by place
+abbrev pub compare_entrants : List Aim → Entrant → Entrant → Ordering
+compare_entrants aims a b = ordering_then (nat_cmp (class a.judgement) (class b.judgement))
+    (ordering_then (compare_counts aims a.judgement b.judgement) (nat_cmp a.place b.place))
+
+-- a comes before b
 abbrev pub precedes : List Aim → Entrant → Entrant → Bool
-precedes aims a b = is_lt (ordering_then (nat_cmp (class a.judgement) (class b.judgement))
-    (ordering_then (compare_counts aims a.judgement b.judgement) (nat_cmp a.place b.place)))
+precedes aims a b = is_lt (compare_entrants aims a b)
 
 -- the entrants with x put before the first that it precedes, or at the end
 abbrev pub put : List Aim → Entrant → List Entrant → List Entrant

@@ -61,7 +61,7 @@ pub(crate) fn answer_ranking<W: Sink>(
         Err(unranked) => return answer_unranked(alloc, out, unranked),
     };
     let outcome = best_outcome(&entrants);
-    match ranked(alloc, aims, &entrants) {
+    match ranked(aims, entrants) {
         Ok(ranked) => answer_ranked(alloc, out, aims, &ranked, outcome),
         Err(_) => Err(RunError::Memory),
     }

@@ -1,12 +1,12 @@
 //! The ranking of solutions.
-ghost use Rattle.std.specs.Prelude.{◌≡◌, ◌≤◌, length, IfOk};
-ghost use Rattle.std.specs.List.{list_any, position_or_len};
+ghost use Rattle.std.specs.Prelude.{◌≡◌, IsTrue, IfOk};
+ghost use Rattle.std.specs.List.{list_any};
 ghost use Rattle.cudf_check.specs.RankReport.{is_a_solution, is_no_solution, best_outcome};
-ghost use Rattle.cudf_check.specs.Ranking.{class, compare_counts, precedes, ranking};
+ghost use Rattle.cudf_check.specs.Ranking.{class, compare_counts, compare_entrants, have_own_places, ranking};
 
 use crate::outcome::Outcome;
 use cudf_referee::{Aim, Criteria, compare};
-use std::alloc::{AllocError, Global};
+use std::alloc::AllocError;
 use std::cmp::Ordering;
 
 /// What was found of a solution's text, which has no fault.
@@ -73,43 +73,23 @@ fn compare_counts(aims: &[Aim], left: Judgement, right: Judgement) -> Ordering
     }
 }
 
-/// Whether the one is ranked before the other: by class, then by the aims, then by place.
-fn precedes(aims: &[Aim], left: &Entrant, right: &Entrant) -> bool
-    ensures { result ≡ precedes aims.now left.now right.now }
+/// Compares two entrants by class, then by the aims, then by place: the lesser one is ranked before the other.
+fn compare_entrants(aims: &[Aim], left: &Entrant, right: &Entrant) -> Ordering
+    ensures { result ≡ compare_entrants aims.now left.now right.now }
 {
     let class = left.judgement.class().cmp(&right.judgement.class());
     let counts = compare_counts(aims, left.judgement, right.judgement);
     let place = left.place.cmp(&right.place);
-    class.then(counts).then(place) == Ordering::Less
+    class.then(counts).then(place)
 }
 
-/// Where the entrant comes among those that are ranked.
-fn place_of(aims: &[Aim], entrant: &Entrant, ranked: &[Entrant]) -> usize
-    ensures place { result ≡ position_or_len (precedes aims.now entrant.now) ranked.now }
-    ensures inside { result ≤ length ranked.now }
+/// The entrants in the order of their rank, the best first. No two have the same place.
+pub(crate) fn ranked(aims: &[Aim], entrants: Vec<Entrant>) -> Result<Vec<Entrant>, AllocError>
+    requires { IsTrue (have_own_places entrants.items) }
+    ensures { IfOk result (λ ranked. ranked.items ≡ ranking aims.now entrants.items) }
 {
-    for index in 0..ranked.len() {
-        if precedes(aims, entrant, &ranked[index]) {
-            return index;
-        }
-    }
-    ranked.len()
-}
-
-/// The entrants in the order of their rank, the best first.
-#[tactic(auto, unfolding(crate::specs::Ranking::ranking))]
-pub(crate) fn ranked(
-    alloc: Global,
-    aims: &[Aim],
-    entrants: &[Entrant],
-) -> Result<Vec<Entrant>, AllocError>
-    ensures { IfOk result (λ ranked. ranked.items ≡ ranking aims.now entrants.now) }
-{
-    let mut ranked = Vec::with_capacity(alloc, entrants.len())?;
-    for entrant in entrants {
-        let index = place_of(aims, entrant, &ranked);
-        ranked.insert(index, *entrant)?;
-    }
+    let mut ranked = entrants;
+    ranked.sort_by(|left, right| compare_entrants(aims, left, right))?;
     Ok(ranked)
 }
 

@@ -1,9 +1,11 @@
-use Rattle.std.proofs.Common.{map}
+use Rattle.std.proofs.Common.{map, IsTrue, subst, sym}
 use Rattle.cudf_text.specs.Stanzas.{plain_text}
 use Rattle.cudf_document.specs.Universe.{plain_problem}
+use Rattle.cudf_check.specs.Ranking.{have_own_places}
 use Rattle.cudf_check.specs.RankReport.{rank_report, ranked_report, placed_faults, first_faulty_or, entrants}
 use Rattle.cudf_check.specs.Report.{problem_fault}
 use Rattle.cudf_check.proofs.AnswerLemmas.{memory_first}
+use Rattle.cudf_check.proofs.RankingLawLemmas.{entrants_own}
 use Rattle.cudf_check.proofs.ReadingLemmas.{problem_is_text}
 use Rattle.cudf_check.proofs.rank_report.answer_ranking.Goals as goal
 
@@ -18,3 +20,6 @@ returns-in-Err g c =
 
 pub returns : goal.returns
 returns g c = memory_first _ _
+
+pub ranked-requires : goal.ranked-requires
+ranked-requires g c = subst (λ es. IsTrue (have_own_places es)) (sym c.in-Ok-judge_each.ensures.judged.found) (entrants_own c.in-Ok.problem 1 (map (λ b. b.items) c.args.solutions.now))

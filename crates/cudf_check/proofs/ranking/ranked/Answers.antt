@@ -1,8 +1,12 @@
-use Rattle.std.proofs.Common.{◌<◌, length, arith}
-use Rattle.cudf_check.proofs.RankingLemmas.{ranked_more}
+use Rattle.std.proofs.Common.{◌≡◌, rules}
+use Rattle.std.specs.Ordering.{is_lt}
+use Rattle.std.proofs.lemmas.Fn.{always_returns_same}
+use Rattle.cudf_check.specs.Ranking.{precedes}
+use Rattle.cudf_check.proofs.RankingLawLemmas.{precedes_weak, sorted_is_ranking}
 use Rattle.cudf_check.proofs.ranking.ranked.Goals as goal
 
-pub loop-entrant-preserved : goal.loop-entrant-preserved
-loop-entrant-preserved c =
-    let below : c.loop-entrant.entrant-index < length c.args.entrants.now = omega arith in
-    ranked_more c.args.aims.now c.loop-entrant.ranked.items c.deref.result.now c.insert.new.self.items c.args.entrants.now c.loop-entrant.entrant-index c.place_of-index.result _ below c.deref.ensures.value c.place_of-index.ensures.place c.in_ok-insert.ensures.items c.loop-entrant.invariant
+pub returns : goal.returns
+returns c =
+    let aims = c.args.aims.now in
+    sorted_is_ranking aims c.args.entrants.items c.sort_by.new.self.items c.requires c.in_ok-sort_by.ensures.permutation
+    (c.in_ok-sort_by.ensures.sorted (precedes aims) (precedes_weak aims) (always_returns_same _ (λ a r. is_lt r ≡ precedes aims a.0.now a.1.0.now) _ (λ a r q k. search rules)))
