@@ -3,7 +3,6 @@ use Rattle.std.specs.Prelude.{ℕ, Bool, List, [], ◌++◌, codes, decimal, Opt
 use Rattle.cudf_document.specs.Details.{PlainDetail, begins_with, request_on, name_on, undeclared, mistyped, misdeclared, package_on, lacking}
 use Rattle.cudf_document.specs.Ids.{Id}
 use Rattle.cudf_document.specs.Universe.{PlainPackage, package_at}
-use Rattle.cudf_value.specs.Vpkgs.{PlainVpkg}
 use Rattle.cudf_universe.specs.Satisfaction.{numbers_of, first_named}
 use Rattle.cudf_referee.specs.declared.key.Aspect.{Aspect}
 use Rattle.cudf_referee.specs.declared.key.Aspect.TheVariants.{Unsatisfied, Many, Lower}
