@@ -2,6 +2,7 @@
 """Tries wrong bodies: small changes of functions' bodies, each of which the prover must refuse.
 
     wrong_bodies.py [--jobs N] [--verbose] [--behind-ci] [--beside PID] [--edits FOLDER] [CRATE..]
+    wrong_bodies.py --read [--edits FOLDER] [CRATE..]
 
 The changes are the files crates/CRATE/wrong-bodies/*.edit, in the form of rt's must-fail edits: a line
 'file: src/a.rt', then pairs of lines 'old: TEXT' (which stands in that file once) and 'new: TEXT'.
@@ -32,7 +33,7 @@ replaces such files, and doesn't write into them. That check is of the functions
 call; of the whole crate where an edit is none of one function, or where rattle knows a function by another name. Behind a passed rt ci (--behind-ci, as .ci/run says) the
 libraries below are those that rt ci proved and left in out/rlib, as for its own must-fail edits; else they are built.
 Beside an rt ci that runs (--beside PID, as gate.py says) they are waited for, and a check begins where that one leaves a
-processor and 4 GB of memory.
+processor and 4 GB of memory. With --read none is tried: told is each that can't be read or whose old text doesn't stand once.
 
 What it rests on, beside that: rt as a module, with `read_edit`, `must_fail` and what it answers (one of five kinds, or in
 other kits a truth, and the reason in words), `unread`, `processors` and `free`, and of rtlib `crates_below`, `lock`, `guarded`, `RATTLE`, `PARTS`, `Crate.words`, `below` and
@@ -640,12 +641,21 @@ def tell_all(trials):
     return kinds.total() == well
 
 
+def read_all(trials):
+    """Prints which edits can't be made as the sources stand, and returns whether each can."""
+    told = [(f"{it.crate.name}/{path.name}", rt.read_edit(str(path), it.crate.folder)[1]) for it in trials for path in it.paths]
+    bad = [f"{name}: {why}" for name, why in told if why]
+    print("\n".join([*bad, f"wrong bodies that can be planted: {len(told) - len(bad)}, that can't: {len(bad)}"]), flush=True)
+    return not bad
+
+
 def main():
     parser = argparse.ArgumentParser(description=__doc__.partition("\n")[0])
     parser.add_argument("--jobs", type=int, help="checks side by side, of up to 4 GB each")
     parser.add_argument("--verbose", action="store_true", help="tell of the refused edits too, with the goal")
     parser.add_argument("--behind-ci", action="store_true", help="take the libraries that rt ci proved and left")
     parser.add_argument("--beside", type=int, metavar="PID", help="take the libraries as the rt ci of that number proves them")
+    parser.add_argument("--read", action="store_true", help="tell which edits can't be planted, and try none")
     parser.add_argument("--edits", help="the folder of edits, for one crate")
     parser.add_argument("crate", nargs="*", help="all crates, if none is named")
     given = parser.parse_args()
@@ -657,6 +667,8 @@ def main():
         stop(f"{lacking[0]} is no crate" if lacking else "--edits goes with one crate")
     trials = [Trial(it, given.edits) for it in crates if it.name in (given.crate or [crate.name for crate in crates])]
     trials = [it for it in trials if it.paths] or stop("there are no edits")
+    if given.read:
+        return 0 if read_all(trials) else 1
     # (kept open, so that no other rt works in these folders)
     held = rt.rtlib.lock([it.crate for it in trials])
     leave_nothing_behind([it.crate for it in trials])
