@@ -1,8 +1,9 @@
 -- Whether one of the numbers of an ascending list meets a bound.
-use Rattle.std.proofs.Common.{◌≡◌, ℕ, ◌<◌, ◌≤◌, ◌-◌, Bool, true, false, not, ◌||◌, ◌==◌, List, [], length, get_or, Option, Some, None, refl, sym, ap, ◌∙◌, arith, nat_lt, nat_le}
+use Rattle.std.proofs.Common.{◌≡◌, ℕ, ◌<◌, ◌≤◌, ◌-◌, Bool, true, false, ◌||◌, ◌==◌, List, length, get_or, Option, Some, None, refl, sym, ap, ◌∙◌, arith, nat_lt}
 use Rattle.std.specs.List.{count_by, list_any}
+use Rattle.std.specs.Cmp.{both_ways}
 use Rattle.std.specs.List.Sorted.{IsNonDecreasing}
-use Rattle.std.proofs.Math.Logic.{◌⊎◌, inl, inr}
+use Rattle.std.proofs.Math.Logic.{inl, inr}
 use Rattle.std.proofs.lemmas.Bool.{eqb-true, eq-eqb, true≢false, cases_lt}
 use Rattle.std.proofs.lemmas.Bool.Decides.{nat_tests}
 use Rattle.std.proofs.lemmas.List.{get_or_default}
@@ -11,27 +12,21 @@ use Rattle.cudf_value.specs.declared.relop.Relop.{Relop}
 use Rattle.cudf_value.specs.declared.relop.Relop.TheVariants.{Eq, Neq, Geq, Gt, Leq, Lt}
 use Rattle.cudf_value.specs.Vpkgs.{meets}
 use Rattle.cudf_universe.proofs.CountLemmas.{any-count}
-use Rattle.cudf_universe.specs.Working.Ends.{only_number, StandsUnder}
-
--- two tests that follow from each other
-same_test : (a b : Bool) → (a ≡ true → b ≡ true) → (b ≡ true → a ≡ true) → a ≡ b
-same_test true b there back = sym (there refl)
-same_test false true there back = back refl
-same_test false false there back = refl
+use Rattle.cudf_universe.specs.Working.Ends.{StandsUnder}
 
 -- a bound that isn't met by one number alone is met by an end of what stands round a number that meets it
-end_met : (bound : Option (Relop × ℕ)) (least n greatest : ℕ) → only_number bound ≡ None → least ≤ n → n ≤ greatest → meets bound n ≡ true → (meets bound least || meets bound greatest) ≡ true
+end_met : (bound : Option (Relop × ℕ)) (least n greatest : ℕ) → ((n : ℕ) → bound ≡ Some (Eq, n) → ⊥) → least ≤ n → n ≤ greatest → meets bound n ≡ true → (meets bound least || meets bound greatest) ≡ true
 end_met None least n greatest several l g met = refl
-end_met (Some (Eq, m)) least n greatest several l g met = absurd cc
+end_met (Some (Eq, m)) least n greatest several l g met = absurd (several m refl)
 end_met (Some (Neq, m)) least n greatest several l g met = grind (arith, nat_tests)
 end_met (Some (Geq, m)) least n greatest several l g met = grind (arith, nat_tests)
 end_met (Some (Gt, m)) least n greatest several l g met = grind (arith, nat_tests)
 end_met (Some (Leq, m)) least n greatest several l g met = grind (arith, nat_tests)
 end_met (Some (Lt, m)) least n greatest several l g met = grind (arith, nat_tests)
 
-pub ends_tell : (bound : Option (Relop × ℕ)) (xs : List ℕ) (least greatest : ℕ) → only_number bound ≡ None → IsNonDecreasing xs → 0 < length xs
+pub ends_tell : (bound : Option (Relop × ℕ)) (xs : List ℕ) (least greatest : ℕ) → ((n : ℕ) → bound ≡ Some (Eq, n) → ⊥) → IsNonDecreasing xs → 0 < length xs
     → ((d : ℕ) → least ≡ get_or xs 0 d) → ((d : ℕ) → greatest ≡ get_or xs (length xs - 1) d) → (meets bound least || meets bound greatest) ≡ nat_lt 0 (count_by (meets bound) xs)
-ends_tell bound xs least greatest several ordered some first last = same_test _ _ (there (meets bound least) refl) back ∙ any-count (meets bound) xs
+ends_tell bound xs least greatest several ordered some first last = both_ways _ _ (there (meets bound least) refl) back ∙ any-count (meets bound) xs
   where
     there : (met : Bool) → meets bound least ≡ met → (met || meets bound greatest) ≡ true → list_any (meets bound) xs ≡ true
     there true is either = list_any_at (meets bound) xs 0 0 some (ap (meets bound) (sym (first 0)) ∙ is)
@@ -46,33 +41,18 @@ ends_tell bound xs least greatest several ordered some first last = same_test _ 
 
 -- a number is one of them where it stands at its place
 module _ (xs : List ℕ) (n place : ℕ) (ordered : IsNonDecreasing xs) (stands : StandsUnder xs n place) where
+  stands_there : list_any (λ m. m == n) xs ≡ true → (place < length xs) × (get_or xs place 0 ≡ n)
+  stands_there any =
+      let at = Any-from_list_any (λ m. m == n) xs any in
+      let there : get_or xs at.0 0 ≡ n = get_or_default xs at.0 0 at.1 at.2 ∙ at.3 ∙ eqb-true at.1 n at.4 in
+      elim (cases_lt at.0 place) [
+        | inl less ↦ absurd (omega (arith, stands.below at.0 less, there))
+        | inr from ↦ (omega (arith, at.2), omega (arith, stands.above place (omega arith) (omega (arith, at.2)), ordered place at.0 0 from at.2, there))
+      ]
+
   pub behind_all : place ≡ length xs → false ≡ nat_lt 0 (count_by (λ m. m == n) xs)
-  behind_all end = same_test false _ (λ e. absurd (true≢false (sym e))) (λ any. let at = Any-from_list_any (λ m. m == n) xs any in
-      absurd (omega (arith, stands.below at.0 (omega (arith, at.2)), get_or_default xs at.0 at.1 0 at.2, at.3, eqb-true at.1 n at.4))) ∙ any-count (λ m. m == n) xs
+  behind_all end = both_ways false _ (λ e. absurd (true≢false (sym e))) (λ any. absurd (omega (arith, (stands_there any).0))) ∙ any-count (λ m. m == n) xs
 
   pub found_at : (found : ℕ) → place < length xs → ((d : ℕ) → found ≡ get_or xs place d) → (found == n) ≡ nat_lt 0 (count_by (λ m. m == n) xs)
-  found_at found inside is = same_test _ _ (λ same. list_any_at (λ m. m == n) xs place 0 inside (ap (λ m. m == n) (sym (is 0)) ∙ same)) back ∙ any-count (λ m. m == n) xs
-    where
-      behind : (k : ℕ) → (k < place) ⊎ (place ≤ k) → get_or xs k 0 ≡ n → place ≤ k
-      behind k (inl less) there = absurd (omega (arith, stands.below k less, there))
-      behind k (inr from) there = from
-
-      back : list_any (λ m. m == n) xs ≡ true → (found == n) ≡ true
-      back any = let at = Any-from_list_any (λ m. m == n) xs any in
-          let same : at.1 ≡ n = eqb-true at.1 n at.4 in
-          let there : get_or xs at.0 0 ≡ n = get_or_default xs at.0 0 at.1 at.2 ∙ at.3 ∙ same in
-          let from : place ≤ at.0 = behind at.0 (cases_lt at.0 place) there in
-          eq-eqb found n (omega (arith, is 0, stands.above place (omega arith) inside, ordered place at.0 0 from at.2, there))
-
--- the only number that meets a bound
-pub only_met : (bound : Option (Relop × ℕ)) (n : ℕ) (xs : List ℕ) → only_number bound ≡ Some n → nat_lt 0 (count_by (λ m. m == n) xs) ≡ nat_lt 0 (count_by (meets bound) xs)
-only_met (Some (Eq, m)) n xs only = ap (λ k. nat_lt 0 (count_by (λ i. i == k) xs)) (same only)
-  where
-    same : Some m ≡ Some n → n ≡ m
-    same e = cc
-only_met None n xs only = absurd cc
-only_met (Some (Neq, m)) n xs only = absurd cc
-only_met (Some (Geq, m)) n xs only = absurd cc
-only_met (Some (Gt, m)) n xs only = absurd cc
-only_met (Some (Leq, m)) n xs only = absurd cc
-only_met (Some (Lt, m)) n xs only = absurd cc
+  found_at found inside is =
+      both_ways _ _ (λ same. list_any_at (λ m. m == n) xs place 0 inside (ap (λ m. m == n) (sym (is 0)) ∙ same)) (λ any. eq-eqb found n (is 0 ∙ (stands_there any).1)) ∙ any-count (λ m. m == n) xs

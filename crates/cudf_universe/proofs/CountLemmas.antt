@@ -1,5 +1,6 @@
 -- How many items pass a test.
-use Rattle.std.proofs.Common.{◌≡◌, ℕ, ◌+◌, ◌<◌, ◌≤◌, zero, suc, Bool, true, false, not, cond, ◌||◌, ◌==◌, List, [], ◌∷◌, ◌++◌, length, ◌-◌, get_or, take, refl, sym, ap, ◌∙◌, arith, nat_lt, nat_le, add-one}
+use Rattle.std.proofs.Common.{◌≡◌, ℕ, ◌+◌, ◌<◌, ◌≤◌, zero, suc, Bool, true, false, not, cond, ◌||◌, ◌&&◌, ◌==◌, List, [], ◌∷◌, ◌++◌, length, ◌-◌, get_or, take, refl, sym, ap, ◌∙◌, arith, nat_lt, nat_le, add-one}
+use Rattle.std.specs.Prelude.{if◌then◌else◌}
 use Rattle.std.specs.List.{count_by, list_any}
 use Rattle.std.specs.List.Sorted.{IsPartitionPoint}
 use Rattle.std.proofs.lemmas.List.{take_all}
@@ -56,6 +57,10 @@ module _ {X : Type 0} where
       ∙ ap (count_by p) (take_all (i + (length xs - i)) xs (omega arith))
 
 -- ---- numbers
+
+pub unless : (u : ℕ) (b : Bool) (n : ℕ) → nat_lt u (if b then 0 else n) ≡ (nat_lt u n && not b)
+unless u true n = grind (arith, nat_tests)
+unless u false n = grind (arith, nat_tests)
 
 pub below_equal : (n m : ℕ) → cond (nat_lt m n) 1 0 + cond (m == n) 1 0 ≡ cond (nat_le m n) 1 0
 below_equal n m = grind (arith, nat_tests)

@@ -1,8 +1,8 @@
 -- What packages give, gathered by name.
-use Rattle.std.proofs.Common.{◌≡◌, ℕ, ◌+◌, ◌<◌, zero, suc, Bool, true, false, not, cond, ◌||◌, List, [], ◌∷◌, ◌++◌, length, get_or, take, map, Option, Some, None, refl, sym, ap, ◌∙◌, arith, bytes_eq, subst, Bor}
-use Rattle.std.specs.Prelude.{filter, filter_map, option_map, slice_get, option_to_list, option_and_then, position, if◌then◌else◌}
-use Rattle.std.specs.Option.{is_none, IfSome}
-use Rattle.std.specs.List.{count_by, cons_option, enumerate_from, list_any}
+use Rattle.std.proofs.Common.{◌≡◌, ℕ, ◌+◌, ◌<◌, zero, suc, Bool, true, false, not, cond, ◌||◌, List, [], ◌∷◌, ◌++◌, length, get_or, take, map, Option, Some, None, refl, sym, ap, ◌∙◌, arith, bytes_eq}
+use Rattle.std.specs.Prelude.{filter, filter_map, option_map, slice_get, option_to_list, if◌then◌else◌}
+use Rattle.std.specs.Option.{is_none}
+use Rattle.std.specs.List.{count_by, cons_option, enumerate_from}
 use Rattle.std.specs.Global.{Vec}
 use Rattle.std.proofs.Math.Bool.{or-false, or-true}
 use Rattle.std.proofs.lemmas.List.{map-append, flat_map_more}
@@ -10,17 +10,13 @@ use Rattle.std.proofs.lemmas.List.Elements.{filter-append, filter_map-append}
 use Rattle.cudf_value.specs.Vpkgs.{PlainVpkg}
 use Rattle.cudf_universe.specs.declared.index.entries.Entries.{Entries}
 use Rattle.cudf_universe.specs.declared.index.gathered_names.Provision.{Provision}
-use Rattle.std.proofs.lemmas.List.Folds.{list_any-append}
 use Rattle.cudf_value.specs.declared.relop.Relop.{Relop}
 use Rattle.cudf_document.specs.Documents.{is_empty}
 use Rattle.cudf_document.specs.Universe.{PlainPackage}
 use Rattle.cudf_universe.specs.Satisfaction.{Placed, members, entry_pair, unversioned_name, package_pairs, gives, gives_all_versions, numbers_of}
 use Rattle.cudf_document.specs.Ids.{Id}
-use Rattle.cudf_universe.specs.Working.Kept.{Keeps, IsSole, found, names_given, places_of}
-use Rattle.cudf_universe.specs.Working.Gathering.{row_items, provisions_of, own_entry, given_by, given_of, sole_place, Completes, CompletesAt}
+use Rattle.cudf_universe.specs.Working.Gathering.{provisions_of, own_entry, given_by, given_of, Completes, CompletesAt}
 use Rattle.cudf_universe.proofs.MemberLemmas.{enumerate-more, members_kept, members_left_out}
-use Rattle.cudf_universe.proofs.FoundLemmas.{found_at}
-use Rattle.cudf_universe.proofs.FirstLemmas.{sole_same}
 use Rattle.cudf_universe.proofs.CountLemmas.{count-cons, count-append}
 
 -- ---- rows that are completed in turn
@@ -154,16 +150,6 @@ module _ (f : List ℕ) where
       by None rest = omega (arith, count-cons (λ given. bytes_eq given f) e.name (filter_map unversioned_name es), rest, all_versions (bytes_eq e.name f))
       by (Some bound) rest = omega (arith, rest, number (bytes_eq e.name f) bound.1)
 
-  entry_places : (v : Bool) (place : ℕ) (es : List PlainVpkg) → map (λ n. place) (filter (λ given. bytes_eq given f) (map (λ entry. entry.name) es)) ≡ map (λ g. g.place) (provisions_of v f place es)
-  entry_places v place [] = refl
-  entry_places v place (e ∷ es) =
-      by (bytes_eq e.name f) (entry_places v place es) ∙ sym (map-append (λ (g : Provision). g.place) (one_given v (bytes_eq e.name f) (option_map (λ b. b.1) e.bound) place) (provisions_of v f place es)) ∙ ap (map (λ g. g.place)) (sym (provisions-cons v f place e es))
-    where
-      by : (b : Bool) → map (λ n. place) (filter (λ given. bytes_eq given f) (map (λ entry. entry.name) es)) ≡ map (λ g. g.place) (provisions_of v f place es)
-          → map (λ n. place) (cond b (e.name ∷ filter (λ given. bytes_eq given f) (map (λ entry. entry.name) es)) (filter (λ given. bytes_eq given f) (map (λ entry. entry.name) es))) ≡ map (λ g. g.place) (one_given v b (option_map (λ k. k.1) e.bound) place) ++ map (λ g. g.place) (provisions_of v f place es)
-      by true rest = ap (λ ns. place ∷ ns) rest
-      by false rest = rest
-
   -- the same of a status
   pairs_numbers : (p : Placed) → named_numbers (package_pairs p.1) ≡ filter_map (λ g. g.number) (given_by f p)
   pairs_numbers p =
@@ -172,7 +158,7 @@ module _ (f : List ℕ) where
       ∙ ap (λ ns. filter_map (λ g. g.number) (provisions_of true f p.0 (own_entry p.1 ∷ [])) ++ ns) (entry_numbers false p.0 p.1.provides)
       ∙ sym (filter_map-append (λ g. g.number) (provisions_of true f p.0 (own_entry p.1 ∷ [])) (provisions_of false f p.0 p.1.provides))
 
-  numbers_given : (status : List Placed) → numbers_of f status ≡ filter_map (λ g. g.number) (given_of f status)
+  pub numbers_given : (status : List Placed) → numbers_of f status ≡ filter_map (λ g. g.number) (given_of f status)
   numbers_given [] = refl
   numbers_given (p ∷ ps) =
       numbers-append (package_pairs p.1) (gives ps)
@@ -180,7 +166,7 @@ module _ (f : List ℕ) where
       ∙ ap (λ ns. filter_map (λ g. g.number) (given_by f p) ++ ns) (numbers_given ps)
       ∙ sym (filter_map-append (λ g. g.number) (given_by f p) (given_of f ps))
 
-  names_given_all : (status : List Placed) → count_by (λ given. bytes_eq given f) (gives_all_versions status) ≡ count_by (λ g. is_none g.number) (given_of f status)
+  pub names_given_all : (status : List Placed) → count_by (λ given. bytes_eq given f) (gives_all_versions status) ≡ count_by (λ g. is_none g.number) (given_of f status)
   names_given_all [] = refl
   names_given_all (p ∷ ps) =
       omega (
@@ -192,80 +178,6 @@ module _ (f : List ℕ) where
         count-append (λ g. is_none g.number) (provisions_of true f p.0 (own_entry p.1 ∷ [])) (provisions_of false f p.0 p.1.provides),
         count-append (λ g. is_none g.number) (given_by f p) (given_of f ps),
       )
-
-  package_places : (p : Placed) → map (λ n. p.0) (filter (λ given. bytes_eq given f) (names_given p.1)) ≡ map (λ g. g.place) (given_by f p)
-  package_places p =
-      ap (map (λ n. p.0)) (filter-append (λ given. bytes_eq given f) (p.1.name ∷ []) (map (λ entry. entry.name) p.1.provides))
-      ∙ map-append (λ (n : List ℕ). p.0) (filter (λ given. bytes_eq given f) (p.1.name ∷ [])) (filter (λ given. bytes_eq given f) (map (λ entry. entry.name) p.1.provides))
-      ∙ ap (λ ns. ns ++ map (λ n. p.0) (filter (λ given. bytes_eq given f) (map (λ entry. entry.name) p.1.provides))) (entry_places true p.0 (own_entry p.1 ∷ []))
-      ∙ ap (λ ns. map (λ g. g.place) (provisions_of true f p.0 (own_entry p.1 ∷ [])) ++ ns) (entry_places false p.0 p.1.provides)
-      ∙ sym (map-append (λ (g : Provision). g.place) (provisions_of true f p.0 (own_entry p.1 ∷ [])) (provisions_of false f p.0 p.1.provides))
-
-  places_given : (status : List Placed) → places_of f status ≡ map (λ g. g.place) (given_of f status)
-  places_given [] = refl
-  places_given (p ∷ ps) =
-      ap (λ ns. ns ++ places_of f ps) (package_places p)
-      ∙ ap (λ ns. map (λ g. g.place) (given_by f p) ++ ns) (places_given ps)
-      ∙ sym (map-append (λ (g : Provision). g.place) (given_by f p) (given_of f ps))
-
-  -- a package of the name, and only it, gives a version
-  no_version : (place : ℕ) (es : List PlainVpkg) → list_any (λ g. g.is_version) (provisions_of false f place es) ≡ false
-  no_version place [] = refl
-  no_version place (e ∷ es) =
-      ap (list_any (λ g. g.is_version)) (provisions-cons false f place e es) ∙ by (bytes_eq e.name f) (no_version place es)
-    where
-      by : (b : Bool) → list_any (λ g. g.is_version) (provisions_of false f place es) ≡ false → list_any (λ g. g.is_version) (one_given false b (option_map (λ k. k.1) e.bound) place ++ provisions_of false f place es) ≡ false
-      by true rest = rest
-      by false rest = rest
-
-  package_version : (p : Placed) → bytes_eq p.1.name f ≡ list_any (λ g. g.is_version) (given_by f p)
-  package_version p = by (bytes_eq p.1.name f) (no_version p.0 p.1.provides)
-    where
-      given : PlainVpkg → Provision
-      given entry = record { number = option_map (λ b. b.1) entry.bound; place = p.0; is_version = true }
-
-      by : (b : Bool) → list_any (λ g. g.is_version) (provisions_of false f p.0 p.1.provides) ≡ false
-          → b ≡ list_any (λ g. g.is_version) (map given (cond b (own_entry p.1 ∷ []) []) ++ provisions_of false f p.0 p.1.provides)
-      by true rest = refl
-      by false rest = sym rest
-
-  versions_given : (status : List Placed) → list_any (λ p. bytes_eq p.1.name f) status ≡ list_any (λ g. g.is_version) (given_of f status)
-  versions_given [] = refl
-  versions_given (p ∷ ps) =
-      ap (λ b. b || list_any (λ q. bytes_eq q.1.name f) ps) (package_version p)
-      ∙ ap (λ b. list_any (λ g. g.is_version) (given_by f p) || b) (versions_given ps)
-      ∙ sym (list_any-append (λ g. g.is_version) (given_by f p) (given_of f ps))
-
-  keeps_row : (status : List Placed) (o : Option (Vec Provision)) (e : Option Entries) → CompletesAt o e → row_items o ≡ given_of f status → Keeps f status e
-  keeps_row status None None whole same = record {
-    ascending = λ i j d up inside. absurd (omega arith);
-    numbers = λ p. ap (λ row. count_by p (filter_map (λ g. g.number) row)) same ∙ ap (count_by p) (sym (numbers_given status));
-    unversioned = ap (count_by (λ g. is_none g.number)) same ∙ sym (names_given_all status);
-    sole = tt;
-    is_package = ap (list_any (λ g. g.is_version)) same ∙ sym (versions_given status);
-  }
-  keeps_row status (Some row) None whole same = absurd whole
-  keeps_row status None (Some e) whole same = absurd whole
-  keeps_row status (Some row) (Some e) whole same = record {
-    ascending = whole.ascending;
-    numbers = λ p. whole.numbers p ∙ ap (λ r. count_by p (filter_map (λ g. g.number) r)) same ∙ ap (count_by p) (sym (numbers_given status));
-    unversioned = whole.unversioned ∙ ap (count_by (λ g. is_none g.number)) same ∙ sym (names_given_all status);
-    sole = subst (λ o. IfSome o (IsSole f status)) (sym (whole.sole ∙ ap (λ r. sole_place (map (λ g. g.place) r)) same)) (sole_same (map (λ g. g.place) (given_of f status)) f status (sym (places_given status)));
-    is_package = whole.is_package ∙ ap (list_any (λ g. g.is_version)) same ∙ sym (versions_given status);
-  }
-
-  completes_found : (rows : List (Vec Provision)) (entries : List Entries) (o : Option ℕ) → ((k : ℕ) → CompletesAt (slice_get rows k) (slice_get entries k)) → CompletesAt (option_and_then (slice_get rows) o) (option_and_then (slice_get entries) o)
-  completes_found rows entries None whole = tt
-  completes_found rows entries (Some k) whole = whole k
-
-  pub keeps_found : (status : List Placed) (keys : List (Bor (List ℕ))) (rows : List (Vec Provision)) (entries : List Entries) → ((k : ℕ) → CompletesAt (slice_get rows k) (slice_get entries k)) → row_items (found (λ k. bytes_eq f k.now) keys rows) ≡ given_of f status
-      → Keeps f status (found (λ k. bytes_eq f k.now) keys entries)
-  keeps_found status keys rows entries whole same =
-      keeps_row status (found (λ k. bytes_eq f k.now) keys rows) (found (λ k. bytes_eq f k.now) keys entries)
-      (subst (λ o. CompletesAt o (found (λ k. bytes_eq f k.now) keys entries)) (sym (found_at (λ k. bytes_eq f k.now) keys rows))
-      (subst (CompletesAt (option_and_then (slice_get rows) (position (λ k. bytes_eq f k.now) keys))) (sym (found_at (λ k. bytes_eq f k.now) keys entries))
-      (completes_found rows entries (position (λ k. bytes_eq f k.now) keys) whole)))
-      same
 
 -- ---- which names have rows
 

@@ -6,11 +6,11 @@ pub mod TakenOffLemmas
 pub mod EndLemmas
 pub mod BoundLemmas
 pub mod GatheringLemmas
-pub mod GivenLemmas
 pub mod FoundLemmas
-pub mod FirstLemmas
+pub mod HalvesLemmas
 pub mod TreeLemmas
 pub mod VersionLemmas
+pub mod KeptLemmas
 pub mod PriceLemmas
 pub mod ShareLemmas
 pub mod SearchedLemmas

@@ -14,7 +14,7 @@ use Rattle.cudf_universe.specs.Promises.Members.{MemberAlone}
 use Rattle.cudf_universe.specs.Working.Members.{provision_meets, entry_meets}
 
 -- what two lists of numbers and two lists of names give together
-or_split : (a b c d n : Bool) → ((a || b) || ((c || d) && n)) ≡ ((a || (c && n)) || (b || (d && n)))
+pub or_split : (a b c d n : Bool) → ((a || b) || ((c || d) && n)) ≡ ((a || (c && n)) || (b || (d && n)))
 or_split true b c d n = refl
 or_split false true true d true = refl
 or_split false true true d false = refl

@@ -16,8 +16,8 @@ use Rattle.cudf_document.specs.Universe.{PlainPackage}
 use Rattle.cudf_universe.specs.Satisfaction.{Placed, entry_pair, members, without, gives, gives_all_versions, package_pairs, unversioned_name, numbers_of, is_met_by, is_below_one, satisfies, meets_alone}
 use Rattle.cudf_document.specs.Ids.{Id}
 use Rattle.cudf_universe.proofs.SatisfactionLemmas.{member_alone}
-use Rattle.cudf_universe.proofs.SearchLemmas.{list_any-filter}
-use Rattle.cudf_universe.proofs.CountLemmas.{count-cons, count-append, any-count}
+use Rattle.cudf_universe.proofs.SearchLemmas.{list_any-filter, none_narrowed}
+use Rattle.cudf_universe.proofs.CountLemmas.{count-cons, count-append, any-count, unless}
 
 -- ---- counts of mapped and filtered lists
 
@@ -151,12 +151,8 @@ module _ (name : List ℕ) (status : List Placed) (kept : Option Entries) (keeps
       ≡ (nat_lt n (count_by (meets bound) (numbers_of name status)) || (nat_lt u (count_by (λ given. bytes_eq given name) (gives_all_versions status)) && not (is_below_one bound)))
   kept_exceeds n u m w bound met all =
       ap (λ k. nat_lt n k || nat_lt u w) met
-      ∙ ap (λ b. nat_lt n (count_by (meets bound) (kept_numbers kept)) || b) (ap (nat_lt u) all ∙ unless (is_below_one bound) (kept_unversioned kept))
+      ∙ ap (λ b. nat_lt n (count_by (meets bound) (kept_numbers kept)) || b) (ap (nat_lt u) all ∙ unless u (is_below_one bound) (kept_unversioned kept))
       ∙ beside_kept n u bound
-    where
-      unless : (b : Bool) (k : ℕ) → nat_lt u (if b then 0 else k) ≡ (nat_lt u k && not b)
-      unless true k = grind (arith, nat_tests)
-      unless false k = grind (arith, nat_tests)
 
 -- a name of which nothing is kept
 pub none_kept : (v : PlainVpkg) (status : List Placed) → Keeps v.name status None → satisfies status v ≡ false
@@ -171,17 +167,7 @@ none_kept v status keeps =
 pub unsatisfied_without : (status : List Placed) (v : PlainVpkg) (place : ℕ) → satisfies status v ≡ false → satisfies (without place status) v ≡ false
 unsatisfied_without status v place none =
     member_alone (without place status) v ∙ list_any-filter (meets_alone v) (λ p. not (p.0 == place)) status
-    ∙ fewer status (sym (member_alone status v) ∙ none)
-  where
-    fewer : (ps : List Placed) → list_any (meets_alone v) ps ≡ false → list_any (λ p. not (p.0 == place) && meets_alone v p) ps ≡ false
-    fewer [] e = refl
-    fewer (p ∷ ps) e = by (meets_alone v p) (not (p.0 == place)) e (fewer ps)
-      where
-        by : (b other : Bool) → (b || list_any (meets_alone v) ps) ≡ false → (list_any (meets_alone v) ps ≡ false → list_any (λ q. not (q.0 == place) && meets_alone v q) ps ≡ false)
-            → ((other && b) || list_any (λ q. not (q.0 == place) && meets_alone v q) ps) ≡ false
-        by true other e rest = absurd (true≢false e)
-        by false true e rest = rest e
-        by false false e rest = rest e
+    ∙ none_narrowed (meets_alone v) (λ p. not (p.0 == place)) status (sym (member_alone status v) ∙ none)
 
 -- ---- what is read of a list
 
@@ -198,15 +184,15 @@ module _ (holds : ℕ → Bool) (packages : List PlainPackage) (status : List Pl
       subst (λ s. count_by p (flat_map g s) ≡ count_by p (flat_map g (without place s)) + own_count holds g p (find (λ q. q.0 == place) s)) view (split_members holds g p place packages)
       ∙ ap (λ q. count_by p (flat_map g (without place status)) + own_count holds g p q) (sym e)
 
-  pub numbers_split : (v : PlainVpkg) (place : ℕ) (o : Option Placed) → o ≡ find (λ q. q.0 == place) status
-      → count_by (meets v.bound) (numbers_of v.name status) ≡ count_by (meets v.bound) (numbers_of v.name (without place status)) + own_count holds (λ q. package_pairs q.1) (is_met_by v) o
-  numbers_split v place o e =
-      count-numbers v status ∙ split_status (λ q. package_pairs q.1) (is_met_by v) place o e
-      ∙ ap (λ n. n + own_count holds (λ q. package_pairs q.1) (is_met_by v) o) (sym (count-numbers v (without place status)))
+  pub numbers_split : (v : PlainVpkg) (place : ℕ) (o : Option Placed) → o ≡ find (λ q. q.0 == place) status → (n : ℕ) → n ≡ own_count holds (λ q. package_pairs q.1) (is_met_by v) o
+      → count_by (meets v.bound) (numbers_of v.name status) ≡ count_by (meets v.bound) (numbers_of v.name (without place status)) + n
+  numbers_split v place o e n own =
+      count-numbers v status ∙ split_status (λ q. package_pairs q.1) (is_met_by v) place o e ∙ (λ i. sym (count-numbers v (without place status)) i + sym own i)
 
-  pub names_split : (name : List ℕ) (place : ℕ) (o : Option Placed) → o ≡ find (λ q. q.0 == place) status
-      → count_by (λ given. bytes_eq given name) (gives_all_versions status) ≡ count_by (λ given. bytes_eq given name) (gives_all_versions (without place status)) + own_count holds (λ q. filter_map unversioned_name q.1.provides) (λ given. bytes_eq given name) o
-  names_split name place o e = split_status (λ q. filter_map unversioned_name q.1.provides) (λ given. bytes_eq given name) place o e
+  pub names_split : (name : List ℕ) (place : ℕ) (o : Option Placed) → o ≡ find (λ q. q.0 == place) status → (n : ℕ) → n ≡ own_count holds (λ q. filter_map unversioned_name q.1.provides) (λ given. bytes_eq given name) o
+      → count_by (λ given. bytes_eq given name) (gives_all_versions status) ≡ count_by (λ given. bytes_eq given name) (gives_all_versions (without place status)) + n
+  names_split name place o e n own =
+      split_status (λ q. filter_map unversioned_name q.1.provides) (λ given. bytes_eq given name) place o e ∙ (λ i. count_by (λ given. bytes_eq given name) (gives_all_versions (without place status)) + sym own i)
 
 -- ---- what a package gives, entry by entry
 

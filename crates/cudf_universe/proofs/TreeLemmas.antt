@@ -1,80 +1,42 @@
 -- The first provision of a name that meets a bound, and the first package.
-use Rattle.std.proofs.Common.{◌≡◌, ℕ, ◌+◌, Bool, true, false, not, cond, ◌||◌, ◌&&◌, ◌==◌, nat_lt, List, [], ◌∷◌, ◌++◌, map, Option, Some, None, refl, sym, ap, ◌∙◌, arith, bytes_eq}
+use Rattle.std.proofs.Common.{◌≡◌, ℕ, Bool, true, false, not, cond, ◌||◌, ◌&&◌, ◌==◌, nat_lt, List, [], ◌∷◌, map, Option, Some, None, refl, sym, ap, ◌∙◌, bytes_eq}
 use Rattle.std.specs.Prelude.{filter_map, find, option_map, if◌then◌else◌}
 use Rattle.std.specs.List.{count_by, list_any, list_all, cons_option}
-use Rattle.std.specs.Option.{option_or, is_none}
+use Rattle.std.specs.Option.{option_or, is_none, is_some, IfSome}
+use Rattle.std.proofs.Math.Bool.{or_assoc}
 use Rattle.std.proofs.lemmas.Bool.{true≢false, eqb-true}
-use Rattle.std.proofs.lemmas.Bool.Decides.{nat_tests}
-use Rattle.std.proofs.lemmas.List.Folds.{find-append}
 use Rattle.cudf_value.specs.declared.relop.Relop.{Relop}
 use Rattle.cudf_value.specs.Vpkgs.{PlainVpkg, meets}
 use Rattle.cudf_document.proofs.ListLemmas.{find_none}
 use Rattle.cudf_universe.specs.Promises.Members.{other_than}
-use Rattle.cudf_universe.specs.Satisfaction.{Placed, meets_alone, first_meeting, is_met_by, is_below_one}
+use Rattle.cudf_document.specs.Documents.{is_empty}
+use Rattle.cudf_universe.specs.Satisfaction.{Placed, meets_alone, first_meeting, is_met_by, is_below_one, satisfies}
 use Rattle.cudf_universe.specs.Working.Gathering.{provisions_of, own_entry, given_by, given_of, sole_place, Completes}
+use Rattle.cudf_universe.specs.Working.Kept.{IsSole}
 use Rattle.cudf_universe.specs.Working.Members.{entry_meets, provision_meets, is_other}
 use Rattle.cudf_universe.specs.Working.FirstPlaces.{number_meets, meets_beside, first_place_of, is_sole, may_meet}
 use Rattle.cudf_universe.specs.declared.index.entries.Entries.{Entries}
 use Rattle.cudf_universe.specs.declared.index.gathered_names.Provision.{Provision}
-use Rattle.cudf_universe.proofs.CountLemmas.{count-cons}
-use Rattle.cudf_universe.proofs.FirstLemmas.{find_others}
+use Rattle.cudf_universe.proofs.CountLemmas.{any-count, unless}
 use Rattle.cudf_universe.proofs.GatheringLemmas.{provisions-cons}
-use Rattle.cudf_universe.proofs.SatisfactionLemmas.{meets_alone-parts}
-
--- ---- one row after the other
-
-module _ (except : Option ℕ) (bound : Option (Relop × ℕ)) where
-  mapped_or : (a b : Option Provision) → option_map (λ g. g.place) (option_or a b) ≡ option_or (option_map (λ g. g.place) a) (option_map (λ g. g.place) b)
-  mapped_or None b = refl
-  mapped_or (Some g) b = refl
-
-  pub first-append : (xs ys : List Provision) → first_place_of except bound (xs ++ ys) ≡ option_or (first_place_of except bound xs) (first_place_of except bound ys)
-  first-append xs ys = ap (option_map (λ g. g.place)) (find-append (meets_beside except bound) xs ys) ∙ mapped_or (find (meets_beside except bound) xs) (find (meets_beside except bound) ys)
+use Rattle.cudf_universe.proofs.HalvesLemmas.{first-append}
+use Rattle.cudf_universe.proofs.SatisfactionLemmas.{member_alone, meets_alone-parts, or_split}
+use Rattle.cudf_universe.proofs.SearchLemmas.{find-filter, found_place, none_narrowed}
 
 -- ---- a row in which none is found
 
-module _ (except : Option ℕ) (bound : Option (Relop × ℕ)) where
-  -- the counts tell whether one meets the bound
-  counts_tell : (row : List Provision) → list_any (λ g. number_meets bound g.number) row
-      ≡ (nat_lt 0 (count_by (meets bound) (filter_map (λ g. g.number) row)) || nat_lt 0 (if is_below_one bound then 0 else count_by (λ g. is_none g.number) row))
-  counts_tell [] = none (is_below_one bound)
-    where
-      none : (b : Bool) → false ≡ (false || nat_lt 0 (if b then 0 else 0))
-      none true = refl
-      none false = refl
-  counts_tell (g ∷ gs) =
-      by g.number (counts_tell gs)
-      ∙ ap (λ n. nat_lt 0 (count_by (meets bound) (cons_option g.number (filter_map (λ h. h.number) gs))) || nat_lt 0 (if is_below_one bound then 0 else n)) (sym (count-cons (λ h. is_none h.number) g gs))
-    where
-      later : ℕ
-      later = count_by (meets bound) (filter_map (λ h. h.number) gs)
+-- the numbers, and whether there are provisions without one, tell whether one meets the bound
+any_tells : (bound : Option (Relop × ℕ)) (row : List Provision) → list_any (λ g. number_meets bound g.number) row
+    ≡ (list_any (meets bound) (filter_map (λ g. g.number) row) || (list_any (λ g. is_none g.number) row && not (is_below_one bound)))
+any_tells bound [] = refl
+any_tells bound (g ∷ gs) = ap (λ b. number_meets bound g.number || b) (any_tells bound gs) ∙ by g.number (list_any (λ h. is_none h.number) gs)
+  where
+    some : Bool
+    some = list_any (meets bound) (filter_map (λ h. h.number) gs)
 
-      all_versions : (b any : Bool) (n u : ℕ) → any ≡ (nat_lt 0 n || nat_lt 0 (if b then 0 else u)) → (not b || any) ≡ (nat_lt 0 n || nat_lt 0 (if b then 0 else (1 + u)))
-      all_versions true any n u e = e
-      all_versions false any n u e = grind (arith, nat_tests)
-
-      one : (b any r : Bool) (n : ℕ) → any ≡ (nat_lt 0 n || r) → (b || any) ≡ (nat_lt 0 (cond b 1 0 + n) || r)
-      one true any r n e = grind (arith, nat_tests)
-      one false any r n e = grind (arith, nat_tests)
-
-      by : (o : Option ℕ) → list_any (λ h. number_meets bound h.number) gs ≡ (nat_lt 0 (count_by (meets bound) (filter_map (λ h. h.number) gs)) || nat_lt 0 (if is_below_one bound then 0 else count_by (λ h. is_none h.number) gs))
-          → (number_meets bound o || list_any (λ h. number_meets bound h.number) gs)
-          ≡ (nat_lt 0 (count_by (meets bound) (cons_option o (filter_map (λ h. h.number) gs))) || nat_lt 0 (if is_below_one bound then 0 else (cond (is_none o) 1 0 + count_by (λ h. is_none h.number) gs)))
-      by None e = all_versions (is_below_one bound) _ _ _ e
-      by (Some n) e =
-          one (meets bound n) _ _ _ e
-          ∙ ap (λ k. nat_lt 0 k || nat_lt 0 (if is_below_one bound then 0 else count_by (λ h. is_none h.number) gs)) (sym (count-cons (meets bound) n (filter_map (λ h. h.number) gs)))
-          ∙ ap (λ k. nat_lt 0 (count_by (meets bound) (n ∷ filter_map (λ h. h.number) gs)) || nat_lt 0 (if is_below_one bound then 0 else k)) (omega arith)
-
-  none_beside : (row : List Provision) → list_any (λ g. number_meets bound g.number) row ≡ false → list_any (meets_beside except bound) row ≡ false
-  none_beside [] e = refl
-  none_beside (g ∷ gs) e = by (is_other except g.place) (number_meets bound g.number) e (none_beside gs)
-    where
-      by : (o m : Bool) → (m || list_any (λ h. number_meets bound h.number) gs) ≡ false → (list_any (λ h. number_meets bound h.number) gs ≡ false → list_any (meets_beside except bound) gs ≡ false)
-          → ((o && m) || list_any (meets_beside except bound) gs) ≡ false
-      by o true e rest = absurd (true≢false e)
-      by true false e rest = rest e
-      by false false e rest = rest e
+    by : (o : Option ℕ) (none : Bool) → (number_meets bound o || (some || (none && not (is_below_one bound)))) ≡ (list_any (meets bound) (cons_option o (filter_map (λ h. h.number) gs)) || ((is_none o || none) && not (is_below_one bound)))
+    by None none = sym (or_split false some true none (not (is_below_one bound)))
+    by (Some n) none = sym (or_assoc (meets bound n) some (none && not (is_below_one bound)))
 
 none_elsewhere : (place : ℕ) (bound : Option (Relop × ℕ)) (row : List Provision) → list_all (λ q. q == place) (map (λ g. g.place) row) ≡ true → list_any (meets_beside (Some place) bound) row ≡ false
 none_elsewhere place bound [] e = refl
@@ -100,10 +62,9 @@ sole_all (place ∷ places) sole e = by (list_all (λ q. q == place) (place ∷ 
 module _ (except : Option ℕ) (bound : Option (Relop × ℕ)) (row : List Provision) (e : Entries) (whole : Completes row e) where
   none_counted : (nat_lt 0 (count_by (meets bound) e.numbers) || nat_lt 0 (if is_below_one bound then 0 else e.unversioned)) ≡ false → list_any (meets_beside except bound) row ≡ false
   none_counted none =
-      none_beside except bound row (counts_tell except bound row
-      ∙ ap (λ n. nat_lt 0 n || nat_lt 0 (if is_below_one bound then 0 else count_by (λ g. is_none g.number) row)) (sym (whole.numbers (meets bound)))
-      ∙ ap (λ u. nat_lt 0 (count_by (meets bound) e.numbers) || nat_lt 0 (if is_below_one bound then 0 else u)) (sym whole.unversioned)
-      ∙ none)
+      none_narrowed (λ g. number_meets bound g.number) (λ g. is_other except g.place) row (any_tells bound row
+      ∙ (λ i. (any-count (meets bound) (filter_map (λ g. g.number) row) ∙ ap (nat_lt 0) (sym (whole.numbers (meets bound)))) i || ((any-count (λ g. is_none g.number) row ∙ ap (nat_lt 0) (sym whole.unversioned)) i && not (is_below_one bound)))
+      ∙ ap (λ b. nat_lt 0 (count_by (meets bound) e.numbers) || b) (sym (unless 0 (is_below_one bound) e.unversioned)) ∙ none)
 
 pub none_met : (except : Option ℕ) (bound : Option (Relop × ℕ)) (row : List Provision) (e : Entries) → Completes row e → may_meet except bound e ≡ false → first_place_of except bound row ≡ None
 none_met except bound row e whole never = ap (option_map (λ g. g.place)) (find_none (meets_beside except bound) row (by except e.sole refl never))
@@ -135,7 +96,7 @@ module _ (v : PlainVpkg) (except : Option ℕ) where
       none false = refl
   first_of_entries own place (e ∷ es) =
       ap first_in (provisions-cons own v.name place e es)
-      ∙ first-append except v.bound (cond (bytes_eq e.name v.name) (record { number = option_map (λ b. b.1) e.bound; place = place; is_version = own } ∷ []) []) (provisions_of own v.name place es)
+      ∙ first-append (meets_beside except v.bound) (cond (bytes_eq e.name v.name) (record { number = option_map (λ b. b.1) e.bound; place = place; is_version = own } ∷ []) []) (provisions_of own v.name place es)
       ∙ ap (option_or (first_in (cond (bytes_eq e.name v.name) (record { number = option_map (λ b. b.1) e.bound; place = place; is_version = own } ∷ []) []))) (first_of_entries own place es)
       ∙ by (bytes_eq e.name v.name) e.bound (list_any (entry_meets v) es)
     where
@@ -156,7 +117,7 @@ module _ (v : PlainVpkg) (except : Option ℕ) where
 
   first_by : (p : Placed) → first_in (given_by v.name p) ≡ cond (is_other except p.0 && meets_alone v p) (Some p.0) None
   first_by p =
-      first-append except v.bound (provisions_of true v.name p.0 (own_entry p.1 ∷ [])) (provisions_of false v.name p.0 p.1.provides)
+      first-append (meets_beside except v.bound) (provisions_of true v.name p.0 (own_entry p.1 ∷ [])) (provisions_of false v.name p.0 p.1.provides)
       ∙ ap (λ o. option_or o (first_in (provisions_of false v.name p.0 p.1.provides))) (first_of_entries true p.0 (own_entry p.1 ∷ []))
       ∙ ap (option_or (cond (is_other except p.0 && list_any (entry_meets v) (own_entry p.1 ∷ [])) (Some p.0) None)) (first_of_entries false p.0 p.1.provides)
       ∙ joined (is_other except p.0) (is_met_by v (p.1.name, p.1.version)) (list_any (entry_meets v) p.1.provides)
@@ -170,7 +131,7 @@ module _ (v : PlainVpkg) (except : Option ℕ) where
   first_package : (status : List Placed) → first_in (given_of v.name status) ≡ option_map (λ p. p.0) (find (λ p. is_other except p.0 && meets_alone v p) status)
   first_package [] = refl
   first_package (p ∷ ps) =
-      first-append except v.bound (given_by v.name p) (given_of v.name ps)
+      first-append (meets_beside except v.bound) (given_by v.name p) (given_of v.name ps)
       ∙ ap (λ o. option_or o (first_in (given_of v.name ps))) (first_by p)
       ∙ ap (option_or (cond (is_other except p.0 && meets_alone v p) (Some p.0) None)) (first_package ps)
       ∙ by (is_other except p.0 && meets_alone v p)
@@ -179,5 +140,36 @@ module _ (v : PlainVpkg) (except : Option ℕ) where
       by true = refl
       by false = refl
 
+  find_others : (o : Option ℕ) (status : List Placed) → find (λ p. is_other o p.0 && meets_alone v p) status ≡ find (meets_alone v) (other_than o status)
+  find_others None status = refl
+  find_others (Some place) status = sym (find-filter (meets_alone v) (λ p. is_other (Some place) p.0) status)
+
   pub first_given : (status : List Placed) → first_in (given_of v.name status) ≡ first_meeting (other_than except status) v
-  first_given status = first_package status ∙ ap (option_map (λ p. p.0)) (find_others v except status)
+  first_given status = first_package status ∙ ap (option_map (λ p. p.0)) (find_others except status)
+
+  -- that there is one tells whether the status, less the package that is named, satisfies the vpkg
+  first_tells : (status : List Placed) → is_some (first_in (given_of v.name status)) ≡ satisfies (other_than except status) v
+  first_tells status = ap is_some (first_given status) ∙ found_place (λ p. p.0) (meets_alone v) (other_than except status) ∙ sym (member_alone (other_than except status) v)
+
+-- a vpkg without a bound is satisfied where something is given of its name
+pub given-bare : (name : List ℕ) (status : List Placed) → not (is_empty (given_of name status)) ≡ satisfies status (record { name = name; bound = None })
+given-bare name status = some (given_of name status) ∙ first_tells (record { name = name; bound = None }) None status
+  where
+    some : (row : List Provision) → not (is_empty row) ≡ is_some (first_place_of None None row)
+    some [] = refl
+    some (g ∷ gs) = by g.number
+      where
+        by : (o : Option ℕ) → true ≡ is_some (option_map (λ (h : Provision). h.place) (cond (number_meets None o) (Some g) (find (meets_beside None None) gs)))
+        by None = refl
+        by (Some n) = refl
+
+-- the place of all that is given of a name is that of the only package without which no vpkg of that name is satisfied
+pub sole_given : (name : List ℕ) (status : List Placed) → IfSome (sole_place (map (λ g. g.place) (given_of name status))) (IsSole name status)
+sole_given name status = by (sole_place (map (λ g. g.place) (given_of name status))) refl
+  where
+    by : (o : Option ℕ) → o ≡ sole_place (map (λ g. g.place) (given_of name status)) → IfSome o (IsSole name status)
+    by None e = tt
+    by (Some place) e = λ v named.
+        let all = ap (λ n. list_all (λ q. q == place) (map (λ g. g.place) (given_of n status))) named ∙ sole_all (map (λ g. g.place) (given_of name status)) place e in
+        sym (first_tells v (Some place) status)
+        ∙ ap (λ found. is_some (option_map (λ (g : Provision). g.place) found)) (find_none (meets_beside (Some place) v.bound) (given_of v.name status) (none_elsewhere place v.bound (given_of v.name status) all))

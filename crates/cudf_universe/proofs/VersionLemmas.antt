@@ -1,25 +1,15 @@
 -- The first package of a name is that of its first provision that is a version.
-use Rattle.std.proofs.Common.{◌≡◌, ℕ, Bool, true, false, cond, List, [], ◌∷◌, ◌++◌, map, Option, Some, None, refl, ap, ◌∙◌, bytes_eq}
+use Rattle.std.proofs.Common.{◌≡◌, ℕ, Bool, true, false, cond, List, [], ◌∷◌, map, Some, None, refl, ap, ◌∙◌, bytes_eq}
 use Rattle.std.specs.Prelude.{filter, find, option_map}
 use Rattle.std.specs.List.{list_any}
 use Rattle.std.specs.Option.{option_or}
-use Rattle.std.proofs.lemmas.List.Folds.{find-append}
 use Rattle.cudf_value.specs.Vpkgs.{PlainVpkg}
 use Rattle.cudf_document.proofs.ListLemmas.{find_none}
 use Rattle.cudf_universe.specs.Satisfaction.{Placed, first_named}
 use Rattle.cudf_universe.specs.Working.FirstPlaces.{first_version_of}
 use Rattle.cudf_universe.specs.Working.Gathering.{provisions_of, own_entry, given_by, given_of}
 use Rattle.cudf_universe.specs.declared.index.gathered_names.Provision.{Provision}
-
-place_or : (a b : Option Provision) → option_map (λ (g : Provision). g.place) (option_or a b) ≡ option_or (option_map (λ g. g.place) a) (option_map (λ g. g.place) b)
-place_or None b = refl
-place_or (Some g) b = refl
-
--- one row after the other
-pub version-append : (xs ys : List Provision) → first_version_of (xs ++ ys) ≡ option_or (first_version_of xs) (first_version_of ys)
-version-append xs ys =
-    ap (option_map (λ (g : Provision). g.place)) (find-append (λ (g : Provision). g.is_version) xs ys)
-    ∙ place_or (find (λ (g : Provision). g.is_version) xs) (find (λ (g : Provision). g.is_version) ys)
+use Rattle.cudf_universe.proofs.HalvesLemmas.{first-append}
 
 -- a row without one
 pub no_version : (row : List Provision) → list_any (λ g. g.is_version) row ≡ false → first_version_of row ≡ None
@@ -33,7 +23,7 @@ features place (e ∷ es) = features place es
 -- that of a package, where it has the name
 version_by : (f : List ℕ) (p : Placed) → first_version_of (given_by f p) ≡ cond (bytes_eq p.1.name f) (Some p.0) None
 version_by f p =
-    version-append (provisions_of true f p.0 (own_entry p.1 ∷ [])) (provisions_of false f p.0 p.1.provides)
+    first-append (λ g. g.is_version) (provisions_of true f p.0 (own_entry p.1 ∷ [])) (provisions_of false f p.0 p.1.provides)
     ∙ ap (option_or (first_version_of (provisions_of true f p.0 (own_entry p.1 ∷ [])))) (features p.0 (filter (λ entry. bytes_eq entry.name f) p.1.provides))
     ∙ by (bytes_eq p.1.name f)
   where
@@ -45,7 +35,7 @@ version_by f p =
 pub version_given : (f : List ℕ) (status : List Placed) → first_version_of (given_of f status) ≡ first_named status f
 version_given f [] = refl
 version_given f (p ∷ ps) =
-    version-append (given_by f p) (given_of f ps)
+    first-append (λ g. g.is_version) (given_by f p) (given_of f ps)
     ∙ ap (λ o. option_or o (first_version_of (given_of f ps))) (version_by f p)
     ∙ ap (option_or (cond (bytes_eq p.1.name f) (Some p.0) None)) (version_given f ps)
     ∙ by (bytes_eq p.1.name f)

@@ -1,10 +1,9 @@
 -- What an index keeps of each name (own).
-use Rattle.std.specs.Prelude.{◌≡◌, ℕ, Bool, false, List, [], ◌∷◌, bytes_eq, map, filter, Option, Some, None, if◌then◌else◌, IfSome}
-use Rattle.std.specs.List.{flat_map, count_by, list_any}
+use Rattle.std.specs.Prelude.{◌≡◌, ℕ, Bool, false, List, [], ◌∷◌, bytes_eq, Option, Some, None, if◌then◌else◌, IfSome}
+use Rattle.std.specs.List.{count_by, list_any}
 use Rattle.std.specs.List.Sorted.{IsNonDecreasing}
 use Rattle.std.specs.Option.{option_map_or}
 use Rattle.cudf_value.specs.Vpkgs.{PlainVpkg}
-use Rattle.cudf_document.specs.Universe.{PlainPackage}
 use Rattle.cudf_universe.specs.Satisfaction.{Placed, entry_pair, unversioned_name, is_met_by, numbers_of, gives_all_versions, satisfies, without}
 use Rattle.cudf_universe.specs.declared.index.entries.Entries.{Entries}
 
@@ -30,15 +29,7 @@ abbrev pub kept_is_package : Option Entries → Bool
 kept_is_package None = false
 kept_is_package (Some e) = e.is_package
 
--- the names that a package gives, its own and those of its features, with repeats
-abbrev pub names_given : PlainPackage → List (List ℕ)
-names_given p = p.name ∷ map (λ entry. entry.name) p.provides
-
--- the places of the packages that give a name, each once for each time that its package gives it
-abbrev pub places_of : List ℕ → List Placed → List ℕ
-places_of name status = flat_map (λ p. map (λ n. p.0) (filter (λ given. bytes_eq given name) (names_given p.1))) status
-
--- no other package of the status than the one at the place gives the name, so without it none meets a vpkg of that name
+-- without the package at the place no vpkg of the name is satisfied, as where no other package gives that name
 abbrev pub IsSole : List ℕ → List Placed → ℕ → Type 0
 IsSole name status place = (v : PlainVpkg) → v.name ≡ name → satisfies (without place status) v ≡ false
 

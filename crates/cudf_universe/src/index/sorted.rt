@@ -1,11 +1,12 @@
 //! Numbers in ascending order, to be counted.
-ghost use Rattle.std.specs.Prelude.{◌≡◌, ◌==◌, ◌<◌, ◌≤◌, ◌+◌, ◌*◌, ℕ, Bool, None, [], ◌∷◌, nat_lt, nat_le, length, slice_index_or};
+ghost use Rattle.std.specs.Prelude.{◌≡◌, ◌==◌, ◌<◌, ◌≤◌, ◌+◌, ◌*◌, ℕ, Bool, Some, [], ◌∷◌, nat_lt, nat_le, length, slice_index_or};
 ghost use Rattle.std.specs.List.{count_by};
 ghost use Rattle.std.specs.List.Sorted.{IsNonDecreasing};
+ghost use Rattle.cudf_value.specs.declared.relop.Relop.TheVariants.{Eq};
 ghost use Rattle.cudf_value.specs.Vpkgs.{meets};
 ghost use Rattle.cudf_universe.specs.Promises.Members.{IsLeast, IsGreatest};
 ghost use Rattle.cudf_universe.specs.Promises.Prices.{digits};
-ghost use Rattle.cudf_universe.specs.Working.Ends.{only_number, StandsUnder};
+ghost use Rattle.cudf_universe.specs.Working.Ends.{StandsUnder};
 
 use crate::index::numbers::Numbers;
 use crate::steps::Steps;
@@ -68,15 +69,16 @@ impl Sorted {
         ensures price { steps.new ≤ steps.old + 2 * digits (length self.now) }
         ensures grows { steps.old ≤ steps.new }
     {
-        match only_number(bound) {
-            Some(number) => self.holds(number, steps),
-            None => self.any_end(bound, steps),
+        match bound {
+            Some((Relop::Eq, number)) => self.holds(number, steps),
+            _ => self.any_end(bound, steps),
         }
     }
 
-    /// Whether the least or the greatest of them meets the bound, as one does where any does.
+    /// Whether the least or the greatest of them meets the bound, as one does where any does: unless it is that of one
+    /// number alone.
     fn any_end(&self, bound: Option<(Relop, u64)>, steps: &mut Steps) -> bool
-        requires { only_number bound ≡ None }
+        requires { (n : ℕ) → bound ≡ Some (Eq, n) → ⊥ }
         ensures answer { result ≡ nat_lt 0 (count_by (meets bound) self.now) }
         ensures price { steps.new ≤ steps.old + 2 * digits (length self.now) }
         ensures grows { steps.old ≤ steps.new }
@@ -209,15 +211,5 @@ impl Sorted {
     {
         steps.tick();
         self.numbers.as_slice()[place]
-    }
-}
-
-/// The number that alone meets the bound, where the bound is such.
-fn only_number(bound: Option<(Relop, u64)>) -> Option<u64>
-    ensures { result ≡ only_number bound }
-{
-    match bound {
-        Some((Relop::Eq, number)) => Some(number),
-        _ => None,
     }
 }

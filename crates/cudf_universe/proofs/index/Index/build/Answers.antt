@@ -7,7 +7,7 @@ use Rattle.cudf_universe.specs.Satisfaction.{members}
 use Rattle.cudf_universe.specs.Working.Kept.{Keeps, found}
 use Rattle.cudf_universe.specs.Working.Gathering.{given_of, CompletesAt}
 use Rattle.cudf_universe.specs.Working.Shares.{AreShares}
-use Rattle.cudf_universe.proofs.GatheringLemmas.{keeps_found}
+use Rattle.cudf_universe.proofs.KeptLemmas.{keeps_found}
 use Rattle.cudf_universe.proofs.index.Index.build.Goals as goal
 
 pub invariant_of-result : goal.invariant_of-result

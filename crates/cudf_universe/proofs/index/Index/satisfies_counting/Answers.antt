@@ -10,7 +10,7 @@ use Rattle.cudf_universe.specs.Satisfaction.{numbers_of, is_below_one, satisfies
 use Rattle.cudf_universe.specs.Working.Kept.{Keeps}
 use Rattle.cudf_universe.specs.Promises.Prices.{digits}
 use Rattle.cudf_universe.proofs.EndLemmas.{length_same}
-use Rattle.cudf_universe.proofs.GivenLemmas.{given-bare}
+use Rattle.cudf_universe.proofs.TreeLemmas.{given-bare}
 use Rattle.cudf_universe.proofs.TakenOffLemmas.{kept_exceeds, none_kept, satisfies-counted}
 use Rattle.cudf_universe.proofs.index.Index.satisfies_counting.Goals as goal
 

@@ -3,7 +3,7 @@ use Rattle.std.specs.Prelude.{slice_get}
 use Rattle.std.proofs.lemmas.List.{append-nil}
 use Rattle.cudf_universe.specs.Working.Gathering.{given_by, CompletesAt}
 use Rattle.cudf_universe.specs.Working.Members.{member_view}
-use Rattle.cudf_universe.proofs.GatheringLemmas.{keeps_found}
+use Rattle.cudf_universe.proofs.KeptLemmas.{keeps_found}
 use Rattle.cudf_universe.proofs.index.share.Share.new.Goals as goal
 
 pub invariant_of-result : goal.invariant_of-result

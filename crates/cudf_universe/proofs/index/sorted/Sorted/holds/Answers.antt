@@ -1,4 +1,4 @@
-use Rattle.std.proofs.Common.{◌≡◌, ◌<◌, length, subst, arith, ◌∙◌}
+use Rattle.std.proofs.Common.{◌<◌, length, subst, arith, ◌∙◌}
 use Rattle.std.specs.List.Sorted.{IsNonDecreasing}
 use Rattle.cudf_universe.proofs.BoundLemmas.{behind_all, found_at}
 use Rattle.cudf_universe.proofs.PriceLemmas.{digits-halved}
