@@ -82,7 +82,7 @@ LITTLE = "says little"
 WELL = ("refused", "at a limit")
 
 # rt fmt lays out each function so that its head and the braces of its body begin at one column
-FUNCTION = re.compile(r"( *)(?:pub(?:\([\w: ]+\))? )?(const )?(?:unsafe )*fn (\w+)")
+FUNCTION = re.compile(r'( *)(?:pub(?:\([\w: ]+\))? )?(const )?(?:unsafe )*(?:extern "\w+" )?fn (\w+)')
 IMPL = re.compile(r"( *)(?:unsafe )?impl(?:<.*?>)? (?:([\w:]+)(?:<.*>)? for )?([\w:]+)")
 
 # what a check says of a function, and what it refuses of the texts of its proof
@@ -335,10 +335,14 @@ def located(crate, path, names):
     its = changed(crate, path)
     if its is None:
         return Edit(path)
-    # an impl's name may go on with its trait's arguments
-    whole = re.escape("::".join([crate.name, *its.module, its.name]))
-    whole = re.compile(whole.replace("::", r"\w*::") if "::" in its.name else whole)
-    found = [it for it in names if "::fn::" not in it and whole.fullmatch(it)]
+    # (rattle names a method below its type's module, which may be one above the impl's, and goes on with a trait's arguments)
+    is_method = "::" in its.name
+    for depth in range(len(its.module), -1 if is_method else len(its.module) - 1, -1):
+        whole = re.escape("::".join([crate.name, *its.module[:depth], its.name]))
+        whole = re.compile(whole.replace("::", r"\w*::") if is_method else whole)
+        found = [it for it in names if "::fn::" not in it and whole.fullmatch(it)]
+        if found:
+            break
     if len(found) != 1:
         return Edit(path)
     adds_branch = len(BRANCH.findall(its.after)) > len(BRANCH.findall(its.before))

@@ -39,20 +39,21 @@ ends_tell bound xs least greatest several ordered some first last = both_ways _ 
         (omega (arith, last 0, ordered at.0 (length xs - 1) 0 (omega (arith, at.2)) (omega arith), get_or_default xs at.0 at.1 0 at.2, at.3))
         at.4
 
--- a number is one of them where it stands at its place
-module _ (xs : List ℕ) (n place : ℕ) (ordered : IsNonDecreasing xs) (stands : StandsUnder xs n place) where
-  stands_there : list_any (λ m. m == n) xs ≡ true → (place < length xs) × (get_or xs place 0 ≡ n)
-  stands_there any =
-      let at = Any-from_list_any (λ m. m == n) xs any in
-      let there : get_or xs at.0 0 ≡ n = get_or_default xs at.0 0 at.1 at.2 ∙ at.3 ∙ eqb-true at.1 n at.4 in
-      elim (cases_lt at.0 place) [
-        | inl less ↦ absurd (omega (arith, stands.below at.0 less, there))
-        | inr from ↦ (omega (arith, at.2), omega (arith, stands.above place (omega arith) (omega (arith, at.2)), ordered place at.0 0 from at.2, there))
-      ]
+-- a number that is greater than each is none of them
+pub all_less : (xs : List ℕ) (n : ℕ) → ((k : ℕ) → k < length xs → get_or xs k 0 < n) → false ≡ nat_lt 0 (count_by (λ m. m == n) xs)
+all_less xs n less = both_ways false _ (λ e. absurd (true≢false (sym e))) (λ any. let at = Any-from_list_any (λ m. m == n) xs any in
+    absurd (omega (arith, less at.0 at.2, get_or_default xs at.0 at.1 0 at.2, at.3, eqb-true at.1 n at.4))) ∙ any-count (λ m. m == n) xs
 
-  pub behind_all : place ≡ length xs → false ≡ nat_lt 0 (count_by (λ m. m == n) xs)
-  behind_all end = both_ways false _ (λ e. absurd (true≢false (sym e))) (λ any. absurd (omega (arith, (stands_there any).0))) ∙ any-count (λ m. m == n) xs
-
-  pub found_at : (found : ℕ) → place < length xs → ((d : ℕ) → found ≡ get_or xs place d) → (found == n) ≡ nat_lt 0 (count_by (λ m. m == n) xs)
-  found_at found inside is =
-      both_ways _ _ (λ same. list_any_at (λ m. m == n) xs place 0 inside (ap (λ m. m == n) (sym (is 0)) ∙ same)) (λ any. eq-eqb found n (is 0 ∙ (stands_there any).1)) ∙ any-count (λ m. m == n) xs
+-- one is one of them where it stands at its place
+pub found_at : (xs : List ℕ) (n high place found : ℕ) → IsNonDecreasing xs → StandsUnder xs n high place → place < length xs → ((d : ℕ) → found ≡ get_or xs place d) → (found == n) ≡ nat_lt 0 (count_by (λ m. m == n) xs)
+found_at xs n high place found ordered stands inside is =
+    both_ways _ _ (λ same. list_any_at (λ m. m == n) xs place 0 inside (ap (λ m. m == n) (sym (is 0)) ∙ same)) back ∙ any-count (λ m. m == n) xs
+  where
+    back : list_any (λ m. m == n) xs ≡ true → (found == n) ≡ true
+    back any =
+        let at = Any-from_list_any (λ m. m == n) xs any in
+        let there : get_or xs at.0 0 ≡ n = get_or_default xs at.0 0 at.1 at.2 ∙ at.3 ∙ eqb-true at.1 n at.4 in
+        elim (cases_lt at.0 place) [
+          | inl less ↦ absurd (omega (arith, stands.below at.0 less, there))
+          | inr from ↦ eq-eqb found n (omega (arith, is 0, stands.above place (omega arith) inside, ordered place at.0 0 from at.2, there))
+        ]

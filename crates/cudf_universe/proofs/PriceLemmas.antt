@@ -25,6 +25,12 @@ unfolding digits digits_within
 digits-halved m zero positive h = absurd (omega arith)
 digits-halved m (suc k) positive h = omega (arith, digits_within-fuel m k m (omega arith) (omega arith), digits_within-mono k m (suc k / 2) (omega arith))
 
+-- one number less has two digits less, where each digit counts twice
+pub digits-but_one : (n : ℕ) → digits n + 2 ≤ 2 * digits (suc n)
+unfolding digits digits_within
+digits-but_one zero = omega arith
+digits-but_one (suc k) = omega (arith, digits_within-fuel (suc k) (suc (suc k)) (suc k) (omega arith) (omega arith), digits_within-mono (suc (suc k)) (suc k) (suc (suc k)) (omega arith), digits-halved 1 (suc (suc k)) (omega arith) (omega arith))
+
 digits-step : (k : ℕ) → digits (suc k) ≡ digits (suc k / 2) + 1
 unfolding digits digits_within
 digits-step k = ap (λ d. d + 1) (digits_within-fuel k (suc k / 2) (suc k / 2) (omega arith) (omega arith))

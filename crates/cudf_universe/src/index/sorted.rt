@@ -93,18 +93,22 @@ impl Sorted {
         meets(bound, least) | meets(bound, greatest)
     }
 
-    /// Whether the number is one of them.
+    /// Whether the number is one of them: not where it is greater than the greatest, and else by one search.
     fn holds(&self, number: u64, steps: &mut Steps) -> bool
         ensures answer { result ≡ nat_lt 0 (count_by (λ n. n == number) self.now) }
         ensures price { steps.new ≤ steps.old + 2 * digits (length self.now) }
         ensures grows { steps.old ≤ steps.new }
     {
         let _ = &self.numbers;
-        let under = self.under(number, steps);
-        if under == self.len() {
+        let len = self.len();
+        if len == 0 {
             return false;
         }
-        self.at(under, steps) == number
+        if self.at(len - 1, steps) < number {
+            return false;
+        }
+        let place = self.below(u128::from(number), len - 1, steps);
+        self.at(place, steps) == number
     }
 
     /// How many of them meet the bound.
@@ -168,11 +172,10 @@ impl Sorted {
 
     fn under(&self, number: u64, steps: &mut Steps) -> usize
         ensures counted { result ≡ count_by (λ n. nat_lt n number) self.now }
-        ensures stands { StandsUnder self.now number result }
         ensures price { steps.new ≤ steps.old + digits (length self.now) }
         ensures grows { steps.old ≤ steps.new }
     {
-        self.below(u128::from(number), steps)
+        self.below(u128::from(number), self.len(), steps)
     }
 
     fn up_to(&self, number: u64, steps: &mut Steps) -> usize
@@ -180,18 +183,21 @@ impl Sorted {
         ensures price { steps.new ≤ steps.old + digits (length self.now) }
         ensures grows { steps.old ≤ steps.new }
     {
-        self.below(u128::from(number) + 1, steps)
+        self.below(u128::from(number) + 1, self.len(), steps)
     }
 
-    fn below(&self, bound: u128, steps: &mut Steps) -> usize
+    /// How many of them are less than the bound, where those from `high` on aren't.
+    fn below(&self, bound: u128, high: usize, steps: &mut Steps) -> usize
+        requires within { high ≤ length self.now }
+        requires behind { (k : ℕ) → high ≤ k → k < length self.now → bound ≤ slice_index_or self.now k 0 }
         ensures counted { result ≡ count_by (λ n. nat_lt n bound) self.now }
-        ensures stands { StandsUnder self.now bound result }
-        ensures price { steps.new ≤ steps.old + digits (length self.now) }
+        ensures stands { StandsUnder self.now bound high result }
+        ensures price { steps.new ≤ steps.old + digits high }
         ensures grows { steps.old ≤ steps.new }
     {
         let _ = &self.numbers;
         let mut low = 0;
-        let mut high = self.len();
+        let mut high = high;
         while low < high {
             let middle = low + (high - low) / 2;
             if u128::from(self.at(middle, steps)) < bound {

@@ -12,7 +12,7 @@ use std::marker::Model;
 
 /// So many provisions are read one by one: few names have more, and a look at this many costs no
 /// more than a few searches.
-const FEW: usize = 64;
+const FEW: usize = 32;
 
 /// Provisions of a name in the order of their places.
 #[cycle(tree)]
