@@ -26,12 +26,12 @@ export DESTDIR PREFIX LIBDIR PROGRAM LIBRARY DIST PAGES VERSION
 # The example is no solution, so the program's status is 1.
 run: toolchain
 	@echo "Everything is proved before it is built: the first time that takes about 22 minutes on four processors, later only what changed."
-	cd crates/cudf_program && rt run -- check ../../examples/car-and-wheel.cudf; test $$? -eq 1
+	tools/lanes.sh cudf_referee cudf_command_line -- sh -c 'cd crates/cudf_program && rt run -- check ../../examples/car-and-wheel.cudf'; test $$? -eq 1
 	install -D -m 755 $(BUILT) "$(PROGRAM)"
 	@echo "the program is $(PROGRAM)"
 
 library: toolchain
-	cd crates/cudf_c && rt lib
+	tools/lanes.sh cudf_referee -- sh -c 'cd crates/cudf_c && rt lib'
 	$(MAKE) linked
 
 linked:

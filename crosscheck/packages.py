@@ -148,7 +148,7 @@ def versions(trial):
     """The version of the header, wherever a version stands; a text with three numbers is taken for one."""
     number = r"\b\d+\.\d+\.\d+\b"
     for name, pattern in (
-        (HEADER, number), ("crates/cudf_c/src/lib.rt", number), ("crates/cudf_program/src/grammar.rt", number),
+        (HEADER, number), ("crates/cudf_c/src/lib.rt", number), ("crates/cudf_command_line/src/grammar.rt", number),
         ("crosscheck/outermost.py", rf"cudf_check ({number})"), ("cudf_check.1", number),
     ):
         trial.note(f"version in {name}", set(re.findall(pattern, text_of(name))), {trial.version})

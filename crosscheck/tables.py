@@ -7,7 +7,7 @@ from documents import KINDS, lines_of
 from values import BLANKS, IDENT
 
 LIST = Path(__file__).with_name("tables.txt")
-DOCUMENTS = ("fault", "strict_fault", "problem", "thin", "solution", "strict_solution")
+DOCUMENTS = ("fault", "strict_fault", "problem", "solution", "strict_solution")
 
 
 # ---- which vectors have a row

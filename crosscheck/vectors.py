@@ -175,37 +175,27 @@ def shown_recommends(own, declaration):
     return "" if declaration.default is None else f" recommends {shown_formula(declaration.default)}"
 
 
-def shown_package(package, own, declaration, needs):
-    """A package, with what it needs or without."""
+def shown_package(package, own, declaration):
     shown = f"{package.line} {package.words()}"
-    if needs:
-        shown += named("depends", package.depends, clause_text) + named("conflicts", package.conflicts, vpkg_text)
+    shown += named("depends", package.depends, clause_text) + named("conflicts", package.conflicts, vpkg_text)
     shown += named("provides", package.provides, vpkg_text)
     shown += " installed" if package.installed else ""
     shown += "" if package.keep == "none" else f" keep {package.keep}"
-    return shown + shown_recommends(own if needs else None, declaration)
+    return shown + shown_recommends(own, declaration)
 
 
-def shown_problem(data, chosen=None):
-    """A problem, or its first fault; where pairs are chosen, without what other packages need."""
+def shown_problem(data):
+    """A problem, or its first fault."""
     if faults_of(data, False):
         return shown_fault(faults_of(data, False))
     stanzas = read_stanzas(data.decode())[0]
     declaration = documents.declared_by(stanzas).get("recommends")
     own = [stanza.value("recommends") for stanza in stanzas if stanza.mark() == "package"]
-    shown = []
-    for package in universe_of(stanzas):
-        needs = chosen is None or (package.name, package.version) in chosen
-        shown.append(shown_package(package, own[package.place - 1], declaration, needs))
+    shown = [shown_package(it, own[it.place - 1], declaration) for it in universe_of(stanzas)]
     request = stanzas[-1]
     wished = [(name, values.read_vpkglist(request.value(name) or "")) for name in ("install", "remove", "upgrade")]
     shown.append(f"{request.line} request" + "".join(named(name, entries, vpkg_text) for name, entries in wished))
     return "; ".join(shown)
-
-
-def shown_thin(data):
-    problem, solution = documents.cut_joined(data)
-    return shown_problem(problem, {pair for _, _, pair in installed_stanzas(solution.decode())})
 
 
 def universe(problem):
@@ -280,7 +270,6 @@ OF_BYTES = {
     "fault": lambda data: first_fault(data, False),
     "strict_fault": lambda data: first_fault(data, True),
     "problem": shown_problem,
-    "thin": shown_thin,
 }
 # of the last problem
 OF_PROBLEM = {

@@ -39,7 +39,7 @@ BEGIN = "<!-- statement: written by tools/statement.py -->"
 END = "<!-- end of statement -->"
 
 # the functions that set a count of steps, and whose proofs are written by hand
-MARK = "crates/cudf_universe/proofs/steps/mark/Mark"
+MARK = "crates/cudf_index/proofs/steps/mark/Mark"
 PROOFS_BY_HAND = {f"{MARK}/grow/Proof.antt", f"{MARK}/new/Proof.antt"}
 
 # the entry of cudf_check that carries the headline, that for several solutions, and the laws that the headline leans on

@@ -109,7 +109,7 @@ class Program(Copy):
 
 
 class ProofsByHand(Copy):
-    MARK = "crates/cudf_universe/proofs/steps/mark/Mark"
+    MARK = "crates/cudf_index/proofs/steps/mark/Mark"
 
     def assert_refused_with(self, further):
         path = self.root / further
@@ -140,13 +140,14 @@ class Laws(Copy):
 
 
 class Types(Copy):
-    MODEL = ("impl Model for Postmark {\n    ghost use Rattle.cudf_document.specs.Working.Judging.{rest};\n\n"
-             "    ghost view = { rest };\n}\n\nfn mark_named(")
+    MODEL = ("impl Model for Postmark {\n    ghost use Rattle.cudf_problem.specs.Working.Flags.{rest};\n\n"
+             "    ghost view = { rest };\n}\n\n")
 
     def test_crate_private_type(self):
-        self.plant("cudf_document/src/postmark.rt", "fn mark_named(", self.MODEL)
-        self.assertIn("pub(crate) enum Postmark", (self.root / "crates/cudf_document/src/postmark.rt").read_text())
-        self.assert_refused(1, "the headline rests on crates/cudf_document/specs/Working/Judging.antt")
+        path = "cudf_problem/src/postmark.rt"
+        self.plant(path, "/// What the first", self.MODEL + "/// What the first")
+        self.plant(path, "pub enum Postmark", "pub(crate) enum Postmark")
+        self.assert_refused(1, "the headline rests on crates/cudf_problem/specs/Working/Flags.antt")
 
     def test_type_of_a_field(self):
         # (what a cursor shows is a view over working state)

@@ -4,8 +4,8 @@ use Rattle.std.specs.List.{All}
 use Rattle.cudf_check.specs.Runs.{outcome_status}
 use Rattle.cudf_check.specs.Readers.{OfOne, most_bytes}
 use Rattle.cudf_check.specs.Report.{Report}
-use Rattle.cudf_document.specs.declared.mode.Mode.{Mode}
-use Rattle.cudf_document.specs.declared.mode.Mode.TheVariants.{Lenient, Strict}
+use Rattle.cudf_problem.specs.declared.mode.Mode.{Mode}
+use Rattle.cudf_problem.specs.declared.mode.Mode.TheVariants.{Lenient, Strict}
 
 -- documents are read strictly where the caller says so
 abbrev pub mode_of : Bool → Mode

@@ -1,14 +1,14 @@
 -- What the texts of a call say beside its documents: a key, a limit, a list of criteria. A text of no bytes, and 0, say that there is none. Own.
 use Rattle.std.specs.Prelude.{◌≡◌, ◌≢◌, ◌⊎◌, ℕ, zero, suc, Bool, List, [], ◌∷◌, Option, Some, None, option_map}
 use Rattle.std.specs.Str.{IsUtf8}
-use Rattle.cudf_referee.specs.Keys.{PlainKey, key_text}
-use Rattle.cudf_referee.specs.KeyViews.{key_view}
-use Rattle.cudf_referee.specs.Promises.Aims.{criterion}
-use Rattle.cudf_referee.specs.Promises.Keys.{IsWritable}
-use Rattle.cudf_referee.specs.declared.aims.Aim.{Aim}
-use Rattle.cudf_referee.specs.declared.key.Key.{Key}
-use Rattle.cudf_check.specs.declared.job.Job.{Job}
-use Rattle.cudf_check.specs.declared.job.Job.TheVariants.{Lint, Check, Score}
+use Rattle.cudf_job.specs.Keys.{PlainKey, key_text}
+use Rattle.cudf_job.specs.KeyViews.{key_view}
+use Rattle.cudf_job.specs.Promises.Aims.{criterion}
+use Rattle.cudf_job.specs.Promises.Keys.{IsWritable}
+use Rattle.cudf_job.specs.declared.aims.Aim.{Aim}
+use Rattle.cudf_job.specs.declared.key.Key.{Key}
+use Rattle.cudf_job.specs.declared.job.Job.{Job}
+use Rattle.cudf_job.specs.declared.job.Job.TheVariants.{Lint, Check, Score}
 
 -- no limit is 0
 abbrev pub limit_of : ℕ → Option ℕ

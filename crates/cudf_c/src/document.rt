@@ -3,7 +3,7 @@ ghost use Rattle.std.specs.Prelude.{ℕ, ◌+◌, ◌≤◌};
 ghost use Rattle.cudf_c.specs.Working.Given.{given_before};
 
 use cudf_check::{Source, Trouble};
-use cudf_universe::Steps;
+use cudf_index::Steps;
 
 /// What is left of a document in memory. No call fails, and each gives a byte or tells the end: so what ends the reading
 /// of one in an error is its length alone.

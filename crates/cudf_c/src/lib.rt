@@ -9,7 +9,7 @@
 ghost use Rattle.std.specs.Prelude.{◌≡◌, [], ◌∷◌, Some, None, codes, map};
 ghost use Rattle.cudf_check.specs.RankReport.{rank_report};
 ghost use Rattle.cudf_check.specs.Report.{report};
-ghost use Rattle.cudf_check.specs.declared.job.Job.TheVariants.{Lint};
+ghost use Rattle.cudf_job.specs.declared.job.Job.TheVariants.{Lint};
 ghost use Rattle.cudf_c.specs.Calls.{Answers, AnswersAsked, Shows, left, mode_of};
 ghost use Rattle.cudf_c.specs.Words.{IsAims, IsNoKey, IsNoList, IsPage, IsScore};
 

@@ -3,7 +3,7 @@ ghost use Rattle.std.specs.Prelude.{◌≡◌, ◌++◌, [], ◌∷◌, IfErr, I
 ghost use Rattle.std.specs.List.{All};
 ghost use Rattle.cudf_check.specs.RankReport.{rank_report};
 ghost use Rattle.cudf_check.specs.Report.{report};
-ghost use Rattle.cudf_check.specs.declared.job.Job.TheVariants.{Lint};
+ghost use Rattle.cudf_job.specs.declared.job.Job.TheVariants.{Lint};
 ghost use Rattle.cudf_c.specs.Calls.{left};
 ghost use Rattle.cudf_c.specs.Working.Documents.{IsNew};
 ghost use Rattle.cudf_c.specs.Working.Made.{IsMade, IsStopped, IsTold, IsUnmade, Judges};

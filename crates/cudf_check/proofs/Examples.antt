@@ -4,7 +4,7 @@ use Rattle.std.specs.Fmt.{digits}
 use Rattle.std.specs.List.{flat_map}
 use Rattle.std.specs.Str.{is_utf8, chars}
 use lib.Utf8.{encode}
-use Rattle.cudf_document.specs.declared.mode.Mode.TheVariants.{Lenient}
+use Rattle.cudf_problem.specs.declared.mode.Mode.TheVariants.{Lenient}
 use Rattle.cudf_text.specs.Chars.{is_ident}
 use Rattle.cudf_text.specs.Stanzas.{plain_text}
 use Rattle.cudf_text.specs.Joined.{is_fail}
@@ -15,18 +15,18 @@ use Rattle.cudf_value.specs.Formulas.{formula, vpkglist, veqpkglist}
 use Rattle.cudf_value.specs.Declarations.{declarations}
 use Rattle.cudf_document.specs.ProblemFaults.{problem_faults}
 use Rattle.cudf_document.specs.SolutionFaults.{solution_faults}
-use Rattle.cudf_document.specs.Universe.{plain_problem}
-use Rattle.cudf_referee.specs.declared.criteria.Count.TheVariants as count
-use Rattle.cudf_referee.specs.declared.aims.Sign.TheVariants.{Least, Most}
-use Rattle.cudf_referee.specs.declared.key.Key.{Key}
-use Rattle.cudf_referee.specs.declared.key.Part.TheVariants.{Package, Request}
-use Rattle.cudf_referee.specs.declared.key.Rule.TheVariants.{Depends, Install}
+use Rattle.cudf_problem.specs.Universe.{plain_problem}
+use Rattle.cudf_job.specs.declared.criteria.Count.TheVariants as count
+use Rattle.cudf_job.specs.declared.aims.Sign.TheVariants.{Least, Most}
+use Rattle.cudf_job.specs.declared.key.Key.{Key}
+use Rattle.cudf_job.specs.declared.key.Part.TheVariants.{Package, Request}
+use Rattle.cudf_job.specs.declared.key.Rule.TheVariants.{Depends, Install}
 use Rattle.cudf_referee.specs.Criteria.{criteria}
-use Rattle.cudf_referee.specs.Keys.{PlainKey}
-use Rattle.cudf_referee.specs.KeyViews.{key_view}
+use Rattle.cudf_job.specs.Keys.{PlainKey}
+use Rattle.cudf_job.specs.KeyViews.{key_view}
 use Rattle.cudf_referee.specs.Violations.{listing}
 use Rattle.cudf_referee.specs.Solutions.{is_solution}
-use Rattle.cudf_check.specs.declared.job.Job.TheVariants.{Check, Score}
+use Rattle.cudf_job.specs.declared.job.Job.TheVariants.{Check, Score}
 use Rattle.cudf_check.specs.declared.outcome.Outcome.{Outcome}
 use Rattle.cudf_check.specs.declared.outcome.Outcome.TheVariants.{Yes, No, Faulty, Fail}
 use Rattle.cudf_check.specs.Report.{Report, check_text, scored_text, inputs_report, report}

@@ -1,11 +1,11 @@
 -- One more solution is judged.
 use Rattle.std.proofs.Common.{◌≡◌, ℕ, zero, suc, ◌+◌, ◌<◌, ◌≤◌, List, [], ◌∷◌, ◌++◌, length, map, drop, get_or, codes, decimal, Some, None, option_map, slice_get, refl, sym, ap, ◌∙◌, append_assoc, append-nil, arith}
 use Rattle.std.specs.List.{filter_map, cons_option, enumerate_from}
-use Rattle.cudf_document.specs.declared.mode.Mode.{Mode}
+use Rattle.cudf_problem.specs.declared.mode.Mode.{Mode}
 use Rattle.cudf_text.specs.declared.fault.Fault.{Fault}
 use Rattle.cudf_document.specs.declared.error.ReadError.{ReadError}
 use Rattle.cudf_document.specs.declared.error.ReadError.TheVariants as read_error
-use Rattle.cudf_document.specs.Universe.{PlainProblem}
+use Rattle.cudf_problem.specs.Universe.{PlainProblem}
 use Rattle.cudf_check.specs.RankReport.{placed_fault, placed_faults, entrant_of, entrants, first_faulty_or}
 use Rattle.cudf_check.specs.Report.{Report, faulty, solution_fault}
 use Rattle.cudf_check.specs.Working.Judged.{IsJudged, AreJudged, IsFaultAt}

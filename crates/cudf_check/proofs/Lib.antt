@@ -11,4 +11,3 @@ pub mod RankExamples
 pub mod RankingLawLemmas
 pub mod ReadingLemmas
 pub mod RunLemmas
-pub mod ThinLemmas

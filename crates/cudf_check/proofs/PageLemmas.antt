@@ -6,10 +6,10 @@ use Rattle.std.proofs.lemmas.Bool.{true≢false}
 use Rattle.std.proofs.lemmas.Cmp.{nat_list_cmp_total}
 use Rattle.std.proofs.lemmas.List.{take_more, take_all, drop_all, length-drop}
 use Rattle.cudf_referee.specs.Instances.{PlainInstance}
-use Rattle.cudf_referee.specs.Keys.{PlainKey, key_ranks, key_cmp, precedes_all, ascend, key_text}
-use Rattle.cudf_referee.specs.declared.key.Key.{Key}
-use Rattle.cudf_document.specs.Documents.{is_empty}
-use Rattle.cudf_referee.specs.KeyViews.{key_view}
+use Rattle.cudf_job.specs.Keys.{PlainKey, key_ranks, key_cmp, precedes_all, ascend, key_text}
+use Rattle.cudf_job.specs.declared.key.Key.{Key}
+use Rattle.cudf_problem.specs.Documents.{is_empty}
+use Rattle.cudf_job.specs.KeyViews.{key_view}
 use Rattle.cudf_referee.specs.Proposals.{Proposal}
 use Rattle.cudf_referee.specs.Violations.{listing, rest}
 use Rattle.cudf_check.specs.Report.{line, instance_line, listed, limited, more_text, check_text}

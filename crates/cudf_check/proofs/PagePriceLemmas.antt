@@ -2,14 +2,14 @@
 use Rattle.std.proofs.Common.{◌≡◌, ℕ, zero, suc, ◌+◌, ◌≤◌, List, [], ◌∷◌, ◌++◌, length, take, drop, Option, Some, None, ◌-◌, arith, refl, ap, sym, ◌∙◌, subst, add-one}
 use Rattle.std.proofs.lemmas.List.{length-drop, take_all}
 use Rattle.std.specs.Prelude.{slice_get}
-use Rattle.cudf_universe.specs.Promises.Prices.{digits}
+use Rattle.cudf_index.specs.Promises.Prices.{digits}
 use Rattle.cudf_referee.specs.Instances.{PlainInstance}
-use Rattle.cudf_referee.specs.Keys.{PlainKey}
+use Rattle.cudf_job.specs.Keys.{PlainKey}
 use Rattle.cudf_referee.specs.Promises.Pages.{behind, at_instance, left_at, calls, cost_along, page_price}
 use Rattle.cudf_referee.specs.Proposals.{Proposal}
 use Rattle.cudf_referee.specs.Promises.Sites.{PlainPosition, at_key, at_end, cost_between}
 use Rattle.cudf_referee.specs.Promises.Walks.{Walking, left, Moves}
-use Rattle.cudf_referee.specs.declared.key.Key.{Key}
+use Rattle.cudf_job.specs.declared.key.Key.{Key}
 use Rattle.cudf_check.specs.Working.Pages.{positions, last_position, HasSpent, IsSpent, page_size}
 use Rattle.cudf_check.proofs.PageLemmas.{step}
 

@@ -14,13 +14,13 @@ use Rattle.std.proofs.lemmas.Map.Keys.{apart_from_distinct, IsDistinct-IsPermuta
 use Rattle.std.specs.Ordering.{nat_cmp, ordering_then, ordering_reverse, is_lt, on, then_cmp}
 use Rattle.std.specs.declared.cmp.Ordering.{Ordering}
 use Rattle.std.specs.declared.cmp.Ordering.TheVariants.{Less, Equal, Greater}
-use Rattle.cudf_document.specs.Universe.{PlainProblem}
-use Rattle.cudf_referee.specs.Aims.{count_of}
-use Rattle.cudf_referee.specs.Comparing.{sign_cmp, aim_cmp, differ_in, compare}
-use Rattle.cudf_referee.specs.declared.aims.Aim.{Aim}
-use Rattle.cudf_referee.specs.declared.aims.Sign.{Sign}
-use Rattle.cudf_referee.specs.declared.aims.Sign.TheVariants.{Least, Most}
-use Rattle.cudf_referee.specs.declared.criteria.Criteria.{Criteria}
+use Rattle.cudf_problem.specs.Universe.{PlainProblem}
+use Rattle.cudf_job.specs.Aims.{count_of}
+use Rattle.cudf_job.specs.Comparing.{sign_cmp, aim_cmp, differ_in, compare}
+use Rattle.cudf_job.specs.declared.aims.Aim.{Aim}
+use Rattle.cudf_job.specs.declared.aims.Sign.{Sign}
+use Rattle.cudf_job.specs.declared.aims.Sign.TheVariants.{Least, Most}
+use Rattle.cudf_job.specs.declared.criteria.Criteria.{Criteria}
 use Rattle.cudf_check.specs.Ranking.{class, compare_counts, precedes, put, put_all, ranking, have_own_places, ascend}
 use Rattle.cudf_check.specs.RankReport.{entrant_of}
 use Rattle.cudf_check.specs.declared.ranking.Judgement.{Judgement}

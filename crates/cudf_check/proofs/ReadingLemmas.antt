@@ -10,19 +10,18 @@ use Rattle.cudf_text.specs.LineFaults.{utf8_fault}
 use Rattle.cudf_text.specs.Stanzas.{PlainProperty, PlainStanza, PlainText, plain_text}
 use Rattle.cudf_document.specs.declared.error.ReadError.{ReadError}
 use Rattle.cudf_document.specs.declared.error.ReadError.TheVariants as read_error
-use Rattle.cudf_document.specs.declared.mode.Mode.{Mode}
+use Rattle.cudf_problem.specs.declared.mode.Mode.{Mode}
 use Rattle.cudf_document.specs.Details.{fault_detail, property_detail, property_on, stanza_detail, stanza_on}
 use Rattle.cudf_document.specs.Faults.{least}
 use Rattle.cudf_document.specs.ProblemFaults.{problem_faults}
 use Rattle.cudf_document.specs.SolutionFaults.{solution_faults}
 use Rattle.cudf_document.specs.Promises.Faults.{IsFirstFault}
-use Rattle.cudf_document.specs.Statuses.{PlainUnknown, is_initial, is_proposed, unknown_stanzas}
-use Rattle.cudf_document.specs.Universe.{PlainProblem, plain_problem}
+use Rattle.cudf_problem.specs.Statuses.{PlainUnknown, is_initial, is_proposed, unknown_stanzas}
+use Rattle.cudf_problem.specs.Universe.{PlainProblem, plain_problem}
 use Rattle.cudf_referee.specs.Proposals.{Proposal, proposal}
-use Rattle.cudf_check.specs.declared.job.Job.{Job}
+use Rattle.cudf_job.specs.declared.job.Job.{Job}
 use Rattle.cudf_check.specs.declared.outcome.Outcome.TheVariants.{Fail}
 use Rattle.cudf_check.specs.Report.{alone, faulty_or, problem_fault, solution_fault, proposal_of, judged_report, pair_report, told}
-use Rattle.cudf_check.specs.Working.Alike.{ReportsAlike}
 use Rattle.cudf_check.specs.Working.Found.{found_text}
 use Rattle.cudf_check.specs.Working.Unjudged.{IsFaultOf, IsTextOr}
 
@@ -118,11 +117,11 @@ pub put_forward : (problem : PlainProblem) (text : PlainText) (contains : ℕ �
 put_forward problem text contains unknown status others = λ k. proposal problem (is_initial problem) (λ place. status place k) (others k)
 
 -- neither document has a fault, and the solution doesn't say FAIL
-pub pair_judged : (explain : Bool) (mode : Mode) (job : Job) (problem solution : List ℕ) (thin : PlainProblem) (s : Proposal)
+pub pair_judged : (explain : Bool) (mode : Mode) (job : Job) (problem solution : List ℕ) (judged : PlainProblem) (s : Proposal)
     → problem_fault mode problem ≡ None → solution_fault mode solution ≡ None → is_fail solution ≡ false
-    → ReportsAlike (plain_text solution) thin (plain_problem (plain_text problem)) → s ≡ proposal_of thin (plain_text solution)
+    → judged ≡ plain_problem (plain_text problem) → s ≡ proposal_of judged (plain_text solution)
     → judged_report (found_text job) s ≡ pair_report explain mode (found_text job) problem solution
-pair_judged explain mode job problem solution thin s none sound goes_on alike is =
-    ap (judged_report (found_text job)) is ∙ alike job
+pair_judged explain mode job problem solution judged s none sound goes_on read is =
+    ap (judged_report (found_text job)) (is ∙ ap (λ p. proposal_of p (plain_text solution)) read)
     ∙ (λ k. faulty_or (codes "problem") (told explain problem) (sym none k) (faulty_or (codes "solution") (told explain solution) (sym sound k)
     (if sym goes_on k then alone (codes "solution FAIL") Fail else judged_report (found_text job) (proposal_of (plain_problem (plain_text problem)) (plain_text solution)))))

@@ -2,10 +2,10 @@
 use Rattle.std.proofs.Common.{◌≡◌, ◌↔◌, ◌⊎◌, inl, inr, ℕ, zero, suc, Bool, List, [], ◌∷◌, Option, Vec, Global, Result, Ok, Err, IsErr, IsErrAnd, IsErrOf, refl, sym, ap, ◌∙◌, arith}
 use Rattle.std.specs.List.{All, AllZip}
 use Rattle.std.proofs.KnownBytes.{Keeps-refl}
-use Rattle.cudf_referee.specs.declared.aims.Aim.{Aim}
-use Rattle.cudf_referee.specs.declared.key.Key.{Key}
-use Rattle.cudf_check.specs.declared.job.Job.{Job}
-use Rattle.cudf_check.specs.declared.job.Job.TheVariants.{Lint, Check, Score}
+use Rattle.cudf_job.specs.declared.aims.Aim.{Aim}
+use Rattle.cudf_job.specs.declared.key.Key.{Key}
+use Rattle.cudf_job.specs.declared.job.Job.{Job}
+use Rattle.cudf_job.specs.declared.job.Job.TheVariants.{Lint, Check, Score}
 use Rattle.cudf_check.specs.declared.outcome.Outcome.{Outcome}
 use Rattle.cudf_check.specs.declared.outcome.RunError.{RunError}
 use Rattle.cudf_check.specs.declared.outcome.RunError.TheVariants.{Read, TooLong, Write, Memory}

@@ -1,11 +1,11 @@
 -- What is added to a line, where lines are explained: own.
 use Rattle.std.specs.Prelude.{ℕ, Bool, List, [], ◌++◌, codes, decimal, Option, Some, None, unwrap_or, option_and_then, if◌then◌else◌}
 use Rattle.cudf_document.specs.Details.{PlainDetail, begins_with, request_on, name_on, undeclared, mistyped, misdeclared, package_on, lacking}
-use Rattle.cudf_document.specs.Ids.{Id}
-use Rattle.cudf_document.specs.Universe.{PlainPackage, package_at}
-use Rattle.cudf_universe.specs.Satisfaction.{numbers_of, first_named}
-use Rattle.cudf_referee.specs.declared.key.Aspect.{Aspect}
-use Rattle.cudf_referee.specs.declared.key.Aspect.TheVariants.{Unsatisfied, Many, Lower}
+use Rattle.cudf_problem.specs.Ids.{Id}
+use Rattle.cudf_problem.specs.Universe.{PlainPackage, package_at}
+use Rattle.cudf_index.specs.Satisfaction.{numbers_of, first_named}
+use Rattle.cudf_job.specs.declared.key.Aspect.{Aspect}
+use Rattle.cudf_job.specs.declared.key.Aspect.TheVariants.{Unsatisfied, Many, Lower}
 use Rattle.cudf_referee.specs.Criteria.{universe}
 use Rattle.cudf_referee.specs.Explanations.{would_do, least_of, greatest_of}
 use Rattle.cudf_referee.specs.Instances.{PlainWhat, needs, install, upgrade, unknown, PlainInstance}

@@ -4,8 +4,8 @@ use Rattle.std.specs.List.{list_all}
 use Rattle.std.specs.Ordering.{nat_cmp, ordering_then, is_lt}
 use Rattle.std.specs.declared.cmp.Ordering.{Ordering}
 use Rattle.std.specs.declared.cmp.Ordering.TheVariants.{Equal}
-use Rattle.cudf_referee.specs.Comparing.{compare}
-use Rattle.cudf_referee.specs.declared.aims.Aim.{Aim}
+use Rattle.cudf_job.specs.Comparing.{compare}
+use Rattle.cudf_job.specs.declared.aims.Aim.{Aim}
 use Rattle.cudf_check.specs.declared.ranking.Judgement.{Judgement}
 use Rattle.cudf_check.specs.declared.ranking.Judgement.TheVariants.{Solution, NoSolution, SaysFail}
 use Rattle.cudf_check.specs.declared.ranking.Entrant.{Entrant}

@@ -9,32 +9,33 @@ use Rattle.cudf_text.specs.LineFaults.{utf8_fault}
 use Rattle.cudf_text.specs.Joined.{problem_part, solution_part, is_fail}
 use Rattle.cudf_value.specs.Vpkgs.{PlainVpkg}
 use Rattle.cudf_value.specs.Printing.{vpkg_text, clause_text}
-use Rattle.cudf_document.specs.declared.mode.Mode.{Mode}
+use Rattle.cudf_problem.specs.declared.mode.Mode.{Mode}
 use Rattle.cudf_document.specs.Details.{PlainDetail, fault_detail}
 use Rattle.cudf_document.specs.Faults.{least}
 use Rattle.cudf_document.specs.ProblemFaults.{problem_faults}
 use Rattle.cudf_document.specs.SolutionFaults.{solution_faults}
-use Rattle.cudf_document.specs.Universe.{PlainPackage, PlainProblem, plain_problem, package_at}
-use Rattle.cudf_document.specs.Statuses.{is_initial, is_proposed, unknown_stanzas}
-use Rattle.cudf_document.specs.Ids.{Id}
-use Rattle.cudf_referee.specs.Aims.{aim_text, count_of, count_text}
-use Rattle.cudf_referee.specs.declared.aims.Aim.{Aim}
-use Rattle.cudf_referee.specs.declared.key.Aspect.{Aspect}
-use Rattle.cudf_referee.specs.declared.key.Aspect.TheVariants.{Unsatisfied, Many, Lower}
-use Rattle.cudf_referee.specs.declared.criteria.Count.{Count}
-use Rattle.cudf_referee.specs.declared.criteria.Count.TheVariants.{Removed, New, Changed, NotUpToDate, UnsatRecommends}
-use Rattle.cudf_referee.specs.declared.criteria.Criteria.{Criteria}
-use Rattle.cudf_referee.specs.Criteria.{criteria, paranoid, trendy}
-use Rattle.cudf_document.specs.Documents.{is_empty}
-use Rattle.cudf_referee.specs.Keys.{PlainKey, key_text}
-use Rattle.cudf_referee.specs.KeyViews.{key_view}
+use Rattle.cudf_problem.specs.Universe.{PlainPackage, PlainProblem, plain_problem, package_at}
+use Rattle.cudf_problem.specs.Statuses.{is_initial, is_proposed, unknown_stanzas}
+use Rattle.cudf_problem.specs.Ids.{Id}
+use Rattle.cudf_job.specs.Aims.{aim_text, count_of, count_text}
+use Rattle.cudf_job.specs.declared.aims.Aim.{Aim}
+use Rattle.cudf_job.specs.declared.key.Aspect.{Aspect}
+use Rattle.cudf_job.specs.declared.key.Aspect.TheVariants.{Unsatisfied, Many, Lower}
+use Rattle.cudf_job.specs.declared.criteria.Count.{Count}
+use Rattle.cudf_job.specs.declared.criteria.Count.TheVariants.{Removed, New, Changed, NotUpToDate, UnsatRecommends}
+use Rattle.cudf_job.specs.declared.criteria.Criteria.{Criteria}
+use Rattle.cudf_job.specs.Vectors.{paranoid, trendy}
+use Rattle.cudf_referee.specs.Criteria.{criteria}
+use Rattle.cudf_problem.specs.Documents.{is_empty}
+use Rattle.cudf_job.specs.Keys.{PlainKey, key_text}
+use Rattle.cudf_job.specs.KeyViews.{key_view}
 use Rattle.cudf_referee.specs.Instances.{PlainWhat, needs, conflicts_with, keep_version, keep_package, keep_feature, install, remove, upgrade, unknown, PlainInstance}
 use Rattle.cudf_referee.specs.Proposals.{Proposal, proposal}
 use Rattle.cudf_referee.specs.Violations.{listing, rest, met_by}
 use Rattle.cudf_referee.specs.Solutions.{is_solution}
 use Rattle.cudf_check.specs.Explanations.{instance_added, detail_added}
-use Rattle.cudf_check.specs.declared.job.Job.{Job}
-use Rattle.cudf_check.specs.declared.job.Job.TheVariants.{Lint, Check, Score}
+use Rattle.cudf_job.specs.declared.job.Job.{Job}
+use Rattle.cudf_job.specs.declared.job.Job.TheVariants.{Lint, Check, Score}
 use Rattle.cudf_check.specs.declared.outcome.Outcome.{Outcome}
 use Rattle.cudf_check.specs.declared.outcome.Outcome.TheVariants.{Yes, No, Faulty, Fail}
 

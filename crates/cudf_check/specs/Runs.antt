@@ -4,12 +4,12 @@ use Rattle.std.specs.List.{AllZip}
 use Rattle.std.proofs.Common.{inl, inr}
 use Rattle.std.specs.Borrow.{MutBor}
 use Rattle.std.specs.Io.KnownBytes.{Appends, Keeps}
-use Rattle.cudf_document.specs.declared.mode.Mode.{Mode}
+use Rattle.cudf_problem.specs.declared.mode.Mode.{Mode}
 use Rattle.cudf_check.specs.Device.{SourceState, SinkState}
 use Rattle.cudf_check.specs.Readers.{Change, ReadsAll, IsUnfinished, IsTooLong, IsStopped, OfOne}
 use Rattle.cudf_check.specs.Report.{Report, report}
-use Rattle.cudf_check.specs.declared.job.Job.{Job}
-use Rattle.cudf_check.specs.declared.job.Job.TheVariants.{Lint}
+use Rattle.cudf_job.specs.declared.job.Job.{Job}
+use Rattle.cudf_job.specs.declared.job.Job.TheVariants.{Lint}
 use Rattle.cudf_check.specs.declared.outcome.Outcome.{Outcome}
 use Rattle.cudf_check.specs.declared.outcome.Outcome.TheVariants.{Yes, No, Faulty, Fail}
 use Rattle.cudf_check.specs.declared.outcome.RunError.{RunError}

@@ -1,4 +1,3 @@
-pub mod Alike
 pub mod Answering
 pub mod Found
 pub mod InTurn

@@ -7,7 +7,7 @@ ghost use Rattle.std.specs.declared.io.Error.{Error};
 ghost use Rattle.cudf_check.specs.Device.{SourceState, SinkState, failed_reads, ended_reads, bytes_given, failed_writes};
 ghost use Rattle.cudf_check.specs.DeviceInside.{device_answer};
 
-use cudf_universe::Steps;
+use cudf_index::Steps;
 use std::io::{self, ErrorKind, Read, Write};
 
 /// Why a call of a device gave or took no byte.

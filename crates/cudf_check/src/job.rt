@@ -1,45 +1,15 @@
-//! What a run is asked to do.
-use cudf_referee::{Aim, Key};
+//! Whether lines are explained.
+ghost use Rattle.std.specs.Prelude.{◌≡◌};
+ghost use Rattle.cudf_check.specs.Working.Found.{explains};
 
-/// One run's task.
-#[derive(Clone, Debug, PartialEq, Eq, Drop)]
-pub enum Job {
-    /// Say whether the input is a problem without fault. The whole input is the problem, also what stands behind its
-    /// request, and no solution is read.
-    Lint {
-        /// Whether the line of a fault tells what the document says beside it, as `; nothing declares size` (own). Of
-        /// the kinds E1, E2, E3, E5, E12 and E13 nothing is told. All other bytes are as without it.
-        explain: bool,
-    },
-    /// Judge the solution and list the violated instances: those whose keys come behind `after`, where
-    /// it is given, and at most `limit` of them, which is at least 1. The verdict is of all instances.
-    Check {
-        after: Option<Key>,
-        limit: Option<u64>,
-        /// Whether the line of a fault tells so, as for `Lint`, and that of an instance as well (own): the first package
-        /// of the problem that alone would do what is needed, with its version and its line, as
-        /// `; wheel 3 line 9 would do`; the first package of the name, where its version isn't in the problem; the
-        /// numbers of an upgrade to several or to lower ones. All other bytes are as without it.
-        explain: bool,
-    },
-    /// Judge the solution and count what it changes and lacks: the counts that `aims` name, one at least, each with its
-    /// sign and in this order; or else those of the MISC competition's criteria, with its two vectors.
-    Score {
-        aims: Option<Vec<Aim>>,
-    },
-}
+use cudf_job::Job;
 
-impl Job {
-    ghost use Rattle.std.specs.Prelude.{◌≡◌};
-    ghost use Rattle.cudf_check.specs.Working.Found.{explains};
-
-    /// Whether lines are explained.
-    pub(crate) fn explains(&self) -> bool
-        ensures { result ≡ explains self.now }
-    {
-        match self {
-            Job::Lint { explain } | Job::Check { explain, .. } => *explain,
-            Job::Score { .. } => false,
-        }
+/// Whether the job asks for lines that are explained.
+pub(crate) fn explains(job: &Job) -> bool
+    ensures { result ≡ explains job.now }
+{
+    match job {
+        Job::Lint { explain } | Job::Check { explain, .. } => *explain,
+        Job::Score { .. } => false,
     }
 }

@@ -1,7 +1,7 @@
 //! Judges the solutions of a problem.
 ghost use Rattle.std.specs.Prelude.{◌≡◌, ℕ, List, map, IfOk, IfErr};
-ghost use Rattle.cudf_document.specs.Universe.{PlainProblem};
-ghost use Rattle.cudf_document.specs.declared.mode.Mode.{Mode};
+ghost use Rattle.cudf_problem.specs.Universe.{PlainProblem};
+ghost use Rattle.cudf_problem.specs.declared.mode.Mode.{Mode};
 ghost use Rattle.cudf_check.specs.RankReport.{judgement_of};
 ghost use Rattle.cudf_check.specs.Report.{solution_fault};
 ghost use Rattle.cudf_check.specs.Working.Judged.{IsJudged, AreJudged, IsUnranked};

@@ -27,11 +27,11 @@ mod report;
 mod setting;
 
 pub use cudf_document::Mode;
+pub use cudf_job::Job;
 pub use cudf_referee::{Aim, Count, Criteria, Key, Sign, compare, read_criterion};
 pub use device::{Device, Sink, Source, Trouble};
 use input::read_all;
 use inputs::read_each;
-pub use job::Job;
 pub use outcome::{Outcome, RunError};
 use rank_report::answer_ranking;
 use report::answer_job;

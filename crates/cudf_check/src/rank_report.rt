@@ -1,6 +1,6 @@
 //! Decides which report a problem and its solutions have.
 ghost use Rattle.std.specs.Prelude.{map};
-ghost use Rattle.cudf_document.specs.declared.mode.Mode.{Mode};
+ghost use Rattle.cudf_problem.specs.declared.mode.Mode.{Mode};
 ghost use Rattle.cudf_check.specs.RankReport.{rank_report, placed_faults, first_faulty_or};
 ghost use Rattle.cudf_check.specs.Report.{Report};
 ghost use Rattle.cudf_check.specs.Working.Answering.{Answers};

@@ -2,17 +2,13 @@
 ghost use Rattle.std.specs.Prelude.{◌≡◌, false, None, IfOk, IfErr, OnOk};
 ghost use Rattle.cudf_text.specs.Joined as joined;
 ghost use Rattle.cudf_text.specs.Stanzas.{plain_text};
-ghost use Rattle.cudf_document.specs.Promises.Statuses.{installed_stanzas};
-ghost use Rattle.cudf_document.specs.Universe.{plain_problem};
+ghost use Rattle.cudf_problem.specs.Promises.Statuses.{installed_stanzas};
+ghost use Rattle.cudf_problem.specs.Universe.{plain_problem};
 ghost use Rattle.cudf_check.specs.Report.{problem_fault, solution_fault};
-ghost use Rattle.cudf_check.specs.Working.Alike.{ReportsAlike};
 ghost use Rattle.cudf_check.specs.Working.Unjudged.{IsFaultOf, IsUnjudged};
 
 use crate::setting::Setting;
-use cudf_document::{
-    Chosen, Problem, Proposed, ReadError, first_fault, problem_for, problem_of, proposed_of,
-};
-use cudf_referee::laws::thin;
+use cudf_document::{Problem, Proposed, ReadError, first_fault, problem_of, proposed_of};
 use cudf_text::{Room, Stanzas, is_fail, source_of, stanzas};
 
 /// Why what a solution puts forward isn't judged.
@@ -54,38 +50,6 @@ pub(crate) fn problem_in<'t>(
     let Setting { alloc, mode } = setting;
     match stanzas(alloc, bytes, room) {
         Ok(stanzas) => problem_of(alloc, stanzas, mode),
-        Err(fault) => Err(ReadError::Fault(fault)),
-    }
-}
-
-/// Whether the solution is so short beside the problem that it pays to keep only what its packages need.
-fn is_short_beside(solution: &[u8], problem: &[u8]) -> bool {
-    solution.len() < problem.len() / 8
-}
-
-/// The problem, or one that has the same report for this solution: what is needed by other packages
-/// isn't kept.
-pub(crate) fn problem_beside<'t>(
-    setting: Setting,
-    bytes: &'t [u8],
-    room: &'t mut Room,
-    solution: &[u8],
-    proposed: &Proposed<'_>,
-) -> Result<Problem<'t>, ReadError>
-    requires { proposed.now ≡ installed_stanzas (plain_text solution.now).stanzas }
-
-    ensures sound { IfOk result (λ _. problem_fault setting.mode bytes.now ≡ None) }
-    ensures problem { IfOk result (λ p. ReportsAlike (plain_text solution.now) p (plain_problem (plain_text bytes.now))) }
-    ensures fault { IfErr result (IsFaultOf (problem_fault setting.mode bytes.now)) }
-{
-    if !is_short_beside(solution, bytes) {
-        return problem_in(setting, bytes, room);
-    }
-    let Setting { alloc, mode } = setting;
-    let chosen = Chosen::of(alloc, proposed)?;
-    thin();
-    match stanzas(alloc, bytes, room) {
-        Ok(stanzas) => problem_for(alloc, stanzas, &chosen, mode),
         Err(fault) => Err(ReadError::Fault(fault)),
     }
 }

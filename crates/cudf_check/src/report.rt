@@ -2,7 +2,7 @@
 ghost use Rattle.std.specs.Prelude.{◌≡◌, ℕ, Bool, IfOk, IfSome, List, Option, codes, option_copied, option_map, if◌then◌else◌};
 ghost use Rattle.cudf_text.specs.Joined.{is_fail};
 ghost use Rattle.cudf_text.specs.declared.fault.Fault.{Fault};
-ghost use Rattle.cudf_document.specs.declared.mode.Mode.{Mode};
+ghost use Rattle.cudf_problem.specs.declared.mode.Mode.{Mode};
 ghost use Rattle.cudf_document.specs.Promises.Views.{detail_view};
 ghost use Rattle.cudf_referee.specs.Proposals.{Proposal};
 ghost use Rattle.cudf_check.specs.declared.outcome.Outcome.TheVariants.{Fail, Yes};
@@ -12,12 +12,13 @@ ghost use Rattle.cudf_check.specs.Working.Found.{explains, found_text};
 ghost use Rattle.cudf_check.specs.Working.Unjudged.{IsFaultOf, IsTextOr, IsUnjudged};
 
 use crate::device::Sink;
-use crate::job::Job;
+use crate::job::explains;
 use crate::lines::{answer, answer_fault, answer_judged};
 use crate::outcome::{Outcome, RunError};
-use crate::readings::{Unjudged, problem_beside, proposed_in, sound_in};
+use crate::readings::{Unjudged, problem_in, proposed_in, sound_in};
 use crate::setting::Setting;
 use cudf_document::{Detail, ReadError, detail, solution_of};
+use cudf_job::Job;
 use cudf_text::{Fault, Room, cut_joined, source_of};
 use std::alloc::{AllocError, Global};
 
@@ -72,33 +73,24 @@ pub(crate) fn answer_unread<W: Sink>(
     }
 }
 
-/// Answers a solution that isn't judged; before it the problem's fault is told.
+/// Answers a solution that isn't judged.
 fn answer_unjudged<W: Sink>(
     setting: Setting,
     out: &mut W,
-    problem: Document<'_>,
     solution: Document<'_>,
     reason: Unjudged,
 ) -> Result<Outcome, RunError>
     ensures { (report : Report) → IsUnjudged setting.mode solution.entry.bytes.now reason
-        → Answers (W.state out.old) (W.state out.new) (faulty_or problem.entry.whose.now (told problem.entry.explain problem.entry.bytes.now) (problem_fault setting.mode problem.entry.bytes.now)
-        (faulty_or solution.entry.whose.now (told solution.entry.explain solution.entry.bytes.now) (solution_fault setting.mode solution.entry.bytes.now)
-        (if is_fail solution.entry.bytes.now then alone (codes "solution FAIL") Fail else report))) result }
+        → Answers (W.state out.old) (W.state out.new) (faulty_or solution.entry.whose.now (told solution.entry.explain solution.entry.bytes.now) (solution_fault setting.mode solution.entry.bytes.now)
+        (if is_fail solution.entry.bytes.now then alone (codes "solution FAIL") Fail else report)) result }
 {
-    if matches!(reason, Unjudged::Unread(ReadError::Memory(_))) {
-        return Err(RunError::Memory);
-    }
-    if let Err(error) = sound_in(setting, problem.bytes) {
-        return answer_unread(setting.alloc, out, problem, error);
-    }
     match reason {
         Unjudged::SaysFail => answer(setting.alloc, out, "solution FAIL", Outcome::Fail),
         Unjudged::Unread(error) => answer_unread(setting.alloc, out, solution, error),
     }
 }
 
-/// Judges a solution of a problem. It is read first, since what it installs says what of the problem
-/// has to be kept.
+/// Judges a solution of a problem.
 fn check<W: Sink>(
     setting: Setting,
     out: &mut W,
@@ -109,7 +101,7 @@ fn check<W: Sink>(
     ensures { Answers (W.state out.old) (W.state out.new) (pair_report (explains job.now) setting.mode (found_text job.now) problem.now solution.now) result }
 {
     let alloc = setting.alloc;
-    let explain = job.explains();
+    let explain = explains(job);
     let problem = Document {
         whose: "problem",
         bytes: problem,
@@ -122,20 +114,13 @@ fn check<W: Sink>(
     };
     let mut problem_room = Room::new(alloc);
     let mut solution_room = Room::new(alloc);
-    let proposed = match proposed_in(setting, solution.bytes, &mut solution_room) {
-        Ok(proposed) => proposed,
-        Err(reason) => return answer_unjudged(setting, out, problem, solution, reason),
-    };
-    let read = problem_beside(
-        setting,
-        problem.bytes,
-        &mut problem_room,
-        solution.bytes,
-        &proposed,
-    );
-    let judged = match read {
+    let judged = match problem_in(setting, problem.bytes, &mut problem_room) {
         Ok(judged) => judged,
         Err(error) => return answer_unread(alloc, out, problem, error),
+    };
+    let proposed = match proposed_in(setting, solution.bytes, &mut solution_room) {
+        Ok(proposed) => proposed,
+        Err(reason) => return answer_unjudged(setting, out, solution, reason),
     };
     match solution_of(alloc, proposed, &judged) {
         Ok(placed) => answer_judged(alloc, out, job, &judged, &placed),

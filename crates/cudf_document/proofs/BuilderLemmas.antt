@@ -11,19 +11,19 @@ use Rattle.indexmap.specs.IndexSet.{insert_key}
 use Rattle.cudf_text.specs.declared.fault.Fault.{Fault}
 use Rattle.cudf_text.specs.declared.fault.Kind.TheVariants.{E4, E5, E6, E11, E12, E13, E14}
 use Rattle.cudf_text.specs.Stanzas.{PlainStanza, PlainText}
-use Rattle.cudf_document.specs.declared.mode.Mode.{Mode}
-use Rattle.cudf_document.specs.declared.postmark.Postmark.{Postmark}
-use Rattle.cudf_document.specs.declared.postmark.Postmark.TheVariants.{Preamble, Package, Request}
+use Rattle.cudf_problem.specs.declared.mode.Mode.{Mode}
+use Rattle.cudf_problem.specs.declared.postmark.Postmark.{Postmark}
+use Rattle.cudf_problem.specs.declared.postmark.Postmark.TheVariants.{Preamble, Package, Request}
 use Rattle.cudf_document.specs.Faults.{lesser, least, fault_if}
-use Rattle.cudf_document.specs.Documents.{is_empty, with_earlier, postmark, marks_preamble, marks_package, marks_request, is_request, line_of}
-use Rattle.cudf_document.specs.Ids.{Id, is_id, is_among, is_known, id_of}
+use Rattle.cudf_problem.specs.Documents.{is_empty, with_earlier, postmark, marks_preamble, marks_package, marks_request, is_request, line_of}
+use Rattle.cudf_problem.specs.Ids.{Id, is_id, is_among, is_known, id_of}
 use Rattle.cudf_document.specs.Working.Judging.{request_in, id_under, placed_faults}
-use Rattle.cudf_document.specs.Promises.Packages.{are_distinct, with_id, packages_in}
-use Rattle.cudf_document.specs.Preamble.{declared_after, declared}
+use Rattle.cudf_problem.specs.Promises.Packages.{are_distinct, with_id, packages_in}
+use Rattle.cudf_problem.specs.Preamble.{declared_after, declared}
 use Rattle.cudf_document.specs.ProblemFaults.{place_faults, property_faults, version_property, required_names, lacks_one, inner_faults, stanza_faults, requestless_faults, problem_faults}
-use Rattle.cudf_document.specs.Universe.{PlainPackage, package_id, package_with, package_of, request_of}
+use Rattle.cudf_problem.specs.Universe.{PlainPackage, package_id, package_with, package_of, request_of}
 use Rattle.cudf_document.specs.Working.ProblemBuilders.{PlainBuilder, with_stanza, faults_inside, IsBuilt, IsListed, first_ids}
-use Rattle.cudf_document.proofs.ListLemmas.{as_list, option_or-none, list_any-insert_key, is_some-find, is_some-option_map}
+use Rattle.cudf_problem.proofs.ListLemmas.{as_list, option_or-none, list_any-insert_key, is_some-find, is_some-option_map}
 use Rattle.cudf_document.proofs.NameLemmas.{same_bytes}
 use Rattle.cudf_document.proofs.FaultLemmas.{least-faults_or, least-append}
 

@@ -6,12 +6,12 @@ use Rattle.std.proofs.lemmas.List.Elements.{filter_map-append}
 use Rattle.std.proofs.lemmas.List.Folds.{list_all-append}
 use Rattle.std.specs.List.{list_all}
 use Rattle.cudf_value.specs.Declarations.{PlainDeclaration}
-use Rattle.cudf_document.specs.Values.{declared_test}
+use Rattle.cudf_problem.specs.Values.{declared_test}
 use Rattle.cudf_value.specs.Parts.{look_up}
-use Rattle.cudf_document.specs.Documents.{with_earlier}
-use Rattle.cudf_document.specs.Preamble.{is_declarable}
+use Rattle.cudf_problem.specs.Documents.{with_earlier}
+use Rattle.cudf_problem.specs.Preamble.{is_declarable}
 use Rattle.cudf_document.specs.Working.Judging.{all_declarable, name_without_default}
-use Rattle.cudf_document.proofs.ListLemmas.{as_list, with_earlier-push}
+use Rattle.cudf_problem.proofs.ListLemmas.{as_list, with_earlier-push}
 
 -- the test of a declared name is that of its first declaration
 pub test_of-declared : (name : List ℕ) (ds : List PlainDeclaration)

@@ -6,7 +6,7 @@ use Rattle.std.proofs.lemmas.List.Folds.{list_any-append}
 use Rattle.std.specs.List.{list_any}
 use Rattle.indexmap.specs.IndexSet.{insert_key}
 use Rattle.cudf_document.specs.Working.Enums.{AreWords}
-use Rattle.cudf_document.proofs.ListLemmas.{list_any-insert_key}
+use Rattle.cudf_problem.proofs.ListLemmas.{list_any-insert_key}
 use Rattle.cudf_document.proofs.NameLemmas.{same_bytes, bytes_eq-sym}
 
 -- one more word

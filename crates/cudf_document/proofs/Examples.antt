@@ -9,7 +9,7 @@ use Rattle.cudf_text.specs.Chars.{is_ident}
 use Rattle.cudf_value.specs.Words.{truth, is_pkgname}
 use Rattle.cudf_value.specs.Numbers.{positive, natural}
 use Rattle.cudf_value.specs.Declarations.{declarations}
-use Rattle.cudf_document.specs.declared.mode.Mode.TheVariants.{Lenient, Strict}
+use Rattle.cudf_problem.specs.declared.mode.Mode.TheVariants.{Lenient, Strict}
 use Rattle.cudf_document.specs.Faults.{least}
 use Rattle.cudf_document.specs.ProblemFaults.{problem_faults}
 use Rattle.cudf_document.specs.SolutionFaults.{solution_faults}

@@ -7,9 +7,9 @@ use Rattle.std.specs.List.{flat_map}
 use Rattle.std.specs.Option.{option_or}
 use Rattle.cudf_text.specs.declared.fault.Fault.{Fault}
 use Rattle.cudf_document.specs.Faults.{precedes, lesser, least}
-use Rattle.cudf_document.specs.Documents.{with_earlier}
+use Rattle.cudf_problem.specs.Documents.{with_earlier}
 use Rattle.cudf_document.specs.Working.Judging.{faults_or}
-use Rattle.cudf_document.proofs.ListLemmas.{with_earlier-push}
+use Rattle.cudf_problem.proofs.ListLemmas.{with_earlier-push}
 
 -- ---- the order
 

@@ -1,12 +1,12 @@
 -- What follows where a problem has no fault.
-use Rattle.std.proofs.Common.{◌≡◌, ◌≢◌, ℕ, zero, suc, ◌<◌, nat_eq, Bool, true, false, not, ◌||◌, ◌&&◌, List, [], ◌∷◌, ◌++◌, map, take, length, get_or, max, Option, None, Some, is_some, is_none, find, filter, filter_map, count_by, AllPairs, refl, sym, ap, ◌∙◌, arith, if◌then◌else◌, option_map, option_and_then, option_to_list, bytes_eq, codes}
+use Rattle.std.proofs.Common.{◌≡◌, ◌≢◌, ℕ, nat_eq, Bool, true, false, not, ◌||◌, ◌&&◌, List, [], ◌∷◌, ◌++◌, map, length, get_or, max, Option, None, Some, is_some, is_none, find, filter, filter_map, count_by, AllPairs, refl, sym, ap, ◌∙◌, arith, if◌then◌else◌, option_map, option_and_then, option_to_list, bytes_eq, codes}
 use Rattle.std.specs.Option.{option_zip}
 use Rattle.std.specs.Prelude.{slice_get}
 use Rattle.std.proofs.Math.Bool.{not-not, or-false}
-use Rattle.std.proofs.lemmas.Bool.{true≢false, and_parts, and_from, not-true, not-false, not_from_false, false_from_ne_true, eq-eqb}
-use Rattle.std.proofs.lemmas.List.{append-nil, append_assoc, get_or-take, length-take-le, get_or-map, length-map}
+use Rattle.std.proofs.lemmas.Bool.{true≢false, and_parts, and_from, not-true, not-false, not_from_false, eq-eqb}
+use Rattle.std.proofs.lemmas.List.{append-nil, get_or-map, length-map}
 use Rattle.std.proofs.lemmas.List.Elements.{filter_map-append}
-use Rattle.std.proofs.lemmas.List.Folds.{list_any-append, list_any_at}
+use Rattle.std.proofs.lemmas.List.Folds.{list_any-append}
 use Rattle.std.proofs.lemmas.List.Sums.{length-filter}
 use Rattle.std.specs.List.{list_any, list_all, flat_map, cons_option}
 use Rattle.cudf_text.specs.declared.fault.Fault.{Fault}
@@ -14,23 +14,24 @@ use Rattle.cudf_text.specs.declared.fault.Kind.{Kind}
 use Rattle.cudf_text.specs.declared.fault.Kind.TheVariants.{E4, E5, E6, E9, E11, E12, E13}
 use Rattle.cudf_text.specs.Stanzas.{PlainProperty, PlainStanza, PlainText}
 use Rattle.cudf_value.specs.Declarations.{PlainDeclaration}
-use Rattle.cudf_document.specs.declared.mode.Mode.{Mode}
-use Rattle.cudf_document.specs.declared.postmark.Postmark.{Postmark}
-use Rattle.cudf_document.specs.declared.postmark.Postmark.TheVariants.{Preamble, Package, Request}
+use Rattle.cudf_problem.specs.declared.mode.Mode.{Mode}
+use Rattle.cudf_problem.specs.declared.postmark.Postmark.{Postmark}
+use Rattle.cudf_problem.specs.declared.postmark.Postmark.TheVariants.{Preamble, Package, Request}
 use Rattle.cudf_document.specs.Faults.{fault_if}
-use Rattle.cudf_document.specs.Documents.{is_empty, with_earlier, postmark_named, postmark, marks_preamble, marks_package, is_request, has_name, value_of, line_of}
-use Rattle.cudf_document.specs.Promises.Packages.{is_package, are_distinct, packages_in}
-use Rattle.cudf_document.specs.Ids.{Id, is_id, is_among, is_known, id_of}
+use Rattle.cudf_problem.specs.Documents.{is_empty, with_earlier, postmark_named, postmark, marks_preamble, marks_package, is_request, has_name, value_of, line_of}
+use Rattle.cudf_problem.specs.Promises.Packages.{is_package, are_distinct, packages_in}
+use Rattle.cudf_problem.specs.Ids.{Id, is_id, is_among, is_known, id_of}
 use Rattle.cudf_document.specs.Working.Judging.{id_under, fails, faults_or}
 use Rattle.cudf_value.specs.Types.{can_be}
-use Rattle.cudf_document.specs.Values.{Test, name_value}
+use Rattle.cudf_problem.specs.Values.{Test, name_value}
 use Rattle.cudf_document.specs.Working.Reads.{version_value}
 use Rattle.cudf_value.specs.Parts.{look_up}
-use Rattle.cudf_document.specs.Preamble.{declared}
+use Rattle.cudf_problem.specs.Preamble.{declared}
 use Rattle.cudf_document.specs.ProblemFaults.{tests, place_faults, property_faults, repeated_faults, undeclared_faults, mistyped_faults, misdeclared_faults, version_property, repeated_package_faults, unversioned_faults, required_names, missing_faults, inner_faults, stanza_faults, requestless_faults, problem_faults}
-use Rattle.cudf_document.specs.Universe.{PlainPackage, package_id, package_with, package_of}
+use Rattle.cudf_problem.specs.Universe.{PlainPackage, package_id, package_with, package_of}
 use Rattle.cudf_document.specs.Promises.Laws.{IsSound}
-use Rattle.cudf_document.proofs.ListLemmas.{is_some-find, is_some-option_map}
+use Rattle.cudf_problem.proofs.IdLemmas.{distinct-places}
+use Rattle.cudf_problem.proofs.ListLemmas.{is_some-find, is_some-option_map}
 use Rattle.cudf_document.proofs.NameLemmas.{same_bytes, bytes_same}
 
 -- ---- lists without elements
@@ -150,30 +151,8 @@ ids_distinct text mode none =
     (λ x clean_x. not_from_false (is_known (filter_map id_of x.0) (id_of x.1)) (clean mode x.0 x.1 clean_x).fresh)
     (with_earlier [] text.stanzas) (stanzas_clean text mode none)
 
--- of pairs of which none stands twice, each isn't among those before it
-pub distinct-at : (ids : List Id) (i : ℕ) (d : Id) → are_distinct ids ≡ true → i < length ids → is_among (take i ids) (get_or ids i d) ≡ false
-distinct-at ids i d all within = at [] ids i all within
-  where
-    at : (before xs : List Id) (k : ℕ) → list_all (λ x. not (is_among x.0 x.1)) (with_earlier before xs) ≡ true → k < length xs → is_among (before ++ take k xs) (get_or xs k d) ≡ false
-    at before [] k h lt = absurd (omega arith)
-    at before (x ∷ xs) zero h lt =
-        ap (λ l. is_among l x) (append-nil before) ∙ not-true (is_among before x) (and_parts (not (is_among before x)) (list_all (λ y. not (is_among y.0 y.1)) (with_earlier (before ++ x ∷ []) xs)) h).0
-    at before (x ∷ xs) (suc k) h lt =
-        ap (λ l. is_among l (get_or xs k d)) (sym (append_assoc before (x ∷ []) (take k xs)))
-        ∙ at (before ++ x ∷ []) xs k (and_parts (not (is_among before x)) (list_all (λ y. not (is_among y.0 y.1)) (with_earlier (before ++ x ∷ []) xs)) h).1 (omega arith)
-
 pub same_id : (x : Id) → is_id x x ≡ true
 same_id x = and_from (bytes_eq x.0 x.0) (nat_eq x.1 x.1) (bytes_same x.0) (eq-eqb x.1 x.1 refl)
-
--- two places of such pairs have different ones
-pub distinct-places : (ids : List Id) (i j : ℕ) (d : Id) → are_distinct ids ≡ true → i < j → j < length ids → is_id (get_or ids j d) (get_or ids i d) ≡ false
-distinct-places ids i j d all before within =
-    false_from_ne_true (is_id (get_or ids j d) (get_or ids i d)) (λ same.
-    let len : length (take j ids) ≡ j = length-take-le j ids (omega arith) in
-    let there : is_among (take j ids) (get_or ids j d) ≡ true =
-    list_any_at (is_id (get_or ids j d)) (take j ids) i d (omega arith)
-    (ap (is_id (get_or ids j d)) (get_or-take j ids i d before) ∙ same) in
-    true≢false (sym there ∙ distinct-at ids j d all within))
 
 -- ---- what a sound problem has
 

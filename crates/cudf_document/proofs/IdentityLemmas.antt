@@ -3,8 +3,8 @@ use Rattle.std.proofs.Common.{◌≡◌, Bool, List, ◌++◌, Option, None, Som
 use Rattle.cudf_text.specs.declared.fault.Kind.TheVariants.{E11, E12}
 use Rattle.cudf_text.specs.Stanzas.{PlainProperty, PlainStanza}
 use Rattle.cudf_document.specs.declared.package.identity.Identity.{Identity}
-use Rattle.cudf_document.specs.declared.postmark.Postmark.TheVariants.{Package}
-use Rattle.cudf_document.specs.Documents.{line_of}
+use Rattle.cudf_problem.specs.declared.postmark.Postmark.TheVariants.{Package}
+use Rattle.cudf_problem.specs.Documents.{line_of}
 use Rattle.cudf_document.specs.Faults.{fault_if}
 use Rattle.std.specs.Option.{option_zip}
 use Rattle.cudf_document.specs.Working.Judging.{id_under}

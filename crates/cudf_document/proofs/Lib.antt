@@ -1,6 +1,4 @@
-pub mod ListLemmas
 pub mod FaultLemmas
-pub mod FlagLemmas
 pub mod DeclarationLemmas
 pub mod NameLemmas
 pub mod EnumLemmas
@@ -18,9 +16,6 @@ mod PairLemmas
 mod ProposedLemmas
 mod PlacedLemmas
 mod Examples
-pub mod StatusLemmas
 mod WalkLemmas
 mod PartsLemmas
-pub mod ThinLemmas
-mod ChosenLemmas
 pub mod DetailLemmas

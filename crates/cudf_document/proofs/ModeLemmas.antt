@@ -7,15 +7,15 @@ use Rattle.cudf_text.specs.declared.fault.Kind.{Kind}
 use Rattle.cudf_text.specs.declared.fault.Kind.TheVariants.{E4, E5, E6, E7, E8, E9, E10, E11, E12, E13, E14, E15}
 use Rattle.cudf_text.specs.Stanzas.{PlainProperty, PlainStanza, PlainText}
 use Rattle.cudf_value.specs.Declarations.{PlainDeclaration}
-use Rattle.cudf_document.specs.declared.mode.Mode.TheVariants.{Lenient, Strict}
-use Rattle.cudf_document.specs.declared.postmark.Postmark.{Postmark}
-use Rattle.cudf_document.specs.declared.postmark.Postmark.TheVariants.{Package}
+use Rattle.cudf_problem.specs.declared.mode.Mode.TheVariants.{Lenient, Strict}
+use Rattle.cudf_problem.specs.declared.postmark.Postmark.{Postmark}
+use Rattle.cudf_problem.specs.declared.postmark.Postmark.TheVariants.{Package}
 use Rattle.cudf_document.specs.Faults.{fault_if}
-use Rattle.cudf_document.specs.Documents.{is_empty, with_earlier, postmark, marks_preamble, marks_package, is_request, line_of}
+use Rattle.cudf_problem.specs.Documents.{is_empty, with_earlier, postmark, marks_preamble, marks_package, is_request, line_of}
 use Rattle.cudf_document.specs.Working.Judging.{same_name, fails, faults_or, properties_faults}
-use Rattle.cudf_document.specs.Ids.{id_of, is_known}
-use Rattle.cudf_document.specs.Preamble.{declared, declared_by, declared_after}
-use Rattle.cudf_document.specs.Values.{solution_tests}
+use Rattle.cudf_problem.specs.Ids.{id_of, is_known}
+use Rattle.cudf_problem.specs.Preamble.{declared, declared_by, declared_after}
+use Rattle.cudf_problem.specs.Values.{solution_tests}
 use Rattle.cudf_value.specs.Parts.{look_up}
 use Rattle.cudf_document.specs.ProblemFaults.{tests, declares, property_faults, place_faults, version_property, repeated_package_faults, unversioned_faults, required_names, lacks_one, missing_faults, inner_faults, stanza_faults, requestless_faults, problem_faults}
 use Rattle.cudf_document.specs.SolutionFaults.{value_faults, values_faults, solution_stanza_faults, repeated_pair_faults, repeated_pairs_faults, solution_faults}

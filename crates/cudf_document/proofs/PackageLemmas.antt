@@ -6,18 +6,16 @@ use Rattle.cudf_text.specs.Stanzas.{PlainProperty}
 use Rattle.cudf_text.specs.Chars.{trim}
 use Rattle.cudf_value.specs.Types.{can_be, PlainType, word_type, enum_type, is_of_type}
 use Rattle.cudf_value.specs.Declarations.{PlainDeclaration}
-use Rattle.cudf_document.specs.declared.postmark.Postmark.TheVariants.{Package as PackageMark}
-use Rattle.cudf_document.specs.declared.package.property.PackageProperty.{PackageProperty}
-use Rattle.cudf_document.specs.declared.package.property.PackageProperty.TheVariants.{Depends, Conflicts, Recommends}
+use Rattle.cudf_problem.specs.declared.postmark.Postmark.TheVariants.{Package as PackageMark}
 use Rattle.cudf_document.specs.Faults.{least}
-use Rattle.cudf_document.specs.Documents.{value_of}
+use Rattle.cudf_problem.specs.Documents.{value_of}
 use Rattle.cudf_document.specs.Working.Judging.{same_name}
-use Rattle.cudf_document.specs.Values.{truth_value, keep_value, declared_test}
+use Rattle.cudf_problem.specs.Values.{truth_value, keep_value, declared_test}
 use Rattle.cudf_document.specs.Working.Reads.{formula_value, list_value, exact_list_value}
 use Rattle.cudf_value.specs.Parts.{look_up}
-use Rattle.cudf_document.specs.Preamble.{is_formula_type, recommends_in}
+use Rattle.cudf_problem.specs.Preamble.{is_formula_type, recommends_in}
 use Rattle.cudf_document.specs.ProblemFaults.{tests, property_faults}
-use Rattle.cudf_document.specs.Working.PackageFields.{PlainPackageFields, package_property_named, wrong_kind, fault_on, package_fields_of, with_package_property, no_package_fields, without_needs, is_need}
+use Rattle.cudf_document.specs.Working.PackageFields.{PlainPackageFields, package_property_named, wrong_kind, fault_on, package_fields_of, with_package_property, no_package_fields}
 use Rattle.cudf_document.proofs.NameLemmas.{same_bytes, by_words, value_of-repeated, value_next}
 use Rattle.cudf_document.proofs.DeclarationLemmas.{test_of-declared}
 use Rattle.cudf_document.proofs.PropertyLemmas.{package_property}
@@ -103,23 +101,6 @@ pub package_fields_of-first : (ds : List PlainDeclaration) (ps : List PlainPrope
 package_fields_of-first ds ps p new = with_package_property-says ds ps p.value p.name ∙ sym (package_fields_of-says ds ps p new)
 
 -- ---- without what the package needs
-
--- a property that says what the package needs changes nothing else
-pub bare-need : (ds : List PlainDeclaration) (named : Option PackageProperty) (text : List ℕ) (v : PlainPackageFields)
-    → is_need named ≡ true → without_needs v ≡ without_needs (with_package_property ds named text v)
-bare-need ds (Some Depends) text v need = refl
-bare-need ds (Some Conflicts) text v need = refl
-bare-need ds (Some Recommends) text v need = refl
-bare-need ds _ text v need = absurd cc
-
--- any other says the same
-pub bare-other : (ds : List PlainDeclaration) (named : Option PackageProperty) (text : List ℕ) (v : PlainPackageFields)
-    → is_need named ≡ false → with_package_property ds named text (without_needs v) ≡ without_needs (with_package_property ds named text v)
-bare-other ds (Some Depends) text v other = absurd cc
-bare-other ds (Some Conflicts) text v other = absurd cc
-bare-other ds (Some Recommends) text v other = absurd cc
-bare-other ds _ text v other = refl
-
 -- ---- faults
 
 -- what is wrong with one more property, repeated or not

@@ -6,13 +6,13 @@ use Rattle.std.specs.List.{cons_option}
 use Rattle.cudf_text.specs.declared.fault.Fault.{Fault}
 use Rattle.cudf_text.specs.declared.fault.Kind.TheVariants.{E15}
 use Rattle.cudf_text.specs.Stanzas.{PlainStanza}
-use Rattle.cudf_document.specs.declared.mode.Mode.{Mode}
-use Rattle.cudf_document.specs.declared.mode.Mode.TheVariants.{Lenient, Strict}
+use Rattle.cudf_problem.specs.declared.mode.Mode.{Mode}
+use Rattle.cudf_problem.specs.declared.mode.Mode.TheVariants.{Lenient, Strict}
 use Rattle.cudf_document.specs.declared.proposed.pairs.Pairs.{Pairs}
-use Rattle.cudf_document.specs.Documents.{line_of}
+use Rattle.cudf_problem.specs.Documents.{line_of}
 use Rattle.cudf_document.specs.Faults.{lesser, least, fault_if}
-use Rattle.cudf_document.specs.Ids.{Id, is_id, is_among, is_known, id_of}
-use Rattle.cudf_document.specs.Promises.Packages.{with_id}
+use Rattle.cudf_problem.specs.Ids.{Id, is_id, is_among, is_known, id_of}
+use Rattle.cudf_problem.specs.Promises.Packages.{with_id}
 use Rattle.cudf_document.specs.ProblemFaults.{version_property}
 use Rattle.cudf_document.specs.SolutionFaults.{repeated_pair_faults}
 use Rattle.cudf_document.specs.Working.Pairs.{ArePairs}

@@ -5,8 +5,8 @@ use Rattle.indexmap.specs.IndexSet.{insert_key}
 use Rattle.cudf_text.specs.declared.fault.Fault.{Fault}
 use Rattle.cudf_text.specs.Stanzas.{PlainProperty}
 use Rattle.cudf_value.specs.Declarations.{PlainDeclaration}
-use Rattle.cudf_document.specs.declared.postmark.Postmark.{Postmark}
-use Rattle.cudf_document.specs.Documents.{with_earlier}
+use Rattle.cudf_problem.specs.declared.postmark.Postmark.{Postmark}
+use Rattle.cudf_problem.specs.Documents.{with_earlier}
 use Rattle.cudf_document.specs.ProblemFaults.{property_faults}
 use Rattle.cudf_document.specs.Working.SeenNames.{AreNames}
 use Rattle.cudf_document.proofs.FaultLemmas.{faults-next}
@@ -15,7 +15,7 @@ use Rattle.std.proofs.lemmas.Bool.Decides.{nat_tests}
 use Rattle.cudf_text.specs.declared.fault.Kind.{Kind}
 use Rattle.cudf_text.specs.declared.fault.Kind.TheVariants.{E7, E8, E9, E10}
 use Rattle.cudf_document.specs.Faults.{rank, lesser, least, fault_if}
-use Rattle.cudf_document.specs.Values.{Test}
+use Rattle.cudf_problem.specs.Values.{Test}
 use Rattle.cudf_document.specs.Working.Judging.{fails}
 use Rattle.cudf_document.specs.Working.PackageFields.{wrong_kind, fault_on}
 

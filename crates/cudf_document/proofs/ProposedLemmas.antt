@@ -6,19 +6,19 @@ use Rattle.std.proofs.lemmas.List.Elements.{filter_map-append}
 use Rattle.std.specs.List.{flat_map, enumerate_from, cons_option}
 use Rattle.cudf_text.specs.declared.fault.Fault.{Fault}
 use Rattle.cudf_text.specs.Stanzas.{PlainStanza, PlainText}
-use Rattle.cudf_document.specs.declared.mode.Mode.{Mode}
+use Rattle.cudf_problem.specs.declared.mode.Mode.{Mode}
 use Rattle.cudf_document.specs.declared.proposed.reader.Reader.{Reader}
 use Rattle.cudf_document.specs.Faults.{lesser, least}
-use Rattle.cudf_document.specs.Ids.{Id}
-use Rattle.cudf_document.specs.Promises.Statuses.{installed_with, installed_of, installed_stanzas}
-use Rattle.cudf_document.specs.Promises.Views.{unknown_view}
+use Rattle.cudf_problem.specs.Ids.{Id}
+use Rattle.cudf_problem.specs.Promises.Statuses.{installed_with, installed_of, installed_stanzas}
+use Rattle.cudf_problem.specs.Promises.Views.{unknown_view}
 use Rattle.cudf_document.specs.SolutionFaults.{solution_stanza_faults, repeated_pairs_faults, solution_faults}
-use Rattle.cudf_document.specs.Statuses.{installed_id, installed_ids}
+use Rattle.cudf_problem.specs.Statuses.{installed_id, installed_ids}
 use Rattle.cudf_document.specs.Working.Pairs.{ArePairs}
 use Rattle.cudf_document.specs.Working.Placed.{pair_of}
 use Rattle.cudf_document.specs.Working.Proposed.{IsRead, GoesOn}
 use Rattle.cudf_document.proofs.FaultLemmas.{least-append}
-use Rattle.cudf_document.proofs.ListLemmas.{as_list}
+use Rattle.cudf_problem.proofs.ListLemmas.{as_list}
 
 -- ---- stanzas that install a pair
 

@@ -7,9 +7,9 @@ use Rattle.cudf_text.specs.declared.fault.Fault.{Fault}
 use Rattle.cudf_text.specs.declared.fault.Kind.TheVariants.{E7, E9}
 use Rattle.cudf_text.specs.Stanzas.{PlainProperty}
 use Rattle.cudf_document.specs.Faults.{lesser, least, fault_if}
-use Rattle.cudf_document.specs.Documents.{with_earlier, has_name, value_of}
+use Rattle.cudf_problem.specs.Documents.{with_earlier, has_name, value_of}
 use Rattle.cudf_document.specs.Working.Judging.{same_name}
-use Rattle.cudf_document.specs.Values.{name_value, truth_value}
+use Rattle.cudf_problem.specs.Values.{name_value, truth_value}
 use Rattle.cudf_document.specs.Working.Reads.{version_value}
 use Rattle.cudf_document.specs.SolutionFaults.{value_faults}
 use Rattle.cudf_document.specs.Working.PackageFields.{fault_on}

@@ -6,24 +6,24 @@ use Rattle.std.proofs.Math.Bool.{or-false, or_comm}
 use Rattle.std.proofs.lemmas.List.Folds.{list_any-append}
 use Rattle.cudf_text.specs.declared.fault.Fault.{Fault}
 use Rattle.cudf_text.specs.Stanzas.{PlainStanza, PlainText}
-use Rattle.cudf_document.specs.declared.mode.Mode.{Mode}
-use Rattle.cudf_document.specs.declared.mode.Mode.TheVariants.{Lenient, Strict}
+use Rattle.cudf_problem.specs.declared.mode.Mode.{Mode}
+use Rattle.cudf_problem.specs.declared.mode.Mode.TheVariants.{Lenient, Strict}
 use Rattle.cudf_document.specs.declared.problem.walk.Walk.{Walk}
-use Rattle.cudf_document.specs.declared.postmark.Postmark.{Postmark}
-use Rattle.cudf_document.specs.declared.postmark.Postmark.TheVariants.{Preamble, Package}
+use Rattle.cudf_problem.specs.declared.postmark.Postmark.{Postmark}
+use Rattle.cudf_problem.specs.declared.postmark.Postmark.TheVariants.{Preamble, Package}
 use Rattle.cudf_document.specs.Faults.{lesser, least, fault_if}
 use Rattle.cudf_text.specs.declared.fault.Kind.TheVariants.{E13}
 use Rattle.std.proofs.lemmas.List.{append_assoc, append-nil}
-use Rattle.cudf_document.specs.Documents.{is_empty, with_earlier, postmark, is_request, marks_preamble, marks_request}
-use Rattle.cudf_document.specs.Ids.{is_id, id_of}
-use Rattle.cudf_document.specs.Preamble.{declared}
-use Rattle.cudf_document.specs.Promises.Packages.{is_preamble, packages_in}
+use Rattle.cudf_problem.specs.Documents.{is_empty, with_earlier, postmark, is_request, marks_preamble, marks_request}
+use Rattle.cudf_problem.specs.Ids.{is_id, id_of}
+use Rattle.cudf_problem.specs.Preamble.{declared}
+use Rattle.cudf_problem.specs.Promises.Packages.{is_preamble, packages_in}
 use Rattle.cudf_document.specs.ProblemFaults.{required_names, stanza_faults}
 use Rattle.cudf_document.specs.Working.Judging.{request_in, placed_faults, properties_faults}
-use Rattle.cudf_document.specs.Universe.{package_id}
+use Rattle.cudf_problem.specs.Universe.{package_id}
 use Rattle.cudf_document.specs.Working.ProblemBuilders.{PlainBuilder, with_stanza, faults_inside, IsBuilt, first_ids}
 use Rattle.cudf_document.specs.Working.Walks.{IsKnown, IsSoFar, GoesOn, IsWhole, judged_faults, judged_ids}
-use Rattle.cudf_document.proofs.ListLemmas.{is_empty-push}
+use Rattle.cudf_problem.proofs.ListLemmas.{is_empty-push}
 use Rattle.cudf_document.proofs.FaultLemmas.{faults-next}
 use Rattle.cudf_document.proofs.BuilderLemmas.{problem_least, requested_is, stanza_least, IsBuilt-next, listed_next}
 

@@ -11,12 +11,12 @@ use Rattle.cudf_value.specs.Parts.{look_up}
 use Rattle.cudf_value.specs.Misfits.{type_word, misfit}
 use Rattle.cudf_value.specs.Spots.{pieces}
 use Rattle.cudf_value.specs.Declarations.{PlainDeclaration, declaration}
-use Rattle.cudf_document.specs.declared.mode.Mode.TheVariants.{Strict}
-use Rattle.cudf_document.specs.declared.postmark.Postmark.{Postmark}
-use Rattle.cudf_document.specs.declared.postmark.Postmark.TheVariants.{Package, Request}
-use Rattle.cudf_document.specs.Documents.{with_earlier, postmark, is_request, has_name}
-use Rattle.cudf_document.specs.Ids.{Id, id_of, is_known}
-use Rattle.cudf_document.specs.Preamble.{is_declarable, declared_after, declared}
+use Rattle.cudf_problem.specs.declared.mode.Mode.TheVariants.{Strict}
+use Rattle.cudf_problem.specs.declared.postmark.Postmark.{Postmark}
+use Rattle.cudf_problem.specs.declared.postmark.Postmark.TheVariants.{Package, Request}
+use Rattle.cudf_problem.specs.Documents.{with_earlier, postmark, is_request, has_name}
+use Rattle.cudf_problem.specs.Ids.{Id, id_of, is_known}
+use Rattle.cudf_problem.specs.Preamble.{is_declarable, declared_after, declared}
 use Rattle.cudf_document.specs.ProblemFaults.{required_names}
 
 -- what is said, in plain texts

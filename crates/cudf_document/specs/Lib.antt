@@ -1,12 +1,6 @@
 pub mod Faults
-pub mod Documents
-pub mod Values
-pub mod Ids
-pub mod Preamble
 pub mod ProblemFaults
 pub mod SolutionFaults
 pub mod Details
-pub mod Universe
-pub mod Statuses
 pub mod Promises
 pub mod Working

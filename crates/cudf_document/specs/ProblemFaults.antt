@@ -9,15 +9,15 @@ use Rattle.cudf_text.specs.declared.fault.Kind.TheVariants.{E4, E5, E6, E7, E8, 
 use Rattle.cudf_text.specs.Stanzas.{PlainProperty, PlainStanza, PlainText}
 use Rattle.cudf_value.specs.Parts.{some_if, look_up}
 use Rattle.cudf_value.specs.Declarations.{PlainDeclaration}
-use Rattle.cudf_document.specs.declared.mode.Mode.{Mode}
-use Rattle.cudf_document.specs.declared.mode.Mode.TheVariants.{Lenient, Strict}
-use Rattle.cudf_document.specs.declared.postmark.Postmark.{Postmark}
-use Rattle.cudf_document.specs.declared.postmark.Postmark.TheVariants.{Package, Request}
+use Rattle.cudf_problem.specs.declared.mode.Mode.{Mode}
+use Rattle.cudf_problem.specs.declared.mode.Mode.TheVariants.{Lenient, Strict}
+use Rattle.cudf_problem.specs.declared.postmark.Postmark.{Postmark}
+use Rattle.cudf_problem.specs.declared.postmark.Postmark.TheVariants.{Package, Request}
 use Rattle.cudf_document.specs.Faults.{fault_if}
-use Rattle.cudf_document.specs.Documents.{is_empty, with_earlier, postmark, marks_preamble, marks_package, is_request, has_name, line_of}
-use Rattle.cudf_document.specs.Ids.{Id, id_of, is_known}
-use Rattle.cudf_document.specs.Values.{Test, package_tests, request_tests, declared_test}
-use Rattle.cudf_document.specs.Preamble.{declared_by, declared_after, declared}
+use Rattle.cudf_problem.specs.Documents.{is_empty, with_earlier, postmark, marks_preamble, marks_package, is_request, has_name, line_of}
+use Rattle.cudf_problem.specs.Ids.{Id, id_of, is_known}
+use Rattle.cudf_problem.specs.Values.{Test, package_tests, request_tests, declared_test}
+use Rattle.cudf_problem.specs.Preamble.{declared_by, declared_after, declared}
 
 -- ---- where a stanza stands
 

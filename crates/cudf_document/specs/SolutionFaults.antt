@@ -5,13 +5,13 @@ use Rattle.cudf_text.specs.declared.fault.Fault.{Fault}
 use Rattle.cudf_text.specs.declared.fault.Kind.TheVariants.{E7, E15}
 use Rattle.cudf_text.specs.Stanzas.{PlainProperty, PlainStanza, PlainText}
 use Rattle.cudf_value.specs.Parts.{look_up}
-use Rattle.cudf_document.specs.declared.mode.Mode.{Mode}
-use Rattle.cudf_document.specs.declared.mode.Mode.TheVariants.{Lenient, Strict}
-use Rattle.cudf_document.specs.declared.postmark.Postmark.{Postmark}
+use Rattle.cudf_problem.specs.declared.mode.Mode.{Mode}
+use Rattle.cudf_problem.specs.declared.mode.Mode.TheVariants.{Lenient, Strict}
+use Rattle.cudf_problem.specs.declared.postmark.Postmark.{Postmark}
 use Rattle.cudf_document.specs.Faults.{fault_if}
-use Rattle.cudf_document.specs.Documents.{with_earlier, postmark, marks_package, line_of}
-use Rattle.cudf_document.specs.Ids.{id_of, is_known}
-use Rattle.cudf_document.specs.Values.{solution_tests}
+use Rattle.cudf_problem.specs.Documents.{with_earlier, postmark, marks_package, line_of}
+use Rattle.cudf_problem.specs.Ids.{id_of, is_known}
+use Rattle.cudf_problem.specs.Values.{solution_tests}
 use Rattle.cudf_document.specs.ProblemFaults.{unmarked_faults, repeats, mistyped_faults, unversioned_faults, version_property}
 
 -- the faults of a property after those before it: E7, where its name counts, and E9

@@ -1,6 +1,5 @@
 pub mod Details
 pub mod Enums
-pub mod Flags
 pub mod Identities
 pub mod Kept
 pub mod Pairs

@@ -3,11 +3,11 @@ ghost use Rattle.std.specs.Prelude.{◌≡◌, false, not, ◌&&◌, ◌||◌, [
 ghost use Rattle.std.specs.List.{list_any};
 ghost use Rattle.cudf_value.specs.Promises.Views.{formula_view};
 ghost use Rattle.cudf_value.specs.Promises.Types.{type_view, declaration_view};
-ghost use Rattle.cudf_document.specs.Values.{declared_test};
+ghost use Rattle.cudf_problem.specs.Values.{declared_test};
 ghost use Rattle.cudf_value.specs.Parts.{look_up};
 ghost use Rattle.cudf_document.specs.ProblemFaults.{required_names};
 ghost use Rattle.cudf_document.specs.Working.Judging.{name_without_default, all_declarable};
-ghost use Rattle.cudf_document.specs.Preamble.{reserved_names, is_declared, is_declarable, declared_by, recommends_in, recommends_default};
+ghost use Rattle.cudf_problem.specs.Preamble.{reserved_names, is_declared, is_declarable, declared_by, recommends_in, recommends_default};
 ghost use Rattle.cudf_document.specs.Working.PackageFields.{wrong_kind};
 
 pub(crate) mod declared;
@@ -16,7 +16,7 @@ pub(crate) mod required;
 
 use crate::declarations::declared::Declared;
 use crate::fault::mistyped_unless;
-use crate::mode::Mode;
+use cudf_problem::Mode;
 use cudf_text::Kind;
 use cudf_value::{Declaration, Formula, ValueType, read_declarations};
 use indexmap::IndexMap;
@@ -111,15 +111,12 @@ impl<'t> Declarations<'t> {
     }
 
     /// The declared default of `recommends`, where that is declared as `vpkgformula`.
-    pub(crate) fn recommends_default(
-        &self,
-        alloc: Global,
-    ) -> Result<Option<Formula<'t>>, AllocError>
-        ensures { IfOk result (λ f. option_map formula_view f ≡ recommends_default self.now) }
+    pub(crate) fn recommends_default(&self) -> Option<Formula<'t>>
+        ensures { option_map formula_view result ≡ recommends_default self.now }
     {
         match self.recommends() {
-            Some(declared) => declared.default_formula(alloc),
-            None => Ok(None),
+            Some(declared) => declared.default_formula(),
+            None => None,
         }
     }
 

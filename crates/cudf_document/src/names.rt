@@ -3,7 +3,7 @@ ghost use Rattle.std.specs.Prelude.{◌≡◌, [], not, find, option_map, bytes_
 ghost use Rattle.std.specs.List.{list_any};
 ghost use Rattle.indexmap.specs.IndexSet.{insert_key};
 ghost use Rattle.cudf_text.specs.Promises.Views.{property_view, stanza_view};
-ghost use Rattle.cudf_document.specs.Documents.{has_name};
+ghost use Rattle.cudf_problem.specs.Documents.{has_name};
 
 use cudf_text::{PropertyRef, StanzaRef};
 use indexmap::IndexSet;

@@ -1,18 +1,11 @@
 //! What a stanza is: CUDF 2.0, syntax of documents.
 ghost use Rattle.std.specs.Prelude.{◌≡◌};
 ghost use Rattle.cudf_text.specs.Promises.Views.{stanza_view};
-ghost use Rattle.cudf_document.specs.Documents.{postmark, postmark_named};
-ghost use Rattle.cudf_document.specs.Promises.Packages.{is_preamble};
+ghost use Rattle.cudf_problem.specs.Documents.{postmark, postmark_named};
+ghost use Rattle.cudf_problem.specs.Promises.Packages.{is_preamble};
 
+use cudf_problem::Postmark;
 use cudf_text::StanzaRef;
-
-/// What the first property's name says that a stanza is.
-#[derive(Clone, Copy, Debug, PartialEq, Eq)]
-pub(crate) enum Postmark {
-    Preamble,
-    Package,
-    Request,
-}
 
 /// The stanza's postmark, if its first property is one.
 pub(crate) fn postmark_of(stanza: &StanzaRef<'_>) -> Option<Postmark>

@@ -5,6 +5,7 @@ pub(crate) mod reader;
 pub(crate) mod stanza;
 
 use crate::proposed::pairs::Pairs;
+use cudf_problem::Unknown;
 use std::fmt;
 use std::marker::Model;
 
@@ -19,8 +20,8 @@ pub struct Proposed<'t> {
 
 impl<'t> Model for Proposed<'t> {
     ghost use Rattle.std.specs.Prelude.{List, map};
-    ghost use Rattle.cudf_document.specs.Promises.Views.{unknown_view};
-    ghost use Rattle.cudf_document.specs.Statuses.{PlainUnknown};
+    ghost use Rattle.cudf_problem.specs.Promises.Views.{unknown_view};
+    ghost use Rattle.cudf_problem.specs.Statuses.{PlainUnknown};
 
     ghost Value = { List PlainUnknown };
 
@@ -37,7 +38,7 @@ impl fmt::Debug for Proposed<'_> {
 
 impl<'t> Proposed<'t> {
     ghost use Rattle.std.specs.Prelude.{◌≡◌, map};
-    ghost use Rattle.cudf_document.specs.Promises.Views.{unknown_view};
+    ghost use Rattle.cudf_problem.specs.Promises.Views.{unknown_view};
 
     /// The stanzas that install a pair, in order. As long as there is no problem none of the pairs is known.
     pub fn installed(&self) -> &[Unknown<'t>]
@@ -45,17 +46,4 @@ impl<'t> Proposed<'t> {
     {
         self.installed.as_slice()
     }
-}
-
-/// A stanza that installs a pair. Of a `Solution` the pair isn't in the universe.
-#[derive(Clone, Copy, Debug, PartialEq, Eq)]
-pub struct Unknown<'t> {
-    /// Its number among all stanzas, from 1.
-    pub stanza: u64,
-    /// The line of its `package` property, from 1.
-    pub line: u64,
-    /// The pair's name.
-    pub name: &'t str,
-    /// The pair's version.
-    pub version: u64,
 }

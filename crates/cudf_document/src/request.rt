@@ -1,17 +1,2 @@
-//! The request: CUDF 2.0, request properties.
+//! How a request is read.
 pub(crate) mod lists;
-
-use cudf_value::Vpkg;
-
-/// What is asked for; each list is empty by default.
-#[derive(Debug, PartialEq, Eq, Drop)]
-pub struct Request<'t> {
-    /// The line of its `request` property, from 1.
-    pub line: u64,
-    /// What is to be satisfied.
-    pub install: Vec<Vpkg<'t>>,
-    /// What isn't to be satisfied.
-    pub remove: Vec<Vpkg<'t>>,
-    /// What is to be satisfied by one version, not lower than before.
-    pub upgrade: Vec<Vpkg<'t>>,
-}

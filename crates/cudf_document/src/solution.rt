@@ -1,16 +1,3 @@
-//! Solutions of a problem: CUDF 2.0, installations.
+//! How a solution is read.
 pub(crate) mod held;
 pub(crate) mod placed;
-pub(crate) mod status;
-
-use crate::proposed::Unknown;
-use crate::solution::status::Status;
-
-/// What a solution proposes for a problem.
-#[derive(Debug, Drop)]
-pub struct Solution<'t> {
-    /// The packages of the universe that it installs.
-    pub status: Status,
-    /// Its stanzas that install a pair which isn't in the universe, in order.
-    pub unknown: Vec<Unknown<'t>>,
-}

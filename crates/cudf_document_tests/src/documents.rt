@@ -2,8 +2,7 @@
 //! errors.
 use crate::table::{prints, shows};
 use cudf_document::{
-    Chosen, Mode, Problem, ReadError, Solution, Unknown, first_fault, initial, read_problem,
-    read_solution,
+    Mode, Problem, ReadError, Solution, Unknown, first_fault, initial, read_problem, read_solution,
 };
 use cudf_text::{Fault, Kind, Room, Text, is_fail, read, stanzas};
 use std::alloc::{AllocError, Global};
@@ -215,10 +214,10 @@ fn errors(rt: HostRuntime) {
 
 /// What programmers are shown of a problem without packages.
 const SHOWN: &str =
-    "Problem { packages: [], request: Request { line: 1, install: [], remove: [], upgrade: [] }, recommends: None, .. }";
+    "Problem { packages: [], request: Request { line: 1, install: VpkgList { text: \"a\" }, remove: VpkgList { text: \"\" }, upgrade: VpkgList { text: \"\" } }, recommends: None, .. }";
 
 fn is_shown(alloc: Global) -> bool {
-    match read(alloc, b"request: r\n") {
+    match read(alloc, b"request: r\ninstall: a\n") {
         Ok(text) => match read_problem(alloc, &text, Mode::Lenient) {
             Ok(problem) => shows(alloc, &problem, SHOWN),
             Err(_) => false,
@@ -230,5 +229,4 @@ fn is_shown(alloc: Global) -> bool {
 #[test]
 fn shown(rt: HostRuntime) {
     assert!(rt; is_shown(rt.alloc()));
-    assert!(rt; shows(rt.alloc(), &Chosen::none(rt.alloc()), "Chosen { .. }"));
 }

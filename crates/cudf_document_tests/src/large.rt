@@ -1,11 +1,11 @@
 //! Values, lists and documents at the sizes at which a reader may take another way, and far beyond them: each is read,
 //! and memory is missed in none.
 use cudf_document::{
-    Chosen, Mode, Problem, Proposed, ReadError, Solution, first_fault, problem_for, problem_of,
-    proposed_of, read_problem, read_solution, solution_of,
+    Mode, Problem, Proposed, ReadError, Solution, first_fault, problem_of, proposed_of,
+    read_problem, read_solution, solution_of,
 };
 use cudf_text::{Room, Text, is_fail, read, stanzas};
-use cudf_value::{read_formula, read_veqpkglist, read_vpkglist};
+use cudf_value::{Clause, Formula, read_formula, read_veqpkglist, read_vpkglist};
 use std::alloc::{AllocError, Global};
 
 /// `head`, and then the part so many times.
@@ -71,34 +71,60 @@ fn has_entries(alloc: Global, count: &u64) -> bool {
     let clause = with_parts(alloc, "a = 1", " | a = 1", more);
     match (list, clause) {
         (Ok(list), Ok(clause)) => {
-            is_list(alloc, list.as_str(), *count) && is_clause(alloc, clause.as_str(), *count)
+            is_list(list.as_str(), *count)
+                && has_clauses(list.as_str(), *count)
+                && has_atoms(clause.as_str(), *count)
         }
         _ => false,
     }
 }
 
-fn is_list(alloc: Global, text: &str, count: u64) -> bool {
-    let lists = match (read_vpkglist(alloc, text), read_veqpkglist(alloc, text)) {
-        (Ok(Some(list)), Ok(Some(exact))) => {
-            list.len() as u64 == count && exact.len() as u64 == count
-        }
-        _ => false,
-    };
-    let formula = match read_formula(alloc, text) {
-        Ok(Some(formula)) => formula.clauses.len() as u64 == count,
-        _ => false,
-    };
-    lists && formula
-}
-
-fn is_clause(alloc: Global, text: &str, count: u64) -> bool {
-    match read_formula(alloc, text) {
-        Ok(Some(formula)) => match formula.clauses.as_slice() {
-            [clause] => clause.atoms.len() as u64 == count,
-            _ => false,
-        },
+fn is_list(text: &str, count: u64) -> bool {
+    match (read_vpkglist(text), read_veqpkglist(text)) {
+        (Some(list), Some(exact)) => list.len() as u64 == count && exact.len() as u64 == count,
         _ => false,
     }
+}
+
+fn has_clauses(text: &str, count: u64) -> bool {
+    match read_formula(text) {
+        Some(formula) => are_clauses(formula, count),
+        None => false,
+    }
+}
+
+fn are_clauses(formula: Formula<'_>, count: u64) -> bool {
+    let mut left = count;
+    for _clause in formula.clauses() {
+        if left == 0 {
+            return false;
+        }
+        left -= 1;
+    }
+    left == 0
+}
+
+/// Whether the text is a formula of one clause with so many atoms.
+fn has_atoms(text: &str, count: u64) -> bool {
+    let Some(formula) = read_formula(text) else {
+        return false;
+    };
+    let mut clauses = formula.clauses();
+    match (clauses.next(), clauses.next()) {
+        (Some(clause), None) => are_atoms(clause, count),
+        _ => false,
+    }
+}
+
+fn are_atoms(clause: Clause<'_>, count: u64) -> bool {
+    let mut left = count;
+    for _atom in clause.atoms() {
+        if left == 0 {
+            return false;
+        }
+        left -= 1;
+    }
+    left == 0
 }
 
 const COUNTS: [u64; 8] = [1, 2, 63, 64, 65, 100, 1000, 5000];
@@ -191,7 +217,6 @@ fn is_installed(
 fn stanzas_are_read(alloc: Global, problem: &str, solution: &str, count: u64) -> bool {
     is_sound(alloc, problem.as_bytes())
         && all_is_read(alloc, problem.as_bytes(), solution.as_bytes(), count)
-        && chosen_is_read(alloc, problem.as_bytes(), solution.as_bytes(), count)
 }
 
 fn is_sound(alloc: Global, problem: &[u8]) -> bool {
@@ -233,35 +258,6 @@ fn placed<'t>(
     problem: &Problem<'_>,
 ) -> Result<Solution<'t>, ReadError> {
     Ok(solution_of(alloc, proposed, problem)?)
-}
-
-fn chosen_is_read(alloc: Global, problem: &[u8], solution: &[u8], count: u64) -> bool {
-    let mut room = Room::new(alloc);
-    match stanzas(alloc, solution, &mut room) {
-        Ok(stanzas) => match proposed_of(alloc, stanzas, Mode::Lenient) {
-            Ok(proposed) => proposed_is_read(alloc, problem, &proposed, count),
-            Err(_) => false,
-        },
-        Err(_) => false,
-    }
-}
-
-fn proposed_is_read(alloc: Global, problem: &[u8], proposed: &Proposed<'_>, count: u64) -> bool {
-    match Chosen::of(alloc, proposed) {
-        Ok(chosen) => is_read_for(alloc, problem, &chosen, count),
-        Err(_) => false,
-    }
-}
-
-fn is_read_for(alloc: Global, problem: &[u8], chosen: &Chosen<'_>, count: u64) -> bool {
-    let mut room = Room::new(alloc);
-    match stanzas(alloc, problem, &mut room) {
-        Ok(stanzas) => match problem_for(alloc, stanzas, chosen, Mode::Lenient) {
-            Ok(problem) => problem.packages().len() as u64 == count,
-            Err(_) => false,
-        },
-        Err(_) => false,
-    }
 }
 
 /// The last of them have more than 5,000 lines.

@@ -18,16 +18,3 @@ pub(crate) fn shows<T: Debug>(alloc: Global, value: &T, want: &str) -> bool {
         Err(_) => false,
     }
 }
-
-/// Prints each value with a `;` behind it.
-#[derive(Clone, Copy)]
-pub(crate) struct Listed<'v, T>(pub(crate) &'v [T]);
-
-impl<T: Display> Display for Listed<'_, T> {
-    fn fmt<W: fmt::Write>(&self, f: &mut fmt::Formatter<W>) -> fmt::Result {
-        for value in self.0 {
-            write!(f, "{value};")?;
-        }
-        Ok(())
-    }
-}

@@ -1,9 +1,9 @@
 //! The vectors of values.
-use crate::table::{Listed, prints};
+use crate::table::prints;
 use cudf_value::{
-    Declaration, Relop, ValueType, Vpkg, declaration_pieces, fits, is_ident, is_pkgname, laws,
-    misfit, read_bool, read_declaration, read_declarations, read_formula, read_int, read_nat,
-    read_posint, read_veqpkg, read_veqpkglist, read_vpkg, read_vpkglist,
+    Declaration, Formula, Relop, ValueType, Vpkg, VpkgList, declaration_pieces, fits, is_ident,
+    is_pkgname, laws, misfit, read_bool, read_declaration, read_declarations, read_formula,
+    read_int, read_nat, read_posint, read_veqpkg, read_veqpkglist, read_vpkg, read_vpkglist,
 };
 use std::alloc::{AllocError, Global};
 
@@ -123,19 +123,31 @@ const LISTS: [Row; 7] = [
 ];
 
 fn is_list(alloc: Global, row: &Row) -> bool {
-    prints_list(alloc, read_vpkglist(alloc, row.0), row.1)
-        && prints_list(alloc, read_veqpkglist(alloc, row.0), row.2)
+    prints_list(alloc, read_vpkglist(row.0), row.1)
+        && prints_list(alloc, read_veqpkglist(row.0), row.2)
 }
 
-fn prints_list(
-    alloc: Global,
-    list: Result<Option<Vec<Vpkg<'_>>>, AllocError>,
-    want: Option<&str>,
-) -> bool {
+fn prints_list(alloc: Global, list: Option<VpkgList<'_>>, want: Option<&str>) -> bool {
     match (list, want) {
-        (Ok(Some(list)), Some(want)) => prints(alloc, &Listed(&list), want),
-        (Ok(None), None) => true,
+        (Some(list), Some(want)) => is_text(printed_list(alloc, list), want),
+        (None, None) => true,
         _ => false,
+    }
+}
+
+/// The vpkgs, each with a `;` after it.
+fn printed_list(alloc: Global, list: VpkgList<'_>) -> Result<String, AllocError> {
+    let mut text = String::new(alloc);
+    for vpkg in list.vpkgs() {
+        write!(text, "{vpkg};")?;
+    }
+    Ok(text)
+}
+
+fn is_text(text: Result<String, AllocError>, want: &str) -> bool {
+    match text {
+        Ok(text) => text.as_str() == want,
+        Err(_) => false,
     }
 }
 
@@ -155,11 +167,20 @@ const FORMULAS: [(&'static str, Option<&'static str>); 5] = [
 ];
 
 fn is_formula(alloc: Global, row: &(&str, Option<&str>)) -> bool {
-    match (read_formula(alloc, row.0), row.1) {
-        (Ok(Some(formula)), Some(want)) => prints(alloc, &Listed(&formula.clauses), want),
-        (Ok(None), None) => true,
+    match (read_formula(row.0), row.1) {
+        (Some(formula), Some(want)) => is_text(printed_formula(alloc, formula), want),
+        (None, None) => true,
         _ => false,
     }
+}
+
+/// The clauses, each with a `;` after it.
+fn printed_formula(alloc: Global, formula: Formula<'_>) -> Result<String, AllocError> {
+    let mut text = String::new(alloc);
+    for clause in formula.clauses() {
+        write!(text, "{clause};")?;
+    }
+    Ok(text)
 }
 
 #[test]
@@ -339,17 +360,6 @@ fn misfits(rt: HostRuntime) {
     }
 }
 
-/// Whether a copy of the formula is equal to it.
-fn is_copied(alloc: Global, text: &str) -> bool {
-    match read_formula(alloc, text) {
-        Ok(Some(formula)) => match formula.clone() {
-            Ok(copy) => copy == formula,
-            Err(_) => false,
-        },
-        _ => false,
-    }
-}
-
 /// Whether a copy of the declarations is equal to them.
 fn are_copied(alloc: Global, text: &str) -> bool {
     match read_declarations(alloc, text) {
@@ -364,6 +374,5 @@ fn are_copied(alloc: Global, text: &str) -> bool {
 /// Copies take memory: no clause says that there are any.
 #[test]
 fn copies(rt: HostRuntime) {
-    assert!(rt; is_copied(rt.alloc(), "a | b >= 2, true!"));
     assert!(rt; are_copied(rt.alloc(), "a: enum[x, y] = [y], b: vpkglist"));
 }

@@ -36,7 +36,7 @@ fn walk<'r, 'p, 't>(referee: &'r Referee<'p, 't>, after: Option<Key>) -> Instanc
 }
 
 /// Prints the key of an instance, the package that it is about, and what is wrong.
-fn print_instance<W: Write>(instance: &Instance<'_, '_>, out: &mut W) -> io::Result<()> {
+fn print_instance<W: Write>(instance: &Instance<'_>, out: &mut W) -> io::Result<()> {
     let key = instance.key;
     write!(out, "{key}")?;
     if let Some((name, version)) = instance.subject {
@@ -46,7 +46,7 @@ fn print_instance<W: Write>(instance: &Instance<'_, '_>, out: &mut W) -> io::Res
 }
 
 /// Prints what an instance says is wrong.
-fn print_what<W: Write>(instance: &Instance<'_, '_>, out: &mut W) -> io::Result<()> {
+fn print_what<W: Write>(instance: &Instance<'_>, out: &mut W) -> io::Result<()> {
     match instance.what {
         What::Needs(clause) => writeln!(out, " lacks {clause}"),
         What::ConflictsWith(entry) => writeln!(out, " excludes {entry}"),

@@ -1,17 +1,16 @@
--- Files in a row: the words that name them, the devices over them, and the bytes that these give.
+-- Files in a row: the devices over them, and the bytes that these give.
 use Rattle.std.proofs.Common.{◌≡◌, ◌+◌, ◌<◌, ◌≤◌, ℕ, Bool, zero, suc, true, false, cond, List, [], ◌∷◌, ◌++◌, map, take, get_or, Vec, Global, length, slice_index_or, count_by, bytes_eq, nat_lt, codes, Option, Some, None, Result, Ok, Err, MatchResult, inl, refl, sym, ap, ◌∙◌, subst, arith}
 use Rattle.std.proofs.lemmas.Grind.{common_steps}
 use Rattle.std.proofs.lemmas.List.{map-id}
 use Rattle.std.specs.List.{fold, AllZip}
 use Rattle.std.specs.Option.{option_to_list}
-use Rattle.cudf_document.proofs.NameLemmas.{same_bytes}
 use Rattle.cudf_check.specs.ManyRuns.{LeavesBehind}
 use Rattle.cudf_check.specs.Readers.{Change, ReadsAll, change, changes}
 use Rattle.cudf_check.specs.Runs.{AppendsPrefix, Runs, job_report, read_for}
 use Rattle.cudf_check.specs.RankReport.{rank_report}
 use Rattle.cudf_check.specs.Report.{Report, report}
-use Rattle.cudf_check.specs.declared.job.Job.{Job}
-use Rattle.cudf_check.specs.declared.job.Job.TheVariants.{Lint, Check, Score}
+use Rattle.cudf_job.specs.declared.job.Job.{Job}
+use Rattle.cudf_job.specs.declared.job.Job.TheVariants.{Lint, Check, Score}
 use Rattle.std.specs.Io.KnownBytes.{Appends, Consumes, Keeps}
 use Rattle.std.proofs.lemmas.Result.{IfOk-weaker}
 use Rattle.cudf_check.specs.Device.{SinkState, SourceState}
@@ -19,83 +18,20 @@ use Rattle.cudf_check.specs.DeviceInside.{device_inner}
 use Rattle.cudf_check.specs.declared.device.Device.{Device}
 use Rattle.cudf_check.specs.declared.outcome.Outcome.{Outcome}
 use Rattle.cudf_check.specs.declared.outcome.RunError.{RunError}
-use Rattle.cudf_document.specs.declared.mode.Mode.{Mode}
-use Rattle.cudf_referee.specs.declared.aims.Aim.{Aim}
-use Rattle.cudf_program.specs.Command.{AreGivenBy, AreNamedBy, IsNamedBy, Refuses, are_standard_twice, files_alone, is_standard}
+use Rattle.cudf_problem.specs.declared.mode.Mode.{Mode}
+use Rattle.cudf_job.specs.declared.aims.Aim.{Aim}
 use Rattle.cudf_program.specs.Program.{AreOpened, Did, DidOrder, Finishes, IsFailureOf, IsKnownAs, IsNamed, IsOfFile, IsPrepared, IsTask, OfReport, Responds, known_of, left_of, origin_left}
-use Rattle.cudf_program.specs.declared.command.FileName.{FileName}
-use Rattle.cudf_program.specs.declared.command.Order.{Order}
-use Rattle.cudf_program.specs.declared.refusal.Refusal.TheVariants.{Twice}
-use Rattle.cudf_program.specs.declared.command.Work.TheVariants.{Run as RunOf, Rank as RankOf}
-use Rattle.cudf_program.specs.Orders.{IsAskedFor}
+use Rattle.cudf_command_line.specs.declared.command.FileName.{FileName}
+use Rattle.cudf_command_line.specs.declared.command.Order.{Order}
+use Rattle.cudf_command_line.specs.declared.command.Work.TheVariants.{Run as RunOf, Rank as RankOf}
+use Rattle.cudf_command_line.specs.Orders.{IsAskedFor}
 use Rattle.cudf_program.specs.declared.failure.Failure.{Failure}
 use Rattle.cudf_program.specs.declared.failure.Failure.TheVariants as reason
 use Rattle.cudf_program.specs.declared.file.Input.{Input}
 use Rattle.cudf_program.specs.declared.file.Origin.{Origin}
 use Rattle.cudf_program.specs.declared.file.Origin.TheVariants as origin
 use Rattle.cudf_program.specs.declared.Task.{Task}
-use Rattle.cudf_program.specs.declared.command.FileName.TheVariants.{Path, Standard}
-
--- ---- one more
-
-pub taken_more : {A B C : Type 0} (f : C → A) (R : A → B → Type 0) (cs : List C) (i : ℕ) (d : C) (ys : List B) (y : B)
-    → i < length cs → AllZip R (map f (take i cs)) ys → R (f (get_or cs i d)) y → AllZip R (map f (take (i + 1) cs)) (ys ++ y ∷ [])
-taken_more {A = A} {B = B} {C = C} f R cs i d ys y below m h = let next : i + 1 ≡ suc i = omega arith in subst (λ n. AllZip R (map f (take n cs)) (ys ++ y ∷ [])) (sym next) (go cs i ys below m h)
-  where
-    go : (cs : List C) (i : ℕ) (ys : List B) → i < length cs → AllZip R (map f (take i cs)) ys → R (f (get_or cs i d)) y → AllZip R (map f (take (suc i) cs)) (ys ++ y ∷ [])
-    go [] i ys below m h = absurd (omega arith)
-    go (c ∷ cs) zero [] below m h = (h, tt)
-    go (c ∷ cs) zero (b ∷ ys) below m h = absurd m
-    go (c ∷ cs) (suc i) [] below m h = absurd m
-    go (c ∷ cs) (suc i) (b ∷ ys) below m h = (m.0, go cs i ys (omega arith) m.1 h)
-
-pub next_taken : {A B : Type 0} (R : A → B → Type 0) (xs : List A) (i : ℕ) (d : A) (ys : List B) (y : B)
-    → i < length xs → AllZip R (take i xs) ys → R (get_or xs i d) y → AllZip R (take (i + 1) xs) (ys ++ y ∷ [])
-next_taken R xs i d ys y below m h =
-    subst (λ zs. AllZip R zs (ys ++ y ∷ [])) (map-id (take (i + 1) xs))
-    (taken_more (λ x. x) R xs i d ys y below (subst (λ zs. AllZip R zs ys) (sym (map-id (take i xs))) m) h)
-
--- ---- standard input
-
-differs : (a b : List ℕ) → (a ≡ b → ⊥) → bytes_eq a b ≡ false
-differs a b no_match = go (bytes_eq a b) refl
-  where
-    go : (t : Bool) → bytes_eq a b ≡ t → bytes_eq a b ≡ false
-    go true e = absurd (no_match (same_bytes a b e))
-    go false e = e
-
-same_test : (word : List ℕ) (file : FileName) → IsNamedBy word file → is_standard file ≡ bytes_eq word (codes "-")
-same_test word (Path path) h = sym (differs word (codes "-") h.1)
-same_test word Standard h = sym (subst (λ w. bytes_eq w (codes "-") ≡ true) (sym h) refl)
-
-abbrev one_if : Bool → ℕ
-one_if b = cond b 1 0
-
-same_count : (n : ℕ) (words : List (List ℕ)) (files : List FileName) → AreNamedBy words files
-    → fold (λ m file. m + one_if (is_standard file)) n files ≡ fold (λ m word. m + one_if (bytes_eq word (codes "-"))) n words
-same_count n [] [] m = refl
-same_count n [] (file ∷ files) m = absurd m
-same_count n (word ∷ words) [] m = absurd m
-same_count n (word ∷ words) (file ∷ files) m =
-    ap (λ b. fold (λ k (f : FileName). k + one_if (is_standard f)) (n + one_if b) files) (same_test word file m.0)
-    ∙ same_count (n + one_if (bytes_eq word (codes "-"))) words files m.1
-
--- where two of the files are standard input, so say two of the words
-named_twice : (words : List (List ℕ)) (files : List FileName) → AreNamedBy words files → nat_lt 1 (count_by is_standard files) ≡ true
-    → nat_lt 1 (count_by (λ word. bytes_eq word (codes "-")) words) ≡ true
-named_twice words files m twice = ap (nat_lt 1) (sym (same_count 0 words files m)) ∙ twice
-
--- the words of the solutions, where there are any, are refused where two of the files are standard input
-pub given_twice : (problem : Option (List ℕ)) (solutions : Option (List (List ℕ))) (word : List ℕ) (file : FileName) (files : List FileName)
-    → problem ≡ Some word → IsNamedBy word file → AreGivenBy solutions files → nat_lt 1 (count_by is_standard (file ∷ files)) ≡ true
-    → Refuses (files_alone problem solutions) Twice
-given_twice problem solutions word file files problem_is named names twice =
-    subst (λ p. Refuses (files_alone p solutions) Twice) (sym problem_is) ((None, tt), (None, tt), (None, tt), refl, go solutions files names twice)
-  where
-    go : (solutions : Option (List (List ℕ))) (files : List FileName) → AreGivenBy solutions files → nat_lt 1 (count_by is_standard (file ∷ files)) ≡ true
-        → are_standard_twice (Some word) solutions ≡ true
-    go None files none twice = named_twice (word ∷ []) (file ∷ []) (named, tt) (subst (λ fs. nat_lt 1 (count_by is_standard (file ∷ fs)) ≡ true) none twice)
-    go (Some words) files names twice = named_twice (word ∷ words) (file ∷ files) (named, names) twice
+use Rattle.cudf_command_line.specs.declared.command.FileName.TheVariants.{Path, Standard}
 
 -- ---- bytes
 

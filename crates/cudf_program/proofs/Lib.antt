@@ -1,4 +1,1 @@
 pub mod FileLemmas
-pub mod GrammarLemmas
-pub mod MatchLemmas
-pub mod OrderLemmas

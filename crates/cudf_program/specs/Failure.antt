@@ -8,11 +8,11 @@ use Rattle.cudf_check.specs.Device.{SinkState}
 use Rattle.cudf_check.specs.Runs.{AppendsPrefix, error_status, outcome_status}
 use Rattle.cudf_check.specs.declared.outcome.Outcome.{Outcome}
 use Rattle.cudf_check.specs.declared.outcome.RunError.{RunError}
-use Rattle.cudf_program.specs.Usage.{usage_status}
-use Rattle.cudf_program.specs.declared.command.FileName.{FileName}
+use Rattle.cudf_command_line.specs.Usage.{usage_status}
+use Rattle.cudf_command_line.specs.declared.command.FileName.{FileName}
 use Rattle.cudf_program.specs.declared.failure.Failure.{Failure}
 use Rattle.cudf_program.specs.declared.failure.Failure.TheVariants.{Words, Usage, Open, Memory}
-use Rattle.cudf_program.specs.declared.usage.Usage.TheVariants as usage
+use Rattle.cudf_command_line.specs.declared.usage.Usage.TheVariants as usage
 
 -- words that can't be had are a usage fault, and a file that can't be opened is one of files
 abbrev pub failure_status : Failure → ℕ

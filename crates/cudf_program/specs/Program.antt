@@ -4,7 +4,7 @@ use Rattle.std.specs.List.{AllZip}
 use Rattle.std.specs.Io.KnownBytes.{Appends, Keeps}
 use Rattle.std.specs.IoError.{error_kind}
 use Rattle.std.specs.declared.io.Error.{Error}
-use Rattle.cudf_document.specs.declared.mode.Mode.{Mode}
+use Rattle.cudf_problem.specs.declared.mode.Mode.{Mode}
 use Rattle.cudf_check.specs.Device.{SinkState}
 use Rattle.cudf_check.specs.DeviceInside.{device_inner}
 use Rattle.cudf_check.specs.Runs.{AppendsPrefix, job_report}
@@ -15,13 +15,13 @@ use Rattle.cudf_check.specs.declared.outcome.Outcome.{Outcome}
 use Rattle.cudf_check.specs.declared.outcome.RunError.{RunError}
 use Rattle.cudf_check.specs.declared.outcome.RunError.TheVariants.{Write}
 use Rattle.cudf_program.specs.Failure.{IsStatusOf, Prints, answer_status, failure_status, open_failure}
-use Rattle.cudf_program.specs.Orders.{IsAskedFor, IsUnasked}
+use Rattle.cudf_command_line.specs.Orders.{IsAskedFor, IsUnasked}
 use Rattle.cudf_program.specs.declared.Task.{Task}
-use Rattle.cudf_program.specs.declared.command.FileName.{FileName}
-use Rattle.cudf_program.specs.declared.command.FileName.TheVariants.{Path, Standard}
-use Rattle.cudf_program.specs.declared.command.Order.{Order}
-use Rattle.cudf_program.specs.declared.command.Work.{Work}
-use Rattle.cudf_program.specs.declared.command.Work.TheVariants.{Run, Rank}
+use Rattle.cudf_command_line.specs.declared.command.FileName.{FileName}
+use Rattle.cudf_command_line.specs.declared.command.FileName.TheVariants.{Path, Standard}
+use Rattle.cudf_command_line.specs.declared.command.Order.{Order}
+use Rattle.cudf_command_line.specs.declared.command.Work.{Work}
+use Rattle.cudf_command_line.specs.declared.command.Work.TheVariants.{Run, Rank}
 use Rattle.cudf_program.specs.declared.failure.Failure.{Failure}
 use Rattle.cudf_program.specs.declared.failure.Failure.TheVariants as reason
 use Rattle.cudf_program.specs.declared.file.Input.{Input}

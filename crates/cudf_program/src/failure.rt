@@ -1,6 +1,5 @@
 //! What the program says, and its exit status, where there is no whole report.
-use crate::command::FileName;
-use crate::usage::Usage;
+use cudf_command_line::{FileName, Usage};
 use std::io::{self, ErrorKind, Write};
 
 /// Why the program started no run.

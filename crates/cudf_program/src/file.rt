@@ -2,7 +2,7 @@
 ghost use Rattle.std.specs.Prelude.{IfOk};
 ghost use Rattle.cudf_program.specs.Program.{IsOpened};
 
-use crate::command::FileName;
+use cudf_command_line::FileName;
 use std::fs::{self, File};
 use std::io::{self, Read};
 

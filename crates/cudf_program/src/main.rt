@@ -7,18 +7,13 @@ ghost use Rattle.std.specs.Vec.Iter.{into_iter_items};
 ghost use Rattle.cudf_program.specs.Failure.{IsStatusOf, Prints, failure_status};
 ghost use Rattle.cudf_program.specs.Program.{AreOpened, Did, Finishes, IsPrepared, IsFailureOf, IsOfFile, IsOpened, IsTask, IsUnopened, Responds, left_of};
 
-mod command;
 mod failure;
 mod file;
-mod grammar;
 mod output;
-mod refusal;
 mod stop;
-mod topic;
-mod usage;
 
-use command::{FileName, Order, Work};
 use cudf_check::{Device, Outcome, RunError, Sink, rank, run};
+use cudf_command_line::{FileName, Order, Usage, Work, command};
 use failure::Failure;
 use file::{Input, open};
 use output::write_all;
@@ -29,7 +24,6 @@ use std::io::{self, Read, Write};
 use std::process::ExitCode;
 use std::rt::Env;
 use stop::Stop;
-use usage::Usage;
 
 fn main(rt: HostRuntime) -> ExitCode {
     let (mut out, mut errors) = (Device::new(rt.stdout()), rt.stderr());

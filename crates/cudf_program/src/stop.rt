@@ -1,7 +1,7 @@
 //! What the program says where a run was broken off.
-use crate::command::FileName;
 use crate::file::{Input, Reading};
 use cudf_check::{Device, RunError};
+use cudf_command_line::FileName;
 use std::io::{self, Write};
 
 /// The input at which a run was broken off: the last one from which it read.

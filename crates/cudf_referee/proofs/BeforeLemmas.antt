@@ -2,6 +2,7 @@
 use Rattle.std.proofs.Common.{◌≡◌, ℕ, ◌+◌, ◌<◌, ◌≤◌, Bool, true, false, cond, List, [], ◌∷◌, ◌++◌, length, get_or, take, map, Option, Some, None, refl, sym, ap, ◌∙◌, subst, arith, nat_lt, bytes_eq, max, append_assoc, length-append}
 use Rattle.std.proofs.Math.Nat.{max-eq_left, max-eq_right}
 use Rattle.std.specs.Prelude.{filter, filter_map, option_map, option_to_list, slice_get, Contains}
+use Rattle.std.specs.List.{cons_option}
 use Rattle.std.proofs.lemmas.Option.{slice_get-map}
 use Rattle.std.proofs.lemmas.Bool.{true≢false, ltb-true, ltb-false}
 use Rattle.std.proofs.lemmas.List.{append-nil, flat_map_more, map_push, take_more}
@@ -9,13 +10,13 @@ use Rattle.std.proofs.lemmas.List.Elements.{All-push, Contains-push, Contains-ap
 use Rattle.cudf_value.specs.declared.vpkg.Vpkg.{Vpkg}
 use Rattle.cudf_value.specs.Promises.Views.{vpkg_view}
 use Rattle.cudf_value.specs.Vpkgs.{PlainVpkg}
-use Rattle.cudf_document.specs.Universe.{PlainPackage}
-use Rattle.cudf_document.specs.Ids.{Id}
-use Rattle.cudf_universe.specs.Satisfaction.{Placed, entry_pair, members, gives, numbers_of, package_pairs}
-use Rattle.cudf_universe.specs.Promises.Members.{IsGreatest}
+use Rattle.cudf_problem.specs.Universe.{PlainPackage}
+use Rattle.cudf_problem.specs.Ids.{Id}
+use Rattle.cudf_index.specs.Satisfaction.{Placed, entry_pair, members, gives, numbers_of, package_pairs}
+use Rattle.cudf_index.specs.Promises.Members.{IsGreatest}
 use Rattle.cudf_referee.specs.Working.Before.{with_number, with_pairs, with_entries, greatest_before}
-use Rattle.cudf_universe.proofs.MemberLemmas.{members_kept, members_left_out}
-use Rattle.cudf_universe.proofs.GatheringLemmas.{filter_map_push}
+use Rattle.cudf_index.proofs.MemberLemmas.{members_kept, members_left_out}
+use Rattle.cudf_index.proofs.GatheringLemmas.{filter_map_push}
 
 -- ---- pairs one after the other
 
@@ -75,15 +76,12 @@ module _ (f : List ℕ) where
   pub greatest_of_status : (status : List Placed) → IsGreatest (numbers_of f status) (with_pairs f (gives status) None)
   greatest_of_status status = greatest_pairs (gives status) [] None (record { none = (λ e. refl, λ e. refl); among = tt; bound = tt })
 
-  -- one entry more
-  pub entries-more : (es : List Vpkg) (i : ℕ) (d : Vpkg) (first old now : Option ℕ) (pair : Option Id) → i < length es → pair ≡ entry_pair (vpkg_view (get_or es i d))
-      → old ≡ with_entries f (map vpkg_view (take i es)) first → now ≡ with_pairs f (option_to_list pair) old → now ≡ with_entries f (map vpkg_view (take (i + 1) es)) first
-  entries-more es i d first old now pair inside is before more =
-      more ∙ ap (λ p. with_pairs f (option_to_list p) old) is ∙ ap (with_pairs f (option_to_list (entry_pair (vpkg_view (get_or es i d))))) before
-      ∙ sym (pairs-append (filter_map entry_pair (map vpkg_view (take i es))) (option_to_list (entry_pair (vpkg_view (get_or es i d)))) first)
-      ∙ ap (λ pairs. with_pairs f pairs first) (sym (filter_map_push entry_pair (map vpkg_view (take i es)) (vpkg_view (get_or es i d))))
-      ∙ ap (λ xs. with_entries f xs first) (sym (map_push vpkg_view (take i es) (get_or es i d)))
-      ∙ ap (λ xs. with_entries f (map vpkg_view xs) first) (sym (take_more es i d inside))
+  -- the next entry, where it has a number
+  pub entries-step : (e : PlainVpkg) (es : List PlainVpkg) (pair : Id) (old now : Option ℕ) → entry_pair e ≡ Some pair → now ≡ cond (bytes_eq pair.0 f) (with_number old pair.1) old
+      → with_entries f es now ≡ with_entries f (e ∷ es) old
+  entries-step e es pair old now has is =
+      ap (with_pairs f (filter_map entry_pair es)) is ∙ sym (pairs_first pair (filter_map entry_pair es) old)
+      ∙ ap (λ o. with_pairs f (cons_option o (filter_map entry_pair es)) old) (sym has)
 
 module _ {A : Type 0} (view : A → PlainPackage) (f : List ℕ) (holds : ℕ → Bool) (xs : List A) (i : ℕ) (d : A) (inside : i < length xs) where
   pub greatest_kept : (old now : Option ℕ) → holds (i + 1) ≡ true → old ≡ with_pairs f (gives (members holds (map view (take i xs)))) None → now ≡ with_pairs f (package_pairs (view (get_or xs i d))) old

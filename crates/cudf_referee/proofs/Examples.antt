@@ -1,28 +1,24 @@
--- The definitions of the counts, of lists of aims, of the rest behind a key and of texts of instances, at inputs that were
--- reckoned by hand.
+-- The definitions of the counts, of lists of aims and of the rest behind a key, at inputs that were reckoned by hand.
 use Rattle.std.proofs.Common.{◌≡◌, ℕ, Bool, false, ◌==◌, ◌||◌, List, [], ◌∷◌, Option, Some, None, map, codes, refl}
-use Rattle.std.specs.Fmt.{digits}
 use Rattle.std.specs.declared.cmp.Ordering.TheVariants.{Less, Equal, Greater}
 use Rattle.cudf_value.specs.Vpkgs.{PlainVpkg}
 use Rattle.cudf_value.specs.Formulas.{PlainAtom, truth_atom, named}
-use Rattle.cudf_document.specs.declared.package.Keep.TheVariants.{Nothing}
-use Rattle.cudf_document.specs.Universe.{PlainPackage, PlainRequest, PlainProblem}
-use Rattle.cudf_document.specs.Statuses.{PlainUnknown}
-use Rattle.cudf_referee.specs.declared.aims.Aim.{Aim}
-use Rattle.cudf_referee.specs.declared.criteria.Count.{Count}
-use Rattle.cudf_referee.specs.declared.criteria.Count.TheVariants.{Removed, New, Changed, NotUpToDate, UnsatRecommends, Touched}
-use Rattle.cudf_referee.specs.declared.aims.Sign.TheVariants.{Least, Most}
-use Rattle.cudf_referee.specs.declared.criteria.Criteria.{Criteria}
-use Rattle.cudf_referee.specs.declared.key.Rule.TheVariants.{Depends, Conflicts, Install, Remove, Upgrade}
-use Rattle.cudf_referee.specs.declared.key.Aspect.TheVariants.{Lower}
-use Rattle.cudf_referee.specs.Comparing.{compare}
-use Rattle.cudf_referee.specs.Promises.Aims.{criterion}
-use Rattle.cudf_referee.specs.Criteria.{criteria, paranoid, trendy}
-use Rattle.cudf_referee.specs.Instances.{conflicts_with, remove, upgrade}
-use Rattle.cudf_referee.specs.Keys.{PlainKey, package_key, request_key}
-use Rattle.cudf_referee.specs.Promises.Texts.{instance_text}
+use Rattle.cudf_problem.specs.declared.package.Keep.TheVariants.{Nothing}
+use Rattle.cudf_problem.specs.Universe.{PlainPackage, PlainRequest, PlainProblem}
+use Rattle.cudf_problem.specs.Statuses.{PlainUnknown}
+use Rattle.cudf_job.specs.declared.aims.Aim.{Aim}
+use Rattle.cudf_job.specs.declared.criteria.Count.{Count}
+use Rattle.cudf_job.specs.declared.criteria.Count.TheVariants.{Removed, New, Changed, NotUpToDate, UnsatRecommends, Touched}
+use Rattle.cudf_job.specs.declared.aims.Sign.TheVariants.{Least, Most}
+use Rattle.cudf_job.specs.declared.criteria.Criteria.{Criteria}
+use Rattle.cudf_job.specs.declared.key.Rule.TheVariants.{Depends, Install, Remove}
+use Rattle.cudf_job.specs.Comparing.{compare}
+use Rattle.cudf_job.specs.Promises.Aims.{criterion}
+use Rattle.cudf_job.specs.Vectors.{paranoid, trendy}
+use Rattle.cudf_referee.specs.Criteria.{criteria}
+use Rattle.cudf_job.specs.Keys.{PlainKey, package_key, request_key}
 use Rattle.cudf_referee.specs.Proposals.{Proposal, proposal}
-use Rattle.cudf_referee.specs.Violations.{at_package, at_request, unknown_instance, listing, rest}
+use Rattle.cudf_referee.specs.Violations.{listing, rest}
 
 abbrev vpkg : List ℕ → PlainVpkg
 vpkg name = record { name = name; bound = None }
@@ -282,28 +278,3 @@ behind_none = refl
 behind_packages : keys_behind (depends_key 9) unwanted ≡ request_key Install 1 None ∷ request_key Install 2 None ∷ request_key Remove 1 None ∷ []
 unfolding listing
 behind_packages = refl
-
--- ---- instances alone
-
-abbrev car : PlainVpkg
-car = vpkg (codes "car")
-
-needs_text : map instance_text (listing twice) ≡ codes "p1.depends.1 user 1 line 1: needs a" ∷ codes "p1.depends.2 user 1 line 1: needs a" ∷ []
-unfolding listing digits
-needs_text = refl
-
-conflict_text : instance_text (at_package (12, plain (codes "bus") 7) Conflicts 3 (conflicts_with car)) ≡ codes "p12.conflicts.3 bus 7 line 1: conflicts with car"
-unfolding digits
-conflict_text = refl
-
-remove_text : instance_text (at_request (request_of [] []) Remove 1 None (remove car)) ≡ codes "r.remove.1 line 5: must remove car"
-unfolding digits
-remove_text = refl
-
-lower_text : instance_text (at_request (request_of [] []) Upgrade 2 (Some Lower) (upgrade car)) ≡ codes "r.upgrade.2.lower line 5: upgrade car is lower than before"
-unfolding digits
-lower_text = refl
-
-unknown_text : instance_text (unknown_instance (record { stanza = 4; line = 11; name = codes "car"; version = 9 })) ≡ codes "s.unknown.4 car 9 line 11: not in the universe"
-unfolding digits
-unknown_text = refl

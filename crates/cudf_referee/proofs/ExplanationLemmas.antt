@@ -11,13 +11,13 @@ use Rattle.cudf_value.specs.declared.atom.Atom.{Atom}
 use Rattle.cudf_value.specs.Promises.Views.{atom_view}
 use Rattle.std.proofs.lemmas.List.Folds.{list_any-append}
 use Rattle.cudf_value.specs.Formulas.{PlainAtom, truth_atom, falsehood_atom, named}
-use Rattle.cudf_document.proofs.ListLemmas.{is_some-find, option_map-none}
-use Rattle.cudf_document.specs.Universe.{PlainPackage}
-use Rattle.cudf_universe.specs.Satisfaction.{Placed, first_satisfying, meets_alone, members, satisfies_atom, satisfies_clause}
-use Rattle.cudf_universe.proofs.SatisfactionLemmas.{member_alone}
-use Rattle.cudf_universe.proofs.SearchLemmas.{list_any-filter}
+use Rattle.cudf_problem.proofs.ListLemmas.{is_some-find, option_map-none}
+use Rattle.cudf_problem.specs.Universe.{PlainPackage}
+use Rattle.cudf_index.specs.Satisfaction.{Placed, first_satisfying, meets_alone, members, satisfies_atom, satisfies_clause}
+use Rattle.cudf_index.proofs.SatisfactionLemmas.{member_alone}
+use Rattle.cudf_index.proofs.SearchLemmas.{list_any-filter}
 use Rattle.cudf_referee.specs.Promises.Laws.{NothingDoes, WouldDo}
-use Rattle.cudf_universe.specs.Promises.Members.{IsLeast, IsGreatest}
+use Rattle.cudf_index.specs.Promises.Members.{IsLeast, IsGreatest}
 use Rattle.cudf_referee.specs.Explanations.{least_of, greatest_of}
 use Rattle.cudf_referee.specs.Working.Firsts.{lesser_of}
 
@@ -96,14 +96,14 @@ no_atom n [] = refl
 no_atom n (p ∷ packages) = no_atom (n + 1) packages
 
 -- the atoms of a clause one after the other
-pub atoms_more : (items : List Atom) (i : ℕ) (d : Atom) (packages : List PlainPackage) (first here new : Option ℕ) → i < length items
-    → first ≡ first_satisfying (enumerate_from 1 packages) (map atom_view (take i items))
-    → here ≡ first_of (λ p. satisfies_atom (p ∷ []) (atom_view (get_or items i d))) (enumerate_from 1 packages)
-    → new ≡ lesser_of first here → new ≡ first_satisfying (enumerate_from 1 packages) (map atom_view (take (i + 1) items))
-atoms_more items i d packages first here new inside before is more =
+pub atoms_push : (items : List Atom) (atom : Atom) (packages : List PlainPackage) (first here new : Option ℕ)
+    → first ≡ first_satisfying (enumerate_from 1 packages) (map atom_view items)
+    → here ≡ first_of (λ p. satisfies_atom (p ∷ []) (atom_view atom)) (enumerate_from 1 packages)
+    → new ≡ lesser_of first here → new ≡ first_satisfying (enumerate_from 1 packages) (map atom_view (items ++ atom ∷ []))
+atoms_push items atom packages first here new before is more =
     more ∙ (λ k. lesser_of (before k) (is k))
-    ∙ sym (atom_more (map atom_view (take i items)) (atom_view (get_or items i d)) packages)
-    ∙ ap (first_satisfying (enumerate_from 1 packages)) (sym (ap (map atom_view) (take_more items i d inside) ∙ map_push atom_view (take i items) (get_or items i d)))
+    ∙ sym (atom_more (map atom_view items) (atom_view atom) packages)
+    ∙ ap (first_satisfying (enumerate_from 1 packages)) (sym (map_push atom_view items atom))
 
 -- nothing passes `false!`
 pub none_pass : (status : List Placed) → None ≡ first_of (λ p. false) status

@@ -4,10 +4,10 @@ use Rattle.std.specs.Prelude.{find, slice_get, option_map}
 use Rattle.std.specs.List.{enumerate_from}
 use Rattle.std.specs.Option.{option_map_or}
 use Rattle.std.proofs.lemmas.Option.{slice_get-map, get_or_from_slice_get}
-use Rattle.cudf_document.specs.Statuses.{is_initial}
-use Rattle.cudf_document.specs.Universe.{PlainPackage, PlainProblem, package_at}
-use Rattle.cudf_universe.specs.Promises.Prices.{own_entries, own_cost}
-use Rattle.cudf_universe.specs.Satisfaction.{Placed, members}
+use Rattle.cudf_problem.specs.Statuses.{is_initial}
+use Rattle.cudf_problem.specs.Universe.{PlainPackage, PlainProblem, package_at}
+use Rattle.cudf_index.specs.Promises.Prices.{own_entries, own_cost}
+use Rattle.cudf_index.specs.Satisfaction.{Placed, members}
 use Rattle.cudf_referee.specs.declared.sites.candidate.Candidate.{Candidate}
 use Rattle.cudf_referee.specs.Promises.Walks.{Walking}
 use Rattle.cudf_referee.specs.Proposals.{holds_place}

@@ -3,16 +3,16 @@ use Rattle.std.proofs.Common.{◌≡◌, ℕ, suc, ◌<◌, ◌^◌, true, false
 use Rattle.std.proofs.lemmas.Bool.{true≢false}
 use Rattle.std.proofs.lemmas.List.{append-nil}
 use Rattle.std.specs.List.{position_or_len}
-use Rattle.cudf_referee.specs.declared.key.Part.{Part}
-use Rattle.cudf_referee.specs.declared.key.Part.TheVariants.{Package, Request, Solution}
-use Rattle.cudf_referee.specs.declared.key.Rule.{Rule}
-use Rattle.cudf_referee.specs.declared.key.Rule.TheVariants.{Depends, Conflicts, Keep, Install, Remove, Upgrade, Unknown}
-use Rattle.cudf_referee.specs.declared.key.Aspect.{Aspect}
-use Rattle.cudf_referee.specs.declared.key.Aspect.TheVariants.{Unsatisfied, Many, Lower}
-use Rattle.cudf_referee.specs.Keys.{part_place, part_text, rule_text, aspect_word, aspect_text}
+use Rattle.cudf_job.specs.declared.key.Part.{Part}
+use Rattle.cudf_job.specs.declared.key.Part.TheVariants.{Package, Request, Solution}
+use Rattle.cudf_job.specs.declared.key.Rule.{Rule}
+use Rattle.cudf_job.specs.declared.key.Rule.TheVariants.{Depends, Conflicts, Keep, Install, Remove, Upgrade, Unknown}
+use Rattle.cudf_job.specs.declared.key.Aspect.{Aspect}
+use Rattle.cudf_job.specs.declared.key.Aspect.TheVariants.{Unsatisfied, Many, Lower}
+use Rattle.cudf_job.specs.Keys.{part_place, part_text, rule_text, aspect_word, aspect_text}
 use Rattle.cudf_referee.specs.Promises.Laws.{TextsTellKeys}
-use Rattle.cudf_referee.specs.Working.KeyTexts.{has_no_point}
-use Rattle.cudf_referee.proofs.KeyTextLemmas.{is_point, first_point, before_place, after_place, decimal_plain, decimal_tells, part_plain, rule_plain, behind_rule, behind_part, text_cut}
+use Rattle.cudf_job.specs.Working.KeyTexts.{has_no_point}
+use Rattle.cudf_job.proofs.KeyTextLemmas.{is_point, first_point, before_place, after_place, decimal_plain, decimal_tells, part_plain, rule_plain, behind_rule, behind_part, text_cut}
 use Rattle.cudf_referee.proofs.ListLemmas.{and_false}
 
 -- a text is cut at its first point in one way

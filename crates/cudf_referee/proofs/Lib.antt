@@ -1,15 +1,13 @@
 pub mod AheadLemmas
-pub mod AimLemmas
 pub mod AscentLemmas
 pub mod EntryLemmas
 pub mod BeforeLemmas
+pub mod ComesLemmas
 pub mod CursorLemmas
 pub mod Examples
 pub mod ExplanationLemmas
 pub mod GroundLemmas
-pub mod KeyLemmas
 pub mod KeyTellLemmas
-pub mod KeyTextLemmas
 pub mod ListLemmas
 pub mod ListingLemmas
 pub mod MoveLemmas
@@ -26,8 +24,6 @@ pub mod SiteNumberLemmas
 pub mod SolutionLemmas
 pub mod StandingLemmas
 pub mod StatusLemmas
-pub mod ThinLemmas
 pub mod TouchedLemmas
 pub mod UnknownLemmas
-pub mod VpkgItems
 pub mod WritableLemmas

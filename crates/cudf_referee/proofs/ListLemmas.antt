@@ -3,7 +3,7 @@ use Rattle.std.proofs.Common.{◌≡◌, ℕ, ◌+◌, ◌<◌, Bool, true, fals
 use Rattle.std.proofs.lemmas.List.{map-append, take_more}
 use Rattle.std.proofs.lemmas.List.Sums.{sum_by-cons}
 use Rattle.std.specs.List.{count_by, list_all, list_any, flat_map, enumerate_from}
-use Rattle.cudf_document.specs.Documents.{is_empty}
+use Rattle.cudf_problem.specs.Documents.{is_empty}
 use Rattle.std.proofs.lemmas.Grind.{common_steps}
 
 pub and_true : (a : Bool) → (a && true) ≡ a

@@ -1,5 +1,5 @@
 -- A search of the stops ahead goes to the first instance that is left, for what the way there costs.
-use Rattle.std.proofs.Common.{◌≡◌, ℕ, ◌+◌, Bool, true, false, not, List, [], ◌∷◌, filter, cond, length, arith, refl, ap, sym, ◌∙◌, subst, Option, Some, None, option_map}
+use Rattle.std.proofs.Common.{◌≡◌, ℕ, ◌+◌, Bool, true, false, not, List, [], ◌∷◌, ◌++◌, filter, cond, length, arith, refl, ap, sym, ◌∙◌, subst, Option, Some, None, option_map}
 use Rattle.std.proofs.lemmas.Cmp.{nat_list_cmp_total, tied_itself}
 use Rattle.std.proofs.lemmas.List.Sums.{sum_by-cons}
 use Rattle.std.specs.Prelude.{sum_by, is_some}
@@ -7,11 +7,11 @@ use Rattle.std.specs.Cmp.Lexicographic.{slice_cmp}
 use Rattle.std.specs.List.{cons_option}
 use Rattle.std.specs.Iterator.{YieldsFirst, MakesProgress, item_count}
 use Rattle.std.specs.Ordering.{nat_cmp, is_lt}
-use Rattle.cudf_document.specs.Statuses.{ascend_above}
+use Rattle.cudf_problem.specs.Statuses.{ascend_above}
 use Rattle.cudf_referee.specs.declared.instance.Instance.{Instance}
-use Rattle.cudf_document.specs.Documents.{is_empty}
+use Rattle.cudf_problem.specs.Documents.{is_empty}
 use Rattle.cudf_referee.specs.Instances.{PlainInstance}
-use Rattle.cudf_referee.specs.Keys.{PlainKey, key_ranks}
+use Rattle.cudf_job.specs.Keys.{PlainKey, key_ranks}
 use Rattle.cudf_referee.specs.Promises.Pages.{at_instance}
 use Rattle.cudf_referee.specs.Proposals.{Proposal}
 use Rattle.cudf_referee.specs.Promises.Sites.{Stop, at_site, package_end, walk, stop_cost, least_cost, PlainPosition, at_start, at_key, at_end, precedes, is_after, is_ahead, stops_between, cost_between, least_between}
@@ -238,3 +238,29 @@ moved-none old None new true moves h = ap is_empty (sym moves.gives.0)
 moved-none old None new false moves h = absurd (cc h)
 moved-none old (Some i) new true moves h = absurd (cc h)
 moved-none old (Some i) new false moves h = ap is_empty (sym moves.gives)
+
+-- ---- what is left behind a stop that was come to
+
+-- a stop of a list that climbs comes after its lower bound
+below-later : (a : List ℕ) (pre : List Stop) (x : Stop) (left : List Stop) (high : List ℕ) → Climbs stop_ranks a (pre ++ x ∷ left) high → Below a (stop_ranks x)
+below-later a [] x left high h = h.0
+below-later a (y ∷ pre) x left high h = chained a (stop_ranks y) (stop_ranks x) h.0 (below-later (stop_ranks y) pre x left high h.1)
+
+-- of stops that climb those that come after one's key are those behind it
+pub behind-stop : (key : PlainKey) (low : List ℕ) (pre : List Stop) (x : Stop) (left : List Stop) (high : List ℕ) → Climbs stop_ranks low (pre ++ x ∷ left) high
+    → stop_ranks x ≡ key_ranks key → filter (is_after key) (pre ++ x ∷ left) ≡ left
+behind-stop key low [] x left high h same =
+    ap (λ b. cond b (x ∷ filter (is_after key) left) (filter (is_after key) left)) (not_after_own key x same)
+    ∙ all_after key left high (subst (λ (r : List ℕ). Climbs stop_ranks r left high) same h.1)
+behind-stop key low (y ∷ pre) x left high h same =
+    ap (λ b. cond b (y ∷ filter (is_after key) (pre ++ x ∷ left)) (filter (is_after key) (pre ++ x ∷ left)))
+    (not_after key y (subst (λ (r : List ℕ). Below (stop_ranks y) r) same (below-later (stop_ranks y) pre x left high h.1)))
+    ∙ behind-stop key (stop_ranks y) pre x left high h.1 same
+
+-- where a walk has come to a stop that gives an instance, what is ahead of the instance are the stops that are left
+pub ahead-left : (s : Proposal) (old : PlainPosition) (i : PlainInstance) (pre : List Stop) (x : Stop) (left : List Stop) → ascend_above 0 s.unknown ≡ true
+    → first_given s (ahead s old) ≡ Some i → ahead s old ≡ pre ++ x ∷ left → stop_ranks x ≡ key_ranks i.key → ahead s (at_key i.key) ≡ left
+ahead-left s old i pre x left h first is same =
+    sym (ahead_there s old i first)
+    ∙ ap (filter (is_after i.key)) is
+    ∙ behind-stop i.key [] pre x left (4 ∷ []) (subst (λ (xs : List Stop). Climbs stop_ranks [] xs (4 ∷ [])) is (climbs-filter stop_ranks (is_ahead old) [] (walk s) (4 ∷ []) (walk-climbs s h))) same

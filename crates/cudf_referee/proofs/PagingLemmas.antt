@@ -6,10 +6,10 @@ use Rattle.std.specs.List.{flat_map}
 use Rattle.std.proofs.lemmas.List.{take-append-drop}
 use Rattle.std.proofs.lemmas.List.Sums.{sum_by-cons}
 use Rattle.std.proofs.Math.Seq.{take-add}
-use Rattle.cudf_universe.specs.Promises.Prices.{digits}
+use Rattle.cudf_index.specs.Promises.Prices.{digits}
 use Rattle.cudf_referee.specs.Instances.{PlainInstance}
-use Rattle.cudf_referee.specs.Keys.{PlainKey, precedes_all, ascend, key_text}
-use Rattle.cudf_referee.specs.Promises.Keys.{IsWritable}
+use Rattle.cudf_job.specs.Keys.{PlainKey, precedes_all, ascend, key_text}
+use Rattle.cudf_job.specs.Promises.Keys.{IsWritable}
 use Rattle.cudf_referee.specs.Proposals.{Proposal}
 use Rattle.cudf_referee.specs.Violations.{listing, rest}
 use Rattle.cudf_referee.specs.Promises.Sites.{PlainPosition, at_start, at_key, at_end, precedes, cost_between}

@@ -6,14 +6,14 @@ use Rattle.std.proofs.lemmas.List.Elements.{filter-append}
 use Rattle.std.specs.Cmp.Lexicographic.{slice_cmp}
 use Rattle.std.specs.List.{flat_map, enumerate_from}
 use Rattle.std.specs.Ordering.{nat_cmp}
-use Rattle.cudf_document.specs.Statuses.{PlainUnknown, ascend_above}
-use Rattle.cudf_referee.specs.declared.key.Part.{Part}
-use Rattle.cudf_referee.specs.declared.key.Part.TheVariants as part
-use Rattle.cudf_referee.specs.declared.key.Rule.{Rule}
-use Rattle.cudf_referee.specs.declared.key.Rule.TheVariants as rule
-use Rattle.cudf_referee.specs.declared.key.Aspect.{Aspect}
+use Rattle.cudf_problem.specs.Statuses.{PlainUnknown, ascend_above}
+use Rattle.cudf_job.specs.declared.key.Part.{Part}
+use Rattle.cudf_job.specs.declared.key.Part.TheVariants as part
+use Rattle.cudf_job.specs.declared.key.Rule.{Rule}
+use Rattle.cudf_job.specs.declared.key.Rule.TheVariants as rule
+use Rattle.cudf_job.specs.declared.key.Aspect.{Aspect}
 use Rattle.cudf_referee.specs.Instances.{PlainInstance}
-use Rattle.cudf_referee.specs.Keys.{is_key, key_ranks}
+use Rattle.cudf_job.specs.Keys.{is_key, key_ranks}
 use Rattle.cudf_referee.specs.Promises.Pages.{at_instance}
 use Rattle.cudf_referee.specs.Proposals.{Proposal}
 use Rattle.cudf_referee.specs.Promises.Sites.{unknown_stanza, request_sites, Stop, at_site, package_stops, walk, PlainPosition, at_start, at_key, at_end, is_after, is_ahead}

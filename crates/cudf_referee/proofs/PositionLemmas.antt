@@ -8,11 +8,11 @@ use Rattle.std.specs.Cmp.Lexicographic.{slice_cmp}
 use Rattle.std.specs.Ordering.{nat_cmp, ordering_then, ordering_reverse, is_lt}
 use Rattle.std.specs.declared.cmp.Ordering.{Ordering}
 use Rattle.std.specs.declared.cmp.Ordering.TheVariants.{Less, Equal, Greater}
-use Rattle.cudf_referee.specs.declared.key.Part.{Part}
-use Rattle.cudf_referee.specs.declared.key.Part.TheVariants.{Package, Request, Solution}
-use Rattle.cudf_referee.specs.declared.key.Rule.{Rule}
-use Rattle.cudf_referee.specs.declared.key.Rule.TheVariants.{Depends, Conflicts, Keep, Install, Remove, Upgrade, Unknown}
-use Rattle.cudf_referee.specs.Keys.{PlainKey, part_rank, part_place, rule_rank, aspect_rank, key_ranks}
+use Rattle.cudf_job.specs.declared.key.Part.{Part}
+use Rattle.cudf_job.specs.declared.key.Part.TheVariants.{Package, Request, Solution}
+use Rattle.cudf_job.specs.declared.key.Rule.{Rule}
+use Rattle.cudf_job.specs.declared.key.Rule.TheVariants.{Depends, Conflicts, Keep, Install, Remove, Upgrade, Unknown}
+use Rattle.cudf_job.specs.Keys.{PlainKey, part_rank, part_place, rule_rank, aspect_rank, key_ranks}
 use Rattle.cudf_referee.specs.Proposals.{Proposal}
 use Rattle.cudf_referee.specs.Promises.Sites.{Stop, at_site, package_end, site_key, walk, stop_cost, PlainPosition, at_start, at_key, at_end, precedes, precedes_end, is_after, is_ahead, cost_between}
 use Rattle.std.proofs.lemmas.Grind.{common_steps}

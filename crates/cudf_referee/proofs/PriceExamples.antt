@@ -3,17 +3,17 @@ use Rattle.std.specs.Prelude.{◌≡◌, ℕ, ◌==◌, ◌||◌, Bool, true, fa
 use Rattle.cudf_value.specs.declared.relop.Relop.TheVariants.{Eq, Gt}
 use Rattle.cudf_value.specs.Vpkgs.{PlainVpkg}
 use Rattle.cudf_value.specs.Formulas.{PlainAtom, truth_atom, falsehood_atom, named}
-use Rattle.cudf_document.specs.declared.package.Keep.{Keep}
-use Rattle.cudf_document.specs.declared.package.Keep.TheVariants.{Version, Package, Feature, Nothing}
-use Rattle.cudf_document.specs.Universe.{PlainPackage, PlainRequest}
-use Rattle.cudf_document.specs.Statuses.{PlainUnknown}
-use Rattle.cudf_universe.specs.Promises.Prices.{digits_within, digits}
-use Rattle.cudf_universe.specs.Satisfaction.{members}
-use Rattle.cudf_referee.specs.declared.key.Rule.{Rule}
-use Rattle.cudf_referee.specs.declared.key.Rule.TheVariants as rule
-use Rattle.cudf_referee.specs.declared.key.Aspect.{Aspect}
-use Rattle.cudf_referee.specs.declared.key.Aspect.TheVariants.{Unsatisfied}
-use Rattle.cudf_referee.specs.Keys.{PlainKey, package_key, request_key, unknown_key}
+use Rattle.cudf_problem.specs.declared.package.Keep.{Keep}
+use Rattle.cudf_problem.specs.declared.package.Keep.TheVariants.{Version, Package, Feature, Nothing}
+use Rattle.cudf_problem.specs.Universe.{PlainPackage, PlainRequest}
+use Rattle.cudf_problem.specs.Statuses.{PlainUnknown}
+use Rattle.cudf_index.specs.Promises.Prices.{digits_within, digits}
+use Rattle.cudf_index.specs.Satisfaction.{members}
+use Rattle.cudf_job.specs.declared.key.Rule.{Rule}
+use Rattle.cudf_job.specs.declared.key.Rule.TheVariants as rule
+use Rattle.cudf_job.specs.declared.key.Aspect.{Aspect}
+use Rattle.cudf_job.specs.declared.key.Aspect.TheVariants.{Unsatisfied}
+use Rattle.cudf_job.specs.Keys.{PlainKey, package_key, request_key, unknown_key}
 use Rattle.cudf_referee.specs.Proposals.{Proposal}
 use Rattle.cudf_referee.specs.Violations.{listing}
 use Rattle.cudf_referee.specs.Promises.Sites.{walk, at_start, at_key, at_end, stops_between, least_between}

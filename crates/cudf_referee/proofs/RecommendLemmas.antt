@@ -9,10 +9,10 @@ use Rattle.std.proofs.lemmas.Option.{slice_get-get_or}
 use Rattle.std.proofs.lemmas.List.Concat.{flat_map-append}
 use Rattle.std.proofs.lemmas.List.Elements.{filter-append}
 use Rattle.std.proofs.lemmas.Grind.{common_steps}
-use Rattle.cudf_document.specs.declared.package.Keep.TheVariants.{Nothing}
-use Rattle.cudf_document.specs.Universe.{PlainPackage, PlainProblem, package_at}
-use Rattle.cudf_document.specs.Promises.Packages.{recommends_at}
-use Rattle.cudf_universe.specs.Satisfaction.{Placed, members, satisfies_clause}
+use Rattle.cudf_problem.specs.declared.package.Keep.TheVariants.{Nothing}
+use Rattle.cudf_problem.specs.Universe.{PlainPackage, PlainProblem, package_at}
+use Rattle.cudf_problem.specs.Promises.Packages.{recommends_at}
+use Rattle.cudf_index.specs.Satisfaction.{Placed, members, satisfies_clause}
 use Rattle.cudf_referee.specs.Criteria.{at_most_max}
 use Rattle.cudf_referee.specs.Proposals.{Proposal, recommended}
 use Rattle.cudf_referee.specs.Violations.{at_each}

@@ -3,15 +3,17 @@ use Rattle.std.proofs.Common.{◌≡◌, ℕ, ◌+◌, ◌<◌, ◌≤◌, Bool,
 use Rattle.std.specs.List.{All, flat_map, enumerate_from}
 use Rattle.std.specs.Prelude.{option_map, slice_get}
 use Rattle.std.specs.Slice.{IsItemAt}
+use Rattle.std.specs.Iterator.{YieldsFirstBy}
 use Rattle.std.proofs.lemmas.Bool.{ltb-true}
 use Rattle.std.proofs.lemmas.Option.{slice_get-map, slice_get-get_or, slice_get_within, get_or_from_slice_get}
 use Rattle.std.proofs.lemmas.List.{append-nil, at_drop_more, at_drop_all}
 use Rattle.std.proofs.lemmas.List.FromFn.{length-enumerate_from, get_or-enumerate_from}
-use Rattle.cudf_document.specs.declared.package.Package.{Package}
-use Rattle.cudf_document.specs.Promises.Views.{package_view}
-use Rattle.cudf_document.specs.Universe.{PlainPackage}
-use Rattle.cudf_document.specs.Statuses.{PlainUnknown}
-use Rattle.cudf_universe.specs.Satisfaction.{Placed}
+use Rattle.cudf_problem.specs.declared.package.Package.{Package}
+use Rattle.cudf_problem.specs.Promises.Views.{package_view}
+use Rattle.cudf_problem.specs.Universe.{PlainPackage}
+use Rattle.cudf_problem.specs.Statuses.{PlainUnknown}
+use Rattle.cudf_index.specs.Satisfaction.{Placed}
+use Rattle.cudf_referee.specs.declared.sites.candidate.Sites.{Sites}
 use Rattle.cudf_referee.specs.Instances.{PlainInstance}
 use Rattle.cudf_referee.specs.Proposals.{Proposal}
 use Rattle.cudf_referee.specs.Promises.Sites.{Site, unknown_stanza, Stop, at_site, package_stops, stop_cost, least_cost}
@@ -108,35 +110,44 @@ searches-same a b new F found same searches = subst (λ (w : Walking). Searches 
 -- ---- a loop over places
 
 module _ (old now new : Walking) (all : List Stop) (F : List Site → List Stop) (adds : (y : Site) (ys : List Site) → F (y ∷ ys) ≡ at_site y ∷ F ys)
-    (sites : List Site) (n : ℕ) (x : Site) (is : slice_get sites n ≡ Some x) (answer : Bool) where
+    (xs : List Site) (x : Site) (ys : List Site) (is : xs ≡ x ∷ ys) (answer : Bool) where
   abbrev given-if : Bool → Option PlainInstance
   given-if b = cond b (Some (instance_at now.judged x)) None
 
-  next-site : F (drop n sites) ≡ at_site x ∷ F (drop (n + 1) sites)
-  next-site = at_drop_more F sites n x (slice_get_within sites n x is) ∙ ap (λ y. F (y ∷ drop (n + 1) sites)) (get_or_from_slice_get sites n x x is) ∙ adds x (drop (n + 1) sites)
+  next-site : F xs ≡ at_site x ∷ F ys
+  next-site = ap F is ∙ adds x ys
 
-  site-on : (b : Bool) → answer ≡ b → Searches now (at_site x ∷ []) (given-if answer) new → Goes old all None (F (drop n sites)) now → Goes old all (given-if b) (F (drop (n + 1) sites)) new
+  site-on : (b : Bool) → answer ≡ b → Searches now (at_site x ∷ []) (given-if answer) new → Goes old all None (F xs) now → Goes old all (given-if b) (F ys) new
   site-on b same searches goes =
-      goes-on old now new all _ (at_site x ∷ []) (F (drop (n + 1) sites)) (given-if b) next-site goes (subst (λ (c : Bool). Searches now (at_site x ∷ []) (given-if c) new) same searches)
+      goes-on old now new all _ (at_site x ∷ []) (F ys) (given-if b) next-site goes (subst (λ (c : Bool). Searches now (at_site x ∷ []) (given-if c) new) same searches)
 
-  pub sites-more : answer ≡ false → Searches now (at_site x ∷ []) (given-if answer) new → Goes old all None (F (drop n sites)) now → Goes old all None (F (drop (n + 1) sites)) new
+  pub sites-more : answer ≡ false → Searches now (at_site x ∷ []) (given-if answer) new → Goes old all None (F xs) now → Goes old all None (F ys) new
   sites-more is_not searches goes = site-on false is_not searches goes
 
   pub sites-found : (i : PlainInstance) → answer ≡ true → i ≡ instance_at now.judged x → Searches now (at_site x ∷ []) (given-if answer) new
-      → Goes old all None (F (drop n sites)) now → Searches old all (Some i) new
+      → Goes old all None (F xs) now → Searches old all (Some i) new
   sites-found i is_so same searches goes = subst (λ (j : PlainInstance). Searches old all (Some j) new) (sym same) (goes-found (site-on true is_so searches goes))
 
-pub sites-end : (old now : Walking) (all : List Stop) (F : List Site → List Stop) (sites : List Site) (n : ℕ) → length sites ≤ n → Goes old all None (F (drop n sites)) now → Goes old all None (F []) now
-sites-end old now all F sites n end goes = goes-at old now all _ _ (at_drop_all F sites n end) goes
+pub sites-end : (old now : Walking) (all : List Stop) (F : List Site → List Stop) (xs : List Site) → xs ≡ [] → Goes old all None (F xs) now → Goes old all None (F []) now
+sites-end old now all F xs end goes = goes-at old now all _ _ (ap F end) goes
+
+-- nothing came, so nothing was left
+pub nothing-next : {A B S : Type 0} (view : A → B) (left : S → List B) (old new : S) (found : Option A) → found ≡ None → YieldsFirstBy view left old found new → left old ≡ []
+nothing-next view left old new None is gives = gives.0
+nothing-next view left old new (Some x) is gives = absurd (cc is)
+
+pub nothing-left : {A B S : Type 0} (view : A → B) (left : S → List B) (old new : S) (found : Option A) → found ≡ None → YieldsFirstBy view left old found new → left new ≡ []
+nothing-left view left old new None is gives = gives.1
+nothing-left view left old new (Some x) is gives = absurd (cc is)
 
 -- ---- a loop over packages
 
-pub rest-whole : (s : Proposal) (ps : List Placed) → packages_rest s 0 ps ≡ flat_map (package_stops s) ps
+pub rest-whole : (s : Proposal) (ps : List Placed) → packages_rest s None ps ≡ flat_map (package_stops s) ps
 rest-whole s [] = refl
 rest-whole s (p ∷ ps) = refl
 
-packages-next : (s : Proposal) (k i : ℕ) (p : PlainPackage) → slice_get s.problem.packages i ≡ Some p
-    → packages_rest s k (drop i (enumerate_from 1 s.problem.packages)) ≡ package_rest s k (i + 1, p) ++ packages_rest s 0 (drop (i + 1) (enumerate_from 1 s.problem.packages))
+pub packages-next : (s : Proposal) (k : Option Sites) (i : ℕ) (p : PlainPackage) → slice_get s.problem.packages i ≡ Some p
+    → packages_rest s k (drop i (enumerate_from 1 s.problem.packages)) ≡ package_rest s k (i + 1, p) ++ packages_rest s None (drop (i + 1) (enumerate_from 1 s.problem.packages))
 packages-next s k i p is =
     at_drop_more (packages_rest s k) all i (0, p) (omega (arith, below, length-enumerate_from 1 s.problem.packages))
     ∙ ap (λ q. packages_rest s k (q ∷ drop (i + 1) all)) (get_or-enumerate_from 1 s.problem.packages i (0, p) below
@@ -152,14 +163,14 @@ packages-next s k i p is =
     number : 1 + i ≡ i + 1
     number = omega arith
 
-pub packages-on : (old now new : Walking) (all : List Stop) (k i : ℕ) (p : PlainPackage) (found : Option PlainInstance) → slice_get now.judged.problem.packages i ≡ Some p
+pub packages-on : (old now new : Walking) (all : List Stop) (k : Option Sites) (i : ℕ) (p : PlainPackage) (found : Option PlainInstance) → slice_get now.judged.problem.packages i ≡ Some p
     → Goes old all None (packages_rest old.judged k (drop i (enumerate_from 1 old.judged.problem.packages))) now
-    → Searches now (package_rest now.judged k (i + 1, p)) found new → Goes old all found (packages_rest old.judged 0 (drop (i + 1) (enumerate_from 1 old.judged.problem.packages))) new
+    → Searches now (package_rest now.judged k (i + 1, p)) found new → Goes old all found (packages_rest old.judged None (drop (i + 1) (enumerate_from 1 old.judged.problem.packages))) new
 packages-on old now new all k i p found is goes searches =
     part-on old now new all _ (λ s. package_rest s k (i + 1, p)) found
     (goes-at old now all _ _ (packages-next old.judged k i p ((λ j. slice_get (sym goes.judged j).problem.packages i) ∙ is)) goes) searches
 
-pub packages-end : (old now : Walking) (all : List Stop) (k i : ℕ) → length old.judged.problem.packages ≤ i
+pub packages-end : (old now : Walking) (all : List Stop) (k : Option Sites) (i : ℕ) → length old.judged.problem.packages ≤ i
     → Goes old all None (packages_rest old.judged k (drop i (enumerate_from 1 old.judged.problem.packages))) now → Searches old all None now
 packages-end old now all k i end goes =
     goes-at old now all _ _ (at_drop_all (packages_rest old.judged k) (enumerate_from 1 old.judged.problem.packages) i (omega (arith, length-enumerate_from 1 old.judged.problem.packages))) goes

@@ -2,15 +2,15 @@
 use Rattle.std.proofs.Common.{◌≡◌, ℕ, ◌==◌, Bool, true, false, not, ◌&&◌, nat_lt, nat_le, List, [], ◌∷◌, ◌++◌, map, filter, cond, Some, refl, ap, sym, ◌∙◌}
 use Rattle.std.specs.List.{list_all, list_any, flat_map, enumerate_from}
 use Rattle.cudf_value.specs.Vpkgs.{PlainVpkg}
-use Rattle.cudf_document.specs.declared.package.Keep.{Keep}
-use Rattle.cudf_document.specs.declared.package.Keep.TheVariants.{Version, Package, Feature, Nothing}
-use Rattle.cudf_document.specs.Universe.{PlainPackage, PlainRequest, PlainProblem}
-use Rattle.cudf_document.specs.Statuses.{PlainUnknown}
-use Rattle.cudf_universe.specs.Satisfaction.{Placed, members, without, numbers_of, satisfies, satisfies_clause}
-use Rattle.cudf_referee.specs.declared.key.Rule.TheVariants as rule
-use Rattle.cudf_referee.specs.declared.key.Aspect.{Aspect}
-use Rattle.cudf_referee.specs.declared.key.Aspect.TheVariants.{Unsatisfied, Many, Lower}
-use Rattle.cudf_document.specs.Documents.{is_empty}
+use Rattle.cudf_problem.specs.declared.package.Keep.{Keep}
+use Rattle.cudf_problem.specs.declared.package.Keep.TheVariants.{Version, Package, Feature, Nothing}
+use Rattle.cudf_problem.specs.Universe.{PlainPackage, PlainRequest, PlainProblem}
+use Rattle.cudf_problem.specs.Statuses.{PlainUnknown}
+use Rattle.cudf_index.specs.Satisfaction.{Placed, members, without, numbers_of, satisfies, satisfies_clause}
+use Rattle.cudf_job.specs.declared.key.Rule.TheVariants as rule
+use Rattle.cudf_job.specs.declared.key.Aspect.{Aspect}
+use Rattle.cudf_job.specs.declared.key.Aspect.TheVariants.{Unsatisfied, Many, Lower}
+use Rattle.cudf_problem.specs.Documents.{is_empty}
 use Rattle.cudf_referee.specs.Instances.{PlainInstance, upgrade}
 use Rattle.cudf_referee.specs.Proposals.{Proposal, holds_place, proposal}
 use Rattle.cudf_referee.specs.Violations.{at_each, has_package, violated_depends, violated_conflicts, violated_keep, package_instances, are_many, are_lower, one_if, at_request, violated_entry, violated_upgrade, violated_install, violated_remove, request_instances, unknown_instance, listing}

@@ -6,14 +6,14 @@ use Rattle.std.proofs.lemmas.List.{append-nil, map-append, length-map, take-map,
 use Rattle.std.proofs.lemmas.List.Elements.{filter-append}
 use Rattle.std.proofs.lemmas.List.Folds.{list_any-append, list_all-append}
 use Rattle.indexmap.specs.IndexSet.{insert_key}
-use Rattle.cudf_document.specs.Promises.Packages.{are_distinct}
-use Rattle.cudf_document.specs.Ids.{is_among as is_among_ids}
-use Rattle.cudf_document.specs.Universe.{PlainPackage, package_id}
-use Rattle.cudf_document.proofs.FaultlessLemmas.{distinct-at}
+use Rattle.cudf_problem.specs.Promises.Packages.{are_distinct}
+use Rattle.cudf_problem.specs.Ids.{is_among as is_among_ids}
+use Rattle.cudf_problem.specs.Universe.{PlainPackage, package_id}
+use Rattle.cudf_problem.proofs.IdLemmas.{distinct-at}
 use Rattle.std.proofs.lemmas.Cmp.{nat_list_eq_equiv}
-use Rattle.cudf_document.specs.Documents.{is_empty}
-use Rattle.cudf_document.proofs.ListLemmas.{list_any-map}
-use Rattle.cudf_universe.specs.Satisfaction.{Placed}
+use Rattle.cudf_problem.specs.Documents.{is_empty}
+use Rattle.cudf_problem.proofs.ListLemmas.{list_any-map}
+use Rattle.cudf_index.specs.Satisfaction.{Placed}
 use Rattle.cudf_referee.specs.declared.counting.standing.Standing.{Standing}
 use Rattle.cudf_referee.specs.Criteria.{each_once, versions_of, is_among, is_same_set, greatest, at_most_max}
 use Rattle.cudf_referee.specs.Violations.{has_package}

@@ -1,11 +1,11 @@
 -- The unknown stanzas with numbers above one, found by halves.
 use Rattle.std.proofs.Common.{◌≡◌, ℕ, zero, suc, ◌+◌, ◌-◌, ◌<◌, ◌≤◌, ◌/◌, true, nat_lt, List, [], ◌∷◌, length, get_or, map, drop, cond, refl, ap, arith}
 use Rattle.std.proofs.lemmas.Bool.{ltb-true, lt-ltb, le-ltb}
-use Rattle.cudf_document.specs.declared.proposed.Unknown.{Unknown}
-use Rattle.cudf_document.specs.Statuses.{PlainUnknown, ascend_above}
-use Rattle.cudf_document.specs.Promises.Views.{unknown_view}
-use Rattle.cudf_universe.specs.Promises.Prices.{digits_within, digits}
-use Rattle.cudf_universe.proofs.PriceLemmas.{digits_within-fuel, digits_within-mono, digits-halved}
+use Rattle.cudf_problem.specs.declared.unknown.Unknown.{Unknown}
+use Rattle.cudf_problem.specs.Statuses.{PlainUnknown, ascend_above}
+use Rattle.cudf_problem.specs.Promises.Views.{unknown_view}
+use Rattle.cudf_index.specs.Promises.Prices.{digits_within, digits}
+use Rattle.cudf_index.proofs.PriceLemmas.{digits_within-fuel, digits_within-mono, digits-halved}
 use Rattle.cudf_referee.specs.Working.Places.{stanza_numbers}
 use Rattle.cudf_referee.specs.Working.Searches.{unknown_left}
 use Rattle.cudf_referee.proofs.ListLemmas.{and_left, and_right}

@@ -6,20 +6,20 @@ use Rattle.std.proofs.lemmas.Bool.{ltb-true, lt-ltb}
 use Rattle.std.proofs.lemmas.List.{length-map}
 use Rattle.std.proofs.lemmas.List.Elements.{All-nil, All-cons, All-head, All-tail, All-append}
 use Rattle.cudf_value.specs.Vpkgs.{PlainVpkg}
-use Rattle.cudf_document.specs.declared.package.Keep.{Keep}
-use Rattle.cudf_document.specs.declared.package.Keep.TheVariants.{Version, Package, Feature, Nothing}
-use Rattle.cudf_document.specs.declared.proposed.Unknown.{Unknown}
-use Rattle.cudf_document.specs.Statuses.{PlainUnknown, ascend_above}
-use Rattle.cudf_document.specs.Promises.Views.{unknown_view}
-use Rattle.cudf_universe.specs.Satisfaction.{Placed}
-use Rattle.cudf_referee.specs.declared.key.Part.TheVariants as part
-use Rattle.cudf_referee.specs.declared.key.Rule.{Rule}
-use Rattle.cudf_referee.specs.declared.key.Rule.TheVariants as rule
-use Rattle.cudf_referee.specs.declared.key.Aspect.{Aspect}
-use Rattle.cudf_referee.specs.declared.key.Aspect.TheVariants.{Unsatisfied, Many, Lower}
+use Rattle.cudf_problem.specs.declared.package.Keep.{Keep}
+use Rattle.cudf_problem.specs.declared.package.Keep.TheVariants.{Version, Package, Feature, Nothing}
+use Rattle.cudf_problem.specs.declared.unknown.Unknown.{Unknown}
+use Rattle.cudf_problem.specs.Statuses.{PlainUnknown, ascend_above}
+use Rattle.cudf_problem.specs.Promises.Views.{unknown_view}
+use Rattle.cudf_index.specs.Satisfaction.{Placed}
+use Rattle.cudf_job.specs.declared.key.Part.TheVariants as part
+use Rattle.cudf_job.specs.declared.key.Rule.{Rule}
+use Rattle.cudf_job.specs.declared.key.Rule.TheVariants as rule
+use Rattle.cudf_job.specs.declared.key.Aspect.{Aspect}
+use Rattle.cudf_job.specs.declared.key.Aspect.TheVariants.{Unsatisfied, Many, Lower}
 use Rattle.cudf_referee.specs.Instances.{PlainInstance}
-use Rattle.cudf_referee.specs.Promises.Keys.{IsWritable}
-use Rattle.cudf_referee.specs.Keys.{package_key, request_key, fits}
+use Rattle.cudf_job.specs.Promises.Keys.{IsWritable}
+use Rattle.cudf_job.specs.Keys.{package_key, request_key, fits}
 use Rattle.cudf_referee.specs.Proposals.{Proposal, holds_place}
 use Rattle.cudf_referee.specs.Violations.{listing}
 use Rattle.cudf_referee.specs.Promises.Sites.{Site, conjunct, conflicts_entry, kept_version, kept_package, kept_feature, install_entry, remove_entry, upgrade_entry, unknown_stanza, site_key, needed_sites, kept_sites, package_sites, upgrade_sites, request_sites, sites}

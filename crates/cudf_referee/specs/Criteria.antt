@@ -1,9 +1,9 @@
--- What a proposed status changes and lacks, counted: the criteria paranoid and trendy of the MISC competition.
+-- What a proposed status changes and lacks, counted: the criteria of the MISC competition.
 -- Own: changes are counted by name, recommended conjuncts by place.
 use Rattle.std.specs.Prelude.{ℕ, ◌==◌, Bool, not, ◌&&◌, List, [], ◌∷◌, map, filter, length, max, min, bytes_eq, if◌then◌else◌}
 use Rattle.std.specs.List.{list_any, list_all, flat_map, count_by, enumerate_from}
-use Rattle.cudf_universe.specs.Satisfaction.{Placed, satisfies_clause}
-use Rattle.cudf_referee.specs.declared.criteria.Criteria.{Criteria}
+use Rattle.cudf_index.specs.Satisfaction.{Placed, satisfies_clause}
+use Rattle.cudf_job.specs.declared.criteria.Criteria.{Criteria}
 use Rattle.cudf_referee.specs.Proposals.{Proposal, holds_place, recommended}
 use Rattle.cudf_referee.specs.Violations.{at_each, has_package}
 
@@ -83,11 +83,3 @@ criteria s = record {
   unsat_recommends = at_most_max (length (unsatisfied_recommends s));
   touched = at_most_max (count_by (is_touched s) (universe s));
 }
-
--- ---- the competition's vectors, of which each is to be as small as can be, the first count first
-
-abbrev pub paranoid : Criteria → List ℕ
-paranoid c = c.removed ∷ c.changed ∷ []
-
-abbrev pub trendy : Criteria → List ℕ
-trendy c = c.removed ∷ c.notuptodate ∷ c.unsat_recommends ∷ c.new ∷ []

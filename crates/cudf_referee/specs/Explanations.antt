@@ -1,7 +1,7 @@
 -- What of a universe would help where an instance is violated: own.
 use Rattle.std.specs.Prelude.{ℕ, min, max, List, [], ◌∷◌, Option, Some, None}
 use Rattle.std.specs.Option.{option_map_or}
-use Rattle.cudf_universe.specs.Satisfaction.{Placed, first_meeting, first_satisfying}
+use Rattle.cudf_index.specs.Satisfaction.{Placed, first_meeting, first_satisfying}
 use Rattle.cudf_referee.specs.Criteria.{universe}
 use Rattle.cudf_referee.specs.Instances.{PlainWhat, needs, install, upgrade, PlainInstance}
 use Rattle.cudf_referee.specs.Proposals.{Proposal}

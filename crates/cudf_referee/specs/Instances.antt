@@ -2,8 +2,8 @@
 use Rattle.std.specs.Prelude.{ℕ, List, Option}
 use Rattle.cudf_value.specs.Vpkgs.{PlainVpkg}
 use Rattle.cudf_value.specs.Formulas.{PlainAtom}
-use Rattle.cudf_document.specs.Ids.{Id}
-use Rattle.cudf_referee.specs.Keys.{PlainKey}
+use Rattle.cudf_problem.specs.Ids.{Id}
+use Rattle.cudf_job.specs.Keys.{PlainKey}
 
 -- what is wrong, with the document's own conjunct or entry
 pub data PlainWhat : Type 0 where

@@ -1,9 +1,9 @@
 -- Laws over the definitions alone: own.
 use Rattle.std.specs.Prelude.{◌≡◌, ℕ, Bool, List, map, IsTrue}
-use Rattle.cudf_document.specs.Universe.{PlainProblem}
-use Rattle.cudf_document.specs.Statuses.{PlainUnknown, ascend_above}
-use Rattle.cudf_document.specs.Documents.{is_empty}
-use Rattle.cudf_referee.specs.Keys.{ascend}
+use Rattle.cudf_problem.specs.Universe.{PlainProblem}
+use Rattle.cudf_problem.specs.Statuses.{PlainUnknown, ascend_above}
+use Rattle.cudf_problem.specs.Documents.{is_empty}
+use Rattle.cudf_job.specs.Keys.{ascend}
 use Rattle.cudf_referee.specs.Proposals.{proposal}
 use Rattle.cudf_referee.specs.Violations.{listing}
 use Rattle.cudf_referee.specs.Solutions.{is_solution}

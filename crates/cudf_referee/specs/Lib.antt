@@ -1,10 +1,6 @@
-pub mod Aims
-pub mod Comparing
 pub mod Criteria
 pub mod Explanations
 pub mod Instances
-pub mod KeyViews
-pub mod Keys
 pub mod Laws
 pub mod Proposals
 pub mod Solutions

@@ -1,9 +1,6 @@
-pub mod Aims
-pub mod Keys
 pub mod Laws
 pub mod Pages
 pub mod PositionViews
 pub mod Sites
-pub mod Texts
 pub mod Views
 pub mod Walks

@@ -3,9 +3,9 @@ use Rattle.std.specs.Prelude.{ℕ, Bool, ◌==◌, List, [], unwrap_or}
 use Rattle.std.specs.List.{list_any}
 use Rattle.std.specs.Option.{option_or}
 use Rattle.cudf_value.specs.Formulas.{PlainAtom}
-use Rattle.cudf_document.specs.Universe.{PlainProblem}
-use Rattle.cudf_document.specs.Statuses.{PlainUnknown}
-use Rattle.cudf_universe.specs.Satisfaction.{Placed, members}
+use Rattle.cudf_problem.specs.Universe.{PlainProblem}
+use Rattle.cudf_problem.specs.Statuses.{PlainUnknown}
+use Rattle.cudf_index.specs.Satisfaction.{Placed, members}
 
 pub record Proposal : Type 0 where
   pub problem : PlainProblem

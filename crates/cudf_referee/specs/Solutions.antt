@@ -4,10 +4,10 @@
 use Rattle.std.specs.Prelude.{ℕ, Bool, true, not, ◌&&◌, ◌==◌, nat_le, List}
 use Rattle.std.specs.List.{list_all}
 use Rattle.cudf_value.specs.Vpkgs.{PlainVpkg}
-use Rattle.cudf_document.specs.declared.package.Keep.{Keep}
-use Rattle.cudf_document.specs.declared.package.Keep.TheVariants.{Version, Package, Feature, Nothing}
-use Rattle.cudf_universe.specs.Satisfaction.{Placed, without, numbers_of, satisfies, satisfies_clause}
-use Rattle.cudf_document.specs.Documents.{is_empty}
+use Rattle.cudf_problem.specs.declared.package.Keep.{Keep}
+use Rattle.cudf_problem.specs.declared.package.Keep.TheVariants.{Version, Package, Feature, Nothing}
+use Rattle.cudf_index.specs.Satisfaction.{Placed, without, numbers_of, satisfies, satisfies_clause}
+use Rattle.cudf_problem.specs.Documents.{is_empty}
 use Rattle.cudf_referee.specs.Proposals.{holds_place, Proposal}
 use Rattle.cudf_referee.specs.Violations.{has_package}
 

@@ -1,10 +1,10 @@
 pub mod Before
 pub mod Firsts
 pub mod Judged
-pub mod KeyTexts
 pub mod Named
 pub mod Numbered
 pub mod Places
+pub mod RequestSites
 pub mod Searches
 pub mod SiteNumbers
 pub mod Standings

@@ -1,7 +1,7 @@
 //! Counting what a proposed status changes and lacks.
 ghost use Rattle.std.specs.Prelude.{◌≡◌, [], IfOk};
 ghost use Rattle.std.specs.FinSet as set;
-ghost use Rattle.cudf_universe.specs.Satisfaction.{members};
+ghost use Rattle.cudf_index.specs.Satisfaction.{members};
 ghost use Rattle.cudf_referee.specs.Criteria.{criteria};
 ghost use Rattle.cudf_referee.specs.Proposals.{proposal};
 
@@ -10,9 +10,9 @@ mod standing;
 mod standings;
 mod touched;
 
-use crate::criteria::Criteria;
-use cudf_document::{Problem, Status};
-use cudf_universe::Index;
+use cudf_index::Index;
+use cudf_job::Criteria;
+use cudf_problem::{Problem, Status};
 use recommends::count_unsatisfied;
 use standing::{count_changed, count_new, count_not_up_to_date, count_removed};
 use standings::standings_of;

@@ -1,14 +1,12 @@
 //! Violated instances of rules.
 
-mod printing;
-
-use crate::key::{Aspect, Key, Part, Rule};
-use cudf_document::{Package, Request, Unknown};
+use cudf_job::{Aspect, Key, Part, Rule};
+use cudf_problem::{Package, Request, Unknown};
 use cudf_value::{Clause, Vpkg};
 
 /// One violated instance of a rule. Own.
 #[derive(Clone, Copy, Debug, PartialEq, Eq)]
-pub struct Instance<'p, 't> {
+pub struct Instance<'t> {
     /// Its name.
     pub key: Key,
     /// The line of the stanza's first property: of the problem for packages and the request, of the solution for
@@ -17,37 +15,37 @@ pub struct Instance<'p, 't> {
     /// The name and version of the package or the unknown stanza; `None` for the request.
     pub subject: Option<(&'t str, u64)>,
     /// What is wrong, with the document's own conjunct or entry.
-    pub what: What<'p, 't>,
+    pub what: What<'t>,
 }
 
 /// What an instance says is wrong. Own.
 #[derive(Clone, Copy, Debug, PartialEq, Eq)]
-pub enum What<'p, 't> {
+pub enum What<'t> {
     /// The status doesn't satisfy this conjunct.
-    Needs(&'p Clause<'t>),
+    Needs(Clause<'t>),
     /// The other packages of the status satisfy this entry.
-    ConflictsWith(&'p Vpkg<'t>),
+    ConflictsWith(Vpkg<'t>),
     /// The package was to be kept at its version, and is gone.
     KeepVersion,
     /// The package was to be kept at some version, and is gone.
     KeepPackage,
     /// This feature was to be kept, and the status doesn't satisfy it.
-    KeepFeature(&'p Vpkg<'t>),
+    KeepFeature(Vpkg<'t>),
     /// The status doesn't satisfy this entry of `install`.
-    Install(&'p Vpkg<'t>),
+    Install(Vpkg<'t>),
     /// The status satisfies this entry of `remove`.
-    Remove(&'p Vpkg<'t>),
+    Remove(Vpkg<'t>),
     /// This entry of `upgrade` is violated in the way of the key's aspect.
-    Upgrade(&'p Vpkg<'t>),
+    Upgrade(Vpkg<'t>),
     /// The pair isn't in the universe.
     Unknown,
 }
 
-impl<'p, 't> Instance<'p, 't> {
+impl<'t> Instance<'t> {
     ghost use Rattle.std.specs.Prelude.{◌≡◌, ◌<◌, None, IsTrue};
-    ghost use Rattle.cudf_document.specs.Promises.Views.{package_view, request_view, unknown_view};
-    ghost use Rattle.cudf_referee.specs.declared.key.Part.TheVariants as part;
-    ghost use Rattle.cudf_referee.specs.Keys.{fits};
+    ghost use Rattle.cudf_problem.specs.Promises.Views.{package_view, request_view, unknown_view};
+    ghost use Rattle.cudf_job.specs.declared.key.Part.TheVariants as part;
+    ghost use Rattle.cudf_job.specs.Keys.{fits};
     ghost use Rattle.cudf_referee.specs.Violations.{at_package, at_request, unknown_instance};
     ghost use Rattle.cudf_referee.specs.Promises.Views.{instance_view, what_view};
 
@@ -57,7 +55,7 @@ impl<'p, 't> Instance<'p, 't> {
         package: &Package<'t>,
         rule: Rule,
         number: u64,
-        what: What<'p, 't>,
+        what: What<'t>,
     ) -> Self
         requires counted { 0 < number }
         requires fits { IsTrue (fits (part.Package place) rule None) }
@@ -78,7 +76,7 @@ impl<'p, 't> Instance<'p, 't> {
         rule: Rule,
         number: u64,
         aspect: Option<Aspect>,
-        what: What<'p, 't>,
+        what: What<'t>,
     ) -> Self
         requires counted { 0 < number }
         requires fits { IsTrue (fits part.Request rule aspect) }

@@ -1,12 +1,12 @@
 //! What follows from the definitions alone.
 ghost use Rattle.std.specs.Prelude.{◌≡◌, ◌↔◌, true, Some};
 ghost use Rattle.std.specs.Ordering.{is_lt, partial_lt};
-ghost use Rattle.cudf_referee.specs.KeyViews.{key_view};
-ghost use Rattle.cudf_referee.specs.Keys.{key_cmp};
+ghost use Rattle.cudf_job.specs.KeyViews.{key_view};
+ghost use Rattle.cudf_job.specs.Keys.{key_cmp};
 ghost use Rattle.cudf_referee.specs.Laws.{SolutionIsEmpty, ListingAscends};
-ghost use Rattle.cudf_referee.specs.Promises.Laws.{TextsTellKeys, PagesJoin, PagesSuffice, PagesAreBound, ThinIsEnough, NothingDoes, WouldDo};
+ghost use Rattle.cudf_referee.specs.Promises.Laws.{TextsTellKeys, PagesJoin, PagesSuffice, PagesAreBound, NothingDoes, WouldDo};
 
-use crate::key::Key;
+use cudf_job::Key;
 
 /// A proposed status is a solution exactly where no instance is violated.
 pub fn empty()
@@ -40,12 +40,6 @@ pub fn pages()
     ensures joined { PagesJoin }
     ensures whole { PagesSuffice }
     ensures price { PagesAreBound }
-{}
-
-/// A proposed status is judged by what its own packages need: a problem in which others need nothing has the same
-/// violated instances, verdict and counts, and the same would do where one is violated.
-pub fn thin()
-    ensures { ThinIsEnough }
 {}
 
 /// What would do does: a status that installs that package alone satisfies the clause.

@@ -1,21 +1,21 @@
 //! Where a walk over the violated instances stands. (own)
 ghost use Rattle.std.specs.Prelude.{◌≡◌, ◌≤◌, ◌<◌, ◌+◌, ℕ, ◌^◌, IsTrue, map, drop, length, slice_index_or, option_map};
-ghost use Rattle.cudf_document.specs.Promises.Views.{unknown_view};
-ghost use Rattle.cudf_document.specs.Statuses.{ascend_above};
-ghost use Rattle.cudf_universe.specs.Promises.Prices.{digits};
-ghost use Rattle.cudf_referee.specs.KeyViews.{key_view};
-ghost use Rattle.cudf_referee.specs.Promises.Keys.{is_fitting};
+ghost use Rattle.cudf_problem.specs.Promises.Views.{unknown_view};
+ghost use Rattle.cudf_problem.specs.Statuses.{ascend_above};
+ghost use Rattle.cudf_index.specs.Promises.Prices.{digits};
+ghost use Rattle.cudf_job.specs.KeyViews.{key_view};
+ghost use Rattle.cudf_job.specs.Promises.Keys.{is_fitting};
 ghost use Rattle.cudf_referee.specs.Promises.Pages.{at_instance, least_search};
 ghost use Rattle.cudf_referee.specs.Promises.PositionViews.{position_view};
 ghost use Rattle.cudf_referee.specs.Promises.Sites.{at_key};
 ghost use Rattle.cudf_referee.specs.Promises.Views.{instance_view};
-ghost use Rattle.cudf_referee.specs.Working.Places.{stanza_numbers, BeginsAt, IsFitting, next_place};
+ghost use Rattle.cudf_referee.specs.Working.Places.{stanza_numbers, BeginsAt, IsFitting};
 ghost use Rattle.cudf_referee.specs.Working.Searches.{unknown_left};
 
 use crate::instance::Instance;
-use crate::key::{Key, Part};
-use cudf_document::Unknown;
-use cudf_universe::Steps;
+use cudf_index::Steps;
+use cudf_job::{Key, Part};
+use cudf_problem::Unknown;
 
 /// A position in the walk. (own)
 #[derive(Clone, Copy, Debug)]
@@ -29,7 +29,7 @@ pub(crate) enum Position {
 }
 
 /// Behind an instance that was found, or behind all where none was.
-pub(crate) fn position_behind(found: Option<Instance<'_, '_>>) -> Position
+pub(crate) fn position_behind(found: Option<Instance<'_>>) -> Position
     ensures position { position_view result ≡ at_instance (option_map instance_view found.entry) }
     ensures fits { IsFitting (at_instance (option_map instance_view found.entry)) }
 {
@@ -39,21 +39,6 @@ pub(crate) fn position_behind(found: Option<Instance<'_, '_>>) -> Position
             let _ = instance.key.part();
             Position::At(instance.key)
         }
-    }
-}
-
-/// Where the unknown stanzas begin that come after an instance that was found, if those before it
-/// began at this place.
-pub(crate) fn next_place(found: Option<Instance<'_, '_>>, place: usize) -> usize
-    requires { next_place (option_map instance_view found) place < 2 ^ 64 }
-    ensures { result ≡ next_place (option_map instance_view found.entry) place }
-{
-    let Some(instance) = found else {
-        return place;
-    };
-    match instance.key.part() {
-        Part::Package(_) | Part::Request => place,
-        Part::Solution => place + 1,
     }
 }
 

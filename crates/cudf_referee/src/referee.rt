@@ -1,9 +1,9 @@
 //! The referee of a proposed status: its verdict and its counts, and the walk over the violated instances.
 ghost use Rattle.std.specs.Prelude.{◌≡◌, List, map, IfOk};
-ghost use Rattle.cudf_document.specs.Promises.Views.{package_view};
-ghost use Rattle.cudf_document.specs.Documents.{is_empty};
-ghost use Rattle.cudf_universe.specs.Promises.Members.{other_than};
-ghost use Rattle.cudf_universe.specs.Satisfaction.{Placed};
+ghost use Rattle.cudf_problem.specs.Promises.Views.{package_view};
+ghost use Rattle.cudf_problem.specs.Documents.{is_empty};
+ghost use Rattle.cudf_index.specs.Promises.Members.{other_than};
+ghost use Rattle.cudf_index.specs.Satisfaction.{Placed};
 ghost use Rattle.cudf_referee.specs.Violations.{others};
 ghost use Rattle.cudf_referee.specs.Working.Named.{has_kept_name};
 ghost use Rattle.cudf_referee.specs.Promises.Walks.{left};
@@ -14,12 +14,11 @@ mod instances;
 mod numbered;
 
 use crate::counting::count;
-use crate::criteria::Criteria;
 use crate::instance::{Instance, What};
-use crate::key::{Key, Part};
 use before::{NumberedNames, greatest_before, numbered};
-use cudf_document::{Keep, Package, Problem, Solution, initial};
-use cudf_universe::{Index, Providers};
+use cudf_index::{Index, Providers};
+use cudf_job::{Criteria, Key, Part};
+use cudf_problem::{Keep, Package, Problem, Solution, initial};
 pub use explainer::Explainer;
 pub use instances::Instances;
 use numbered::keys_can_be_written;
@@ -44,7 +43,7 @@ pub struct Referee<'p, 't> {
 impl<'p, 't> Model for Referee<'p, 't> {
     ghost use Rattle.std.specs.Prelude.{◌≡◌, map};
     ghost use Rattle.std.specs.FinSet as set;
-    ghost use Rattle.cudf_document.specs.Promises.Views.{unknown_view};
+    ghost use Rattle.cudf_problem.specs.Promises.Views.{unknown_view};
     ghost use Rattle.cudf_referee.specs.Criteria.{criteria as counts};
     ghost use Rattle.cudf_referee.specs.Proposals.{Proposal};
     ghost use Rattle.cudf_referee.specs.Solutions.{is_solution};
@@ -115,19 +114,19 @@ fn has_none(mut instances: Instances<'_, '_, '_>) -> bool
 
 impl<'p, 't> Referee<'p, 't> {
     ghost use Rattle.std.specs.Prelude.{◌≡◌, ◌≤◌, ℕ, List, All, IsTrue, IfOk, length, map};
-    ghost use Rattle.cudf_document.specs.Promises.Views.{package_view};
+    ghost use Rattle.cudf_problem.specs.Promises.Views.{package_view};
     ghost use Rattle.std.specs.FinSet as set;
-    ghost use Rattle.cudf_document.specs.Statuses.{is_initial, ascend_above};
-    ghost use Rattle.cudf_document.specs.Promises.Views.{unknown_view};
-    ghost use Rattle.cudf_universe.specs.Promises.Prices.{digits};
-    ghost use Rattle.cudf_universe.specs.Satisfaction.{numbers_of};
+    ghost use Rattle.cudf_problem.specs.Statuses.{is_initial, ascend_above};
+    ghost use Rattle.cudf_problem.specs.Promises.Views.{unknown_view};
+    ghost use Rattle.cudf_index.specs.Promises.Prices.{digits};
+    ghost use Rattle.cudf_index.specs.Satisfaction.{numbers_of};
     ghost use Rattle.cudf_referee.specs.Criteria.{criteria, universe};
     ghost use Rattle.cudf_referee.specs.Explanations.{least_of, greatest_of};
     ghost use Rattle.cudf_referee.specs.Working.Before.{kept_greatest};
-    ghost use Rattle.cudf_document.specs.Documents.{is_empty};
-    ghost use Rattle.cudf_referee.specs.KeyViews.{key_view};
+    ghost use Rattle.cudf_problem.specs.Documents.{is_empty};
+    ghost use Rattle.cudf_job.specs.KeyViews.{key_view};
     ghost use Rattle.cudf_referee.specs.Promises.Pages.{least_search};
-    ghost use Rattle.cudf_referee.specs.Promises.Keys.{IsWritable};
+    ghost use Rattle.cudf_job.specs.Promises.Keys.{IsWritable};
     ghost use Rattle.cudf_referee.specs.Proposals.{proposal};
     ghost use Rattle.cudf_referee.specs.Promises.Sites.{at_start, at_key};
     ghost use Rattle.cudf_referee.specs.Solutions.{is_solution};
@@ -238,15 +237,15 @@ impl<'p, 't> Referee<'p, 't> {
     /// For an instance of conflicts or remove, the place (from 1) of the first package of the proposed status, other
     /// than the instance's own, that alone satisfies the entry. `None` for the other rules, and where no package alone
     /// satisfies it.
-    pub fn met_by(&self, instance: &Instance<'_, '_>) -> Option<u64>
+    pub fn met_by(&self, instance: &Instance<'_>) -> Option<u64>
         ensures { result ≡ met_by self.entry.now.proposed (instance_view instance.now) }
     {
         match instance.what {
             What::ConflictsWith(vpkg) => {
                 let own = own_place(instance.key.part());
-                self.now.first_meeting(vpkg, own)
+                self.now.first_meeting(&vpkg, own)
             }
-            What::Remove(vpkg) => self.now.first_meeting(vpkg, None),
+            What::Remove(vpkg) => self.now.first_meeting(&vpkg, None),
             _ => None,
         }
     }

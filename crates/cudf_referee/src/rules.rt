@@ -1,37 +1,38 @@
 //! Whether a rule is violated at a place: one arm a rule.
 ghost use Rattle.std.specs.Prelude.{◌≡◌, ◌≤◌, ◌<◌, ◌+◌, ◌-◌, ℕ, List, Some, length, map, slice_get};
-ghost use Rattle.cudf_universe.specs.Promises.Members.{IsGreatest};
-ghost use Rattle.cudf_universe.specs.Satisfaction.{numbers_of};
+ghost use Rattle.cudf_index.specs.Promises.Members.{IsGreatest};
+ghost use Rattle.cudf_index.specs.Satisfaction.{numbers_of};
 ghost use Rattle.cudf_referee.specs.Proposals.{Proposal};
 ghost use Rattle.cudf_referee.specs.Violations.{are_many, are_lower};
 ghost use Rattle.cudf_referee.specs.Working.Before.{greatest_before};
 ghost use Rattle.cudf_referee.specs.Working.Searches.{IsJudged};
-ghost use Rattle.cudf_referee.specs.Working.SiteNumbers.{placed_view, Fits, package_site_view, request_site_view, StandsAt, StandsIn, IsWithin};
+ghost use Rattle.cudf_referee.specs.Working.RequestSites.{request_site_view, StandsIn, IsWithin};
+ghost use Rattle.cudf_referee.specs.Working.SiteNumbers.{placed_view, Fits, package_site_view, StandsAt};
 
-use crate::key::Aspect;
 use crate::sites::{Candidate, PackageSite, RequestSite};
-use cudf_universe::{Metered, Steps};
+use cudf_index::{Metered, Steps};
+use cudf_job::Aspect;
 
 /// Whether the rule is violated at a place of a package.
 pub(crate) fn is_violated(
     now: &mut Metered<'_, '_, '_>,
     candidate: Candidate<'_, '_>,
-    site: PackageSite<'_, '_>,
+    site: PackageSite<'_>,
 ) -> bool
-    requires { StandsAt candidate site }
+    requires { StandsAt candidate.package.now.keep site }
     ensures judged { (s : Proposal) → s.proposed ≡ now.old.status → Fits s candidate.entry
         → IsJudged s (package_site_view (placed_view candidate.entry) site.entry) result now.old.steps now.new.steps }
     ensures status { now.new.status ≡ now.old.status }
 {
     match site {
-        PackageSite::Conjunct(_, clause) => !now.satisfies_clause_counted(clause),
+        PackageSite::Conjunct(_, clause) => !now.satisfies_clause_counted(&clause),
         PackageSite::ConflictsEntry(_, vpkg) => now.satisfies_without_counted(
-            vpkg,
+            &vpkg,
             candidate.place,
         ),
         PackageSite::KeptVersion => !candidate.is_installed,
         PackageSite::KeptPackage => !candidate.is_named,
-        PackageSite::KeptFeature(_, vpkg) => !now.satisfies_counted(vpkg),
+        PackageSite::KeptFeature(_, vpkg) => !now.satisfies_counted(&vpkg),
     }
 }
 
@@ -40,7 +41,7 @@ pub(crate) fn is_violated(
 pub(crate) fn is_requested_violated(
     now: &mut Metered<'_, '_, '_>,
     before: &[Option<u64>],
-    site: RequestSite<'_, '_>,
+    site: RequestSite<'_>,
     steps: &mut Steps,
 ) -> bool
     requires { IsWithin (length before.now) site }
@@ -50,9 +51,9 @@ pub(crate) fn is_requested_violated(
     ensures status { now.new.status ≡ now.old.status }
 {
     match site {
-        RequestSite::Install(_, vpkg) => !now.satisfies_counted(vpkg),
-        RequestSite::Remove(_, vpkg) => now.satisfies_counted(vpkg),
-        RequestSite::Upgrade(_, vpkg, Aspect::Unsatisfied) => !now.satisfies_counted(vpkg),
+        RequestSite::Install(_, vpkg) => !now.satisfies_counted(&vpkg),
+        RequestSite::Remove(_, vpkg) => now.satisfies_counted(&vpkg),
+        RequestSite::Upgrade(_, vpkg, Aspect::Unsatisfied) => !now.satisfies_counted(&vpkg),
         RequestSite::Upgrade(_, vpkg, Aspect::Many) => has_many(now, vpkg.name),
         RequestSite::Upgrade(number, vpkg, Aspect::Lower) => {
             let greatest = number_before(before, number, steps);

@@ -4,13 +4,10 @@ use cudf_check::{Device, Job, RunError, run};
 use cudf_referee::{Explainer, Key, Referee, read_criterion};
 use cudf_text::{Fault, Room, TextError, cut_joined, is_fail, read, stanzas};
 use cudf_universe::{
-    Chosen, Index, Mode, Problem, ReadError, first_fault, initial, problem_for, problem_of,
-    proposed_of, read_problem, read_solution, solution_of,
+    Index, Mode, Problem, ReadError, first_fault, initial, problem_of, proposed_of, read_problem,
+    read_solution, solution_of,
 };
-use cudf_value::{
-    ValueType, fits, read_declarations, read_formula, read_posint, read_veqpkglist, read_vpkg,
-    read_vpkglist,
-};
+use cudf_value::{ValueType, fits, read_declarations, read_posint, read_vpkg};
 use std::alloc::{AllocError, Global};
 use std::process::Abort;
 
@@ -71,8 +68,6 @@ fn expect(rt: &impl Abort, answer: Result<bool, Ended>) {
 
 const ENTRIES: &str = "a, b, c, d, e, f, g, h, i, j, k = 2";
 
-const FORMULA: &str = "a | b | c | d | e, f > 2, true!, g, h, i | j";
-
 const DECLARATIONS: &str = "a: int, b: vpkglist = [x, y], c: enum[red, green] = [red]";
 
 const AIMS: &str = "-removed,-notuptodate,-unsat_recommends,-new,+touched,-changed,+new,-new,+new";
@@ -86,16 +81,8 @@ fn has<T: Drop>(value: Option<Vec<T>>, count: usize) -> bool {
 }
 
 fn reads_values(alloc: Global) -> Result<bool, Ended> {
-    let has_lists = has(read_vpkglist(alloc, ENTRIES)?, 11)
-        && has(read_veqpkglist(alloc, ENTRIES)?, 11);
-    let has_clauses = match read_formula(alloc, FORMULA)? {
-        Some(formula) => formula.clauses.len() == 6,
-        None => false,
-    };
     Ok(
-        has_lists
-            && has_clauses
-            && has(read_declarations(alloc, DECLARATIONS)?, 3)
+        has(read_declarations(alloc, DECLARATIONS)?, 3)
             && has(read_criterion(alloc, AIMS)?, 9)
             && fits(alloc, &ValueType::List, ENTRIES)?,
     )
@@ -126,25 +113,7 @@ fn reads_stanzas(alloc: Global) -> Result<bool, Ended> {
         Mode::Strict,
     )?;
     let solution = solution_of(alloc, proposed, &problem)?;
-    Ok(fault.is_none() && solution.unknown.len() == 1 && reads_chosen(alloc)?)
-}
-
-fn reads_chosen(alloc: Global) -> Result<bool, Ended> {
-    let mut room_of_chosen = Room::new(alloc);
-    let proposed = proposed_of(
-        alloc,
-        stanzas(alloc, SOLUTION, &mut room_of_chosen)?,
-        Mode::Lenient,
-    )?;
-    let chosen = Chosen::of(alloc, &proposed)?;
-    let mut room = Room::new(alloc);
-    let problem = problem_for(
-        alloc,
-        stanzas(alloc, PROBLEM, &mut room)?,
-        &chosen,
-        Mode::Lenient,
-    )?;
-    Ok(problem.packages().len() == 2)
+    Ok(fault.is_none() && solution.unknown.len() == 1)
 }
 
 /// Reads the documents whole, and asks an index and a referee, which take no memory more.

@@ -1,11 +1,10 @@
 -- The atoms of a formula, one after the other.
-use Rattle.std.proofs.Common.{◌≡◌, ℕ, ◌≤◌, Bool, true, false, ◌&&◌, ◌==◌, nat_lt, List, [], ◌∷◌, ◌++◌, map, length, take, position, codes, Option, Some, None, is_some, option_map, bytes_eq, refl, sym, ap, ◌∙◌}
+use Rattle.std.proofs.Common.{◌≡◌, ℕ, ◌≤◌, Bool, true, false, ◌&&◌, ◌==◌, nat_lt, List, [], ◌∷◌, ◌++◌, map, length, take, position, codes, Option, Some, None, is_some, option_map, unwrap_or, bytes_eq, refl, sym, subst, ap, ◌∙◌}
 use Rattle.std.specs.List.{list_all, onto_first, position_or_len}
 use Rattle.std.specs.Str.{byte}
-use Rattle.std.specs.Borrow.{Bor}
 use Rattle.std.proofs.lemmas.Bool.{and_parts, or_parts, not-true, false_from_ne_true, ltb-false}
-use Rattle.std.proofs.lemmas.Option.{cond_some}
-use Rattle.std.proofs.lemmas.List.{append-nil, take_all, map_push}
+use Rattle.std.proofs.lemmas.Option.{cond_some, same_Some}
+use Rattle.std.proofs.lemmas.List.{append-nil, take_all}
 use Rattle.std.proofs.lemmas.Slice.Eq.{bytes_eq-Decides}
 use Rattle.cudf_text.specs.Chars.{trim}
 use Rattle.cudf_value.specs.declared.atom.AtomEnd.{AtomEnd}
@@ -16,7 +15,8 @@ use Rattle.cudf_value.proofs.PartsLemmas.{cond_none}
 use Rattle.cudf_value.specs.declared.atom.Atom.{Atom}
 use Rattle.cudf_value.specs.Formulas.{PlainAtom, named, atom, clause}
 use Rattle.cudf_value.specs.Promises.Views.{atom_view}
-use Rattle.cudf_value.specs.Working.Atoms.{atom_part, ends_atom, is_inside, end_text, end_rest, values, values_of}
+use Rattle.cudf_value.specs.Lists.{first_list, atoms_in}
+use Rattle.cudf_value.specs.Working.Atoms.{atom_part, ends_atom, is_inside, end_text, end_rest, bar_rest, values, values_of}
 use Rattle.cudf_value.specs.Working.Rests.{BeginsWith}
 use Rattle.cudf_value.proofs.VpkgLemmas.{run_passes}
 
@@ -100,24 +100,24 @@ has_first (b ∷ text) = by (b == byte ",") refl
     by true e = rw e (record { first = []; rest = parts (byte ",") text; is = refl })
     by false e = rw e (onto-has_first b (parts (byte ",") text))
 
-abbrev atoms_in : List ℕ → List (Option PlainAtom)
-atoms_in part = map atom_part (parts (byte "|") part)
+abbrev atoms_of : List ℕ → List (Option PlainAtom)
+atoms_of part = map atom_part (parts (byte "|") part)
 
 beyond : (pre : List ℕ) (ps : List (List ℕ)) → list_all is_inside pre ≡ true → HasFirst ps
-    → map atoms_in (onto pre (onto_first (byte "|") ps)) ≡ onto_first (atom_part pre) (map atoms_in ps)
+    → map atoms_of (onto pre (onto_first (byte "|") ps)) ≡ onto_first (atom_part pre) (map atoms_of ps)
 beyond pre ps all h =
     rw h.is
-    (ap (map atoms_in) (onto-cons pre (byte "|" ∷ h.first) h.rest)
-    ∙ ap (λ qs. map atom_part qs ∷ map atoms_in h.rest) (bar-at pre h.first all))
+    (ap (map atoms_of) (onto-cons pre (byte "|" ∷ h.first) h.rest)
+    ∙ ap (λ qs. map atom_part qs ∷ map atoms_of h.rest) (bar-at pre h.first all))
 
 -- the values of a text whose first atom stands before this end
 pub values_cut : (pre : List ℕ) (end : AtomEnd) → list_all is_inside pre ≡ true → values (pre ++ end_text end) ≡ values_of (atom_part pre) end
 values_cut pre Text all =
-    ap values (append-nil pre) ∙ ap (map atoms_in) (comma-none pre all) ∙ ap (λ qs. map atom_part qs ∷ []) (bar-none pre all)
+    ap values (append-nil pre) ∙ ap (map atoms_of) (comma-none pre all) ∙ ap (λ qs. map atom_part qs ∷ []) (bar-none pre all)
 values_cut pre (Comma more) all =
-    ap (map atoms_in) (comma-at pre more.now all) ∙ ap (λ qs. map atom_part qs ∷ values more.now) (bar-none pre all)
+    ap (map atoms_of) (comma-at pre more.now all) ∙ ap (λ qs. map atom_part qs ∷ values more.now) (bar-none pre all)
 values_cut pre (Bar more) all =
-    ap (map atoms_in) (comma-beyond pre more.now all) ∙ beyond pre (parts (byte ",") more.now) all (has_first more.now)
+    ap (map atoms_of) (comma-beyond pre more.now all) ∙ beyond pre (parts (byte ",") more.now) all (has_first more.now)
 
 -- ---- the first atom is a vpkg
 
@@ -168,7 +168,7 @@ inside_none text none =
 abbrev read : List (List (Option PlainAtom)) → Option (List (List PlainAtom))
 read vs = all_some (map all_some vs)
 
-read-parts : (ps : List (List ℕ)) → map clause ps ≡ map all_some (map atoms_in ps)
+read-parts : (ps : List (List ℕ)) → map clause ps ≡ map all_some (map atoms_of ps)
 read-parts [] = refl
 read-parts (p ∷ ps) = ap (λ cs. clause p ∷ cs) (read-parts ps)
 
@@ -177,10 +177,6 @@ formula_in text = read_parts (byte ",") clause text
 
 read-values : (text : List ℕ) → formula_in text ≡ read (values text)
 read-values text = ap all_some (read-parts (parts (byte ",") text))
-
--- the clauses so far, the last of them still open, and those of what is left
-abbrev pub upon : List PlainAtom → Option (List (List PlainAtom)) → Option (List (List PlainAtom))
-upon done rest = option_map (onto done) rest
 
 none-first : (vs : List (List (Option PlainAtom))) → read (onto_first None vs) ≡ None
 none-first [] = refl
@@ -208,50 +204,65 @@ read-none (Bar more) = none-first (values more.now)
 formula-is : (text : List ℕ) (atom : Option PlainAtom) (end : AtomEnd) → values text ≡ values_of atom end → formula_in text ≡ read (values_of atom end)
 formula-is text atom end cut = read-values text ∙ ap read cut
 
--- ---- one more atom, in front of each end
+-- ---- a clause, atom by atom
 
-abbrev SoFar : List Atom → List ℕ → Option (List (List PlainAtom)) → Type 0
-SoFar done rest all = upon (map atom_view done) (formula_in rest) ≡ all
+-- a judged clause begins with an atom, and what is left behind it is judged too
+pub record AtomTaken (all : Option (List PlainAtom)) (a : PlainAtom) (left : Option (List PlainAtom)) : Type 0 where
+  pub sound : is_some left ≡ true
+  pub whole : unwrap_or all [] ≡ a ∷ unwrap_or left []
 
-upon-bar : (done : List PlainAtom) (a : PlainAtom) (cs : Option (List (List PlainAtom))) → upon (done ++ a ∷ []) cs ≡ upon done (option_map (onto_first a) cs)
-upon-bar done a None = refl
-upon-bar done a (Some cs) = ap Some (onto-push done a cs)
+first-of : (a : PlainAtom) (cs : Option (List (List PlainAtom))) → is_some (option_map first_list (option_map (λ xs. (a ∷ []) ∷ xs) cs)) ≡ true
+    → AtomTaken (option_map first_list (option_map (λ xs. (a ∷ []) ∷ xs) cs)) a (Some [])
+first-of a None sound = absurd cc
+first-of a (Some cs) sound = record { sound = refl; whole = refl }
 
-upon-comma : (done : List PlainAtom) (a : PlainAtom) (cs : Option (List (List PlainAtom)))
-    → option_map (λ xs. (done ++ a ∷ []) ∷ xs) cs ≡ upon done (option_map (λ xs. (a ∷ []) ∷ xs) cs)
-upon-comma done a None = refl
-upon-comma done a (Some cs) = ap Some (sym (onto-cons done (a ∷ []) cs))
+first-onto : (a : PlainAtom) (cs : Option (List (List PlainAtom))) → is_some (option_map first_list (option_map (onto_first a) cs)) ≡ true
+    → AtomTaken (option_map first_list (option_map (onto_first a) cs)) a (option_map first_list cs)
+first-onto a None sound = absurd cc
+first-onto a (Some []) sound = record { sound = refl; whole = refl }
+first-onto a (Some (c ∷ cs)) sound = record { sound = refl; whole = refl }
 
-pub none_step : (done : List Atom) (rest : List ℕ) (end : AtomEnd) (all : Option (List (List PlainAtom)))
-    → SoFar done rest all → values rest ≡ values_of None end → all ≡ None
-none_step done rest end all so_far cut = sym so_far ∙ ap (upon (map atom_view done)) (formula-is rest None end cut ∙ read-none end)
+abbrev clause_in : Option (List (List PlainAtom)) → Option (List PlainAtom)
+clause_in cs = option_map first_list cs
 
-pub bar_step : (done : List Atom) (atom : Atom) (rest : List ℕ) (more : Bor (List ℕ)) (all : Option (List (List PlainAtom)))
-    → SoFar done rest all → values rest ≡ values_of (Some (atom_view atom)) (Bar more) → SoFar (done ++ atom ∷ []) more.now all
-bar_step done atom rest more all so_far cut =
-    ap (λ xs. upon xs (formula_in more.now)) (map_push atom_view done atom)
-    ∙ upon-bar (map atom_view done) (atom_view atom) (formula_in more.now)
-    ∙ ap (upon (map atom_view done))
-    (ap (option_map (onto_first (atom_view atom))) (read-values more.now) ∙ sym (formula-is rest (Some (atom_view atom)) (Bar more) cut ∙ some-first (atom_view atom) (values more.now)))
-    ∙ so_far
+taken-at : (a : PlainAtom) (end : AtomEnd) → is_some (clause_in (read (values_of (Some a) end))) ≡ true
+    → AtomTaken (clause_in (read (values_of (Some a) end))) a (atoms_in (bar_rest end))
+taken-at a Text sound = record { sound = refl; whole = refl }
+taken-at a (Comma more) sound = first-of a (read (values more.now)) sound
+taken-at a (Bar more) sound =
+    let is : read (onto_first (Some a) (values more.now)) ≡ option_map (onto_first a) (formula_in more.now)
+    = some-first a (values more.now) ∙ ap (option_map (onto_first a)) (sym (read-values more.now)) in
+    rw is (first-onto a (formula_in more.now) (ap (λ cs. is_some (clause_in cs)) (sym is) ∙ sound))
 
-pub comma_step : (done : List Atom) (atom : Atom) (rest : List ℕ) (more : Bor (List ℕ)) (all : Option (List (List PlainAtom)))
-    → SoFar done rest all → values rest ≡ values_of (Some (atom_view atom)) (Comma more)
-    → all ≡ option_map (λ cs. map atom_view (done ++ atom ∷ []) ∷ cs) (formula_in more.now)
-comma_step done atom rest more all so_far cut = sym
-    (ap (λ xs. option_map (λ cs. xs ∷ cs) (formula_in more.now)) (map_push atom_view done atom)
-    ∙ upon-comma (map atom_view done) (atom_view atom) (formula_in more.now)
-    ∙ ap (upon (map atom_view done))
-    (ap (option_map (λ cs. (atom_view atom ∷ []) ∷ cs)) (read-values more.now) ∙ sym (formula-is rest (Some (atom_view atom)) (Comma more) cut))
-    ∙ so_far)
+-- what an iterator over these atoms gives
+pub record AtomStep (text : List ℕ) (atom : Option Atom) (end : AtomEnd) : Type 0 where
+  pub sound : is_some (atoms_in (bar_rest end)) ≡ true
+  pub taken : (a : Atom) → atom ≡ Some a → AtomTaken (atoms_in (Some text)) (atom_view a) (atoms_in (bar_rest end))
+  pub some : is_some atom ≡ true
 
-pub text_step : (done : List Atom) (atom : Atom) (rest : List ℕ) (all : Option (List (List PlainAtom)))
-    → SoFar done rest all → values rest ≡ values_of (Some (atom_view atom)) Text → all ≡ Some (map atom_view (done ++ atom ∷ []) ∷ [])
-text_step done atom rest all so_far cut = sym
-    (ap (λ xs. Some (xs ∷ [])) (map_push atom_view done atom)
-    ∙ ap Some (sym (onto-cons (map atom_view done) (atom_view atom ∷ []) []))
-    ∙ ap (upon (map atom_view done)) (sym (formula-is rest (Some (atom_view atom)) Text cut))
-    ∙ so_far)
+pub atom_step : (text : List ℕ) (atom : Option Atom) (end : AtomEnd) → values text ≡ values_of (option_map atom_view atom) end
+    → is_some (atoms_in (Some text)) ≡ true → AtomStep text atom end
+atom_step text None end cut sound =
+    let none : formula_in text ≡ None = formula-is text None end cut ∙ read-none end in
+    let never : is_some (clause_in None) ≡ true = ap (λ cs. is_some (clause_in cs)) (sym none) ∙ sound in
+    absurd cc
+atom_step text (Some atom) end cut sound =
+    let is : formula_in text ≡ read (values_of (Some (atom_view atom)) end) = formula-is text (Some (atom_view atom)) end cut in
+    let taken = taken-at (atom_view atom) end (ap (λ cs. is_some (clause_in cs)) (sym is) ∙ sound) in
+    let same : AtomTaken (atoms_in (Some text)) (atom_view atom) (atoms_in (bar_rest end)) = rw is taken in
+    record {
+      sound = taken.sound;
+      taken = λ a e. subst (λ x. AtomTaken (atoms_in (Some text)) (atom_view x) (atoms_in (bar_rest end))) (same_Some atom a e) same;
+      some = refl;
+    }
+
+-- a clause stands alone in its text, so its atoms are those up to the first comma
+pub alone_atoms : (text : List ℕ) → parts (byte ",") text ≡ text ∷ [] → atoms_in (Some text) ≡ clause text
+alone_atoms text alone = rw alone (first-alone (clause text))
+  where
+    first-alone : (c : Option (List PlainAtom)) → clause_in (all_some (c ∷ [])) ≡ c
+    first-alone None = refl
+    first-alone (Some c) = refl
 
 -- ---- a formula, judged
 

@@ -1,4 +1,5 @@
 pub mod AtomLemmas
+pub mod LeftLemmas
 pub mod EntryLemmas
 mod Examples
 pub mod NumberLemmas

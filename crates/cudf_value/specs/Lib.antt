@@ -3,6 +3,7 @@ pub mod Numbers
 pub mod Parts
 pub mod Vpkgs
 pub mod Formulas
+pub mod Lists
 pub mod Misfits
 pub mod Printing
 pub mod Types

@@ -1,6 +1,7 @@
 //! Atoms, and how those of a formula are read one after the other.
-ghost use Rattle.std.specs.Prelude.{◌≡◌, true, ◌++◌, ◌<◌, length, drop, position, slice_index, option_map, IfSome, IsTrue};
+ghost use Rattle.std.specs.Prelude.{◌≡◌, true, [], ◌∷◌, ◌++◌, ◌<◌, Some, length, drop, position, slice_index, is_some, option_copied, option_map, unwrap_or, IfSome, IsTrue};
 ghost use Rattle.std.specs.List.{list_all};
+ghost use Rattle.cudf_value.specs.Lists.{atoms_in};
 ghost use Rattle.cudf_value.specs.Promises.Views.{atom_view};
 ghost use Rattle.cudf_value.specs.Working.Atoms.{atom_part, ends_atom, is_inside, end_text, end_rest, values, values_of};
 
@@ -32,7 +33,7 @@ pub(crate) enum AtomEnd<'t> {
 
 impl<'t> AtomEnd<'t> {
     ghost use Rattle.std.specs.Prelude.{◌≡◌, option_copied};
-    ghost use Rattle.cudf_value.specs.Working.Atoms.{end_rest};
+    ghost use Rattle.cudf_value.specs.Working.Atoms.{end_rest, bar_rest};
 
     /// What stands after a comma or a bar.
     pub(crate) fn rest(self) -> Option<&'t str>
@@ -41,6 +42,17 @@ impl<'t> AtomEnd<'t> {
         match self {
             AtomEnd::Comma(more) | AtomEnd::Bar(more) => Some(more),
             AtomEnd::Text => None,
+        }
+    }
+
+    /// What stands after a bar: the atoms of the same clause.
+    #[inline(always)]
+    pub(crate) fn behind_bar(self) -> Option<&'t str>
+        ensures { option_copied result ≡ bar_rest self.entry }
+    {
+        match self {
+            AtomEnd::Bar(more) => Some(more),
+            AtomEnd::Comma(_) | AtomEnd::Text => None,
         }
     }
 }
@@ -58,6 +70,17 @@ pub(crate) fn first_atom(text: &str) -> (Option<Atom<'_>>, AtomEnd<'_>)
         }
     }
     other_atom(text)
+}
+
+/// The first atom of a judged clause, and what stands after its bar.
+#[inline(always)]
+pub(crate) fn next_atom(text: &str) -> (Atom<'_>, Option<&str>)
+    requires sound { IsTrue (is_some (atoms_in (Some text.now))) }
+    ensures taken { unwrap_or (atoms_in (Some text.now)) [] ≡ atom_view result.0 ∷ unwrap_or (atoms_in (option_copied result.1)) [] }
+    ensures sound { IsTrue (is_some (atoms_in (option_copied result.1))) }
+{
+    let (atom, end) = first_atom(text);
+    (atom.unwrap(), end.behind_bar())
 }
 
 /// What ends an atom here, if it ends here.

@@ -1,135 +1,123 @@
-//! The type `vpkgformula`.
-ghost use Rattle.std.specs.Prelude.{◌≡◌, option_map, is_some, ◌∷◌, ◌++◌, [], ◌<◌, length, IfSome, IfOk, OnOk};
+//! The type `vpkgformula`. Formulas and clauses are texts that were judged: what they say is read of them as it is asked for.
+ghost use Rattle.std.specs.Prelude.{◌≡◌, ◌≤◌, ◌^◌, ◌∷◌, [], length, unwrap_or, is_some, option_copied, IsTrue};
 ghost use Rattle.std.specs.Str.{byte};
-ghost use Rattle.cudf_text.specs.Chars.{trim};
-ghost use Rattle.cudf_value.specs.Parts.{read_parts};
-ghost use Rattle.cudf_value.specs.Promises.Views.{formula_view};
+ghost use Rattle.cudf_value.specs.Parts.{parts, read_parts};
 ghost use Rattle.cudf_value.specs.Formulas.{clause, formula};
-ghost use Rattle.cudf_value.specs.Working.Atoms.{with_clauses};
+ghost use Rattle.cudf_value.specs.Lists.{clauses_in, atoms_in};
 
-use crate::atom::{Atom, AtomEnd, first_atom};
-use crate::parts::room_for;
-use cudf_text::trim;
-use std::alloc::{AllocError, Global};
+pub(crate) mod reading;
 
-/// A disjunction, of one atom at least in what the readers give.
-#[derive(Clone, Debug, PartialEq, Eq, Drop)]
-pub struct Clause<'t> {
-    /// In the order of the text.
-    pub atoms: Vec<Atom<'t>>,
-}
+use crate::atom::{Atom, first_atom, next_atom};
+use crate::parts::cut;
 
-/// A conjunction; without clauses it holds always (own).
-#[derive(Clone, Debug, PartialEq, Eq, Drop)]
+/// A conjunction; without clauses it holds always (own). Two are equal where their texts are.
+#[derive(Clone, Copy, Debug, PartialEq, Eq)]
 pub struct Formula<'t> {
-    /// In the order of the text.
-    pub clauses: Vec<Clause<'t>>,
+    text: &'t str,
+    ghost sound: { IsTrue (is_some (formula text.now)) },
+    // So that its clauses can be numbered.
+    pub ghost few: { length (unwrap_or (formula text.now) []) ≤ 2 ^ 63 },
 }
 
-/// Reads a `vpkgformula` (CUDF 2.0, the type library), with blanks or none round it: nothing, or clauses between commas,
-/// each of atoms between `|`.
-///
-/// `None` is answered where the whole text is no `vpkgformula`.
-///
-/// # Errors
-///
-/// `AllocError` where memory for the formula is refused.
-pub fn read_formula(alloc: Global, text: &str) -> Result<Option<Formula<'_>>, AllocError>
-    ensures { IfOk result (λ r. option_map formula_view r ≡ formula (trim text.now)) }
-{
-    formula_of(alloc, trim(text))
+/// A disjunction, of one atom at least. Two are equal where their texts are.
+#[derive(Clone, Copy, Debug, PartialEq, Eq)]
+pub struct Clause<'t> {
+    text: &'t str,
+    ghost sound: { IsTrue (is_some (clause text.now)) },
+    ghost alone: { parts (byte ",") text.now ≡ text.now ∷ [] },
 }
 
-#[tactic(auto, unfolding(crate::specs::Formulas::formula))]
-pub(crate) fn formula_of(alloc: Global, text: &str) -> Result<Option<Formula<'_>>, AllocError>
-    ensures { IfOk result (λ r. option_map formula_view r ≡ formula text.now) }
-{
-    if text.is_empty() {
-        return Ok(Some(Formula {
-            clauses: Vec::new(alloc),
-        }));
-    }
-    clauses_of(alloc, text)
-}
-
-/// The formula of the clauses between commas.
-fn clauses_of(alloc: Global, text: &str) -> Result<Option<Formula<'_>>, AllocError>
-    ensures { IfOk result (λ r. option_map formula_view r ≡ read_parts (byte ",") clause text.now) }
-{
-    let mut clauses = Vec::with_capacity(alloc, room_for(text))?;
-    let mut rest = text;
-    loop {
-        let Some(first) = first_clause(alloc, rest)? else {
-            return Ok(None);
-        };
-        let next = first.rest;
-        clauses.push(first.clause)?;
-        match next {
-            Some(more) => rest = more,
-            None => {
-                clauses.shrink_to_fit();
-                return Ok(Some(Formula { clauses }));
-            }
-        }
-    }
-}
-
-/// A clause, and what stands after its comma, if there is one.
-#[derive(Drop)]
-pub(crate) struct FirstClause<'t> {
-    clause: Clause<'t>,
+/// The clauses of a formula, in the order of the text.
+#[derive(Clone, Copy, Debug)]
+pub struct Clauses<'t> {
     rest: Option<&'t str>,
+    ghost sound: { IsTrue (is_some (clauses_in (option_copied rest))) },
 }
 
-/// The clause of the atoms up to the first comma.
-fn first_clause(alloc: Global, text: &str) -> Result<Option<FirstClause<'_>>, AllocError>
-    ensures clauses { IfOk result (λ r. read_parts (byte ",") clause text.now ≡ with_clauses r) }
-    ensures shorter { IfOk result (λ r. IfSome r (λ first. IfSome first.rest (λ more. length more.now < length text.now))) }
-{
-    let mut atoms = Vec::with_capacity(alloc, 1)?;
-    let mut rest = text;
-    loop {
-        let (atom, end) = first_atom(rest);
-        match atom {
-            Some(atom) => push_atom(&mut atoms, atom)?,
-            None => return Ok(None),
+/// The atoms of a clause, in the order of the text.
+#[derive(Clone, Copy, Debug)]
+pub struct Atoms<'t> {
+    rest: Option<&'t str>,
+    ghost sound: { IsTrue (is_some (atoms_in (option_copied rest))) },
+}
+
+impl<'t> Formula<'t> {
+    ghost use Rattle.std.specs.Prelude.{◌≡◌, []};
+    ghost use Rattle.cudf_value.specs.Promises.Views.{formula_view, clauses_view};
+
+    /// The one without clauses.
+    #[tactic(auto, unfolding(crate::specs::Formulas::formula))]
+    pub fn always() -> Self
+        ensures { formula_view result ≡ [] }
+    {
+        Formula { text: "" }
+    }
+
+    /// Its clauses.
+    #[tactic(auto, unfolding(crate::specs::Formulas::formula))]
+    pub fn clauses(self) -> Clauses<'t>
+        ensures { clauses_view result ≡ formula_view self.entry }
+    {
+        if self.text.is_empty() {
+            return Clauses { rest: None };
         }
-        match end {
-            AtomEnd::Bar(more) => rest = more,
-            AtomEnd::Comma(more) => {
-                return Ok(Some(FirstClause {
-                    rest: Some(more),
-                    clause: Clause { atoms },
-                }));
-            }
-            AtomEnd::Text => {
-                return Ok(Some(FirstClause {
-                    rest: None,
-                    clause: Clause { atoms },
-                }));
-            }
+        Clauses {
+            rest: Some(self.text),
         }
     }
 }
 
-/// Adds the atom. Most clauses have one or two, so there is room for no more than two at first.
-fn push_atom<'t>(atoms: &mut Vec<Atom<'t>>, atom: Atom<'t>) -> Result<(), AllocError>
-    ensures { OnOk result (atoms.new.items ≡ atoms.old.items ++ atom.entry ∷ []) }
-{
-    if atoms.len() == 1 {
-        atoms.reserve_exact(1)?;
+impl<'t> Iterator for Clauses<'t> {
+    ghost use Rattle.std.specs.Iterator.{YieldsFirstBy, item_count};
+    ghost use Rattle.cudf_value.specs.Promises.Views.{clause_view, clauses_view};
+
+    type Item = Clause<'t>;
+
+    ghost next_gives = { YieldsFirstBy clause_view clauses_view };
+
+    ghost remaining = { item_count clauses_view };
+
+    fn next(&mut self) -> Option<Clause<'t>> {
+        let text = self.rest?;
+        let (part, rest) = cut(text, b',');
+        self.rest = rest;
+        Some(Clause { text: part })
     }
-    atoms.push(atom)?;
-    Ok(())
 }
 
-/// Whether the text is a `vpkgformula`, with blanks or none round it. Takes no memory.
-pub fn is_formula(text: &str) -> bool
-    ensures { result ≡ is_some (formula (trim text.now)) }
-{
-    is_formula_text(trim(text))
+impl<'t> Clause<'t> {
+    ghost use Rattle.std.specs.Prelude.{◌≡◌};
+    ghost use Rattle.cudf_value.specs.Promises.Views.{clause_view, atoms_view};
+
+    /// Its atoms.
+    pub fn atoms(self) -> Atoms<'t>
+        ensures { atoms_view result ≡ clause_view self.entry }
+    {
+        Atoms {
+            rest: Some(self.text),
+        }
+    }
 }
 
+impl<'t> Iterator for Atoms<'t> {
+    ghost use Rattle.std.specs.Iterator.{YieldsFirstBy, item_count};
+    ghost use Rattle.cudf_value.specs.Promises.Views.{atom_view, atoms_view};
+
+    type Item = Atom<'t>;
+
+    ghost next_gives = { YieldsFirstBy atom_view atoms_view };
+
+    ghost remaining = { item_count atoms_view };
+
+    fn next(&mut self) -> Option<Atom<'t>> {
+        let text = self.rest?;
+        let (atom, rest) = next_atom(text);
+        self.rest = rest;
+        Some(atom)
+    }
+}
+
+/// Whether the text, which has no blanks round it, is a `vpkgformula`.
 #[tactic(auto, unfolding(crate::specs::Formulas::formula))]
 pub(crate) fn is_formula_text(text: &str) -> bool
     ensures { result ≡ is_some (formula text.now) }

@@ -3,6 +3,7 @@
 
 mod atom;
 mod declaration;
+mod entry;
 mod formula;
 pub mod laws;
 mod misfits;
@@ -18,11 +19,13 @@ mod word;
 pub use atom::Atom;
 pub use cudf_text::is_ident;
 pub use declaration::{Declaration, declaration_pieces, read_declaration, read_declarations};
-pub use formula::{Clause, Formula, is_formula, read_formula};
+pub use formula::reading::read_formula;
+pub use formula::{Atoms, Clause, Clauses, Formula};
 pub use misfits::misfit;
 pub use number::{read_int, read_nat, read_posint};
 pub use relop::{Relop, meets};
 pub use value_type::{ValueType, fits, is_of_type};
 pub use vpkg::{Vpkg, read_veqpkg, read_vpkg};
-pub use vpkglist::{is_veqpkglist, is_vpkglist, read_veqpkglist, read_vpkglist};
+pub use vpkglist::reading::{read_veqpkglist, read_vpkglist};
+pub use vpkglist::{VpkgList, Vpkgs};
 pub use word::{is_pkgname, read_bool};

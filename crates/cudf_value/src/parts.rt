@@ -1,16 +1,10 @@
 //! Values made of parts: a text is cut at each separator.
-ghost use Rattle.std.specs.Prelude.{◌≡◌, ◌<◌, ◌≤◌, ◌==◌, ◌∷◌, length, position, slice_index, IfSome, option_copied};
+ghost use Rattle.std.specs.Prelude.{◌≡◌, ◌<◌, ◌^◌, ◌==◌, ◌∷◌, length, position, slice_index, IfSome, option_copied};
 ghost use Rattle.std.specs.List.{before_first};
 ghost use Rattle.cudf_value.specs.Parts.{parts};
 ghost use Rattle.cudf_value.specs.Working.Rests.{parts_after};
 
 use cudf_text::scan::{after, before};
-
-/// The most parts that get room before they are read.
-const ROOM: usize = 64;
-
-/// How many bytes a part usually has.
-const USUAL_LEN: usize = 12;
 
 /// The part before the first separator, and what stands after it, if there is one.
 pub(crate) fn cut(text: &str, separator: u8) -> (&str, Option<&str>)
@@ -33,9 +27,9 @@ pub(crate) fn find(bytes: &[u8], wanted: u8) -> Option<usize>
     bytes.iter().position(|b| *b == wanted)
 }
 
-/// How many parts get room before they are read: about as many as are usual in a text so long.
-pub(crate) fn room_for(text: &str) -> usize
-    ensures { result ≤ 64 }
+/// That a text's length is less than a half of what a `usize` counts: a law, and no effect.
+pub(crate) fn lies_in_memory(text: &str)
+    ensures { length text.now < 2 ^ 63 }
 {
-    1 + (text.len() / USUAL_LEN).min(ROOM - 1)
+    let _bytes = text.as_bytes();
 }

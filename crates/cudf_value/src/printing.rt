@@ -45,15 +45,14 @@ impl fmt::Display for Clause<'_> {
     ghost output = { λ c. Some (clause_text (clause_view c)) };
 
     fn fmt<W: fmt::Write>(&self, f: &mut fmt::Formatter<W>) -> fmt::Result {
-        match self.atoms.as_slice().split_first() {
-            None => Ok(()),
-            Some((first, rest)) => {
-                write!(f, "{first}")?;
-                for atom in rest {
-                    write!(f, " | {atom}")?;
-                }
-                Ok(())
-            }
+        let mut atoms = self.atoms();
+        let Some(first) = atoms.next() else {
+            return Ok(());
+        };
+        write!(f, "{first}")?;
+        for atom in atoms {
+            write!(f, " | {atom}")?;
         }
+        Ok(())
     }
 }

@@ -1,106 +1,98 @@
-//! The types `vpkglist` and `veqpkglist`.
-ghost use Rattle.std.specs.Prelude.{◌≡◌, not, ◌||◌, ◌∷◌, ◌<◌, length, map, option_map, option_copied, is_some, IfOk, IfSome, IsTrue};
+//! The types `vpkglist` and `veqpkglist`. Lists are texts that were judged: their vpkgs are read of them as they are asked for.
+ghost use Rattle.std.specs.Prelude.{◌≡◌, ◌<◌, ◌≤◌, ◌^◌, ◌==◌, [], length, count_by, unwrap_or, option_copied, is_some, IsTrue};
 ghost use Rattle.std.specs.Str.{byte};
-ghost use Rattle.cudf_text.specs.Chars.{trim};
-ghost use Rattle.cudf_value.specs.Parts.{some_if, parts, read_parts, comma_list};
-ghost use Rattle.cudf_value.specs.Promises.Views.{vpkg_view};
-ghost use Rattle.cudf_value.specs.Vpkgs.{is_exact};
+ghost use Rattle.cudf_value.specs.Parts.{read_parts, comma_list};
 ghost use Rattle.cudf_value.specs.Formulas.{vpkglist, veqpkglist};
-ghost use Rattle.cudf_value.specs.Working.Rests.{parts_after};
-ghost use Rattle.cudf_value.specs.Working.Entries.{vpkg_part, first_part, ends_entry, entry_end};
+ghost use Rattle.cudf_value.specs.Lists.{vpkgs_in};
+ghost use Rattle.cudf_value.specs.Working.Entries.{vpkg_part};
 
-use crate::parts::{cut, room_for};
-use crate::vpkg::{Vpkg, is_exact, veqpkg_of, vpkg_at, vpkg_of};
-use cudf_text::scan::{after, first_byte};
-use cudf_text::trim;
-use std::alloc::{AllocError, Global};
+pub(crate) mod reading;
 
-/// Reads a `vpkglist` (CUDF 2.0, the type library), with blanks or none round it: nothing, or vpkgs between commas.
-///
-/// `None` is answered where the whole text is no `vpkglist`.
-///
-/// # Errors
-///
-/// `AllocError` where memory for the list is refused.
-pub fn read_vpkglist(alloc: Global, text: &str) -> Result<Option<Vec<Vpkg<'_>>>, AllocError>
-    ensures { IfOk result (λ r. option_map (λ v. map vpkg_view v.items) r ≡ vpkglist (trim text.now)) }
-{
-    vpkglist_of(alloc, trim(text))
+use crate::entry::first_entry;
+use crate::vpkg::Vpkg;
+
+/// Vpkgs in the order of the text. Two lists are equal where their texts are.
+#[derive(Clone, Copy, Debug, PartialEq, Eq)]
+pub struct VpkgList<'t> {
+    text: &'t str,
+    ghost sound: { IsTrue (is_some (vpkglist text.now)) },
+    // So that its vpkgs can be numbered.
+    pub ghost few: { length (unwrap_or (vpkglist text.now) []) ≤ 2 ^ 63 },
 }
 
-/// Reads a `veqpkglist` (CUDF 2.0, the type library), with blanks or none round it: nothing, or veqpkgs between commas.
-///
-/// `None` is answered where the whole text is no `veqpkglist`.
-///
-/// # Errors
-///
-/// `AllocError` where memory for the list is refused.
-pub fn read_veqpkglist(alloc: Global, text: &str) -> Result<Option<Vec<Vpkg<'_>>>, AllocError>
-    ensures { IfOk result (λ r. option_map (λ v. map vpkg_view v.items) r ≡ veqpkglist (trim text.now)) }
-{
-    veqpkglist_of(alloc, trim(text))
+/// The vpkgs of a list, in the order of the text.
+#[derive(Clone, Copy, Debug)]
+pub struct Vpkgs<'t> {
+    rest: Option<&'t str>,
+    ghost sound: { IsTrue (is_some (vpkgs_in (option_copied rest))) },
 }
 
-#[tactic(auto, unfolding(crate::specs::Formulas::vpkglist))]
-pub(crate) fn vpkglist_of(alloc: Global, text: &str) -> Result<Option<Vec<Vpkg<'_>>>, AllocError>
-    ensures { IfOk result (λ r. option_map (λ v. map vpkg_view v.items) r ≡ vpkglist text.now) }
-{
-    list_of(alloc, text, false)
-}
+impl<'t> VpkgList<'t> {
+    ghost use Rattle.std.specs.Prelude.{◌≡◌, ◌≤◌, ◌^◌, [], length};
+    ghost use Rattle.cudf_value.specs.Promises.Views.{list_view, vpkgs_view};
 
-#[tactic(auto, unfolding(crate::specs::Formulas::veqpkglist))]
-pub(crate) fn veqpkglist_of(alloc: Global, text: &str) -> Result<Option<Vec<Vpkg<'_>>>, AllocError>
-    ensures { IfOk result (λ r. option_map (λ v. map vpkg_view v.items) r ≡ veqpkglist text.now) }
-{
-    list_of(alloc, text, true)
-}
-
-/// Nothing, or the vpkgs between commas, or the veqpkgs where they are to be exact.
-fn list_of(alloc: Global, text: &str, exact: bool) -> Result<Option<Vec<Vpkg<'_>>>, AllocError>
-    ensures { IfOk result (λ r. option_map (λ v. map vpkg_view v.items) r ≡ comma_list (vpkg_part exact) text.now) }
-{
-    if text.is_empty() {
-        return Ok(Some(Vec::new(alloc)));
+    /// The empty one.
+    #[tactic(auto, unfolding(crate::specs::Formulas::vpkglist))]
+    pub fn empty() -> Self
+        ensures { list_view result ≡ [] }
+    {
+        VpkgList { text: "" }
     }
-    entries_of(alloc, text, exact)
-}
 
-/// The vpkgs between commas, one at least.
-fn entries_of(alloc: Global, text: &str, exact: bool) -> Result<Option<Vec<Vpkg<'_>>>, AllocError>
-    ensures { IfOk result (λ r. option_map (λ v. map vpkg_view v.items) r ≡ read_parts (byte ",") (vpkg_part exact) text.now) }
-{
-    let mut vpkgs = Vec::with_capacity(alloc, room_for(text))?;
-    let mut rest = text;
-    loop {
-        let (entry, next) = first_entry(rest, exact);
-        match entry {
-            Some(vpkg) => vpkgs.push(vpkg)?,
-            None => return Ok(None),
+    /// How many vpkgs it has.
+    #[tactic(auto, unfolding(crate::specs::Formulas::vpkglist))]
+    pub fn len(self) -> usize
+        ensures len { result ≡ length (list_view self.entry) }
+        ensures bound { result ≤ 2 ^ 63 }
+    {
+        if self.text.is_empty() {
+            return 0;
         }
-        match next {
-            Some(more) => rest = more,
-            None => {
-                vpkgs.shrink_to_fit();
-                return Ok(Some(vpkgs));
-            }
+        comma_count(self.text.as_bytes()) + 1
+    }
+
+    /// Its vpkgs.
+    #[tactic(auto, unfolding(crate::specs::Formulas::vpkglist))]
+    pub fn vpkgs(self) -> Vpkgs<'t>
+        ensures vpkgs { vpkgs_view result ≡ list_view self.entry }
+        ensures few { length (list_view self.entry) ≤ 2 ^ 63 }
+    {
+        if self.text.is_empty() {
+            return Vpkgs { rest: None };
+        }
+        Vpkgs {
+            rest: Some(self.text),
         }
     }
 }
 
-/// Whether the text is a `vpkglist`, with blanks or none round it. Takes no memory.
-pub fn is_vpkglist(text: &str) -> bool
-    ensures { result ≡ is_some (vpkglist (trim text.now)) }
-{
-    is_vpkglist_text(trim(text))
+impl<'t> Iterator for Vpkgs<'t> {
+    ghost use Rattle.std.specs.Iterator.{YieldsFirstBy, item_count};
+    ghost use Rattle.cudf_value.specs.Promises.Views.{vpkg_view, vpkgs_view};
+
+    type Item = Vpkg<'t>;
+
+    ghost next_gives = { YieldsFirstBy vpkg_view vpkgs_view };
+
+    ghost remaining = { item_count vpkgs_view };
+
+    fn next(&mut self) -> Option<Vpkg<'t>> {
+        let text = self.rest?;
+        let (vpkg, rest) = first_entry(text, false);
+        self.rest = rest;
+        vpkg
+    }
 }
 
-/// Whether the text is a `veqpkglist`, with blanks or none round it. Takes no memory.
-pub fn is_veqpkglist(text: &str) -> bool
-    ensures { result ≡ is_some (veqpkglist (trim text.now)) }
+/// How many commas there are.
+fn comma_count(bytes: &[u8]) -> usize
+    ensures value { result ≡ count_by (λ b. b == byte ",") bytes.now }
+    ensures bound { result < 2 ^ 63 }
 {
-    is_veqpkglist_text(trim(text))
+    bytes.iter().filter(|b| **b == b',').count()
 }
 
+/// Whether the text, which has no blanks round it, is a `vpkglist`.
 #[tactic(auto, unfolding(crate::specs::Formulas::vpkglist))]
 pub(crate) fn is_vpkglist_text(text: &str) -> bool
     ensures { result ≡ is_some (vpkglist text.now) }
@@ -108,6 +100,7 @@ pub(crate) fn is_vpkglist_text(text: &str) -> bool
     is_list(text, false)
 }
 
+/// Whether the text, which has no blanks round it, is a `veqpkglist`.
 #[tactic(auto, unfolding(crate::specs::Formulas::veqpkglist))]
 pub(crate) fn is_veqpkglist_text(text: &str) -> bool
     ensures { result ≡ is_some (veqpkglist text.now) }
@@ -134,75 +127,5 @@ fn are_entries(text: &str, exact: bool) -> bool
             Some(more) => rest = more,
             None => return true,
         }
-    }
-}
-
-/// The first entry, and what stands after its comma, if there is one. A vpkg is read in one pass,
-/// with the blanks round it.
-#[inline(always)]
-fn first_entry(text: &str, exact: bool) -> (Option<Vpkg<'_>>, Option<&str>)
-    ensures part { parts (byte ",") text.now ≡ first_part text.now ∷ parts_after (byte ",") (option_copied result.1) }
-    ensures entry { option_map vpkg_view result.0 ≡ vpkg_part exact (first_part text.now) }
-    ensures shorter { IfSome result.1 (λ rest. length rest.now < length text.now) }
-{
-    if let Some((vpkg, rest)) = vpkg_at(text) {
-        if ends_entry(rest) {
-            return (exact_where_asked(vpkg, exact), after_comma(rest));
-        }
-    }
-    other_entry(text, exact)
-}
-
-/// The vpkg, where it is exact or needn't be.
-fn exact_where_asked(vpkg: Vpkg<'_>, exact: bool) -> Option<Vpkg<'_>>
-    ensures { option_map vpkg_view result ≡ some_if (not exact || is_exact vpkg.entry.bound) (vpkg_view vpkg.entry) }
-{
-    if !exact || is_exact(vpkg.bound) {
-        Some(vpkg)
-    } else {
-        None
-    }
-}
-
-/// Whether an entry ends here.
-fn ends_entry(text: &str) -> bool
-    ensures { result ≡ ends_entry text.now }
-{
-    text.is_empty() || first_byte(text) == b','
-}
-
-/// What stands after the comma here, if it isn't the end.
-fn after_comma(text: &str) -> Option<&str>
-    requires { IsTrue (ends_entry text.now) }
-    ensures { text.now ≡ entry_end (option_copied result) }
-{
-    if text.is_empty() {
-        None
-    } else {
-        Some(after(text, 1))
-    }
-}
-
-/// The first entry, whatever it is. What reads it isn't inlined, as in `other_atom`.
-#[inline(always)]
-fn other_entry(text: &str, exact: bool) -> (Option<Vpkg<'_>>, Option<&str>)
-    ensures part { parts (byte ",") text.now ≡ first_part text.now ∷ parts_after (byte ",") (option_copied result.1) }
-    ensures entry { option_map vpkg_view result.0 ≡ vpkg_part exact (first_part text.now) }
-    ensures shorter { IfSome result.1 (λ rest. length rest.now < length text.now) }
-{
-    let (part, next) = cut(text, b',');
-    (entry_of(part, exact), next)
-}
-
-/// The vpkg or veqpkg, with blanks or none round it.
-#[inline(never)]
-fn entry_of(part: &str, exact: bool) -> Option<Vpkg<'_>>
-    ensures { option_map vpkg_view result ≡ vpkg_part exact part.now }
-{
-    let text = trim(part);
-    if exact {
-        veqpkg_of(text)
-    } else {
-        vpkg_of(text)
     }
 }

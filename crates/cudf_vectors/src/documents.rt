@@ -1,22 +1,19 @@
 //! Calls that read documents. Where several calls promise the same, each of them is made.
-use crate::shown::{agreed, push_list};
+use crate::shown::{agreed, push_clauses, push_list, push_vpkgs};
 use crate::texts::shown_fault;
 use cudf_document::{
-    Chosen, Keep, Mode, Package, Problem, ReadError, Request, Solution, Status, Unknown,
-    first_fault, problem_for, problem_of, proposed_of, read_problem, read_solution, solution_of,
+    Keep, Mode, Package, Problem, ReadError, Request, Solution, Status, Unknown, first_fault,
+    problem_of, proposed_of, read_problem, read_solution, solution_of,
 };
 use cudf_text::{Fault, Room, TextError, cut_joined, is_fail, read, stanzas};
-use cudf_value::Formula;
+use cudf_value::{Formula, VpkgList};
 use std::alloc::{AllocError, Global};
-use std::fmt::Display;
 
-/// The first fault of a problem: where it is only judged, where all of it is kept, and where the least of it is.
+/// The first fault of a problem: where it is only judged, and where it is kept.
 pub(crate) fn fault(alloc: Global, bytes: &[u8], mode: Mode) -> Result<String, AllocError> {
     let judged = fault_or_none(alloc, judged_fault(alloc, bytes, mode)?)?;
     let read = fault_or_none(alloc, read_fault(alloc, bytes, mode)?)?;
-    let thin = fault_or_none(alloc, thin_fault(alloc, bytes, mode)?)?;
-    let kept = agreed(alloc, read, thin)?;
-    agreed(alloc, judged, kept)
+    agreed(alloc, judged, read)
 }
 
 fn fault_or_none(alloc: Global, fault: Option<Fault>) -> Result<String, AllocError> {
@@ -44,16 +41,6 @@ fn read_fault(alloc: Global, bytes: &[u8], mode: Mode) -> Result<Option<Fault>, 
     }
 }
 
-/// The first fault for a solution that installs nothing.
-fn thin_fault(alloc: Global, bytes: &[u8], mode: Mode) -> Result<Option<Fault>, AllocError> {
-    let mut room = Room::new(alloc);
-    let chosen = Chosen::none(alloc);
-    match stanzas(alloc, bytes, &mut room) {
-        Ok(stanzas) => fault_of(problem_for(alloc, stanzas, &chosen, mode)),
-        Err(fault) => Ok(Some(fault)),
-    }
-}
-
 fn fault_of(problem: Result<Problem<'_>, ReadError>) -> Result<Option<Fault>, AllocError> {
     match problem {
         Ok(_problem) => Ok(None),
@@ -62,21 +49,23 @@ fn fault_of(problem: Result<Problem<'_>, ReadError>) -> Result<Option<Fault>, Al
     }
 }
 
-/// Adds a name and the values behind it, where there are some.
-fn push_named<T: Display>(out: &mut String, name: &str, values: &[T]) -> Result<(), AllocError> {
-    if values.is_empty() {
+/// Adds a name and the vpkgs behind it, where there are some.
+fn push_named(out: &mut String, name: &str, list: VpkgList<'_>) -> Result<(), AllocError> {
+    if list.len() == 0 {
         return Ok(());
     }
     write!(out, " {name} ")?;
-    push_list(out, values)
+    push_vpkgs(out, list)
 }
 
 /// Adds a package as `LINE NAME VERSION`, then what isn't the default.
 fn push_package(out: &mut String, package: &Package<'_>) -> Result<(), AllocError> {
     write!(out, "{} {} {}", package.line, package.name, package.version)?;
-    push_named(out, "depends", &package.depends.clauses)?;
-    push_named(out, "conflicts", &package.conflicts)?;
-    push_named(out, "provides", &package.provides)?;
+    if package.depends.clauses().next().is_some() {
+        push_formula(out, " depends ", Some(package.depends))?;
+    }
+    push_named(out, "conflicts", package.conflicts)?;
+    push_named(out, "provides", package.provides)?;
     out.push_str(if package.installed { " installed" } else { "" })?;
     out.push_str(match package.keep {
         Keep::Version => " keep version",
@@ -84,26 +73,26 @@ fn push_package(out: &mut String, package: &Package<'_>) -> Result<(), AllocErro
         Keep::Feature => " keep feature",
         Keep::Nothing => "",
     })?;
-    push_formula(out, " says recommends ", package.recommends.as_ref())
+    push_formula(out, " says recommends ", package.recommends)
 }
 
 /// Adds a formula, if there is one.
 fn push_formula(
     out: &mut String,
     name: &str,
-    formula: Option<&Formula<'_>>,
+    formula: Option<Formula<'_>>,
 ) -> Result<(), AllocError> {
     match formula {
         Some(formula) => {
             out.push_str(name)?;
-            push_list(out, &formula.clauses)
+            push_clauses(out, formula)
         }
         None => Ok(()),
     }
 }
 
 /// What the package of this place recommends, where there is one.
-fn recommends_at<'p, 't>(problem: &'p Problem<'t>, place: u64) -> Option<&'p Formula<'t>> {
+fn recommends_at<'t>(problem: &Problem<'t>, place: u64) -> Option<Formula<'t>> {
     if place == 0 || place > problem.packages().len() as u64 {
         return None;
     }
@@ -113,9 +102,9 @@ fn recommends_at<'p, 't>(problem: &'p Problem<'t>, place: u64) -> Option<&'p For
 /// Adds a request as its line and its lists that aren't empty.
 fn push_request(out: &mut String, request: &Request<'_>) -> Result<(), AllocError> {
     write!(out, "{} request", request.line)?;
-    push_named(out, "install", &request.install)?;
-    push_named(out, "remove", &request.remove)?;
-    push_named(out, "upgrade", &request.upgrade)
+    push_named(out, "install", request.install)?;
+    push_named(out, "remove", request.remove)?;
+    push_named(out, "upgrade", request.upgrade)
 }
 
 /// A problem as its packages and its request, with a semicolon between each two.
@@ -159,27 +148,6 @@ fn held_problem(alloc: Global, bytes: &[u8]) -> Result<String, AllocError> {
     match read(alloc, bytes) {
         Ok(text) => shown_problem(alloc, read_problem(alloc, &text, Mode::Lenient)),
         Err(error) => error.to_string(alloc),
-    }
-}
-
-/// The problem of one input, read for the solution of it.
-pub(crate) fn thin(alloc: Global, bytes: &[u8]) -> Result<String, AllocError> {
-    let (problem, solution) = cut_joined(bytes);
-    let mut room = Room::new(alloc);
-    match stanzas(alloc, solution, &mut room) {
-        Ok(stanzas) => match proposed_of(alloc, stanzas, Mode::Lenient) {
-            Ok(proposed) => thin_problem(alloc, problem, &Chosen::of(alloc, &proposed)?),
-            Err(error) => shown_error(alloc, error),
-        },
-        Err(fault) => shown_fault(alloc, fault),
-    }
-}
-
-fn thin_problem(alloc: Global, bytes: &[u8], chosen: &Chosen<'_>) -> Result<String, AllocError> {
-    let mut room = Room::new(alloc);
-    match stanzas(alloc, bytes, &mut room) {
-        Ok(stanzas) => { shown_problem(alloc, problem_for(alloc, stanzas, chosen, Mode::Lenient)) }
-        Err(fault) => shown_fault(alloc, fault),
     }
 }
 

@@ -45,7 +45,6 @@ fn answer(alloc: Global, call: &str, bytes: &[u8], problem: &[u8]) -> Result<Str
         "fault" => documents::fault(alloc, bytes, Mode::Lenient),
         "strict_fault" => documents::fault(alloc, bytes, Mode::Strict),
         "problem" => documents::problem(alloc, bytes),
-        "thin" => documents::thin(alloc, bytes),
         "solution" => documents::solution(alloc, bytes, problem, Mode::Lenient),
         "strict_solution" => documents::solution(alloc, bytes, problem, Mode::Strict),
         _ => match str::from_utf8(bytes) {

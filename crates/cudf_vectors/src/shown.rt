@@ -1,4 +1,5 @@
 //! How answers are shown.
+use cudf_value::{Formula, VpkgList};
 use std::alloc::{AllocError, Global};
 use std::fmt::Display;
 
@@ -8,6 +9,30 @@ pub(crate) fn push_list<T: Display>(out: &mut String, values: &[T]) -> Result<()
     for (before, value) in values.iter().enumerate() {
         out.push_str(if before == 0 { "" } else { ", " })?;
         write!(out, "{value}")?;
+    }
+    out.push_str("]")?;
+    Ok(())
+}
+
+/// Adds the clauses of a formula between brackets, with a comma between each two.
+pub(crate) fn push_clauses(out: &mut String, formula: Formula<'_>) -> Result<(), AllocError> {
+    out.push_str("[")?;
+    let mut between = "";
+    for clause in formula.clauses() {
+        write!(out, "{between}{clause}")?;
+        between = ", ";
+    }
+    out.push_str("]")?;
+    Ok(())
+}
+
+/// Adds the vpkgs of a list between brackets, with a comma between each two.
+pub(crate) fn push_vpkgs(out: &mut String, list: VpkgList<'_>) -> Result<(), AllocError> {
+    out.push_str("[")?;
+    let mut between = "";
+    for vpkg in list.vpkgs() {
+        write!(out, "{between}{vpkg}")?;
+        between = ", ";
     }
     out.push_str("]")?;
     Ok(())

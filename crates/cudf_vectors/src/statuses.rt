@@ -74,9 +74,9 @@ fn satisfied(alloc: Global, index: &Index<'_, '_>, text: &str) -> Result<String,
 
 /// Whether the status satisfies the formula's first clause.
 fn clause(alloc: Global, index: &Index<'_, '_>, text: &str) -> Result<String, AllocError> {
-    match read_formula(alloc, text)? {
-        Some(formula) => match formula.clauses.first() {
-            Some(clause) => yes_if(alloc, index.satisfies_clause(clause)),
+    match read_formula(text) {
+        Some(formula) => match formula.clauses().next() {
+            Some(clause) => yes_if(alloc, index.satisfies_clause(&clause)),
             None => String::from_str(alloc, "no clause"),
         },
         None => String::from_str(alloc, "no formula"),

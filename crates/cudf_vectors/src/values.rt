@@ -1,10 +1,10 @@
 //! Calls that read values, keys and lists of criteria.
-use crate::shown::{agreed, push_list, shown_or, yes_if};
+use crate::shown::{agreed, push_clauses, push_list, push_vpkgs, shown_or, yes_if};
 use cudf_referee::{Aim, Key, read_criterion};
 use cudf_value::{
-    Declaration, ValueType, Vpkg, fits, is_formula, is_ident, is_of_type, is_pkgname,
-    is_veqpkglist, is_vpkglist, meets, read_bool, read_declarations, read_formula, read_int,
-    read_nat, read_posint, read_veqpkg, read_veqpkglist, read_vpkg, read_vpkglist,
+    Declaration, ValueType, VpkgList, fits, is_ident, is_of_type, is_pkgname, meets, read_bool,
+    read_declarations, read_formula, read_int, read_nat, read_posint, read_veqpkg, read_veqpkglist,
+    read_vpkg, read_vpkglist,
 };
 use std::alloc::{AllocError, Global};
 
@@ -22,8 +22,16 @@ pub(crate) fn answer(alloc: Global, call: &str, text: &str) -> Result<String, Al
         "pkgname" => yes_if(alloc, is_pkgname(text)),
         "vpkg" => shown_or(alloc, read_vpkg(text), OTHER),
         "veqpkg" => shown_or(alloc, read_veqpkg(text), OTHER),
-        "vpkglist" => list(alloc, read_vpkglist(alloc, text)?, is_vpkglist(text)),
-        "veqpkglist" => list(alloc, read_veqpkglist(alloc, text)?, is_veqpkglist(text)),
+        "vpkglist" => list(
+            alloc,
+            read_vpkglist(text),
+            fits(alloc, &ValueType::List, text)?,
+        ),
+        "veqpkglist" => list(
+            alloc,
+            read_veqpkglist(text),
+            fits(alloc, &ValueType::ExactList, text)?,
+        ),
         "formula" => formula(alloc, text),
         "declarations" => declarations(alloc, text),
         "fits" => fitting(alloc, text),
@@ -33,11 +41,11 @@ pub(crate) fn answer(alloc: Global, call: &str, text: &str) -> Result<String, Al
 }
 
 /// A list as it was read.
-fn list(alloc: Global, list: Option<Vec<Vpkg<'_>>>, is_list: bool) -> Result<String, AllocError> {
+fn list(alloc: Global, list: Option<VpkgList<'_>>, is_list: bool) -> Result<String, AllocError> {
     let is_read = list.is_some();
     let mut shown = String::new(alloc);
     match list {
-        Some(entries) => push_list(&mut shown, &entries)?,
+        Some(list) => push_vpkgs(&mut shown, list)?,
         None => shown.push_str(OTHER)?,
     }
     with_test(shown, is_read, is_list)
@@ -54,14 +62,15 @@ fn with_test(shown: String, is_read: bool, is_of_type: bool) -> Result<String, A
 
 fn formula(alloc: Global, text: &str) -> Result<String, AllocError> {
     let mut shown = String::new(alloc);
-    match read_formula(alloc, text)? {
+    let is_formula = fits(alloc, &ValueType::Formula, text)?;
+    match read_formula(text) {
         Some(formula) => {
-            push_list(&mut shown, &formula.clauses)?;
-            with_test(shown, true, is_formula(text))
+            push_clauses(&mut shown, formula)?;
+            with_test(shown, true, is_formula)
         }
         None => {
             shown.push_str(OTHER)?;
-            with_test(shown, false, is_formula(text))
+            with_test(shown, false, is_formula)
         }
     }
 }

@@ -1,10 +1,10 @@
 -- What stands before the verdict, and whether lines are explained.
 use Rattle.std.specs.Prelude.{ℕ, Bool, false, List, [], option_map}
-use Rattle.cudf_referee.specs.KeyViews.{key_view}
+use Rattle.cudf_job.specs.KeyViews.{key_view}
 use Rattle.cudf_referee.specs.Proposals.{Proposal}
 use Rattle.cudf_check.specs.Report.{check_text, scored_text}
-use Rattle.cudf_check.specs.declared.job.Job.{Job}
-use Rattle.cudf_check.specs.declared.job.Job.TheVariants.{Lint, Check, Score}
+use Rattle.cudf_job.specs.declared.job.Job.{Job}
+use Rattle.cudf_job.specs.declared.job.Job.TheVariants.{Lint, Check, Score}
 
 -- the job asks for lines with what is added to them
 abbrev pub explains : Job → Bool

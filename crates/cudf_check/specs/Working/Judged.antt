@@ -1,9 +1,9 @@
 -- What is answered of solutions that are judged one after another.
 use Rattle.std.specs.Prelude.{◌≡◌, ℕ, List, [], slice_get, None, Some}
-use Rattle.cudf_document.specs.declared.mode.Mode.{Mode}
+use Rattle.cudf_problem.specs.declared.mode.Mode.{Mode}
 use Rattle.cudf_document.specs.declared.error.ReadError.{ReadError}
 use Rattle.cudf_document.specs.declared.error.ReadError.TheVariants.{Fault, Memory}
-use Rattle.cudf_document.specs.Universe.{PlainProblem}
+use Rattle.cudf_problem.specs.Universe.{PlainProblem}
 use Rattle.cudf_check.specs.RankReport.{judgement, entrants, placed_faults}
 use Rattle.cudf_check.specs.Report.{solution_fault}
 use Rattle.cudf_check.specs.declared.judging.Unranked.{Unranked}

@@ -1,14 +1,14 @@
 -- Where the walk over the instances stands after a page, and what it has spent.
 use Rattle.std.specs.Prelude.{◌≡◌, ◌≤◌, ◌+◌, ◌⊎◌, ℕ, Bool, true, false, List, [], ◌∷◌, ◌++◌, codes, length, take, drop, map, IsTrue, option_map, Option, Some, None, if◌then◌else◌}
 use Rattle.std.specs.List.{last_or}
-use Rattle.cudf_document.specs.Documents.{is_empty}
-use Rattle.cudf_referee.specs.Keys.{PlainKey, key_text, ascend}
+use Rattle.cudf_problem.specs.Documents.{is_empty}
+use Rattle.cudf_job.specs.Keys.{PlainKey, key_text, ascend}
 use Rattle.cudf_referee.specs.Promises.Pages.{cost_along}
 use Rattle.cudf_referee.specs.Promises.Sites.{PlainPosition, at_key}
 use Rattle.cudf_referee.specs.Promises.Walks.{Walking, left}
-use Rattle.cudf_referee.specs.declared.key.Key.{Key}
+use Rattle.cudf_job.specs.declared.key.Key.{Key}
 use Rattle.cudf_referee.specs.Instances.{PlainInstance}
-use Rattle.cudf_referee.specs.KeyViews.{key_view}
+use Rattle.cudf_job.specs.KeyViews.{key_view}
 use Rattle.cudf_referee.specs.Proposals.{Proposal}
 use Rattle.cudf_referee.specs.Violations.{listing, rest}
 use Rattle.cudf_check.specs.Report.{line}

@@ -6,7 +6,7 @@ use Rattle.cudf_text.specs.Joined.{is_fail}
 use Rattle.cudf_text.specs.LineFaults.{utf8_fault}
 use Rattle.cudf_document.specs.declared.error.ReadError.{ReadError}
 use Rattle.cudf_document.specs.declared.error.ReadError.TheVariants as read_error
-use Rattle.cudf_document.specs.declared.mode.Mode.{Mode}
+use Rattle.cudf_problem.specs.declared.mode.Mode.{Mode}
 use Rattle.cudf_check.specs.Report.{solution_fault}
 use Rattle.cudf_check.specs.declared.readings.Unjudged.{Unjudged}
 use Rattle.cudf_check.specs.declared.readings.Unjudged.TheVariants.{SaysFail, Unread}

@@ -1,6 +1,6 @@
 //! Prints what the problem says beside a violated instance.
 ghost use Rattle.std.specs.Prelude.{◌++◌, Some, option_map, true};
-ghost use Rattle.cudf_document.specs.Promises.Views.{package_view};
+ghost use Rattle.cudf_problem.specs.Promises.Views.{package_view};
 ghost use Rattle.cudf_check.specs.Explanations.{stanza_text, would_do_text, named_text, number_text, upgrade_added, unknown_added};
 ghost use Rattle.cudf_check.specs.Working.Paper.{Says};
 

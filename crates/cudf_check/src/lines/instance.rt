@@ -2,10 +2,10 @@
 ghost use Rattle.std.specs.Prelude.{◌≡◌, ◌++◌, Some, map, option_map, option_and_then};
 ghost use Rattle.cudf_value.specs.Promises.Views.{vpkg_view, atom_view, clause_view};
 ghost use Rattle.cudf_value.specs.Printing.{vpkg_text, atom_text, clause_text};
-ghost use Rattle.cudf_document.specs.Promises.Views.{package_view};
-ghost use Rattle.cudf_document.specs.Universe.{PlainProblem, package_at};
-ghost use Rattle.cudf_referee.specs.Keys.{key_text, part_text, aspect_text};
-ghost use Rattle.cudf_referee.specs.KeyViews.{key_view};
+ghost use Rattle.cudf_problem.specs.Promises.Views.{package_view};
+ghost use Rattle.cudf_problem.specs.Universe.{PlainProblem, package_at};
+ghost use Rattle.cudf_job.specs.Keys.{key_text, part_text, aspect_text};
+ghost use Rattle.cudf_job.specs.KeyViews.{key_view};
 ghost use Rattle.cudf_referee.specs.Promises.Views.{what_view};
 ghost use Rattle.cudf_check.specs.Report.{meeting_text, upgrade_text, what_text, subject_text};
 ghost use Rattle.cudf_check.specs.Working.Paper.{Says};
@@ -41,14 +41,15 @@ fn print_atom<W: Sink>(paper: &mut Paper<'_, W>, atom: &Atom<'_>)
 }
 
 /// Prints a clause.
-fn print_clause<W: Sink>(paper: &mut Paper<'_, W>, clause: &Clause<'_>)
-    ensures { Says W.state paper.old paper.new (clause_text (clause_view clause.now)) }
+fn print_clause<W: Sink>(paper: &mut Paper<'_, W>, clause: Clause<'_>)
+    ensures { Says W.state paper.old paper.new (clause_text (clause_view clause.entry)) }
 {
-    if let Some((first, others)) = clause.atoms.as_slice().split_first() {
-        print_atom(paper, first);
-        for atom in others {
+    let mut atoms = clause.atoms();
+    if let Some(first) = atoms.next() {
+        print_atom(paper, &first);
+        for atom in atoms {
             paper.text(" | ");
-            print_atom(paper, atom);
+            print_atom(paper, &atom);
         }
     }
 }
@@ -113,7 +114,7 @@ fn print_met<W: Sink>(
 /// Prints what is wrong, with the package that meets the entry.
 pub(crate) fn print_what<W: Sink>(
     paper: &mut Paper<'_, W>,
-    what: &What<'_, '_>,
+    what: &What<'_>,
     aspect: Option<Aspect>,
     met: Option<&Package<'_>>,
 )
@@ -122,7 +123,7 @@ pub(crate) fn print_what<W: Sink>(
     match what {
         What::Needs(clause) => {
             paper.text("needs ");
-            print_clause(paper, clause);
+            print_clause(paper, *clause);
         }
         What::ConflictsWith(vpkg) => print_met(paper, "conflicts with ", vpkg, met),
         What::KeepVersion => paper.text("keep version"),

@@ -1,8 +1,8 @@
 //! The report of a judged solution: what was found, and the verdict.
 ghost use Rattle.std.specs.Prelude.{◌≡◌, IsTrue, false, map, option_map};
 ghost use Rattle.std.specs.FinSet as set;
-ghost use Rattle.cudf_document.specs.Statuses.{is_initial, ascend_above};
-ghost use Rattle.cudf_document.specs.Promises.Views.{unknown_view};
+ghost use Rattle.cudf_problem.specs.Statuses.{is_initial, ascend_above};
+ghost use Rattle.cudf_problem.specs.Promises.Views.{unknown_view};
 ghost use Rattle.cudf_referee.specs.Proposals.{proposal};
 ghost use Rattle.cudf_referee.specs.Solutions.{is_solution};
 ghost use Rattle.cudf_check.specs.Report.{verdict, judged_report, scored_text};
@@ -13,7 +13,7 @@ ghost use Rattle.cudf_check.specs.Working.Paper.{Says};
 
 use crate::buffer::ReportBuffer;
 use crate::device::Sink;
-use crate::job::Job;
+use crate::job::explains;
 use crate::lines::aims::print_aim_lines;
 use crate::lines::page::print_page;
 use crate::lines::score::print_score;
@@ -21,6 +21,7 @@ use crate::lines::scribe::Scribe;
 use crate::outcome::{Outcome, RunError};
 use crate::paper::Paper;
 use cudf_document::{Problem, Solution};
+use cudf_job::Job;
 use cudf_referee::laws::ascending;
 use cudf_referee::{Aim, Referee};
 use std::alloc::Global;
@@ -90,7 +91,7 @@ pub(crate) fn answer_judged<W: Sink>(
     };
     let mut waiting = ReportBuffer::new(alloc)?;
     // Where the status is a solution, there is no line to explain.
-    let explain = job.explains() && !referee.is_solution();
+    let explain = explains(job) && !referee.is_solution();
     let scribe = match Scribe::new(alloc, &referee, explain) {
         Ok(scribe) => scribe,
         Err(_) => return Err(RunError::Memory),

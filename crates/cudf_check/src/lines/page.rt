@@ -1,9 +1,9 @@
 //! Prints a page of the listing.
 ghost use Rattle.std.specs.Prelude.{◌≡◌, ◌≤◌, ◌+◌, ◌++◌, codes, take, length, slice_get, option_map};
 ghost use Rattle.std.specs.List.{flat_map};
-ghost use Rattle.cudf_universe.specs.Promises.Prices.{digits};
-ghost use Rattle.cudf_referee.specs.Keys.{key_text};
-ghost use Rattle.cudf_referee.specs.KeyViews.{key_view};
+ghost use Rattle.cudf_index.specs.Promises.Prices.{digits};
+ghost use Rattle.cudf_job.specs.Keys.{key_text};
+ghost use Rattle.cudf_job.specs.KeyViews.{key_view};
 ghost use Rattle.cudf_referee.specs.Promises.Pages.{behind, at_instance, calls, cost_along, page_price};
 ghost use Rattle.cudf_referee.specs.Promises.Sites.{cost_between};
 ghost use Rattle.cudf_referee.specs.Promises.Walks.{left};

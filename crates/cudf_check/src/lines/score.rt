@@ -1,6 +1,6 @@
 //! Prints what a proposed status changes and lacks, counted.
 ghost use Rattle.std.specs.List.{flat_map};
-ghost use Rattle.cudf_referee.specs.Aims.{count_of, count_text};
+ghost use Rattle.cudf_job.specs.Aims.{count_of, count_text};
 ghost use Rattle.cudf_check.specs.Report.{criteria_text, count_line, vector_line};
 ghost use Rattle.cudf_check.specs.Working.Paper.{Says};
 

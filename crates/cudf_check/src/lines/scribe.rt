@@ -65,7 +65,7 @@ impl<'r, 'p, 't> Scribe<'r, 'p, 't> {
     }
 
     /// Prints the line of an instance.
-    pub(crate) fn print_line<W: Sink>(&self, paper: &mut Paper<'_, W>, instance: &Instance<'_, '_>)
+    pub(crate) fn print_line<W: Sink>(&self, paper: &mut Paper<'_, W>, instance: &Instance<'_>)
         ensures { Says W.state paper.old paper.new (instance_line self.now.explain self.now.judged (instance_view instance.now)) }
     {
         let referee = self.referee;
@@ -81,7 +81,7 @@ impl<'r, 'p, 't> Scribe<'r, 'p, 't> {
     }
 
     /// Prints what the problem says beside an instance, where lines are explained.
-    fn print_added<W: Sink>(&self, paper: &mut Paper<'_, W>, instance: &Instance<'_, '_>)
+    fn print_added<W: Sink>(&self, paper: &mut Paper<'_, W>, instance: &Instance<'_>)
         ensures { Says W.state paper.old paper.new (instance_added self.now.explain self.now.judged (instance_view instance.now)) }
     {
         let Some(explainer) = &self.explainer else {

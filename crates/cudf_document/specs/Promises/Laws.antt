@@ -5,15 +5,15 @@ use Rattle.cudf_text.specs.declared.fault.Fault.{Fault}
 use Rattle.cudf_text.specs.declared.fault.Kind.{Kind}
 use Rattle.cudf_text.specs.declared.fault.Kind.TheVariants.{E14, E15}
 use Rattle.cudf_text.specs.Stanzas.{PlainText}
-use Rattle.cudf_document.specs.declared.mode.Mode.{Mode}
-use Rattle.cudf_document.specs.declared.mode.Mode.TheVariants.{Lenient, Strict}
+use Rattle.cudf_problem.specs.declared.mode.Mode.{Mode}
+use Rattle.cudf_problem.specs.declared.mode.Mode.TheVariants.{Lenient, Strict}
 use Rattle.cudf_document.specs.Faults.{precedes, least}
-use Rattle.cudf_document.specs.Promises.Packages.{is_package, packages_in}
-use Rattle.cudf_document.specs.Documents.{is_request}
-use Rattle.cudf_document.specs.Preamble.{declared}
+use Rattle.cudf_problem.specs.Promises.Packages.{is_package, packages_in}
+use Rattle.cudf_problem.specs.Documents.{is_request}
+use Rattle.cudf_problem.specs.Preamble.{declared}
 use Rattle.cudf_document.specs.ProblemFaults.{problem_faults}
 use Rattle.cudf_document.specs.SolutionFaults.{solution_faults}
-use Rattle.cudf_document.specs.Universe.{package_id, package_of}
+use Rattle.cudf_problem.specs.Universe.{package_id, package_of}
 
 -- f is one of the faults, and precedes every other one
 abbrev pub IsFirst : List Fault → Fault → Type 0

@@ -11,12 +11,12 @@ use Rattle.cudf_value.specs.Parts.{look_up}
 use Rattle.cudf_value.specs.Misfits.{misfit}
 use Rattle.cudf_value.specs.Spots.{pieces}
 use Rattle.cudf_value.specs.Declarations.{PlainDeclaration}
-use Rattle.cudf_document.specs.declared.mode.Mode.TheVariants.{Strict}
+use Rattle.cudf_problem.specs.declared.mode.Mode.TheVariants.{Strict}
 use Rattle.cudf_document.specs.declared.details.found.Passed.{Passed}
 use Rattle.cudf_document.specs.declared.details.found.Found.{Found}
-use Rattle.cudf_document.specs.Documents.{is_empty, postmark, is_request, has_name}
-use Rattle.cudf_document.specs.Ids.{Id, id_of, is_known}
-use Rattle.cudf_document.specs.Preamble.{added_by, declared}
+use Rattle.cudf_problem.specs.Documents.{is_empty, postmark, is_request, has_name}
+use Rattle.cudf_problem.specs.Ids.{Id, id_of, is_known}
+use Rattle.cudf_problem.specs.Preamble.{added_by, declared}
 use Rattle.cudf_document.specs.ProblemFaults.{required_names}
 use Rattle.cudf_document.specs.Details.{PlainDetail, request_on, undeclared, mistyped, misdeclared, lacking, words, bad_piece, first_detail, repeated_detail}
 

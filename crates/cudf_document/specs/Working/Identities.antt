@@ -3,9 +3,9 @@ use Rattle.std.specs.Prelude.{◌≡◌, List, Option, option_map, option_copied
 use Rattle.std.specs.Option.{option_zip}
 use Rattle.cudf_text.specs.Stanzas.{PlainProperty}
 use Rattle.cudf_document.specs.declared.package.identity.Identity.{Identity}
-use Rattle.cudf_document.specs.Documents.{has_name, value_of}
-use Rattle.cudf_document.specs.Ids.{Id}
-use Rattle.cudf_document.specs.Values.{name_value}
+use Rattle.cudf_problem.specs.Documents.{has_name, value_of}
+use Rattle.cudf_problem.specs.Ids.{Id}
+use Rattle.cudf_problem.specs.Values.{name_value}
 use Rattle.cudf_document.specs.Working.Reads.{version_value}
 
 -- these are the name and the version of the properties, and the line of the first `version`

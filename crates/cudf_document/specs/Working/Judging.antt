@@ -7,15 +7,15 @@ use Rattle.cudf_text.specs.declared.fault.Kind.TheVariants.{E4, E5, E6}
 use Rattle.cudf_text.specs.Stanzas.{PlainProperty, PlainStanza}
 use Rattle.cudf_value.specs.Formulas.{PlainAtom}
 use Rattle.cudf_value.specs.Declarations.{PlainDeclaration}
-use Rattle.cudf_document.specs.declared.postmark.Postmark.{Postmark}
+use Rattle.cudf_problem.specs.declared.postmark.Postmark.{Postmark}
 use Rattle.cudf_document.specs.Faults.{fault_if}
-use Rattle.cudf_document.specs.Documents.{is_request, is_empty, with_earlier, marks_preamble, marks_package, value_of}
-use Rattle.cudf_document.specs.Ids.{Id}
-use Rattle.cudf_document.specs.Values.{Test, name_value}
+use Rattle.cudf_problem.specs.Documents.{is_request, is_empty, with_earlier, marks_preamble, marks_package, value_of}
+use Rattle.cudf_problem.specs.Ids.{Id}
+use Rattle.cudf_problem.specs.Values.{Test, name_value}
 use Rattle.cudf_document.specs.Working.Reads.{formula_value, version_value}
-use Rattle.cudf_document.specs.Preamble.{is_declarable, recommends_in}
+use Rattle.cudf_problem.specs.Preamble.{is_declarable, recommends_in}
 use Rattle.cudf_document.specs.ProblemFaults.{property_faults}
-use Rattle.cudf_document.specs.Universe.{PlainRequest, request_of}
+use Rattle.cudf_problem.specs.Universe.{PlainRequest, request_of}
 
 -- the name and the version in these properties, where the postmark is a package's
 abbrev pub id_under : Option Postmark → List PlainProperty → Option Id

@@ -1,31 +1,19 @@
 -- What is kept of the stanzas of a problem on the walk.
-use Rattle.std.specs.Prelude.{◌≡◌, Bool, true, List, map, Option, Some, None, option_map, IsSome}
-use Rattle.std.specs.Borrow.{Bor}
+use Rattle.std.specs.Prelude.{◌≡◌, Bool, true, List, map, option_map, IsSome}
 use Rattle.cudf_text.specs.Stanzas.{PlainStanza}
 use Rattle.cudf_document.specs.declared.problem.keeping.Parts.{Parts}
 use Rattle.cudf_document.specs.declared.problem.walk.Walk.{Walk}
-use Rattle.cudf_document.specs.Promises.Packages.{are_distinct, packages_in}
-use Rattle.cudf_document.specs.Ids.{Id, is_among}
-use Rattle.cudf_document.specs.Promises.Thin.{thin_package}
-use Rattle.cudf_document.specs.Universe.{package_id}
+use Rattle.cudf_problem.specs.Promises.Packages.{are_distinct, packages_in}
+use Rattle.cudf_problem.specs.Universe.{package_id}
 use Rattle.cudf_document.specs.Working.Judging.{request_in}
-use Rattle.cudf_document.specs.Promises.Views.{package_view, request_view}
+use Rattle.cudf_problem.specs.Promises.Views.{package_view, request_view}
 use Rattle.cudf_document.specs.Working.ProblemBuilders.{PlainBuilder}
 
--- what packages need is kept of those that are chosen; of all, where it isn't known which are
-abbrev pub kept_by : Option (Bor (List Id)) → Id → Bool
-kept_by None = λ id. true
-kept_by (Some chosen) = is_among chosen.now
-
--- the packages and the request of the stanzas, where this test tells of which packages what they need is kept
-abbrev pub AreParts : (Id → Bool) → List PlainStanza → Parts → Type 0
-AreParts is_kept before p =
-    (map package_view p.packages.items ≡ map (thin_package is_kept) (packages_in before)) × (option_map request_view p.request ≡ request_in before)
-
--- this is the test, and these are the stanzas' packages and request
-pub record IsParts (is_kept : Id → Bool) (before : List PlainStanza) (p : Parts) : Type 0 where
-  pub kept_are : kept_by p.chosen ≡ is_kept
-  pub parts_are : AreParts is_kept before p
+-- the request of the stanzas, and their packages, if packages are kept
+pub record AreParts (keeps : Bool) (before : List PlainStanza) (p : Parts) : Type 0 where
+  pub keeps_is : p.keeps ≡ keeps
+  pub packages_are : keeps ≡ true → map package_view p.packages.items ≡ packages_in before
+  pub request_is : option_map request_view p.request ≡ request_in before
 
 -- ---- the end of a walk
 

@@ -1,5 +1,5 @@
 -- The values of a package's properties, beside its name and version, while they are gathered.
-use Rattle.std.specs.Prelude.{ℕ, Bool, true, false, List, [], map, Option, Some, None, is_some, option_map, unwrap_or, bytes_eq, codes, if◌then◌else◌}
+use Rattle.std.specs.Prelude.{ℕ, Bool, false, List, [], map, Option, Some, None, is_some, option_map, unwrap_or, bytes_eq, codes, if◌then◌else◌}
 use Rattle.cudf_text.specs.declared.fault.Fault.{Fault}
 use Rattle.cudf_text.specs.declared.fault.Kind.{Kind}
 use Rattle.cudf_text.specs.declared.fault.Kind.TheVariants.{E8, E9}
@@ -8,19 +8,19 @@ use Rattle.cudf_value.specs.Vpkgs.{PlainVpkg}
 use Rattle.cudf_value.specs.Formulas.{PlainAtom}
 use Rattle.cudf_value.specs.Promises.Views.{formula_view}
 use Rattle.cudf_value.specs.Declarations.{PlainDeclaration}
-use Rattle.cudf_document.specs.declared.package.Keep.{Keep as PlainKeep}
-use Rattle.cudf_document.specs.declared.package.Keep.TheVariants.{Nothing}
+use Rattle.cudf_problem.specs.declared.package.Keep.{Keep as PlainKeep}
+use Rattle.cudf_problem.specs.declared.package.Keep.TheVariants.{Nothing}
 use Rattle.cudf_document.specs.declared.package.property.PackageProperty.{PackageProperty}
 use Rattle.cudf_document.specs.declared.package.property.PackageProperty.TheVariants.{Depends, Conflicts, Provides, Installed, Keep, WasInstalled, Recommends}
 use Rattle.cudf_document.specs.declared.package.fields.PackageFields.{PackageFields}
-use Rattle.cudf_document.specs.Documents.{value_of}
-use Rattle.cudf_document.specs.Preamble.{recommends_in}
-use Rattle.cudf_document.specs.Universe.{PlainPackage}
+use Rattle.cudf_problem.specs.Documents.{value_of}
+use Rattle.cudf_problem.specs.Preamble.{recommends_in}
+use Rattle.cudf_problem.specs.Universe.{PlainPackage}
 use Rattle.cudf_document.specs.Working.Judging.{is_anything, own_recommends}
-use Rattle.cudf_document.specs.Promises.Views.{list_view}
-use Rattle.cudf_document.specs.Ids.{Id}
+use Rattle.cudf_value.specs.Promises.Views.{list_view}
+use Rattle.cudf_problem.specs.Ids.{Id}
 use Rattle.cudf_value.specs.Types.{can_be}
-use Rattle.cudf_document.specs.Values.{Test, truth_value, keep_value, declared_test}
+use Rattle.cudf_problem.specs.Values.{Test, truth_value, keep_value, declared_test}
 use Rattle.cudf_document.specs.Working.Reads.{formula_value, list_value, exact_list_value}
 use Rattle.cudf_value.specs.Parts.{look_up}
 
@@ -114,23 +114,3 @@ package_from line v id = record {
   keep = unwrap_or v.keep Nothing;
   recommends = v.recommends;
 }
-
--- the values without what the package needs
-abbrev pub without_needs : PlainPackageFields → PlainPackageFields
-without_needs v = record v { depends = None; conflicts = None; recommends = None }
-
--- the field is one of those
-abbrev pub is_need : Option PackageProperty → Bool
-is_need (Some Depends) = true
-is_need (Some Conflicts) = true
-is_need (Some Recommends) = true
-is_need _ = false
-
--- the values with or without them
-abbrev pub needing_if : Bool → PlainPackageFields → PlainPackageFields
-needing_if needing v = if needing then v else without_needs v
-
--- a pair passes the test, if there is one
-abbrev pub passes : (Id → Bool) → Option Id → Bool
-passes test None = true
-passes test (Some id) = test id

@@ -2,13 +2,13 @@
 use Rattle.std.specs.Prelude.{◌≡◌, ℕ, List, map, filter_map, Option, IsTrue}
 use Rattle.std.specs.FinSet as set
 use Rattle.cudf_text.specs.Stanzas.{PlainStanza}
-use Rattle.cudf_document.specs.declared.solution.Solution.{Solution}
+use Rattle.cudf_problem.specs.declared.solution.Solution.{Solution}
 use Rattle.cudf_document.specs.declared.solution.placed.Placed.{Placed}
-use Rattle.cudf_document.specs.Ids.{Id, is_among}
-use Rattle.cudf_document.specs.Universe.{PlainProblem, package_id}
-use Rattle.cudf_document.specs.Statuses.{PlainUnknown, unknown_with, is_proposed, unknown_stanzas, ascend_above}
-use Rattle.cudf_document.specs.Promises.Statuses.{IsStatusOf, are_outside}
-use Rattle.cudf_document.specs.Promises.Views.{unknown_view}
+use Rattle.cudf_problem.specs.Ids.{Id, is_among}
+use Rattle.cudf_problem.specs.Universe.{PlainProblem, package_id}
+use Rattle.cudf_problem.specs.Statuses.{PlainUnknown, unknown_with, is_proposed, unknown_stanzas, ascend_above}
+use Rattle.cudf_problem.specs.Promises.Statuses.{IsStatusOf, are_outside}
+use Rattle.cudf_problem.specs.Promises.Views.{unknown_view}
 
 -- the names and versions of the universe
 abbrev pub ids_of : PlainProblem → List Id

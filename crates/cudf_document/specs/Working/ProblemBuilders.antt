@@ -7,16 +7,16 @@ use Rattle.cudf_text.specs.declared.fault.Kind.{Kind}
 use Rattle.cudf_text.specs.declared.fault.Kind.TheVariants.{E7, E10, E11, E12, E14}
 use Rattle.cudf_text.specs.Stanzas.{PlainProperty, PlainStanza}
 use Rattle.cudf_value.specs.Declarations.{PlainDeclaration}
-use Rattle.cudf_document.specs.declared.postmark.Postmark.{Postmark}
-use Rattle.cudf_document.specs.declared.postmark.Postmark.TheVariants.{Preamble, Package, Request}
+use Rattle.cudf_problem.specs.declared.postmark.Postmark.{Postmark}
+use Rattle.cudf_problem.specs.declared.postmark.Postmark.TheVariants.{Preamble, Package, Request}
 use Rattle.cudf_document.specs.Faults.{fault_if}
-use Rattle.cudf_document.specs.Documents.{has_name, line_of}
-use Rattle.cudf_document.specs.Ids.{Id, is_id, is_among, is_known, id_of}
+use Rattle.cudf_problem.specs.Documents.{has_name, line_of}
+use Rattle.cudf_problem.specs.Ids.{Id, is_id, is_among, is_known, id_of}
 use Rattle.cudf_document.specs.Working.Judging.{request_in, id_under, properties_faults}
-use Rattle.cudf_document.specs.Promises.Packages.{with_id, packages_in}
-use Rattle.cudf_document.specs.Preamble.{declared_by, declared_after, declared, recommends_default}
+use Rattle.cudf_problem.specs.Promises.Packages.{with_id, packages_in}
+use Rattle.cudf_problem.specs.Preamble.{declared_by, declared_after, declared, recommends_default}
 use Rattle.cudf_document.specs.ProblemFaults.{version_property, lacks_one}
-use Rattle.cudf_document.specs.Universe.{PlainPackage, package_id, package_with, PlainRequest, PlainProblem, request_of}
+use Rattle.cudf_problem.specs.Universe.{PlainPackage, package_id, package_with, PlainRequest, PlainProblem, request_of}
 
 -- asks for nothing
 abbrev pub no_request : PlainRequest

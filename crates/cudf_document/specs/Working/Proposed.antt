@@ -2,13 +2,13 @@
 use Rattle.std.specs.Prelude.{◌≡◌, List, [], ◌++◌, map, length}
 use Rattle.std.specs.List.{flat_map}
 use Rattle.cudf_text.specs.Stanzas.{PlainStanza, PlainText}
-use Rattle.cudf_document.specs.declared.mode.Mode.{Mode}
+use Rattle.cudf_problem.specs.declared.mode.Mode.{Mode}
 use Rattle.cudf_document.specs.declared.proposed.reader.Reader.{Reader}
 use Rattle.cudf_document.specs.Faults.{least}
 use Rattle.cudf_document.specs.SolutionFaults.{solution_stanza_faults, solution_faults}
-use Rattle.cudf_document.specs.Statuses.{PlainUnknown}
-use Rattle.cudf_document.specs.Promises.Statuses.{installed_stanzas}
-use Rattle.cudf_document.specs.Promises.Views.{unknown_view}
+use Rattle.cudf_problem.specs.Statuses.{PlainUnknown}
+use Rattle.cudf_problem.specs.Promises.Statuses.{installed_stanzas}
+use Rattle.cudf_problem.specs.Promises.Views.{unknown_view}
 use Rattle.cudf_document.specs.Working.Pairs.{ArePairs}
 
 -- the first fault of these stanzas, their pairs, how many there are, and those that install a pair

@@ -8,13 +8,13 @@ use Rattle.cudf_value.specs.Vpkgs.{PlainVpkg}
 use Rattle.cudf_document.specs.declared.request.lists.RequestProperty.{RequestProperty}
 use Rattle.cudf_document.specs.declared.request.lists.RequestProperty.TheVariants.{Install, Remove, Upgrade}
 use Rattle.cudf_document.specs.declared.request.lists.RequestFields.{RequestFields}
-use Rattle.cudf_document.specs.Documents.{value_of}
+use Rattle.cudf_problem.specs.Documents.{value_of}
 use Rattle.cudf_value.specs.Types.{can_be}
-use Rattle.cudf_document.specs.Values.{Test}
+use Rattle.cudf_problem.specs.Values.{Test}
 use Rattle.cudf_document.specs.Working.Reads.{list_value}
 use Rattle.cudf_document.specs.Working.Judging.{fails}
-use Rattle.cudf_document.specs.Universe.{PlainRequest}
-use Rattle.cudf_document.specs.Promises.Views.{list_view}
+use Rattle.cudf_problem.specs.Universe.{PlainRequest}
+use Rattle.cudf_value.specs.Promises.Views.{list_view}
 
 abbrev pub request_property_named : List ℕ → Option RequestProperty
 request_property_named name = if bytes_eq name (codes "install") then Some Install

@@ -8,9 +8,9 @@ use Rattle.cudf_text.specs.Stanzas.{PlainProperty}
 use Rattle.cudf_document.specs.declared.proposed.package.SolutionProperty.{SolutionProperty}
 use Rattle.cudf_document.specs.declared.proposed.package.SolutionProperty.TheVariants.{Package, Version, Installed}
 use Rattle.cudf_document.specs.declared.proposed.package.SolutionPackage.{SolutionPackage}
-use Rattle.cudf_document.specs.Documents.{has_name, value_of}
-use Rattle.cudf_document.specs.Ids.{Id}
-use Rattle.cudf_document.specs.Values.{name_value, truth_value}
+use Rattle.cudf_problem.specs.Documents.{has_name, value_of}
+use Rattle.cudf_problem.specs.Ids.{Id}
+use Rattle.cudf_problem.specs.Values.{name_value, truth_value}
 use Rattle.cudf_document.specs.Working.Reads.{version_value}
 
 abbrev pub solution_property_named : List ℕ → Option SolutionProperty

@@ -5,18 +5,18 @@ use Rattle.std.specs.List.{list_any, flat_map}
 use Rattle.cudf_text.specs.Stanzas.{PlainStanza, PlainText}
 use Rattle.cudf_text.specs.declared.fault.Fault.{Fault}
 use Rattle.cudf_value.specs.Declarations.{PlainDeclaration}
-use Rattle.cudf_document.specs.declared.mode.Mode.{Mode}
-use Rattle.cudf_document.specs.declared.postmark.Postmark.{Postmark}
-use Rattle.cudf_document.specs.declared.postmark.Postmark.TheVariants.{Package}
+use Rattle.cudf_problem.specs.declared.mode.Mode.{Mode}
+use Rattle.cudf_problem.specs.declared.postmark.Postmark.{Postmark}
+use Rattle.cudf_problem.specs.declared.postmark.Postmark.TheVariants.{Package}
 use Rattle.cudf_document.specs.declared.problem.walk.Walk.{Walk}
 use Rattle.cudf_document.specs.Faults.{least}
-use Rattle.cudf_document.specs.Documents.{is_empty, with_earlier, is_request}
-use Rattle.cudf_document.specs.Ids.{Id, is_among, id_of}
+use Rattle.cudf_problem.specs.Documents.{is_empty, with_earlier, is_request}
+use Rattle.cudf_problem.specs.Ids.{Id, is_among, id_of}
 use Rattle.cudf_document.specs.Working.Judging.{id_under, properties_faults}
-use Rattle.cudf_document.specs.Promises.Packages.{with_id, packages_in}
-use Rattle.cudf_document.specs.Preamble.{declared}
+use Rattle.cudf_problem.specs.Promises.Packages.{with_id, packages_in}
+use Rattle.cudf_problem.specs.Preamble.{declared}
 use Rattle.cudf_document.specs.ProblemFaults.{required_names, stanza_faults, problem_faults}
-use Rattle.cudf_document.specs.Universe.{package_id}
+use Rattle.cudf_problem.specs.Universe.{package_id}
 use Rattle.cudf_document.specs.Working.ProblemBuilders.{package_faults, first_ids}
 
 -- the faults inside a stanza with a postmark, after these declarations, names and versions, where packages have to have

@@ -35,7 +35,7 @@ impl<'t> Declared<'t> {
     ghost use Rattle.cudf_value.specs.Types.{is_of_type};
     ghost use Rattle.cudf_value.specs.Promises.Views.{formula_view};
     ghost use Rattle.cudf_value.specs.Promises.Types.{type_view, declaration_view};
-    ghost use Rattle.cudf_document.specs.Preamble.{is_formula_type};
+    ghost use Rattle.cudf_problem.specs.Preamble.{is_formula_type};
     ghost use Rattle.cudf_document.specs.Working.Reads.{formula_value};
 
     pub(crate) fn new(alloc: Global, declaration: Declaration<'t>) -> Result<Self, AllocError>
@@ -85,12 +85,12 @@ impl<'t> Declared<'t> {
     }
 
     /// The default, where it is of type `vpkgformula`, whatever the declared type.
-    pub(crate) fn default_formula(&self, alloc: Global) -> Result<Option<Formula<'t>>, AllocError>
-        ensures { IfOk result (λ f. option_map formula_view f ≡ option_and_then formula_value self.now.default) }
+    pub(crate) fn default_formula(&self) -> Option<Formula<'t>>
+        ensures { option_map formula_view result ≡ option_and_then formula_value self.now.default }
     {
         match self.declaration.default {
-            Some(text) => read_formula(alloc, text),
-            None => Ok(None),
+            Some(text) => read_formula(text),
+            None => None,
         }
     }
 }

@@ -5,8 +5,8 @@ ghost use Rattle.cudf_document.specs.ProblemFaults.{required_names};
 ghost use Rattle.cudf_document.specs.Working.Walks.{texts};
 
 use crate::declarations::Declarations;
-use crate::mode::Mode;
 use crate::names::SeenNames;
+use cudf_problem::Mode;
 use std::alloc::{AllocError, Global};
 
 /// Takes the names that these declarations require, once the first stanza has declared them.

@@ -1,13 +1,14 @@
 //! The stanza that a fault stands in, and what stands before it.
 ghost use Rattle.std.specs.Prelude.{◌≡◌, [], ◌∷◌, Some, None, option_map, IfOk, OnOk, if◌then◌else◌};
 ghost use Rattle.cudf_text.specs.Promises.Views.{stanza_view};
-ghost use Rattle.cudf_document.specs.Documents.{is_request};
-ghost use Rattle.cudf_document.specs.Preamble.{declared};
+ghost use Rattle.cudf_problem.specs.Documents.{is_request};
+ghost use Rattle.cudf_problem.specs.Preamble.{declared};
 ghost use Rattle.cudf_document.specs.Working.Details.{nothing_passed, found_in, found_view};
 
 use crate::declarations::Declarations;
 use crate::declarations::preamble::declare_all;
-use crate::postmark::{Postmark, is_preamble, postmark_of};
+use crate::postmark::{is_preamble, postmark_of};
+use cudf_problem::Postmark;
 use cudf_text::{Next, StanzaRef, Stanzas};
 use std::alloc::{AllocError, Global};
 

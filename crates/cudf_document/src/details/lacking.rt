@@ -8,8 +8,8 @@ ghost use Rattle.cudf_document.specs.Working.SeenNames.{AreNames};
 
 use crate::declarations::Declarations;
 use crate::details::Detail;
-use crate::mode::Mode;
 use crate::names::SeenNames;
+use cudf_problem::Mode;
 use cudf_text::{PropertyRef, StanzaRef};
 use std::alloc::{AllocError, Global};
 

@@ -8,12 +8,13 @@ ghost use Rattle.cudf_value.specs.Promises.Types.{type_view};
 ghost use Rattle.cudf_document.specs.Details.{mistyped, package_words, request_words, words};
 ghost use Rattle.cudf_document.specs.Promises.Views.{detail_view};
 ghost use Rattle.cudf_document.specs.Working.Details.{property_at, mistyped_after};
-ghost use Rattle.cudf_document.specs.declared.postmark.Postmark.TheVariants.{Package as PackageMark, Request as RequestMark};
+ghost use Rattle.cudf_problem.specs.declared.postmark.Postmark.TheVariants.{Package as PackageMark, Request as RequestMark};
 
 use crate::declarations::Declarations;
 use crate::details::Detail;
 use crate::details::of_stanza::property_on;
-use crate::postmark::{Postmark, postmark_of};
+use crate::postmark::postmark_of;
+use cudf_problem::Postmark;
 use cudf_text::{PropertyRef, StanzaRef};
 use cudf_value::{ValueType, misfit};
 use std::alloc::Global;

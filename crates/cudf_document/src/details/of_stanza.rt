@@ -2,7 +2,7 @@
 ghost use Rattle.std.specs.Prelude.{◌≡◌, ◌==◌, find, option_map, option_and_then, IfOk};
 ghost use Rattle.cudf_text.specs.Promises.Views.{property_view, stanza_view};
 ghost use Rattle.cudf_document.specs.Details.{request_on, name_on, undeclared, first_detail, repeated_detail};
-ghost use Rattle.cudf_document.specs.Documents.{has_name};
+ghost use Rattle.cudf_problem.specs.Documents.{has_name};
 ghost use Rattle.cudf_document.specs.Promises.Views.{detail_view};
 ghost use Rattle.cudf_document.specs.Working.Details.{property_at, found_detail, found_view};
 

@@ -3,14 +3,15 @@ ghost use Rattle.std.specs.Prelude.{◌≡◌, nat_le, [], ◌∷◌, find, Some
 ghost use Rattle.cudf_text.specs.Stanzas.{plain_text};
 ghost use Rattle.cudf_text.specs.Promises.Views.{stanza_view};
 ghost use Rattle.cudf_document.specs.Details.{package_on};
-ghost use Rattle.cudf_document.specs.Ids.{id_of, is_known};
+ghost use Rattle.cudf_problem.specs.Ids.{id_of, is_known};
 ghost use Rattle.cudf_document.specs.Promises.Views.{detail_view};
 ghost use Rattle.cudf_document.specs.Working.Details.{pair_line};
 
 use crate::details::Detail;
 use crate::details::found::find_stanza;
 use crate::package::identity::Identity;
-use crate::postmark::{Postmark, postmark_of};
+use crate::postmark::postmark_of;
+use cudf_problem::Postmark;
 use cudf_text::{Next, Room, StanzaRef, Stanzas};
 use std::alloc::{AllocError, Global};
 

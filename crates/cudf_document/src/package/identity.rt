@@ -1,8 +1,8 @@
 //! The name and the version of a package.
 ghost use Rattle.std.specs.Prelude.{◌≡◌, option_copied, codes};
 ghost use Rattle.cudf_text.specs.Promises.Views.{stanza_view};
-ghost use Rattle.cudf_document.specs.Documents.{value_of};
-ghost use Rattle.cudf_document.specs.Values.{name_value};
+ghost use Rattle.cudf_problem.specs.Documents.{value_of};
+ghost use Rattle.cudf_problem.specs.Values.{name_value};
 
 use crate::names::first_named;
 use cudf_text::StanzaRef;

@@ -1,18 +1,17 @@
 //! Reading a problem whose stanzas are held.
-ghost use Rattle.std.specs.Prelude.{◌≡◌, true, [], IfOk, IfErr};
+ghost use Rattle.std.specs.Prelude.{◌≡◌, [], true, IfOk, IfErr};
 ghost use Rattle.cudf_text.specs.Promises.Views.{text_view};
 ghost use Rattle.cudf_document.specs.Promises.Faults.{IsFirstFault};
 ghost use Rattle.cudf_document.specs.ProblemFaults.{problem_faults};
-ghost use Rattle.cudf_document.specs.Universe.{plain_problem};
-ghost use Rattle.cudf_document.specs.Working.Kept.{IsParts};
+ghost use Rattle.cudf_problem.specs.Universe.{plain_problem};
+ghost use Rattle.cudf_document.specs.Working.Kept.{AreParts};
 ghost use Rattle.cudf_document.specs.Working.Walks.{IsWhole};
 
 use crate::declarations::required::require;
 use crate::error::ReadError;
-use crate::mode::Mode;
-use crate::problem::Problem;
 use crate::problem::keeping::Parts;
 use crate::problem::walk::Walk;
+use cudf_problem::{Mode, Problem};
 use cudf_text::{StanzaRef, Text, lend};
 use std::alloc::{AllocError, Global};
 
@@ -38,7 +37,7 @@ pub fn read_problem<'t, 'a>(
     if let Some(fault) = walk.first {
         return Err(ReadError::Fault(fault));
     }
-    Ok(parts.into_problem(alloc, walk)?)
+    Ok(parts.into_problem(walk))
 }
 
 /// Walks over all stanzas, each as it is lent.
@@ -46,12 +45,12 @@ fn walk_held<'t, 'a>(
     alloc: Global,
     text: &'t Text<'a>,
     mode: Mode,
-) -> Result<(Walk<'t>, Parts<'t, 't, 't>), AllocError>
+) -> Result<(Walk<'t>, Parts<'t>), AllocError>
     ensures { IfOk result (λ r.
-        IsWhole mode (λ ss. IsParts (λ id. true) ss r.1) r.0 (text_view text.now)) }
+        IsWhole mode (λ ss. AreParts true ss r.1) r.0 (text_view text.now)) }
 {
     let mut walk: Walk<'t> = Walk::new(alloc);
-    let mut parts: Parts<'t, 't, 't> = Parts::new(alloc, None);
+    let mut parts: Parts<'t> = Parts::new(alloc, true);
     let mut lent = StanzaRef {
         line: 0,
         last: 0,

@@ -1,109 +1,41 @@
 //! The walk over a problem's stanzas, one at a time: their first fault, and what is kept of them.
 ghost use Rattle.std.specs.Prelude.{◌≡◌, Bool, not, ◌||◌, ◌&&◌, List, [], ◌∷◌, ◌++◌, Some, None, false, max, is_none, unwrap_or, IfOk, OnOk};
-ghost use Rattle.cudf_document.specs.Preamble.{declared};
+ghost use Rattle.cudf_problem.specs.Preamble.{declared};
 ghost use Rattle.cudf_text.specs.Stanzas.{PlainStanza};
 ghost use Rattle.cudf_text.specs.Promises.Views.{stanza_view};
 ghost use Rattle.cudf_text.specs.declared.fault.Kind.TheVariants.{E11, E12};
 ghost use Rattle.cudf_document.specs.Faults.{least, fault_if};
-ghost use Rattle.cudf_document.specs.Documents.{postmark, marks_preamble, marks_request};
-ghost use Rattle.cudf_document.specs.Ids.{Id};
+ghost use Rattle.cudf_problem.specs.Documents.{postmark, marks_preamble, marks_request};
 ghost use Rattle.cudf_document.specs.Working.Judging.{properties_faults, placed_faults};
 ghost use Rattle.cudf_document.specs.Working.Identities.{IsIdentity};
 ghost use Rattle.cudf_document.specs.Working.SeenNames.{AreNames};
+ghost use Rattle.cudf_document.specs.Working.Kept.{AreParts};
 ghost use Rattle.cudf_document.specs.Working.Walks.{texts, IsWhole};
-ghost use Rattle.cudf_document.specs.declared.postmark.Postmark.TheVariants.{Preamble as PreambleMark, Package as PackageMark};
+ghost use Rattle.cudf_problem.specs.declared.postmark.Postmark.TheVariants.{Preamble as PreambleMark, Package as PackageMark};
 
 use crate::declarations::Declarations;
 use crate::declarations::preamble::read_preamble;
 use crate::declarations::required::{lacks_one, require};
 use crate::fault::{fault_if, keep_lesser, lesser};
-use crate::mode::Mode;
 use crate::names::SeenNames;
 use crate::package::identity::Identity;
-use crate::package::ids::Ids;
-use crate::package::reading::judge_package;
-use crate::postmark::{Postmark, is_preamble, postmark_of};
+use crate::postmark::{is_preamble, postmark_of};
+use crate::problem::keeping::Parts;
+use cudf_problem::{Ids, Mode, Postmark};
 use cudf_text::{Fault, Kind, Next, StanzaRef, Stanzas};
 use std::alloc::{AllocError, Global};
 
-/// What keeps a part of a problem's stanzas on the walk.
-pub(crate) trait Keeper<'a>: Sized + Drop {
-    ghost use Rattle.std.specs.Prelude.{◌≡◌, Bool, ◌++◌, ◌∷◌, [], List, Some, false, IfOk, OnOk};
-    ghost use Rattle.cudf_text.specs.Stanzas.{PlainStanza};
-    ghost use Rattle.cudf_text.specs.Promises.Views.{stanza_view};
-    ghost use Rattle.cudf_document.specs.Faults.{least};
-    ghost use Rattle.cudf_document.specs.Documents.{postmark, is_request};
-    ghost use Rattle.cudf_document.specs.Promises.Packages.{is_package};
-    ghost use Rattle.cudf_document.specs.Ids.{Id};
-    ghost use Rattle.cudf_document.specs.Preamble.{declared};
-    ghost use Rattle.cudf_document.specs.Working.Judging.{properties_faults};
-    ghost use Rattle.cudf_document.specs.Working.Identities.{IsIdentity};
-    ghost use Rattle.cudf_document.specs.Working.SeenNames.{AreNames};
-    ghost use Rattle.cudf_document.specs.declared.postmark.Postmark.TheVariants.{Package as PackageMark, Request as RequestMark};
-
-    // This was kept of the stanzas, where the test tells of which packages what they need is kept.
-    ghost IsKept: { (Id → Bool) → List PlainStanza → Self → Type 0 };
-
-    /// Keeps a package with this identity, and answers the first fault of its properties.
-    fn take_package(
-        &mut self,
-        alloc: Global,
-        names: &mut SeenNames<'a>,
-        declarations: &Declarations<'_>,
-        identity: Identity<'a>,
-        stanza: &StanzaRef<'a>,
-    ) -> Result<Option<Fault>, AllocError>
-        requires { IsIdentity identity (stanza_view stanza.now).properties }
-        ensures fault { IfOk result (λ fault.
-            fault
-            ≡ least (properties_faults declarations.now (Some PackageMark) (stanza_view stanza.now).properties)) }
-        // The names are those of its properties.
-        ensures names { OnOk result (AreNames names.new (stanza_view stanza.now).properties) }
-        ensures kept { (is_kept : Id → Bool) →
-            (before : List PlainStanza) →
-            postmark (stanza_view stanza.now) ≡ Some PackageMark →
-            declarations.now ≡ declared before →
-            IsKept is_kept before self.old →
-            OnOk result (IsKept is_kept (before ++ stanza_view stanza.now ∷ []) self.new) };
-
-    /// Keeps a request, and answers the first fault of its properties.
-    fn take_request(
-        &mut self,
-        alloc: Global,
-        names: &mut SeenNames<'a>,
-        stanza: &StanzaRef<'a>,
-    ) -> Result<Option<Fault>, AllocError>
-        ensures fault { IfOk result (λ fault.
-            fault ≡ least (properties_faults [] (Some RequestMark) (stanza_view stanza.now).properties)) }
-        ensures kept { (is_kept : Id → Bool) →
-            (before : List PlainStanza) →
-            postmark (stanza_view stanza.now) ≡ Some RequestMark →
-            IsKept is_kept before self.old →
-            OnOk result (IsKept is_kept (before ++ stanza_view stanza.now ∷ []) self.new) };
-
-    /// Of any other stanza nothing is kept. (Does nothing: its contract is a law.)
-    fn pass(&self, stanza: &StanzaRef<'a>)
-        ensures { (is_kept : Id → Bool) →
-            (before : List PlainStanza) →
-            is_package (stanza_view stanza.now) ≡ false →
-            is_request (stanza_view stanza.now) ≡ false →
-            IsKept is_kept before self.now →
-            IsKept is_kept (before ++ stanza_view stanza.now ∷ []) self.now };
-}
-
-/// Walks over all stanzas. Before them nothing is kept.
-pub(crate) fn walk_all<'t, K: Keeper<'t>>(
+/// Walks over all stanzas, and keeps the packages if it is told to.
+pub(crate) fn walk_all<'t>(
     alloc: Global,
     stanzas: Stanzas<'t>,
-    kept: K,
+    keeps: bool,
     mode: Mode,
-) -> Result<(Walk<'t>, K), AllocError>
-    ensures { (is_kept : Id → Bool) →
-        K.IsKept is_kept [] kept →
-        IfOk result (λ w. IsWhole mode (λ ss. K.IsKept is_kept ss w.1) w.0 stanzas.entry) }
+) -> Result<(Walk<'t>, Parts<'t>), AllocError>
+    ensures { IfOk result (λ w. IsWhole mode (λ ss. AreParts keeps ss w.1) w.0 stanzas.entry) }
 {
     let mut stanzas = stanzas;
-    let mut kept = kept;
+    let mut kept = Parts::new(alloc, keeps);
     let mut walk: Walk<'t> = Walk::new(alloc);
     let mut required: Vec<&'t str> = Vec::new(alloc);
     let mut is_first = true;
@@ -147,16 +79,17 @@ impl<'a> Walk<'a> {
     ghost use Rattle.cudf_text.specs.Promises.Views.{stanza_view};
     ghost use Rattle.cudf_text.specs.declared.fault.Kind.TheVariants.{E13};
     ghost use Rattle.cudf_document.specs.Faults.{least, lesser, fault_if};
-    ghost use Rattle.cudf_document.specs.Ids.{Id};
+    ghost use Rattle.cudf_problem.specs.Ids.{Id};
     ghost use Rattle.cudf_document.specs.Working.Judging.{id_under};
-    ghost use Rattle.cudf_document.specs.Promises.Packages.{with_id};
+    ghost use Rattle.cudf_problem.specs.Promises.Packages.{with_id};
     ghost use Rattle.cudf_document.specs.Working.ProblemBuilders.{package_faults};
+    ghost use Rattle.cudf_document.specs.Working.Kept.{AreParts};
     ghost use Rattle.cudf_document.specs.Working.Walks.{texts, IsKnown, IsSoFar, judged_faults, judged_ids};
-    ghost use Rattle.cudf_document.specs.Documents.{is_empty, postmark};
-    ghost use Rattle.cudf_document.specs.Preamble.{declared, declared_after};
+    ghost use Rattle.cudf_problem.specs.Documents.{is_empty, postmark};
+    ghost use Rattle.cudf_problem.specs.Preamble.{declared, declared_after};
     ghost use Rattle.cudf_document.specs.ProblemFaults.{required_names};
     ghost use Rattle.cudf_document.specs.Working.Judging.{properties_faults};
-    ghost use Rattle.cudf_document.specs.declared.postmark.Postmark.TheVariants.{Preamble as PreambleMark, Package as PackageMark};
+    ghost use Rattle.cudf_problem.specs.declared.postmark.Postmark.TheVariants.{Preamble as PreambleMark, Package as PackageMark};
 
     /// No stanza.
     pub(crate) fn new(alloc: Global) -> Self
@@ -174,21 +107,21 @@ impl<'a> Walk<'a> {
     }
 
     /// Takes the next stanza.
-    pub(crate) fn take<K: Keeper<'a>>(
+    pub(crate) fn take(
         &mut self,
         alloc: Global,
-        kept: &mut K,
+        kept: &mut Parts<'a>,
         is_first: bool,
         stanza: &StanzaRef<'a>,
         required: &[&str],
     ) -> Result<(), AllocError>
-        ensures { (is_kept : Id → Bool) →
+        ensures { (keeps : Bool) →
             (mode : Mode) →
             (before : List PlainStanza) →
             is_first ≡ is_empty before →
             texts required.now ≡ required_names mode (declared before) →
-            IsSoFar mode (λ ss. K.IsKept is_kept ss kept.old) self.old before →
-            OnOk result (IsSoFar mode (λ ss. K.IsKept is_kept ss kept.new) self.new (before ++ stanza_view stanza.now ∷ [])) }
+            IsSoFar mode (λ ss. AreParts keeps ss kept.old) self.old before →
+            OnOk result (IsSoFar mode (λ ss. AreParts keeps ss kept.new) self.new (before ++ stanza_view stanza.now ∷ [])) }
     {
         if is_first {
             return self.take_first(alloc, kept, stanza);
@@ -197,10 +130,10 @@ impl<'a> Walk<'a> {
     }
 
     /// Takes the first stanza, with what it declares.
-    fn take_first<K: Keeper<'a>>(
+    fn take_first(
         &mut self,
         alloc: Global,
-        kept: &mut K,
+        kept: &mut Parts<'a>,
         stanza: &StanzaRef<'a>,
     ) -> Result<(), AllocError>
         ensures known { (mode : Mode) →
@@ -210,11 +143,11 @@ impl<'a> Walk<'a> {
         ensures declared { self.old.declarations ≡ [] →
             OnOk result (self.new.declarations ≡ declared (stanza_view stanza.now ∷ [])) }
         ensures first { OnOk result (self.new.first ≡ None → self.old.first ≡ None) }
-        ensures kept { (is_kept : Id → Bool) →
+        ensures kept { (keeps : Bool) →
             self.old.declarations ≡ [] →
             self.old.first ≡ None →
-            K.IsKept is_kept [] kept.old →
-            OnOk result (K.IsKept is_kept (stanza_view stanza.now ∷ []) kept.new) }
+            AreParts keeps [] kept.old →
+            OnOk result (AreParts keeps (stanza_view stanza.now ∷ []) kept.new) }
     {
         if is_preamble(stanza) {
             kept.pass(stanza);
@@ -240,10 +173,10 @@ impl<'a> Walk<'a> {
     }
 
     /// Takes the next stanza; what it declares is left out.
-    fn take_other<K: Keeper<'a>>(
+    fn take_other(
         &mut self,
         alloc: Global,
-        kept: &mut K,
+        kept: &mut Parts<'a>,
         is_first: bool,
         stanza: &StanzaRef<'a>,
         required: &[&str],
@@ -257,12 +190,12 @@ impl<'a> Walk<'a> {
             OnOk result (IsKnown mode self.new (before ++ stanza_view stanza.now ∷ [])) }
         ensures declarations { OnOk result (self.new.declarations ≡ self.old.declarations) }
         ensures first { OnOk result (self.new.first ≡ None → self.old.first ≡ None) }
-        ensures kept { (is_kept : Id → Bool) →
+        ensures kept { (keeps : Bool) →
             (before : List PlainStanza) →
             self.old.declarations ≡ declared before →
             self.old.first ≡ None →
-            K.IsKept is_kept before kept.old →
-            OnOk result (K.IsKept is_kept (before ++ stanza_view stanza.now ∷ []) kept.new) }
+            AreParts keeps before kept.old →
+            OnOk result (AreParts keeps (before ++ stanza_view stanza.now ∷ []) kept.new) }
     {
         let mark = postmark_of(stanza);
         let place = place_fault(is_first, self.requested, mark, stanza.line);
@@ -273,10 +206,10 @@ impl<'a> Walk<'a> {
     }
 
     /// The first fault inside a stanza; a package's name and version are added.
-    fn judge<K: Keeper<'a>>(
+    fn judge(
         &mut self,
         alloc: Global,
-        kept: &mut K,
+        kept: &mut Parts<'a>,
         mark: Option<Postmark>,
         stanza: &StanzaRef<'a>,
         required: &[&str],
@@ -287,13 +220,13 @@ impl<'a> Walk<'a> {
         ensures declarations { OnOk result (self.new.declarations ≡ self.old.declarations) }
         ensures requested { OnOk result (self.new.requested ≡ self.old.requested) }
         ensures first { OnOk result (self.new.first ≡ self.old.first) }
-        ensures kept { (is_kept : Id → Bool) →
+        ensures kept { (keeps : Bool) →
             (before : List PlainStanza) →
             postmark (stanza_view stanza.now) ≡ mark →
             self.old.declarations ≡ declared before →
             self.old.first ≡ None →
-            K.IsKept is_kept before kept.old →
-            OnOk result (K.IsKept is_kept (before ++ stanza_view stanza.now ∷ []) kept.new) }
+            AreParts keeps before kept.old →
+            OnOk result (AreParts keeps (before ++ stanza_view stanza.now ∷ []) kept.new) }
     {
         match mark {
             Some(Postmark::Preamble) => {
@@ -310,10 +243,10 @@ impl<'a> Walk<'a> {
     }
 
     /// Adds the name and version of a package, and answers the first fault inside it.
-    fn take_package<K: Keeper<'a>>(
+    fn take_package(
         &mut self,
         alloc: Global,
-        kept: &mut K,
+        kept: &mut Parts<'a>,
         stanza: &StanzaRef<'a>,
         required: &[&str],
     ) -> Result<Option<Fault>, AllocError>
@@ -324,19 +257,17 @@ impl<'a> Walk<'a> {
         ensures declarations { OnOk result (self.new.declarations ≡ self.old.declarations) }
         ensures requested { OnOk result (self.new.requested ≡ self.old.requested) }
         ensures first { OnOk result (self.new.first ≡ self.old.first) }
-        ensures kept { (is_kept : Id → Bool) →
+        ensures kept { (keeps : Bool) →
             (before : List PlainStanza) →
             postmark (stanza_view stanza.now) ≡ Some PackageMark →
             self.old.declarations ≡ declared before →
             self.old.first ≡ None →
-            K.IsKept is_kept before kept.old →
-            OnOk result (K.IsKept is_kept (before ++ stanza_view stanza.now ∷ []) kept.new) }
+            AreParts keeps before kept.old →
+            OnOk result (AreParts keeps (before ++ stanza_view stanza.now ∷ []) kept.new) }
     {
         let identity = Identity::of(stanza);
-        let fault = take_properties(
+        let fault = kept.take_package(
             alloc,
-            kept,
-            self.first,
             &mut self.names,
             &self.declarations,
             identity,
@@ -361,36 +292,6 @@ impl<'a> Walk<'a> {
         let requestless = fault_if(!self.requested, at_least_one(lines), Kind::E13);
         self.first = lesser(lesser(fault, self.first), requestless);
     }
-}
-
-/// The first fault of a package's properties. Behind a fault nothing is kept of them, since no problem
-/// is made.
-fn take_properties<'a, K: Keeper<'a>>(
-    alloc: Global,
-    kept: &mut K,
-    first: Option<Fault>,
-    names: &mut SeenNames<'a>,
-    declarations: &Declarations<'_>,
-    identity: Identity<'a>,
-    stanza: &StanzaRef<'a>,
-) -> Result<Option<Fault>, AllocError>
-    requires { IsIdentity identity (stanza_view stanza.now).properties }
-    ensures fault { IfOk result (λ fault.
-        fault
-        ≡ least (properties_faults declarations.now (Some PackageMark) (stanza_view stanza.now).properties)) }
-    ensures names { OnOk result (AreNames names.new (stanza_view stanza.now).properties) }
-    ensures kept { (is_kept : Id → Bool) →
-        (before : List PlainStanza) →
-        postmark (stanza_view stanza.now) ≡ Some PackageMark →
-        declarations.now ≡ declared before →
-        first ≡ None →
-        K.IsKept is_kept before kept.old →
-        OnOk result (K.IsKept is_kept (before ++ stanza_view stanza.now ∷ []) kept.new) }
-{
-    if first.is_some() {
-        return judge_package(alloc, names, declarations, identity, stanza);
-    }
-    kept.take_package(alloc, names, declarations, identity, stanza)
 }
 
 /// The first fault of a package's name and version: it is repeated, or has no version.

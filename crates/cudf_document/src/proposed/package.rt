@@ -3,7 +3,7 @@ ghost use Rattle.std.specs.Prelude.{◌≡◌, []};
 ghost use Rattle.std.specs.List.{flat_map};
 ghost use Rattle.cudf_text.specs.Promises.Views.{stanza_view};
 ghost use Rattle.cudf_document.specs.Faults.{least};
-ghost use Rattle.cudf_document.specs.Documents.{with_earlier};
+ghost use Rattle.cudf_problem.specs.Documents.{with_earlier};
 ghost use Rattle.cudf_document.specs.SolutionFaults.{value_faults};
 ghost use Rattle.cudf_document.specs.Working.SolutionPackages.{solution_property_named, solution_package_view, solution_package_of};
 

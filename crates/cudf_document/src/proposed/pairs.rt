@@ -2,14 +2,13 @@
 ghost use Rattle.std.specs.Prelude.{◌≡◌};
 ghost use Rattle.cudf_text.specs.Promises.Views.{stanza_view};
 ghost use Rattle.cudf_text.specs.declared.fault.Kind.TheVariants.{E15};
-ghost use Rattle.cudf_document.specs.Documents.{line_of};
+ghost use Rattle.cudf_problem.specs.Documents.{line_of};
 ghost use Rattle.cudf_document.specs.Faults.{least, fault_if};
 ghost use Rattle.cudf_document.specs.ProblemFaults.{version_property};
 
 use crate::fault::{fault_if, keep_lesser};
-use crate::mode::Mode;
 use crate::names::first_named;
-use crate::package::ids::Ids;
+use cudf_problem::{Ids, Mode};
 use cudf_text::{Fault, Kind, StanzaRef};
 use std::alloc::{AllocError, Global};
 
@@ -26,8 +25,8 @@ impl<'a> Pairs<'a> {
     ghost use Rattle.std.specs.Prelude.{◌≡◌, List, [], ◌∷◌, ◌++◌, option_map, OnOk};
     ghost use Rattle.cudf_text.specs.Stanzas.{PlainStanza};
     ghost use Rattle.cudf_text.specs.Promises.Views.{stanza_view};
-    ghost use Rattle.cudf_document.specs.declared.mode.Mode.{Mode};
-    ghost use Rattle.cudf_document.specs.Ids.{id_of};
+    ghost use Rattle.cudf_problem.specs.declared.mode.Mode.{Mode};
+    ghost use Rattle.cudf_problem.specs.Ids.{id_of};
     ghost use Rattle.cudf_document.specs.Working.Pairs.{ArePairs};
 
     /// Before the first stanza.

@@ -2,16 +2,16 @@
 ghost use Rattle.std.specs.Prelude.{◌≡◌, [], ◌++◌, map, option_map, option_to_list, IfOk, IfErr, OnOk};
 ghost use Rattle.cudf_text.specs.Promises.Views.{text_view};
 ghost use Rattle.cudf_document.specs.Promises.Faults.{IsFirstFault};
-ghost use Rattle.cudf_document.specs.Promises.Statuses.{installed_with, installed_stanzas};
-ghost use Rattle.cudf_document.specs.Promises.Views.{unknown_view};
+ghost use Rattle.cudf_problem.specs.Promises.Statuses.{installed_with, installed_stanzas};
+ghost use Rattle.cudf_problem.specs.Promises.Views.{unknown_view};
 ghost use Rattle.cudf_document.specs.SolutionFaults.{solution_faults};
 
 use crate::error::ReadError;
 use crate::fault::lesser;
-use crate::mode::Mode;
+use crate::proposed::Proposed;
 use crate::proposed::pairs::Pairs;
 use crate::proposed::stanza::read_stanza;
-use crate::proposed::{Proposed, Unknown};
+use cudf_problem::{Mode, Unknown};
 use cudf_text::{Fault, Next, StanzaRef, Stanzas, Text, lend};
 use std::alloc::{AllocError, Global};
 
@@ -102,7 +102,7 @@ impl<'a> Reader<'a> {
     ghost use Rattle.cudf_text.specs.Promises.Views.{stanza_view};
     ghost use Rattle.cudf_document.specs.Promises.Faults.{IsFirstFault};
     ghost use Rattle.cudf_document.specs.SolutionFaults.{solution_faults};
-    ghost use Rattle.cudf_document.specs.declared.mode.Mode.{Mode};
+    ghost use Rattle.cudf_problem.specs.declared.mode.Mode.{Mode};
     ghost use Rattle.cudf_document.specs.Working.Proposed.{IsRead, IsProposedOf};
 
     /// Before the first stanza.

@@ -2,13 +2,14 @@
 ghost use Rattle.std.specs.Prelude.{◌≡◌, option_map};
 ghost use Rattle.cudf_text.specs.Promises.Views.{stanza_view};
 ghost use Rattle.cudf_document.specs.Faults.{least};
-ghost use Rattle.cudf_document.specs.Ids.{id_of};
+ghost use Rattle.cudf_problem.specs.Ids.{id_of};
 ghost use Rattle.cudf_document.specs.SolutionFaults.{solution_stanza_faults};
-ghost use Rattle.cudf_document.specs.Statuses.{installed_id};
+ghost use Rattle.cudf_problem.specs.Statuses.{installed_id};
 
 use crate::fault::{fault_if, lesser};
-use crate::postmark::{Postmark, postmark_of};
+use crate::postmark::postmark_of;
 use crate::proposed::package::read_solution_package;
+use cudf_problem::Postmark;
 use cudf_text::{Fault, Kind, StanzaRef};
 
 /// What a stanza says.

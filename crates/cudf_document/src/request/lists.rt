@@ -3,16 +3,16 @@ ghost use Rattle.std.specs.Prelude.{◌≡◌, [], Some, IfOk};
 ghost use Rattle.cudf_text.specs.Promises.Views.{stanza_view};
 ghost use Rattle.cudf_document.specs.Faults.{least};
 ghost use Rattle.cudf_document.specs.Working.Judging.{properties_faults};
-ghost use Rattle.cudf_document.specs.Promises.Views.{request_view};
-ghost use Rattle.cudf_document.specs.Universe.{request_of};
+ghost use Rattle.cudf_problem.specs.Promises.Views.{request_view};
+ghost use Rattle.cudf_problem.specs.Universe.{request_of};
 ghost use Rattle.cudf_document.specs.Working.RequestFields.{request_property_named, request_property_test, mistyped_kind};
-ghost use Rattle.cudf_document.specs.declared.postmark.Postmark.TheVariants.{Request as RequestMark};
+ghost use Rattle.cudf_problem.specs.declared.postmark.Postmark.TheVariants.{Request as RequestMark};
 
 use crate::fault::{fault_on, keep_lesser, mistyped_unless};
 use crate::names::SeenNames;
-use crate::request::Request;
+use cudf_problem::Request;
 use cudf_text::{Fault, Kind, PropertyRef, StanzaRef};
-use cudf_value::{Vpkg, read_vpkglist};
+use cudf_value::{VpkgList, read_vpkglist};
 use std::alloc::{AllocError, Global};
 
 /// A property of a request that counts.
@@ -38,9 +38,9 @@ fn request_property_named(name: &str) -> Option<RequestProperty>
 /// What the properties of a request say, each list where it is there and of its type.
 #[derive(Drop)]
 pub(crate) struct RequestFields<'t> {
-    install: Option<Vec<Vpkg<'t>>>,
-    remove: Option<Vec<Vpkg<'t>>>,
-    upgrade: Option<Vec<Vpkg<'t>>>,
+    install: Option<VpkgList<'t>>,
+    remove: Option<VpkgList<'t>>,
+    upgrade: Option<VpkgList<'t>>,
 }
 
 impl<'t> RequestFields<'t> {
@@ -48,7 +48,7 @@ impl<'t> RequestFields<'t> {
     ghost use Rattle.indexmap.specs.IndexSet.{insert_key};
     ghost use Rattle.cudf_text.specs.Promises.Views.{property_view};
     ghost use Rattle.cudf_document.specs.Working.PackageFields.{fault_on};
-    ghost use Rattle.cudf_document.specs.Promises.Views.{request_view};
+    ghost use Rattle.cudf_problem.specs.Promises.Views.{request_view};
     ghost use Rattle.cudf_document.specs.Working.RequestFields.{request_property_named, request_property_test, mistyped_kind, request_fields_view, request_fields_of, with_request_property, request_kind_after, request_fields_after, request_with};
 
     fn new() -> Self
@@ -64,7 +64,6 @@ impl<'t> RequestFields<'t> {
     /// Answers a property's fault, and keeps what it says, if it is the first of its name.
     fn read(
         &mut self,
-        alloc: Global,
         names: &mut SeenNames<'t>,
         property: &PropertyRef<'t>,
     ) -> Result<Option<Fault>, AllocError>
@@ -79,42 +78,42 @@ impl<'t> RequestFields<'t> {
         if !names.insert(property.name)? {
             return Ok(fault_on(property.line, Some(Kind::E7)));
         }
-        let kind = self.keep(alloc, property.name, property.value)?;
+        let kind = self.keep(property.name, property.value);
         Ok(fault_on(property.line, kind))
     }
 
     /// Keeps what a property says, if it has a place here, and says what is wrong with it.
-    fn keep(&mut self, alloc: Global, name: &str, text: &'t str) -> Result<Option<Kind>, AllocError>
-        ensures kind { IfOk result (λ kind.
-            kind ≡ mistyped_kind (request_property_test (request_property_named name.now)) text.now) }
-        ensures fields { OnOk result (request_fields_view self.new
-            ≡ with_request_property (request_property_named name.now) text.now (request_fields_view self.old)) }
+    fn keep(&mut self, name: &str, text: &'t str) -> Option<Kind>
+        ensures kind { result
+            ≡ mistyped_kind (request_property_test (request_property_named name.now)) text.now }
+        ensures fields { request_fields_view self.new
+            ≡ with_request_property (request_property_named name.now) text.now (request_fields_view self.old) }
     {
         match request_property_named(name) {
             Some(RequestProperty::Install) => {
-                self.install = read_vpkglist(alloc, text)?;
-                Ok(mistyped_unless(self.install.is_some()))
+                self.install = read_vpkglist(text);
+                mistyped_unless(self.install.is_some())
             }
             Some(RequestProperty::Remove) => {
-                self.remove = read_vpkglist(alloc, text)?;
-                Ok(mistyped_unless(self.remove.is_some()))
+                self.remove = read_vpkglist(text);
+                mistyped_unless(self.remove.is_some())
             }
             Some(RequestProperty::Upgrade) => {
-                self.upgrade = read_vpkglist(alloc, text)?;
-                Ok(mistyped_unless(self.upgrade.is_some()))
+                self.upgrade = read_vpkglist(text);
+                mistyped_unless(self.upgrade.is_some())
             }
-            None => Ok(None),
+            None => None,
         }
     }
 
-    fn into_request(self, alloc: Global, line: u64) -> Request<'t>
+    fn into_request(self, line: u64) -> Request<'t>
         ensures { request_view result ≡ request_with line (request_fields_view self.entry) }
     {
         Request {
             line,
-            install: self.install.unwrap_or(Vec::new(alloc)),
-            remove: self.remove.unwrap_or(Vec::new(alloc)),
-            upgrade: self.upgrade.unwrap_or(Vec::new(alloc)),
+            install: self.install.unwrap_or(VpkgList::empty()),
+            remove: self.remove.unwrap_or(VpkgList::empty()),
+            upgrade: self.upgrade.unwrap_or(VpkgList::empty()),
         }
     }
 }
@@ -133,8 +132,8 @@ pub(crate) fn read_request<'a>(
     let mut first = None;
     let mut fields = RequestFields::new();
     for property in &stanza.properties {
-        let fault = fields.read(alloc, names, property)?;
+        let fault = fields.read(names, property)?;
         keep_lesser(&mut first, fault);
     }
-    Ok((first, fields.into_request(alloc, stanza.line)))
+    Ok((first, fields.into_request(stanza.line)))
 }

@@ -4,17 +4,15 @@ ghost use Rattle.std.specs.FinSet as set;
 ghost use Rattle.cudf_text.specs.Promises.Views.{text_view};
 ghost use Rattle.cudf_text.specs.Joined.{is_fail};
 ghost use Rattle.cudf_document.specs.Promises.Faults.{IsFirstFault};
-ghost use Rattle.cudf_document.specs.Promises.Statuses.{IsStatusOf, are_outside};
-ghost use Rattle.cudf_document.specs.Promises.Views.{unknown_view};
+ghost use Rattle.cudf_problem.specs.Promises.Statuses.{IsStatusOf, are_outside};
+ghost use Rattle.cudf_problem.specs.Promises.Views.{unknown_view};
 ghost use Rattle.cudf_document.specs.SolutionFaults.{solution_faults};
-ghost use Rattle.cudf_document.specs.Statuses.{is_proposed, unknown_stanzas, ascend_above};
+ghost use Rattle.cudf_problem.specs.Statuses.{is_proposed, unknown_stanzas, ascend_above};
 
 use crate::error::ReadError;
-use crate::mode::Mode;
-use crate::problem::Problem;
 use crate::proposed::reader::proposed_in;
-use crate::solution::Solution;
 use crate::solution::placed::solution_of;
+use cudf_problem::{Mode, Problem, Solution};
 use cudf_text::Text;
 use std::alloc::Global;
 

@@ -2,14 +2,12 @@
 ghost use Rattle.std.specs.Prelude.{◌≡◌, ℕ, false, List, map, replicate, IsTrue, IfOk};
 ghost use Rattle.std.specs.FinSet as set;
 ghost use Rattle.cudf_text.specs.Stanzas.{PlainStanza};
-ghost use Rattle.cudf_document.specs.Promises.Statuses.{IsStatusOf, are_outside, installed_stanzas};
-ghost use Rattle.cudf_document.specs.Promises.Views.{unknown_view};
-ghost use Rattle.cudf_document.specs.Statuses.{is_proposed, unknown_stanzas, ascend_above};
+ghost use Rattle.cudf_problem.specs.Promises.Statuses.{IsStatusOf, are_outside, installed_stanzas};
+ghost use Rattle.cudf_problem.specs.Promises.Views.{unknown_view};
+ghost use Rattle.cudf_problem.specs.Statuses.{is_proposed, unknown_stanzas, ascend_above};
 
-use crate::problem::Problem;
-use crate::proposed::{Proposed, Unknown};
-use crate::solution::Solution;
-use crate::solution::status::Status;
+use crate::proposed::Proposed;
+use cudf_problem::{Problem, Solution, Status, Unknown};
 use std::alloc::{AllocError, Global};
 
 /// Places what a solution proposes in the universe of a problem (CUDF 2.0, installations).
@@ -60,8 +58,8 @@ pub(crate) struct Placed<'t> {
 
 impl<'t> Placed<'t> {
     ghost use Rattle.std.specs.Prelude.{◌≡◌, List, [], ◌∷◌, ◌++◌, length, IfOk, OnOk};
-    ghost use Rattle.cudf_document.specs.Promises.Views.{unknown_view};
-    ghost use Rattle.cudf_document.specs.Statuses.{PlainUnknown};
+    ghost use Rattle.cudf_problem.specs.Promises.Views.{unknown_view};
+    ghost use Rattle.cudf_problem.specs.Statuses.{PlainUnknown};
     ghost use Rattle.cudf_document.specs.Working.Placed.{IsPlaced};
 
     /// Before the first stanza.

@@ -1,9 +1,9 @@
 use Rattle.std.proofs.Common.{◌≡◌, ◌+◌, ◌<◌, ◌∷◌, ◌++◌, [], take, length, get_or, sym, subst, arith}
 use Rattle.std.proofs.lemmas.Grind.{common_steps}
 use Rattle.cudf_program.specs.Program.{AreOpened, IsOpened, IsOpenedAs}
-use Rattle.cudf_program.specs.declared.command.FileName.{FileName}
-use Rattle.cudf_program.specs.declared.command.FileName.TheVariants.{Path}
-use Rattle.cudf_program.proofs.FileLemmas.{next_taken}
+use Rattle.cudf_command_line.specs.declared.command.FileName.{FileName}
+use Rattle.cudf_command_line.specs.declared.command.FileName.TheVariants.{Path}
+use Rattle.cudf_command_line.proofs.FileLemmas.{next_taken}
 use Rattle.cudf_program.proofs.open_each.Goals as goal
 
 -- what stands for a name at a place behind the last one

@@ -1,21 +1,15 @@
--- Laws of texts of keys, of pages and of thin problems, over the definitions alone: own.
+-- Laws of texts of keys and of pages, over the definitions alone: own.
 use Rattle.std.specs.Prelude.{◌≡◌, ◌≤◌, ◌==◌, ℕ, Bool, true, false, List, [], All, length, take, sum, Option, Some, None, IsTrue}
 use Rattle.std.specs.List.{flat_map, enumerate_from}
 use Rattle.cudf_value.specs.Formulas.{PlainAtom}
-use Rattle.cudf_document.specs.Ids.{Id}
-use Rattle.cudf_document.specs.Promises.Thin.{thin_problem}
-use Rattle.cudf_document.specs.Universe.{PlainPackage, PlainProblem, package_at, package_id}
-use Rattle.cudf_document.specs.Statuses.{PlainUnknown, ascend_above}
-use Rattle.cudf_universe.specs.Satisfaction.{first_named, first_satisfying, members, numbers_of, satisfies_clause}
-use Rattle.cudf_referee.specs.Criteria.{criteria, universe}
-use Rattle.cudf_referee.specs.Explanations.{would_do}
-use Rattle.cudf_referee.specs.Instances.{PlainInstance}
-use Rattle.cudf_referee.specs.Keys.{PlainKey, key_text}
-use Rattle.cudf_referee.specs.Promises.Keys.{IsWritable}
+use Rattle.cudf_problem.specs.Universe.{PlainPackage, PlainProblem}
+use Rattle.cudf_problem.specs.Statuses.{PlainUnknown, ascend_above}
+use Rattle.cudf_index.specs.Satisfaction.{first_satisfying, members, satisfies_clause}
+use Rattle.cudf_job.specs.Keys.{PlainKey, key_text}
+use Rattle.cudf_job.specs.Promises.Keys.{IsWritable}
 use Rattle.cudf_referee.specs.Promises.Pages.{pages, ReadsKeys, page_bound, page_price}
-use Rattle.cudf_referee.specs.Proposals.{Proposal, proposal}
+use Rattle.cudf_referee.specs.Proposals.{proposal}
 use Rattle.cudf_referee.specs.Violations.{listing}
-use Rattle.cudf_referee.specs.Solutions.{is_solution}
 
 -- keys that can be written are equal where their texts are
 abbrev pub TextsTellKeys : Type 0
@@ -46,23 +40,6 @@ PagesAreBound = (problem : PlainProblem) (was_installed is_installed : ℕ → B
     → IsTrue (ascend_above 0 unknown)
     → let s = proposal problem was_installed is_installed unknown in
     (key : Option PlainKey) (n : ℕ) → page_price s key n ≤ page_bound s key n
-
--- the proposals have the same proposed status, and it is judged alike
-pub record AreJudgedAlike (s t : Proposal) : Type 0 where
-  pub proposed_are : s.proposed ≡ t.proposed
-  pub listing_is : listing s ≡ listing t
-  pub verdict_is : is_solution s ≡ is_solution t
-  pub criteria_are : criteria s ≡ criteria t
-  -- and explained alike
-  pub would_do_is : (i : PlainInstance) → would_do s i ≡ would_do t i
-  pub named_is : (name : List ℕ) → first_named (universe s) name ≡ first_named (universe t) name
-  pub numbers_were : (name : List ℕ) → numbers_of name s.initial ≡ numbers_of name t.initial
-
--- what a package needs counts where it is proposed: a problem without the needs of others says the same
-abbrev pub ThinIsEnough : Type 0
-ThinIsEnough = (problem : PlainProblem) (is_kept : Id → Bool) (was_installed is_installed : ℕ → Bool) (unknown : List PlainUnknown)
-    → ((place : ℕ) (p : PlainPackage) → package_at problem place ≡ Some p → is_installed place ≡ true → is_kept (package_id p) ≡ true)
-    → AreJudgedAlike (proposal (thin_problem is_kept problem) was_installed is_installed unknown) (proposal problem was_installed is_installed unknown)
 
 -- the status of the package alone that would do satisfies the clause
 abbrev pub WouldDo : Type 0

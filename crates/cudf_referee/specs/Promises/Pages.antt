@@ -1,11 +1,11 @@
 -- Pages of the listing, each continued after a key, and what a page costs at most (own).
 use Rattle.std.specs.Prelude.{◌≡◌, ℕ, ◌+◌, ◌-◌, List, [], ◌∷◌, ◌++◌, length, map, take, slice_get, Option, Some, None, option_and_then}
-use Rattle.cudf_universe.specs.Promises.Prices.{digits}
-use Rattle.cudf_referee.specs.declared.key.Part.{Part}
-use Rattle.cudf_referee.specs.declared.key.Part.TheVariants.{Package, Request, Solution}
+use Rattle.cudf_index.specs.Promises.Prices.{digits}
+use Rattle.cudf_job.specs.declared.key.Part.{Part}
+use Rattle.cudf_job.specs.declared.key.Part.TheVariants.{Package, Request, Solution}
 use Rattle.cudf_referee.specs.Instances.{PlainInstance}
-use Rattle.cudf_referee.specs.Keys.{PlainKey, key_text}
-use Rattle.cudf_referee.specs.Promises.Keys.{IsWritable}
+use Rattle.cudf_job.specs.Keys.{PlainKey, key_text}
+use Rattle.cudf_job.specs.Promises.Keys.{IsWritable}
 use Rattle.cudf_referee.specs.Proposals.{Proposal}
 use Rattle.cudf_referee.specs.Violations.{listing, rest}
 use Rattle.cudf_referee.specs.Promises.Sites.{PlainPosition, at_start, at_key, at_end, cost_between}

@@ -4,18 +4,18 @@ use Rattle.std.specs.List.{flat_map, enumerate_from}
 use Rattle.std.specs.Ordering.{is_lt}
 use Rattle.cudf_value.specs.Vpkgs.{PlainVpkg}
 use Rattle.cudf_value.specs.Formulas.{PlainAtom}
-use Rattle.cudf_document.specs.declared.package.Keep.{Keep}
-use Rattle.cudf_document.specs.declared.package.Keep.TheVariants.{Version, Package, Feature, Nothing}
-use Rattle.cudf_document.specs.Universe.{PlainRequest}
-use Rattle.cudf_document.specs.Statuses.{PlainUnknown}
-use Rattle.cudf_universe.specs.Promises.Prices.{search_cost, clause_cost, clause_lookups}
-use Rattle.cudf_universe.specs.Satisfaction.{Placed}
-use Rattle.cudf_referee.specs.declared.key.Part.{Part}
-use Rattle.cudf_referee.specs.declared.key.Part.TheVariants as part
-use Rattle.cudf_referee.specs.declared.key.Rule.TheVariants as rule
-use Rattle.cudf_referee.specs.declared.key.Aspect.{Aspect}
-use Rattle.cudf_referee.specs.declared.key.Aspect.TheVariants.{Unsatisfied, Many, Lower}
-use Rattle.cudf_referee.specs.Keys.{PlainKey, package_key, request_key, unknown_key, key_cmp}
+use Rattle.cudf_problem.specs.declared.package.Keep.{Keep}
+use Rattle.cudf_problem.specs.declared.package.Keep.TheVariants.{Version, Package, Feature, Nothing}
+use Rattle.cudf_problem.specs.Universe.{PlainRequest}
+use Rattle.cudf_problem.specs.Statuses.{PlainUnknown}
+use Rattle.cudf_index.specs.Promises.Prices.{search_cost, clause_cost, clause_lookups}
+use Rattle.cudf_index.specs.Satisfaction.{Placed}
+use Rattle.cudf_job.specs.declared.key.Part.{Part}
+use Rattle.cudf_job.specs.declared.key.Part.TheVariants as part
+use Rattle.cudf_job.specs.declared.key.Rule.TheVariants as rule
+use Rattle.cudf_job.specs.declared.key.Aspect.{Aspect}
+use Rattle.cudf_job.specs.declared.key.Aspect.TheVariants.{Unsatisfied, Many, Lower}
+use Rattle.cudf_job.specs.Keys.{PlainKey, package_key, request_key, unknown_key, key_cmp}
 use Rattle.cudf_referee.specs.Proposals.{holds_place, Proposal}
 
 -- ---- sites

@@ -2,8 +2,8 @@
 use Rattle.std.specs.Prelude.{ℕ, max, List, [], ◌∷◌, bytes_eq, filter_map, Option, Some, None, if◌then◌else◌}
 use Rattle.indexmap.specs.IndexMap.{get_by}
 use Rattle.cudf_value.specs.Vpkgs.{PlainVpkg}
-use Rattle.cudf_document.specs.Ids.{Id}
-use Rattle.cudf_universe.specs.Satisfaction.{Placed, entry_pair, gives}
+use Rattle.cudf_problem.specs.Ids.{Id}
+use Rattle.cudf_index.specs.Satisfaction.{Placed, entry_pair, gives}
 use Rattle.cudf_referee.specs.declared.referee.before.NumberedNames.{NumberedNames}
 
 -- the number that is kept of a name

@@ -1,10 +1,10 @@
 -- What is judged at a site.
 use Rattle.std.specs.Prelude.{Bool, true, not, Option, Some, None, if◌then◌else◌, List, filter_map}
 use Rattle.cudf_value.specs.Vpkgs.{PlainVpkg}
-use Rattle.cudf_universe.specs.Satisfaction.{without, numbers_of, satisfies, satisfies_clause}
-use Rattle.cudf_referee.specs.declared.key.Rule.TheVariants as rule
-use Rattle.cudf_referee.specs.declared.key.Aspect.{Aspect}
-use Rattle.cudf_referee.specs.declared.key.Aspect.TheVariants.{Unsatisfied, Many, Lower}
+use Rattle.cudf_index.specs.Satisfaction.{without, numbers_of, satisfies, satisfies_clause}
+use Rattle.cudf_job.specs.declared.key.Rule.TheVariants as rule
+use Rattle.cudf_job.specs.declared.key.Aspect.{Aspect}
+use Rattle.cudf_job.specs.declared.key.Aspect.TheVariants.{Unsatisfied, Many, Lower}
 use Rattle.cudf_referee.specs.Instances.{needs, conflicts_with, keep_version, keep_package, keep_feature, install, remove, upgrade, PlainInstance}
 use Rattle.cudf_referee.specs.Proposals.{holds_place, Proposal}
 use Rattle.cudf_referee.specs.Violations.{at_package, at_request, has_package, are_many, are_lower, unknown_instance}

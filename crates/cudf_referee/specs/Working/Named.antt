@@ -1,9 +1,9 @@
 -- Of which packages the name alone is to be kept, and is proposed.
 use Rattle.std.specs.Prelude.{ℕ, Bool, true, false, ◌&&◌, List, map}
-use Rattle.cudf_document.specs.declared.package.Keep.{Keep}
-use Rattle.cudf_document.specs.declared.package.Keep.TheVariants.{Version, Package, Feature, Nothing}
-use Rattle.cudf_document.specs.Universe.{PlainPackage, PlainProblem}
-use Rattle.cudf_universe.specs.Satisfaction.{Placed, members}
+use Rattle.cudf_problem.specs.declared.package.Keep.{Keep}
+use Rattle.cudf_problem.specs.declared.package.Keep.TheVariants.{Version, Package, Feature, Nothing}
+use Rattle.cudf_problem.specs.Universe.{PlainPackage, PlainProblem}
+use Rattle.cudf_index.specs.Satisfaction.{Placed, members}
 use Rattle.cudf_referee.specs.Violations.{has_package}
 
 -- `keep: package`

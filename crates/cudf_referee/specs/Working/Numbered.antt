@@ -1,6 +1,6 @@
 -- The numbers of keys: places in lists that memory holds, and numbers of stanzas.
 use Rattle.std.specs.Prelude.{◌<◌, ◌^◌, All, length}
-use Rattle.cudf_document.specs.Universe.{PlainPackage}
+use Rattle.cudf_problem.specs.Universe.{PlainPackage}
 use Rattle.cudf_referee.specs.Proposals.{Proposal}
 
 -- the lists of a package

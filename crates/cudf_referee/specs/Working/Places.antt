@@ -1,10 +1,10 @@
 -- Where among the unknown stanzas those begin that a position leaves.
 use Rattle.std.specs.Prelude.{◌≡◌, ◌≤◌, ℕ, ◌+◌, List, [], length, map, filter, drop, Option, Some, None, IsTrue}
-use Rattle.cudf_document.specs.Statuses.{PlainUnknown}
-use Rattle.cudf_referee.specs.declared.key.Part.{Part}
-use Rattle.cudf_referee.specs.declared.key.Part.TheVariants.{Package, Request, Solution}
+use Rattle.cudf_problem.specs.Statuses.{PlainUnknown}
+use Rattle.cudf_job.specs.declared.key.Part.{Part}
+use Rattle.cudf_job.specs.declared.key.Part.TheVariants.{Package, Request, Solution}
 use Rattle.cudf_referee.specs.Instances.{PlainInstance}
-use Rattle.cudf_referee.specs.Promises.Keys.{is_fitting}
+use Rattle.cudf_job.specs.Promises.Keys.{is_fitting}
 use Rattle.cudf_referee.specs.Proposals.{Proposal}
 use Rattle.cudf_referee.specs.Promises.Sites.{PlainPosition, at_start, at_key, at_end, Stop, walk, is_ahead}
 use Rattle.cudf_referee.specs.Working.Searches.{unknown_left}

@@ -3,7 +3,7 @@ use Rattle.std.specs.Prelude.{◌≡◌, ℕ, Bool, false, not, ◌||◌, List, 
 use Rattle.std.specs.Borrow.{Bor}
 use Rattle.std.specs.List.{AllByRecursion}
 use Rattle.indexmap.specs.IndexMap.{IndexMap, keys}
-use Rattle.cudf_universe.specs.Satisfaction.{Placed}
+use Rattle.cudf_index.specs.Satisfaction.{Placed}
 use Rattle.cudf_referee.specs.declared.counting.standing.Standing.{Standing}
 use Rattle.cudf_referee.specs.Criteria.{each_once, versions_of, is_same_set, greatest}
 use Rattle.cudf_referee.specs.Violations.{has_package}

@@ -1,8 +1,8 @@
 -- What a walk over the instances of a problem and a solution stands on.
 use Rattle.std.specs.Prelude.{◌≡◌, ℕ, Bool, List, Option, map, IsTrue}
-use Rattle.cudf_document.specs.Statuses.{PlainUnknown, is_initial, ascend_above}
-use Rattle.cudf_document.specs.Universe.{PlainProblem}
-use Rattle.cudf_universe.specs.Satisfaction.{Placed, members}
+use Rattle.cudf_problem.specs.Statuses.{PlainUnknown, is_initial, ascend_above}
+use Rattle.cudf_problem.specs.Universe.{PlainProblem}
+use Rattle.cudf_index.specs.Satisfaction.{Placed, members}
 use Rattle.cudf_referee.specs.Proposals.{Proposal}
 use Rattle.cudf_referee.specs.Working.Before.{greatest_before}
 use Rattle.cudf_referee.specs.Working.Named.{has_kept_name}

@@ -3,12 +3,12 @@ ghost use Rattle.std.specs.Prelude.{◌≡◌, ℕ, Bool, [], length, not, optio
 ghost use Rattle.std.specs.List.{count_by};
 ghost use Rattle.std.specs.FinSet as set;
 ghost use Rattle.cudf_value.specs.Promises.Views.{formula_view};
-ghost use Rattle.cudf_universe.specs.Satisfaction.{members, satisfies_clause};
+ghost use Rattle.cudf_index.specs.Satisfaction.{members, satisfies_clause};
 ghost use Rattle.cudf_referee.specs.Criteria.{at_most_max, unsatisfied_recommends};
 ghost use Rattle.cudf_referee.specs.Proposals.{proposal};
 
-use cudf_document::{Problem, Status};
-use cudf_universe::Index;
+use cudf_index::Index;
+use cudf_problem::{Problem, Status};
 use cudf_value::Formula;
 
 /// How many conjuncts of what the packages of the status recommend aren't satisfied.
@@ -32,15 +32,24 @@ pub(crate) fn count_unsatisfied(
 }
 
 /// How many conjuncts of the formula aren't satisfied.
-fn unsatisfied(index: &Index<'_, '_>, formula: Option<&Formula<'_>>) -> u64
-    ensures { result ≡ count_by (λ clause. not (satisfies_clause index.now clause)) (unwrap_or (option_map (λ f. formula_view f.now) formula.entry) []) }
+fn unsatisfied_of(index: &Index<'_, '_>, formula: Formula<'_>) -> u64
+    ensures { result ≡ count_by (λ clause. not (satisfies_clause index.now clause)) (formula_view formula.entry) }
+{
+    let mut count = 0u64;
+    for clause in formula.clauses() {
+        if !index.satisfies_clause(&clause) {
+            count += 1;
+        }
+    }
+    count
+}
+
+/// The same, where there may be none.
+fn unsatisfied(index: &Index<'_, '_>, formula: Option<Formula<'_>>) -> u64
+    ensures { result ≡ count_by (λ clause. not (satisfies_clause index.now clause)) (unwrap_or (option_map formula_view formula.entry) []) }
 {
     match formula {
-        Some(formula) => formula
-            .clauses
-            .iter()
-            .filter(|clause| !index.satisfies_clause(clause))
-            .count() as u64,
+        Some(formula) => unsatisfied_of(index, formula),
         None => 0,
     }
 }

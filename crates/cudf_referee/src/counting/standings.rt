@@ -2,14 +2,14 @@
 ghost use Rattle.std.specs.Prelude.{◌≡◌, ◌||◌, List, [], ◌∷◌, ◌++◌, IfOk, OnOk, false};
 ghost use Rattle.std.specs.List.{enumerate_from};
 ghost use Rattle.std.specs.FinSet as set;
-ghost use Rattle.cudf_document.specs.Promises.Views.{package_view};
-ghost use Rattle.cudf_universe.specs.Satisfaction.{Placed};
+ghost use Rattle.cudf_problem.specs.Promises.Views.{package_view};
+ghost use Rattle.cudf_index.specs.Satisfaction.{Placed};
 ghost use Rattle.indexmap.specs.IndexMap.{values};
 ghost use Rattle.cudf_referee.specs.Criteria.{is_among, versions_of};
 ghost use Rattle.cudf_referee.specs.Working.Standings.{names_held, StandsFor, standings_of};
 
 use crate::counting::standing::{Standing, Standings};
-use cudf_document::{Package, Problem, Status};
+use cudf_problem::{Package, Problem, Status};
 use indexmap::IndexMap;
 use std::alloc::{AllocError, Global};
 

@@ -6,7 +6,7 @@ ghost use Rattle.cudf_referee.specs.Criteria.{is_touched, at_most_max, universe}
 ghost use Rattle.cudf_referee.specs.Proposals.{proposal};
 ghost use Rattle.cudf_referee.specs.Working.Standings.{differ};
 
-use cudf_document::{Problem, Status};
+use cudf_problem::{Problem, Status};
 
 /// How many packages one of the two statuses has and the other hasn't.
 pub(crate) fn count_touched(problem: &Problem<'_>, before: &Status, proposed: &Status) -> u64

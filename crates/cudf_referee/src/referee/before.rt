@@ -1,13 +1,13 @@
 //! The numbers that the initial status gives.
 ghost use Rattle.std.specs.Prelude.{◌≡◌, List, ℕ, None, map, bytes_eq, IfOk, OnOk, if◌then◌else◌};
 ghost use Rattle.std.specs.FinSet as set;
-ghost use Rattle.cudf_value.specs.Promises.Views.{vpkg_view};
-ghost use Rattle.cudf_document.specs.Promises.Views.{package_view};
-ghost use Rattle.cudf_universe.specs.Satisfaction.{members, gives, package_pairs};
+ghost use Rattle.cudf_value.specs.Promises.Views.{list_view};
+ghost use Rattle.cudf_problem.specs.Promises.Views.{package_view};
+ghost use Rattle.cudf_index.specs.Satisfaction.{members, gives, package_pairs};
 ghost use Rattle.cudf_referee.specs.Working.Before.{kept_greatest, with_number, with_pairs, with_entries, greatest_before};
 
-use cudf_document::{Package, Problem, Status};
-use cudf_value::Vpkg;
+use cudf_problem::{Package, Problem, Status};
+use cudf_value::VpkgList;
 use indexmap::IndexMap;
 use std::alloc::{AllocError, Global};
 
@@ -42,14 +42,14 @@ impl<'t> NumberedNames<'t> {
         ensures { OnOk result ((f : List ℕ) → kept_greatest f self.new ≡ with_pairs f (package_pairs (package_view «package».now)) (kept_greatest f self.old)) }
     {
         self.add(package.name, package.version)?;
-        self.add_entries(&package.provides)?;
+        self.add_entries(package.provides)?;
         Ok(())
     }
 
-    fn add_entries(&mut self, entries: &[Vpkg<'t>]) -> Result<(), AllocError>
-        ensures { OnOk result ((f : List ℕ) → kept_greatest f self.new ≡ with_entries f (map vpkg_view entries.now) (kept_greatest f self.old)) }
+    fn add_entries(&mut self, entries: VpkgList<'t>) -> Result<(), AllocError>
+        ensures { OnOk result ((f : List ℕ) → kept_greatest f self.new ≡ with_entries f (list_view entries.entry) (kept_greatest f self.old)) }
     {
-        for entry in entries {
+        for entry in entries.vpkgs() {
             if let Some((_, number)) = entry.bound {
                 self.add(entry.name, number)?;
             }
@@ -91,13 +91,14 @@ pub(super) fn greatest_before(
 ) -> Result<Vec<Option<u64>>, AllocError>
     ensures { IfOk result (λ before. before.items ≡ map (greatest_before (members (set.contains status.now) problem.now.packages)) problem.now.request.upgrade) }
 {
-    let upgrade = problem.request().upgrade.as_slice();
-    let mut before = Vec::with_capacity(alloc, upgrade.len())?;
-    if upgrade.is_empty() {
+    let upgrade = problem.request().upgrade;
+    let count = upgrade.len();
+    let mut before = Vec::with_capacity(alloc, count)?;
+    if count == 0 {
         return Ok(before);
     }
     let names = numbered(alloc, problem, status)?;
-    for entry in upgrade {
+    for entry in upgrade.vpkgs() {
         before.push(names.find(entry.name))?;
     }
     Ok(before)

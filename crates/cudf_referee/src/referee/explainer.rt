@@ -5,7 +5,7 @@ ghost use Rattle.cudf_referee.specs.Working.Firsts.{lesser_of};
 use crate::instance::{Instance, What};
 use crate::referee::Referee;
 use crate::referee::before::NumberedNames;
-use cudf_universe::Providers;
+use cudf_index::Providers;
 use cudf_value::{Atom, Clause};
 use std::alloc::{AllocError, Global};
 use std::fmt;
@@ -23,7 +23,7 @@ pub struct Explainer<'r, 'p, 't> {
 
 impl<'r, 'p, 't> Model for Explainer<'r, 'p, 't> {
     ghost use Rattle.std.specs.Prelude.{◌≡◌, ℕ, List};
-    ghost use Rattle.cudf_universe.specs.Satisfaction.{numbers_of};
+    ghost use Rattle.cudf_index.specs.Satisfaction.{numbers_of};
     ghost use Rattle.cudf_referee.specs.Criteria.{universe};
     ghost use Rattle.cudf_referee.specs.Explanations.{greatest_of};
     ghost use Rattle.cudf_referee.specs.Proposals.{Proposal};
@@ -49,7 +49,7 @@ impl fmt::Debug for Explainer<'_, '_, '_> {
 impl<'r, 'p, 't> Explainer<'r, 'p, 't> {
     ghost use Rattle.std.specs.Prelude.{◌≡◌, true, List, [], ◌∷◌, IfOk, find, option_map};
     ghost use Rattle.cudf_value.specs.Promises.Views.{atom_view, clause_view};
-    ghost use Rattle.cudf_universe.specs.Satisfaction.{first_named, first_satisfying, numbers_of, satisfies_atom};
+    ghost use Rattle.cudf_index.specs.Satisfaction.{first_named, first_satisfying, numbers_of, satisfies_atom};
     ghost use Rattle.cudf_referee.specs.Criteria.{universe};
     ghost use Rattle.cudf_referee.specs.Explanations.{would_do, least_of, greatest_of};
     ghost use Rattle.cudf_referee.specs.Promises.Views.{instance_view};
@@ -79,13 +79,13 @@ impl<'r, 'p, 't> Explainer<'r, 'p, 't> {
     /// For an instance of depends, install or upgrade, the place (from 1) of the first package of the universe,
     /// installed or not, that alone satisfies the conjunct or the entry. `None` where there is none, and for the other
     /// rules.
-    pub fn would_do(&self, instance: &Instance<'_, '_>) -> Option<u64>
+    pub fn would_do(&self, instance: &Instance<'_>) -> Option<u64>
         ensures { result ≡ would_do self.now (instance_view instance.now) }
     {
         match instance.what {
             What::Needs(clause) => self.first_satisfying(clause),
-            What::Install(vpkg) => self.providers.first_meeting(vpkg),
-            What::Upgrade(vpkg) => self.providers.first_meeting(vpkg),
+            What::Install(vpkg) => self.providers.first_meeting(&vpkg),
+            What::Upgrade(vpkg) => self.providers.first_meeting(&vpkg),
             _ => None,
         }
     }
@@ -122,12 +122,12 @@ impl<'r, 'p, 't> Explainer<'r, 'p, 't> {
     }
 
     /// The place of the first package that alone satisfies the clause.
-    fn first_satisfying(&self, clause: &Clause<'_>) -> Option<u64>
-        ensures { result ≡ first_satisfying (universe self.now) (clause_view clause.now) }
+    fn first_satisfying(&self, clause: Clause<'_>) -> Option<u64>
+        ensures { result ≡ first_satisfying (universe self.now) (clause_view clause.entry) }
     {
         let mut first = None;
-        for atom in &clause.atoms {
-            first = lesser_of(first, self.first_for(atom));
+        for atom in clause.atoms() {
+            first = lesser_of(first, self.first_for(&atom));
         }
         first
     }

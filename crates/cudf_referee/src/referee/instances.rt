@@ -1,23 +1,20 @@
 //! The walk over the violated instances.
 ghost use Rattle.std.specs.Prelude.{◌≡◌, ◌≤◌, ◌+◌, map, length};
 ghost use Rattle.std.specs.FinSet as set;
-ghost use Rattle.cudf_document.specs.Promises.Views.{unknown_view};
-ghost use Rattle.cudf_universe.specs.Promises.Prices.{digits};
-ghost use Rattle.cudf_referee.specs.KeyViews.{key_view};
+ghost use Rattle.cudf_problem.specs.Promises.Views.{unknown_view};
+ghost use Rattle.cudf_index.specs.Promises.Prices.{digits};
+ghost use Rattle.cudf_job.specs.KeyViews.{key_view};
 ghost use Rattle.cudf_referee.specs.Promises.Pages.{least_search};
 ghost use Rattle.cudf_referee.specs.Promises.Sites.{at_start, at_key};
 ghost use Rattle.cudf_referee.specs.Working.Walkers.{put_forward, Agrees};
 
 use crate::instance::Instance;
-use crate::key::{Key, Part};
-use crate::position::{Position, first_unknown_behind, next_place, position_behind};
+use crate::position::{Position, first_unknown_behind, position_behind};
 use crate::rules::{is_requested_violated, is_violated};
-use crate::sites::{
-    Candidate, PackageSite, RequestSite, count_requested, passed_requested, requested_instance,
-    requested_site,
-};
-use cudf_document::{Package, Problem, Solution};
-use cudf_universe::{Index, Metered, Steps};
+use crate::sites::{Candidate, PackageSite, RequestSite, RequestSites, Sites, requested_instance};
+use cudf_index::{Index, Metered, Steps};
+use cudf_job::{Key, Part};
+use cudf_problem::{Package, Problem, Solution};
 use std::fmt;
 use std::marker::Model;
 
@@ -35,18 +32,20 @@ pub struct Instances<'r, 'p, 't> {
     /// For each package, whether its name is to be kept, and the proposed status has one of it.
     named: &'r [bool],
     position: Position,
-    /// The place of the first unknown stanza ahead.
-    unknown: usize,
+    /// What lies ahead of the position.
+    cursor: Cursor<'t>,
     steps: Steps,
 }
 
 impl<'r, 'p, 't> Model for Instances<'r, 'p, 't> {
-    ghost use Rattle.std.specs.Prelude.{◌+◌, map};
+    ghost use Rattle.std.specs.Prelude.{◌≡◌, ◌+◌, map};
     ghost use Rattle.std.specs.FinSet as set;
-    ghost use Rattle.cudf_document.specs.Promises.Views.{unknown_view};
+    ghost use Rattle.cudf_problem.specs.Promises.Views.{unknown_view};
     ghost use Rattle.cudf_referee.specs.Promises.PositionViews.{position_view};
     ghost use Rattle.cudf_referee.specs.Promises.Walks.{Walking};
-    ghost use Rattle.cudf_referee.specs.Working.Places.{BeginsAt, IsFitting};
+    ghost use Rattle.cudf_referee.specs.Working.Places.{ahead, IsFitting};
+    ghost use Rattle.cudf_referee.specs.Working.RequestSites.{Remains};
+    ghost use Rattle.cudf_referee.specs.Working.Searches.{stops_from};
     ghost use Rattle.cudf_referee.specs.Working.Walkers.{put_forward, Agrees};
 
     ghost Value = { Walking };
@@ -60,7 +59,9 @@ impl<'r, 'p, 't> Model for Instances<'r, 'p, 't> {
     ghost invariant = { λ i.
         Agrees i.problem.now (set.contains i.solution.now.status) i.before.now i.now.status i.named.now (map unknown_view i.solution.now.unknown.items)
         × IsFitting (position_view i.position)
-        × BeginsAt (position_view i.position) (map unknown_view i.solution.now.unknown.items) i.unknown };
+        × (stops_from (put_forward i.problem.now i.now.status (map unknown_view i.solution.now.unknown.items)) i.cursor
+        ≡ ahead (put_forward i.problem.now i.now.status (map unknown_view i.solution.now.unknown.items)) (position_view i.position))
+        × Remains i.problem.now.request i.cursor.request };
 }
 
 /// Where it stands.
@@ -95,7 +96,12 @@ impl<'r, 'p, 't> Instances<'r, 'p, 't> {
             before,
             named,
             position: Position::Start,
-            unknown: 0,
+            cursor: Cursor {
+                packages: 0,
+                sites: None,
+                request: RequestSites::of(problem.request()),
+                unknown: 0,
+            },
             steps: Steps::new(),
         }
     }
@@ -107,6 +113,9 @@ impl<'r, 'p, 't> Instances<'r, 'p, 't> {
         ensures price { result.steps ≤ self.entry.steps + digits (length self.entry.judged.unknown) }
         ensures grows { self.entry.steps + least_search (key_view key).part (length self.entry.judged.unknown) ≤ result.steps }
     {
+        let mut walk = self;
+        let unknown = first_unknown_behind(key, walk.solution.unknown.as_slice(), &mut walk.steps);
+        let cursor = walk.cursor_behind(key, unknown);
         // all that a walk holds, none of it a list of instances: a further field would have to be named here
         let Instances {
             problem,
@@ -115,10 +124,9 @@ impl<'r, 'p, 't> Instances<'r, 'p, 't> {
             before,
             named,
             position: _,
-            unknown: _,
-            mut steps,
-        } = self;
-        let unknown = first_unknown_behind(key, solution.unknown.as_slice(), &mut steps);
+            cursor: _,
+            steps,
+        } = walk;
         Instances {
             problem,
             solution,
@@ -126,33 +134,35 @@ impl<'r, 'p, 't> Instances<'r, 'p, 't> {
             before,
             named,
             position: Position::At(key),
-            unknown,
+            cursor,
             steps,
         }
     }
 }
 
-/// Where a walk goes on: behind so many packages, places of the next one, places of the request and unknown stanzas.
+/// Where a walk goes on: behind so many packages, with the places of the next one and of the request that are left, and
+/// behind so many unknown stanzas.
 #[derive(Clone, Copy)]
-struct Cursor {
+struct Cursor<'t> {
     packages: usize,
-    sites: usize,
-    request: usize,
+    /// Those of the next package: all, where it isn't gone through yet.
+    sites: Option<Sites<'t>>,
+    request: RequestSites<'t>,
     unknown: usize,
 }
 
 impl<'r, 'p, 't> Instances<'r, 'p, 't> {
-    ghost use Rattle.std.specs.Prelude.{ℕ, [], ◌∷◌, filter, drop, slice_get, option_map, if◌then◌else◌};
+    ghost use Rattle.std.specs.Prelude.{ℕ, [], ◌∷◌, filter, drop, slice_get, option_map, IfSome, if◌then◌else◌};
     ghost use Rattle.std.specs.List.{enumerate_from};
-    ghost use Rattle.cudf_document.specs.Promises.Views.{package_view};
-    ghost use Rattle.cudf_document.specs.Universe.{PlainPackage};
-    ghost use Rattle.cudf_referee.specs.declared.key.Part.TheVariants as part;
+    ghost use Rattle.cudf_problem.specs.Promises.Views.{package_view};
+    ghost use Rattle.cudf_problem.specs.Universe.{PlainPackage};
     ghost use Rattle.cudf_referee.specs.Promises.Sites.{at_site, package_end, package_sites, precedes, site_key};
     ghost use Rattle.cudf_referee.specs.Promises.Views.{instance_view};
     ghost use Rattle.cudf_referee.specs.Working.Judged.{instance_at};
-    ghost use Rattle.cudf_referee.specs.Working.Places.{ahead};
-    ghost use Rattle.cudf_referee.specs.Working.Searches.{Searches, package_rest, packages_rest, request_rest, unknown_rest, stops_from};
-    ghost use Rattle.cudf_referee.specs.Working.SiteNumbers.{placed_view, Fits, package_site_view, request_site_view, StandsAt, StandsIn};
+    ghost use Rattle.cudf_referee.specs.Working.Places.{ahead, BeginsAt};
+    ghost use Rattle.cudf_referee.specs.Working.Searches.{Comes, ComesTo, Searches, package_left, packages_rest, request_rest, unknown_rest, stops_from};
+    ghost use Rattle.cudf_referee.specs.Working.SiteNumbers.{placed_view, Fits, package_site_view, sites_in, StandsAt};
+    ghost use Rattle.cudf_referee.specs.Working.RequestSites.{request_site_view, Remains, StandsIn};
 
     /// The package behind this many others, as it is judged.
     fn candidate(&self, index: usize, package: &'p Package<'t>) -> Candidate<'p, 't>
@@ -171,9 +181,9 @@ impl<'r, 'p, 't> Instances<'r, 'p, 't> {
     }
 
     /// Judges a place of a package.
-    fn judge(&mut self, candidate: Candidate<'p, 't>, site: PackageSite<'p, 't>) -> bool
+    fn judge(&mut self, candidate: Candidate<'p, 't>, site: PackageSite<'t>) -> bool
         requires fits { Fits self.old.judged candidate }
-        requires stands { StandsAt candidate site }
+        requires stands { StandsAt candidate.package.now.keep site }
         ensures { let place = package_site_view (placed_view candidate.entry) site.entry in
             Searches self.old (at_site place ∷ []) (if result then Some (instance_at self.old.judged place) else None) self.new }
     {
@@ -182,7 +192,7 @@ impl<'r, 'p, 't> Instances<'r, 'p, 't> {
     }
 
     /// Judges a place of the request.
-    fn judge_requested(&mut self, site: RequestSite<'p, 't>) -> bool
+    fn judge_requested(&mut self, site: RequestSite<'t>) -> bool
         requires { StandsIn self.old.judged.problem.request site }
         ensures { let place = request_site_view site.entry in
             Searches self.old (at_site place ∷ []) (if result then Some (instance_at self.old.judged place) else None) self.new }
@@ -198,17 +208,17 @@ impl<'r, 'p, 't> Instances<'r, 'p, 't> {
         self.steps.tick();
     }
 
-    /// The first instance of a package behind this many places.
+    /// The first instance of a package at the places that are left.
     fn search_package(
         &mut self,
         candidate: Candidate<'p, 't>,
-        first: usize,
-    ) -> Option<Instance<'p, 't>>
+        sites: &mut Sites<'t>,
+    ) -> Option<Instance<'t>>
         requires { Fits self.old.judged candidate }
-        ensures { Searches self.old (package_rest self.old.judged first (placed_view candidate.entry)) (option_map instance_view result) self.new }
+        ensures searches { Searches self.old (package_left (placed_view candidate.entry) sites.old) (option_map instance_view result) self.new }
+        ensures comes { IfSome result (λ i. Comes (package_left (placed_view candidate.entry) sites.old) (instance_view i) (package_left (placed_view candidate.entry) sites.new)) }
     {
-        for index in first..candidate.count_sites() {
-            let site = candidate.site(index);
+        while let Some(site) = candidate.next(sites) {
             if self.judge(candidate, site) {
                 return Some(candidate.instance(site));
             }
@@ -217,28 +227,39 @@ impl<'r, 'p, 't> Instances<'r, 'p, 't> {
         None
     }
 
-    /// The first instance of the packages behind so many of them and so many places of the next one.
-    fn search_packages(&mut self, first: usize, mut passed: usize) -> Option<Instance<'p, 't>>
-        ensures { Searches self.old (packages_rest self.old.judged passed (drop first (enumerate_from 1 self.old.judged.problem.packages))) (option_map instance_view result) self.new }
+    /// The first instance of the packages that are left.
+    fn search_packages(&mut self, cursor: &mut Cursor<'t>) -> Option<Instance<'t>>
+        ensures searches { Searches self.old (packages_rest self.old.judged cursor.old.sites (drop cursor.old.packages (enumerate_from 1 self.old.judged.problem.packages))) (option_map instance_view result) self.new }
+        ensures comes { ComesTo (packages_rest self.old.judged cursor.old.sites (drop cursor.old.packages (enumerate_from 1 self.old.judged.problem.packages))) (option_map instance_view result)
+            (packages_rest self.old.judged cursor.new.sites (drop cursor.new.packages (enumerate_from 1 self.old.judged.problem.packages))) }
+        ensures others { (cursor.new.request ≡ cursor.old.request) × (cursor.new.unknown ≡ cursor.old.unknown) }
     {
         let packages = self.problem.packages();
-        for index in first..packages.len() {
+        let mut sites = cursor.sites;
+        for index in cursor.packages..packages.len() {
             let candidate = self.candidate(index, &packages[index]);
-            if let Some(instance) = self.search_package(candidate, passed) {
+            let mut left = candidate.left(sites);
+            if let Some(instance) = self.search_package(candidate, &mut left) {
+                cursor.packages = index;
+                cursor.sites = Some(left);
                 return Some(instance);
             }
-            passed = 0;
+            sites = None;
         }
+        cursor.packages = packages.len();
+        cursor.sites = None;
         None
     }
 
-    /// The first instance of the request behind this many places.
-    fn search_request(&mut self, first: usize) -> Option<Instance<'p, 't>>
-        ensures { Searches self.old (request_rest self.old.judged first) (option_map instance_view result) self.new }
+    /// The first instance of the request at the places that are left.
+    fn search_request(&mut self, sites: &mut RequestSites<'t>) -> Option<Instance<'t>>
+        requires { Remains self.old.judged.problem.request sites.old }
+        ensures searches { Searches self.old (request_rest sites.old) (option_map instance_view result) self.new }
+        ensures comes { ComesTo (request_rest sites.old) (option_map instance_view result) (request_rest sites.new) }
+        ensures remains { Remains self.old.judged.problem.request sites.new }
     {
         let request = self.problem.request();
-        for index in first..count_requested(request) {
-            let site = requested_site(request, index);
+        while let Some(site) = sites.next() {
             if self.judge_requested(site) {
                 return Some(requested_instance(request, site));
             }
@@ -246,13 +267,15 @@ impl<'r, 'p, 't> Instances<'r, 'p, 't> {
         None
     }
 
-    /// The instance of the unknown stanza behind this many others.
-    fn search_unknown(&mut self, first: usize) -> Option<Instance<'p, 't>>
-        ensures { Searches self.old (unknown_rest self.old.judged first) (option_map instance_view result) self.new }
+    /// The instance of the first unknown stanza that is left.
+    fn search_unknown(&mut self, first: &mut usize) -> Option<Instance<'t>>
+        ensures searches { Searches self.old (unknown_rest self.old.judged first.old) (option_map instance_view result) self.new }
+        ensures comes { ComesTo (unknown_rest self.old.judged first.old) (option_map instance_view result) (unknown_rest self.old.judged first.new) }
     {
-        match self.solution.unknown.get(first) {
+        match self.solution.unknown.get(*first) {
             Some(stanza) => {
                 self.steps.tick();
+                *first += 1;
                 Some(Instance::of_unknown(stanza))
             }
             None => None,
@@ -260,44 +283,26 @@ impl<'r, 'p, 't> Instances<'r, 'p, 't> {
     }
 
     /// The first instance ahead.
-    fn search(&mut self) -> Option<Instance<'p, 't>>
-        ensures { Searches self.old (ahead self.old.judged self.old.position) (option_map instance_view result) self.new }
+    fn search(&mut self, cursor: &mut Cursor<'t>) -> Option<Instance<'t>>
+        requires { Remains self.old.judged.problem.request cursor.old.request }
+        ensures searches { Searches self.old (stops_from self.old.judged cursor.old) (option_map instance_view result) self.new }
+        ensures comes { ComesTo (stops_from self.old.judged cursor.old) (option_map instance_view result) (stops_from self.old.judged cursor.new) }
+        ensures remains { Remains self.old.judged.problem.request cursor.new.request }
     {
-        let cursor = self.cursor();
-        if let Some(instance) = self.search_packages(cursor.packages, cursor.sites) {
+        if let Some(instance) = self.search_packages(cursor) {
             return Some(instance);
         }
-        if let Some(instance) = self.search_request(cursor.request) {
+        if let Some(instance) = self.search_request(&mut cursor.request) {
             return Some(instance);
         }
-        self.search_unknown(cursor.unknown)
-    }
-
-    /// Where the walk goes on.
-    fn cursor(&self) -> Cursor
-        ensures { stops_from self.entry.now.judged result ≡ ahead self.entry.now.judged self.entry.now.position }
-    {
-        match self.position {
-            Position::Start => Cursor {
-                packages: 0,
-                sites: 0,
-                request: 0,
-                unknown: self.unknown,
-            },
-            Position::At(key) => self.cursor_behind(key),
-            Position::End => Cursor {
-                packages: self.problem.packages().len(),
-                sites: 0,
-                request: count_requested(self.problem.request()),
-                unknown: self.unknown,
-            },
-        }
+        self.search_unknown(&mut cursor.unknown)
     }
 
     /// Where it goes on behind a key.
-    fn cursor_behind(&self, key: Key) -> Cursor
-        requires { self.now.position ≡ at_key (key_view key) }
-        ensures { stops_from self.entry.now.judged result ≡ ahead self.entry.now.judged self.entry.now.position }
+    fn cursor_behind(&self, key: Key, unknown: usize) -> Cursor<'t>
+        requires { BeginsAt (at_key (key_view key)) self.now.judged.unknown unknown }
+        ensures stops { stops_from self.entry.now.judged result ≡ ahead self.entry.now.judged (at_key (key_view key)) }
+        ensures remains { Remains self.entry.now.judged.problem.request result.request }
     {
         let request = self.problem.request();
         match key.part() {
@@ -305,35 +310,34 @@ impl<'r, 'p, 't> Instances<'r, 'p, 't> {
                 let packages = place as usize - 1;
                 Cursor {
                     packages,
-                    sites: self.passed(packages, key),
-                    request: 0,
-                    unknown: self.unknown,
+                    sites: self.behind_key(packages, key),
+                    request: RequestSites::of(request),
+                    unknown,
                 }
             }
             Part::Request => Cursor {
                 packages: self.problem.packages().len(),
-                sites: 0,
-                request: passed_requested(request, key),
-                unknown: self.unknown,
+                sites: None,
+                request: RequestSites::behind(request, key),
+                unknown,
             },
             Part::Solution => Cursor {
                 packages: self.problem.packages().len(),
-                sites: 0,
-                request: count_requested(request),
-                unknown: self.unknown,
+                sites: None,
+                request: RequestSites::none_of(request),
+                unknown,
             },
         }
     }
 
-    /// How many places of the package behind this many others a key of it has passed.
-    fn passed(&self, index: usize, key: Key) -> usize
-        requires { (key_view key).part ≡ part.Package (index + 1) }
+    /// The places of the package behind this many others that come after a key.
+    fn behind_key(&self, index: usize, key: Key) -> Option<Sites<'t>>
         ensures { (p : PlainPackage) → slice_get self.entry.now.judged.problem.packages index ≡ Some p
-            → filter (λ x. precedes (key_view key) (site_key x)) (package_sites self.entry.now.judged (index + 1, p)) ≡ drop result (package_sites self.entry.now.judged (index + 1, p)) }
+            → filter (λ x. precedes (key_view key) (site_key x)) (package_sites self.entry.now.judged (index + 1, p)) ≡ sites_in self.entry.now.judged result (index + 1, p) }
     {
         match self.problem.packages().get(index) {
-            Some(package) => self.candidate(index, package).passed(key),
-            None => 0,
+            Some(package) => Some(self.candidate(index, package).behind(key)),
+            None => None,
         }
     }
 }
@@ -344,15 +348,16 @@ impl<'r, 'p, 't> Iterator for Instances<'r, 'p, 't> {
     ghost use Rattle.cudf_referee.specs.Promises.Views.{instance_view};
     ghost use Rattle.cudf_referee.specs.Promises.Walks.{left, Moves};
 
-    type Item = Instance<'p, 't>;
+    type Item = Instance<'t>;
 
     ghost next_gives = { λ s r t. Moves s (option_map instance_view r) t };
 
     ghost remaining = { item_count left };
 
-    fn next(&mut self) -> Option<Instance<'p, 't>> {
-        let found = self.search();
-        self.unknown = next_place(found, self.unknown);
+    fn next(&mut self) -> Option<Instance<'t>> {
+        let mut cursor = self.cursor;
+        let found = self.search(&mut cursor);
+        self.cursor = cursor;
         self.position = position_behind(found);
         found
     }

@@ -1,14 +1,14 @@
 //! That the numbers of all keys are those of a `u64`, which contracts alone see.
 ghost use Rattle.std.specs.Prelude.{◌<◌, ◌^◌, All, List, IsTrue, length, map};
-ghost use Rattle.cudf_document.specs.Promises.Views.{unknown_view};
-ghost use Rattle.cudf_document.specs.Statuses.{ascend_above};
-ghost use Rattle.cudf_universe.specs.Satisfaction.{Placed};
+ghost use Rattle.cudf_problem.specs.Promises.Views.{unknown_view};
+ghost use Rattle.cudf_problem.specs.Statuses.{ascend_above};
+ghost use Rattle.cudf_index.specs.Satisfaction.{Placed};
 ghost use Rattle.cudf_referee.specs.Working.Walkers.{put_forward};
 ghost use Rattle.cudf_referee.specs.Working.Numbered.{IsNumbered};
 
 use crate::position::number_at;
-use cudf_document::{Problem, Solution, Unknown};
-use cudf_universe::Steps;
+use cudf_index::Steps;
+use cudf_problem::{Problem, Solution, Unknown};
 
 /// The numbers of stanzas that ascend are those of a `u64`, since the last one is.
 fn number_stanzas(unknown: &[Unknown<'_>])

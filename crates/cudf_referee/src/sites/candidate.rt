@@ -1,18 +1,12 @@
 //! The package that is judged, and its places.
-ghost use Rattle.std.specs.Prelude.{◌≡◌, ◌<◌, []};
+ghost use Rattle.std.specs.Prelude.{◌≤◌, ◌<◌, ◌+◌, ◌^◌, length};
+ghost use Rattle.cudf_value.specs.Promises.Views.{clauses_view, vpkgs_view};
 
 use crate::instance::{Instance, What};
-use crate::key::{Key, Rule};
-use crate::sites::{PackageSite, passed_of};
-use cudf_document::{Keep, Package};
-use cudf_value::{Clause, Vpkg};
-
-/// No entries.
-fn none<'p, T>() -> &'p [T]
-    ensures { result.now ≡ [] }
-{
-    &[]
-}
+use crate::sites::PackageSite;
+use cudf_job::{Key, Rule};
+use cudf_problem::{Keep, Package};
+use cudf_value::{Clauses, Formula, VpkgList, Vpkgs};
 
 /// A package of the universe, and what is known of it before it is judged.
 #[derive(Clone, Copy)]
@@ -27,109 +21,144 @@ pub(crate) struct Candidate<'p, 't> {
     ghost placed: { 0 < place },
 }
 
+/// The places of a package that are left, and of each list how many are behind.
+#[derive(Clone, Copy)]
+pub(crate) struct Sites<'t> {
+    clauses: Clauses<'t>,
+    clause: u64,
+    conflicts: Vpkgs<'t>,
+    conflict: u64,
+    /// Whether the version or the package, where one is to be kept, is left.
+    one: bool,
+    features: Vpkgs<'t>,
+    feature: u64,
+    ghost clauses_fit: { clause + length (clauses_view clauses) ≤ 2 ^ 63 },
+    ghost conflicts_fit: { conflict + length (vpkgs_view conflicts) ≤ 2 ^ 63 },
+    ghost features_fit: { feature + length (vpkgs_view features) ≤ 2 ^ 63 },
+}
+
 impl<'p, 't> Candidate<'p, 't> {
-    ghost use Rattle.std.specs.Prelude.{◌≡◌, ◌<◌, ◌^◌, IsTrue, None, [], length, filter, drop, slice_get, if◌then◌else◌};
-    ghost use Rattle.cudf_referee.specs.declared.key.Part.TheVariants as part;
-    ghost use Rattle.cudf_referee.specs.KeyViews.{key_view};
-    ghost use Rattle.cudf_referee.specs.Keys.{fits};
+    ghost use Rattle.std.specs.Prelude.{◌≡◌, ◌<◌, IsTrue, IfSome, None, Option, [], filter, if◌then◌else◌};
+    ghost use Rattle.std.specs.Iterator.{YieldsFirstBy};
+    ghost use Rattle.cudf_value.specs.Promises.Views.{formula_view, list_view};
+    ghost use Rattle.cudf_job.specs.declared.key.Part.TheVariants as part;
+    ghost use Rattle.cudf_job.specs.KeyViews.{key_view};
+    ghost use Rattle.cudf_job.specs.Keys.{fits};
     ghost use Rattle.cudf_referee.specs.Proposals.{Proposal};
     ghost use Rattle.cudf_referee.specs.Promises.Sites.{package_sites, precedes, site_key};
     ghost use Rattle.cudf_referee.specs.Promises.Views.{instance_view, what_view};
     ghost use Rattle.cudf_referee.specs.Violations.{at_package};
     ghost use Rattle.cudf_referee.specs.Working.Judged.{instance_at};
-    ghost use Rattle.cudf_referee.specs.Working.SiteNumbers.{placed_view, Fits, clauses_of, conflicts_of, kept_of, candidate_sites, package_site_view, StandsAt};
+    ghost use Rattle.cudf_referee.specs.Working.SiteNumbers.{placed_view, Fits, depends_of, conflicts_of, features_of, candidate_sites, sites_view, sites_in, package_site_view, StandsAt};
 
-    /// The conjuncts that are judged: none, where it isn't to be installed.
-    fn clauses(self) -> &'p [Clause<'t>]
-        ensures { result.now ≡ clauses_of self.entry }
+    /// What is judged of what it needs: nothing, where it isn't to be installed.
+    fn depends(self) -> Formula<'t>
+        ensures { formula_view result ≡ depends_of self.entry }
     {
-        if !self.is_installed {
-            return none();
+        if self.is_installed {
+            self.package.depends
+        } else {
+            Formula::always()
         }
-        self.package.depends.clauses.as_slice()
     }
 
     /// The entries of `conflicts` that are judged: none, where it isn't to be installed.
-    fn conflicts(self) -> &'p [Vpkg<'t>]
-        ensures { result.now ≡ conflicts_of self.entry }
+    fn conflicts(self) -> VpkgList<'t>
+        ensures { list_view result ≡ conflicts_of self.entry }
     {
-        if !self.is_installed {
-            return none();
+        if self.is_installed {
+            self.package.conflicts
+        } else {
+            VpkgList::empty()
         }
-        self.package.conflicts.as_slice()
     }
 
-    /// How many places what is to be kept of it has: none, where it wasn't installed.
-    fn count_kept(self) -> usize
-        ensures value { result ≡ length (kept_of self.entry) }
-        ensures bound { result < 2 ^ 62 }
+    /// The features that are to be kept: none, where it wasn't installed.
+    fn features(self) -> VpkgList<'t>
+        ensures { list_view result ≡ features_of self.entry }
     {
         if !self.package.installed {
-            return 0;
+            return VpkgList::empty();
         }
         match self.package.keep {
-            Keep::Version | Keep::Package => 1,
-            Keep::Feature => self.package.provides.as_slice().len(),
-            Keep::Nothing => 0,
+            Keep::Feature => self.package.provides,
+            Keep::Version | Keep::Package | Keep::Nothing => VpkgList::empty(),
         }
     }
 
-    /// How many places it has.
-    pub(crate) fn count_sites(self) -> usize
-        ensures { result ≡ length (candidate_sites self.entry) }
+    /// Its places.
+    fn sites(self) -> Sites<'t>
+        ensures { sites_view (placed_view self.entry) result ≡ candidate_sites self.entry }
     {
-        self.clauses().len() + self.conflicts().len() + self.count_kept()
-    }
-
-    /// How many places a key of the package has passed, whether or not a place has it.
-    pub(crate) fn passed(self, key: Key) -> usize
-        requires { (key_view key).part ≡ part.Package self.place }
-        ensures { (s : Proposal) → Fits s self.entry
-            → filter (λ x. precedes (key_view key) (site_key x)) (package_sites s (placed_view self.entry)) ≡ drop result (package_sites s (placed_view self.entry)) }
-    {
-        passed_of(key, Rule::Depends, self.clauses().len())
-            + passed_of(key, Rule::Conflicts, self.conflicts().len())
-            + passed_of(key, Rule::Keep, self.count_kept())
-    }
-
-    /// The place behind this many others.
-    pub(crate) fn site(self, index: usize) -> PackageSite<'p, 't>
-        requires { index < length (candidate_sites self) }
-        ensures site { slice_get (candidate_sites self.entry) index ≡ Some (package_site_view (placed_view self.entry) result) }
-        ensures stands { StandsAt self.entry result }
-    {
-        let clauses = self.clauses();
-        if index < clauses.len() {
-            return PackageSite::Conjunct(index as u64 + 1, &clauses[index]);
-        }
-        let index = index - clauses.len();
+        let depends = self.depends();
         let conflicts = self.conflicts();
-        if index < conflicts.len() {
-            return PackageSite::ConflictsEntry(index as u64 + 1, &conflicts[index]);
+        let features = self.features();
+        Sites {
+            clauses: depends.clauses(),
+            clause: 0,
+            conflicts: conflicts.vpkgs(),
+            conflict: 0,
+            one: self.package.installed,
+            features: features.vpkgs(),
+            feature: 0,
         }
-        self.kept_site(index - conflicts.len())
     }
 
-    /// The place behind this many others of what is to be kept.
-    fn kept_site(self, index: usize) -> PackageSite<'p, 't>
-        requires { index < length (kept_of self) }
-        ensures site { slice_get (kept_of self.entry) index ≡ Some (package_site_view (placed_view self.entry) result) }
-        ensures stands { StandsAt self.entry result }
+    /// Those of its places that are left, all where none were gone by.
+    pub(crate) fn left(self, sites: Option<Sites<'t>>) -> Sites<'t>
+        ensures { (s : Proposal) → Fits s self.entry → sites_view (placed_view self.entry) result ≡ sites_in s sites.entry (placed_view self.entry) }
     {
-        match self.package.keep {
-            Keep::Version => PackageSite::KeptVersion,
-            Keep::Package => PackageSite::KeptPackage,
-            Keep::Feature => {
-                let vpkg = &self.package.provides.as_slice()[index];
-                PackageSite::KeptFeature(index as u64 + 1, vpkg)
-            }
-            Keep::Nothing => unreachable!(),
+        match sites {
+            Some(sites) => sites,
+            None => self.sites(),
         }
+    }
+
+    /// Its places that come after a key of it, whether or not a place has the key.
+    pub(crate) fn behind(self, key: Key) -> Sites<'t>
+        ensures { (s : Proposal) → Fits s self.entry
+            → filter (λ x. precedes (key_view key) (site_key x)) (package_sites s (placed_view self.entry)) ≡ sites_view (placed_view self.entry) result }
+    {
+        let mut sites = self.sites();
+        let mut left = sites;
+        while let Some(site) = self.next(&mut left) {
+            if key.precedes(self.instance(site).key) {
+                return sites;
+            }
+            sites = left;
+        }
+        sites
+    }
+
+    /// The next of its places that are left.
+    pub(crate) fn next(self, sites: &mut Sites<'t>) -> Option<PackageSite<'t>>
+        ensures gives { YieldsFirstBy (package_site_view (placed_view self.entry)) (sites_view (placed_view self.entry)) sites.old result sites.new }
+        ensures stands { IfSome result (StandsAt self.entry.package.now.keep) }
+    {
+        if let Some(clause) = sites.clauses.next() {
+            sites.clause += 1;
+            return Some(PackageSite::Conjunct(sites.clause, clause));
+        }
+        if let Some(vpkg) = sites.conflicts.next() {
+            sites.conflict += 1;
+            return Some(PackageSite::ConflictsEntry(sites.conflict, vpkg));
+        }
+        if sites.one {
+            sites.one = false;
+            match self.package.keep {
+                Keep::Version => return Some(PackageSite::KeptVersion),
+                Keep::Package => return Some(PackageSite::KeptPackage),
+                Keep::Feature | Keep::Nothing => {}
+            }
+        }
+        let vpkg = sites.features.next()?;
+        sites.feature += 1;
+        Some(PackageSite::KeptFeature(sites.feature, vpkg))
     }
 
     /// The instance that may stand at a place.
-    pub(crate) fn instance(self, site: PackageSite<'p, 't>) -> Instance<'p, 't>
-        requires { StandsAt self site }
+    pub(crate) fn instance(self, site: PackageSite<'t>) -> Instance<'t>
+        requires { StandsAt self.package.now.keep site }
         ensures { (s : Proposal) → instance_view result ≡ instance_at s (package_site_view (placed_view self.entry) site.entry) }
     {
         match site {
@@ -148,7 +177,7 @@ impl<'p, 't> Candidate<'p, 't> {
     }
 
     /// The instance of a rule at an entry's place.
-    fn of_rule(self, rule: Rule, number: u64, what: What<'p, 't>) -> Instance<'p, 't>
+    fn of_rule(self, rule: Rule, number: u64, what: What<'t>) -> Instance<'t>
         requires counted { 0 < number }
         requires fits { IsTrue (fits (part.Package self.place) rule None) }
         ensures { instance_view result ≡ at_package (placed_view self.entry) rule number (what_view what.entry) }

@@ -26,12 +26,15 @@ fn is_giving(index: &Index<'_, '_>) -> bool {
 }
 
 /// Whether the first of two clauses is satisfied, and the second isn't.
-fn tells_apart(alloc: Global, index: &Index<'_, '_>) -> bool {
-    match read_formula(alloc, "false! | f = 3, user > 1 | f < 1") {
-        Ok(Some(formula)) => match formula.clauses.as_slice() {
-            [held, broken] => { index.satisfies_clause(held) && !index.satisfies_clause(broken) }
-            _ => false,
-        },
+fn tells_apart(index: &Index<'_, '_>) -> bool {
+    let Some(formula) = read_formula("false! | f = 3, user > 1 | f < 1") else {
+        return false;
+    };
+    let mut clauses = formula.clauses();
+    match (clauses.next(), clauses.next(), clauses.next()) {
+        (Some(held), Some(broken), None) => {
+            index.satisfies_clause(&held) && !index.satisfies_clause(&broken)
+        }
         _ => false,
     }
 }
@@ -39,7 +42,7 @@ fn tells_apart(alloc: Global, index: &Index<'_, '_>) -> bool {
 fn is_kept(alloc: Global, problem: &Problem<'_>) -> bool {
     match initial(alloc, problem) {
         Ok(status) => match Index::build(alloc, problem, &status) {
-            Ok(index) => is_giving(&index) && tells_apart(alloc, &index),
+            Ok(index) => is_giving(&index) && tells_apart(&index),
             Err(_) => false,
         },
         Err(_) => false,

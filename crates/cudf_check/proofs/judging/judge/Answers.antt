@@ -1,7 +1,7 @@
 use Rattle.std.proofs.Common.{if◌then◌else◌, map, ap, sym, ◌∙◌}
 use Rattle.std.specs.FinSet as set
 use Rattle.cudf_text.specs.Stanzas.{plain_text}
-use Rattle.cudf_document.specs.Promises.Views.{unknown_view}
+use Rattle.cudf_problem.specs.Promises.Views.{unknown_view}
 use Rattle.cudf_check.specs.RankReport.{judgement_of}
 use Rattle.cudf_check.specs.Report.{proposal_of}
 use Rattle.cudf_check.specs.declared.ranking.Judgement.TheVariants.{SaysFail}

@@ -1,6 +1,6 @@
 use Rattle.std.proofs.Common.{◌++◌, codes, decimal, option_and_then, refl, true}
 use Rattle.cudf_text.specs.Faults.{fault_text}
-use Rattle.cudf_document.specs.Universe.{package_at}
+use Rattle.cudf_problem.specs.Universe.{package_at}
 use Rattle.cudf_referee.specs.Violations.{met_by}
 use Rattle.cudf_check.specs.Explanations.{detail_added, instance_added}
 use Rattle.cudf_check.specs.Report.{met_text}

@@ -1,6 +1,6 @@
 use Rattle.std.proofs.Common.{map, IsTrue, subst, sym}
 use Rattle.cudf_text.specs.Stanzas.{plain_text}
-use Rattle.cudf_document.specs.Universe.{plain_problem}
+use Rattle.cudf_problem.specs.Universe.{plain_problem}
 use Rattle.cudf_check.specs.Ranking.{have_own_places}
 use Rattle.cudf_check.specs.RankReport.{rank_report, ranked_report, placed_faults, first_faulty_or, entrants}
 use Rattle.cudf_check.specs.Report.{problem_fault}

@@ -1,7 +1,7 @@
 use Rattle.std.proofs.Common.{ap, sym, ◌∙◌}
 use Rattle.cudf_document.specs.Faults.{least}
 use Rattle.cudf_document.specs.ProblemFaults.{problem_faults}
-use Rattle.cudf_document.specs.Universe.{plain_problem}
+use Rattle.cudf_problem.specs.Universe.{plain_problem}
 use Rattle.cudf_check.specs.Report.{problem_fault}
 use Rattle.cudf_check.proofs.ReadingLemmas.{ok_map, err_map, first_of, problem_read, problem_unread}
 use Rattle.cudf_check.proofs.readings.problem_in.Goals as goal

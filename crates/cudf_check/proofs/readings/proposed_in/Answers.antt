@@ -2,7 +2,7 @@ use Rattle.std.proofs.Common.{◌≡◌, true, false, sym, ap, ◌∙◌}
 use Rattle.cudf_text.specs.Joined.{is_fail}
 use Rattle.cudf_text.specs.Stanzas.{plain_text}
 use Rattle.cudf_document.specs.Faults.{least}
-use Rattle.cudf_document.specs.Promises.Statuses.{installed_stanzas}
+use Rattle.cudf_problem.specs.Promises.Statuses.{installed_stanzas}
 use Rattle.cudf_document.specs.SolutionFaults.{solution_faults}
 use Rattle.cudf_check.specs.Report.{solution_fault}
 use Rattle.cudf_check.proofs.ReadingLemmas.{first_of, solution_read, solution_fails, solution_unread}

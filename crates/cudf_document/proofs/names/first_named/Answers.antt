@@ -1,7 +1,7 @@
 use Rattle.std.proofs.Common.{option_map, find, bytes_eq, sym, ap, ◌∙◌}
 use Rattle.cudf_text.specs.Promises.Views.{property_view}
-use Rattle.cudf_document.specs.Documents.{has_name}
-use Rattle.cudf_document.proofs.ListLemmas.{find-map, option_map-option_map}
+use Rattle.cudf_problem.specs.Documents.{has_name}
+use Rattle.cudf_problem.proofs.ListLemmas.{find-map, option_map-option_map}
 use Rattle.cudf_document.proofs.names.first_named.Goals as goal
 
 pub returns : goal.returns

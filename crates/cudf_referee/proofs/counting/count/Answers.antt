@@ -1,7 +1,7 @@
 use Rattle.std.proofs.Common.{not, ◌&&◌, nat_lt, [], List, refl}
 use Rattle.std.specs.FinSet as set
 use Rattle.std.specs.List.{enumerate_from}
-use Rattle.cudf_universe.specs.Satisfaction.{Placed}
+use Rattle.cudf_index.specs.Satisfaction.{Placed}
 use Rattle.cudf_referee.specs.Criteria.{criteria, is_removed, is_new, is_changed, is_not_up_to_date}
 use Rattle.cudf_referee.specs.Proposals.{Proposal, proposal}
 use Rattle.cudf_referee.proofs.StandingLemmas.{names_counted, outdated}

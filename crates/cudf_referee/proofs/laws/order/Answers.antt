@@ -1,9 +1,9 @@
 use Rattle.std.proofs.Common.{ap, ◌∙◌, Option, Some}
 use Rattle.std.specs.Ordering.{is_eq, is_lt, is_some_and}
 use Rattle.std.specs.declared.cmp.Ordering.{Ordering}
-use Rattle.cudf_referee.specs.contracts.key.KeyOrd.TheImpl.Laws as law
-use Rattle.cudf_referee.specs.KeyViews.{key_view}
-use Rattle.cudf_referee.proofs.KeyLemmas.{key_ranked, equal_keys}
+use Rattle.cudf_job.specs.contracts.key.KeyOrd.TheImpl.Laws as law
+use Rattle.cudf_job.specs.KeyViews.{key_view}
+use Rattle.cudf_job.proofs.KeyLemmas.{key_ranked, equal_keys}
 use Rattle.cudf_referee.proofs.laws.order.Goals as goal
 
 pub returns-clause-compared : goal.returns-clause-compared

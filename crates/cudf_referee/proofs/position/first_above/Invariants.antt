@@ -1,5 +1,5 @@
 use Rattle.std.proofs.Common.{◌-◌, map}
-use Rattle.cudf_document.specs.Promises.Views.{unknown_view}
+use Rattle.cudf_problem.specs.Promises.Views.{unknown_view}
 use Rattle.cudf_referee.specs.Working.Places.{stanza_numbers}
 use Rattle.cudf_referee.proofs.UnknownLemmas.{Halved}
 use Rattle.cudf_referee.proofs.position.first_above.Given as goal

@@ -1,8 +1,8 @@
 use Rattle.std.proofs.Common.{◌≡◌, map, take, arith, ap, sym, ◌∙◌}
 use Rattle.std.proofs.lemmas.List.{take_all}
 use Rattle.std.proofs.lemmas.Simd.{map-map}
-use Rattle.cudf_document.specs.declared.package.Package.{Package}
-use Rattle.cudf_document.specs.Promises.Views.{package_view}
+use Rattle.cudf_problem.specs.declared.package.Package.{Package}
+use Rattle.cudf_problem.specs.Promises.Views.{package_view}
 use Rattle.cudf_referee.specs.Working.Named.{has_kept_name}
 use Rattle.cudf_referee.proofs.ListLemmas.{map-more}
 use Rattle.cudf_referee.proofs.referee.named_in.Goals as goal

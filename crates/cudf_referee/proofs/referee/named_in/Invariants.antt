@@ -1,5 +1,5 @@
 use Rattle.std.proofs.Common.{◌≡◌, map, take}
-use Rattle.cudf_document.specs.Promises.Views.{package_view}
+use Rattle.cudf_problem.specs.Promises.Views.{package_view}
 use Rattle.cudf_referee.specs.Working.Named.{has_kept_name}
 use Rattle.cudf_referee.proofs.referee.named_in.Given as goal
 

@@ -1,6 +1,6 @@
 use Rattle.std.proofs.Common.{refl, ap, sym, ◌∙◌, subst}
-use Rattle.cudf_universe.specs.Promises.Members.{IsGreatest}
-use Rattle.cudf_universe.specs.Satisfaction.{numbers_of}
+use Rattle.cudf_index.specs.Promises.Members.{IsGreatest}
+use Rattle.cudf_index.specs.Satisfaction.{numbers_of}
 use Rattle.cudf_referee.specs.Violations.{are_lower}
 use Rattle.cudf_referee.proofs.NumberLemmas.{lower_by_ends, lower-none}
 use Rattle.cudf_referee.proofs.rules.has_lower.Goals as goal

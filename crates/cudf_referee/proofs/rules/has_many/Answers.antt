@@ -1,5 +1,5 @@
 use Rattle.std.proofs.Common.{sym, arith}
-use Rattle.cudf_universe.specs.Satisfaction.{numbers_of}
+use Rattle.cudf_index.specs.Satisfaction.{numbers_of}
 use Rattle.cudf_referee.proofs.NumberLemmas.{many_by_ends}
 use Rattle.cudf_referee.proofs.rules.has_many.Goals as goal
 

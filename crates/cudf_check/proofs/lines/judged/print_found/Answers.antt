@@ -1,6 +1,6 @@
 use Rattle.std.proofs.Common.{◌≡◌, true, option_map, sym}
-use Rattle.cudf_document.specs.Documents.{is_empty}
-use Rattle.cudf_referee.specs.KeyViews.{key_view}
+use Rattle.cudf_problem.specs.Documents.{is_empty}
+use Rattle.cudf_job.specs.KeyViews.{key_view}
 use Rattle.cudf_referee.specs.Violations.{listing}
 use Rattle.cudf_check.proofs.PageLemmas.{no-page}
 use Rattle.cudf_check.proofs.PaperLemmas.{Says-as, Says-none}

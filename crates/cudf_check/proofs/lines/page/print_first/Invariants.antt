@@ -1,7 +1,7 @@
 -- The lines so far are printed, and so many instances were taken, for no more than the calls for them may cost.
 use Rattle.std.proofs.Common.{◌≡◌, ◌≤◌, length, take, drop, option_map}
 use Rattle.std.specs.List.{flat_map}
-use Rattle.cudf_referee.specs.KeyViews.{key_view}
+use Rattle.cudf_job.specs.KeyViews.{key_view}
 use Rattle.cudf_referee.specs.Promises.Walks.{left}
 use Rattle.cudf_check.specs.Report.{instance_line}
 use Rattle.cudf_check.specs.Working.Pages.{HasSpent, end_key}

@@ -1,6 +1,6 @@
 use Rattle.std.proofs.Common.{◌≡◌, ◌++◌, refl, take, Some, None, option_map, ap, sym, ◌∙◌, subst, append-nil}
 use Rattle.std.specs.List.{flat_map, last_or}
-use Rattle.cudf_referee.specs.KeyViews.{key_view}
+use Rattle.cudf_job.specs.KeyViews.{key_view}
 use Rattle.cudf_referee.specs.Promises.Walks.{left}
 use Rattle.cudf_check.specs.Report.{instance_line, listed, more_text, check_text}
 use Rattle.cudf_check.specs.Working.Pages.{IsPageEnd, IsEnded, more_behind}

@@ -1,6 +1,6 @@
 use Rattle.std.proofs.Common.{option_map, find, bytes_eq, ap, ◌∙◌}
 use Rattle.cudf_value.specs.Declarations.{PlainDeclaration}
-use Rattle.cudf_document.proofs.ListLemmas.{lookup-find, option_map-copied}
+use Rattle.cudf_problem.proofs.ListLemmas.{lookup-find, option_map-copied}
 use Rattle.cudf_document.proofs.declarations.Declarations.find.Goals as goal
 
 pub returns : goal.returns

@@ -1,5 +1,5 @@
 use Rattle.std.proofs.Common.{sym, ap, ◌∙◌, is_some, bytes_eq}
-use Rattle.cudf_document.proofs.ListLemmas.{is_some-find, is_some-option_map}
+use Rattle.cudf_problem.proofs.ListLemmas.{is_some-find, is_some-option_map}
 use Rattle.cudf_document.proofs.declarations.Declarations.is_declared.Goals as goal
 
 pub returns : goal.returns

@@ -3,7 +3,7 @@ use Rattle.std.proofs.lemmas.List.{map_push}
 use Rattle.std.specs.Map.{lookup}
 use Rattle.indexmap.proofs.CallerLemmas.{insert_entry-new}
 use Rattle.cudf_value.specs.Declarations.{PlainDeclaration}
-use Rattle.cudf_document.proofs.ListLemmas.{lookup-find, find_none, option_map-none}
+use Rattle.cudf_problem.proofs.ListLemmas.{lookup-find, find_none, option_map-none}
 use Rattle.cudf_document.proofs.declarations.Declarations.push.Goals as goal
 
 -- the new entry stands last

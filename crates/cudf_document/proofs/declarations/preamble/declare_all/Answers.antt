@@ -1,7 +1,7 @@
 use Rattle.std.proofs.Common.{◌+◌, map, drop, ap, sym, ◌∙◌}
 use Rattle.std.proofs.lemmas.List.{at_drop_more}
 use Rattle.cudf_text.specs.Promises.Views.{property_view}
-use Rattle.cudf_document.specs.Preamble.{declared_after}
+use Rattle.cudf_problem.specs.Preamble.{declared_after}
 use Rattle.cudf_document.proofs.declarations.preamble.declare_all.Goals as goal
 
 pub loop-property-preserved : goal.loop-property-preserved

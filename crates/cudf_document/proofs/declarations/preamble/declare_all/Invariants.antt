@@ -1,6 +1,6 @@
 use Rattle.std.proofs.Common.{◌≡◌, map, drop}
 use Rattle.cudf_text.specs.Promises.Views.{property_view}
-use Rattle.cudf_document.specs.Preamble.{declared_after}
+use Rattle.cudf_problem.specs.Preamble.{declared_after}
 use Rattle.cudf_document.proofs.declarations.preamble.declare_all.Given as goal
 
 -- what is left is declared behind what was

@@ -1,6 +1,6 @@
 use Rattle.std.proofs.Common.{map, take, get_or, ◌+◌}
 use Rattle.cudf_text.specs.Promises.Views.{property_view}
-use Rattle.cudf_document.proofs.ListLemmas.{map_next-copied}
+use Rattle.cudf_problem.proofs.ListLemmas.{map_next-copied}
 use Rattle.cudf_document.proofs.PreambleLemmas.{IsDeclaredTo-next}
 use Rattle.cudf_document.proofs.declarations.preamble.read_preamble.Goals as goal
 

@@ -1,6 +1,6 @@
 use Rattle.std.proofs.Common.{◌+◌, map, take, get_or, refl}
 use Rattle.cudf_text.specs.Promises.Views.{property_view}
-use Rattle.cudf_document.proofs.ListLemmas.{map_next-copied}
+use Rattle.cudf_problem.proofs.ListLemmas.{map_next-copied}
 use Rattle.cudf_document.proofs.NameLemmas.{AreNames-more}
 use Rattle.cudf_document.proofs.details.lacking.names_in.Goals as goal
 

@@ -1,6 +1,6 @@
 use Rattle.std.proofs.Common.{◌==◌, option_map, find, sym, ap, ◌∙◌}
 use Rattle.cudf_text.specs.Promises.Views.{property_view}
-use Rattle.cudf_document.proofs.ListLemmas.{find-map, option_map-option_map}
+use Rattle.cudf_problem.proofs.ListLemmas.{find-map, option_map-option_map}
 use Rattle.cudf_document.proofs.details.of_stanza.property_on.Goals as goal
 
 pub returns : goal.returns

@@ -3,19 +3,19 @@ use Rattle.std.proofs.lemmas.List.{append_assoc, map-append, take-append-drop}
 use Rattle.cudf_text.specs.Promises.Views.{property_view}
 use Rattle.cudf_document.specs.Working.Identities.{IsIdentity}
 use Rattle.cudf_document.specs.Working.PackageFields.{package_fields_of}
-use Rattle.cudf_document.proofs.ListLemmas.{map_next-copied}
+use Rattle.cudf_problem.proofs.ListLemmas.{map_next-copied}
 use Rattle.cudf_document.proofs.PackageLemmas.{package_fields_of-none}
 use Rattle.cudf_document.proofs.PropertyLemmas.{IsJudgedTo-none, IsJudgedTo-next}
 use Rattle.cudf_document.proofs.package.reading.read_properties.Goals as goal
 
 pub loop-property-init : goal.loop-property-init
-loop-property-init g c = (
+loop-property-init c = (
   IsJudgedTo-none _ _ c.clear.new.self c.clear.ensures,
-  subst (λ values. g.S.Fields.IsRead values c.start-fields.result) (package_fields_of-none c.args.declarations.now) c.start-fields.ensures,
+  c.new-fields.ensures ∙ package_fields_of-none c.args.declarations.now,
 )
 
 pub loop-property-preserved : goal.loop-property-preserved
-loop-property-preserved g c =
+loop-property-preserved c =
     let items = c.args.stanza.now.properties.items in
     let i = c.loop-property.property-index in
     let ds = c.args.declarations.now in
@@ -30,6 +30,5 @@ loop-property-preserved g c =
           c.loop-property.invariant.0 more c.in_ok-fault.ensures.names
           (c.in_ok-fault.ensures.fault ps later c.loop-property.invariant.0.names_are (subst (IsIdentity c.args.identity) all c.requires))
           c.keep_lesser.ensures,
-      subst (λ qs. g.S.Fields.IsRead (package_fields_of ds qs) c.read_property.new.fields) (sym more)
-          (c.in_ok-fault.ensures.read ps c.loop-property.invariant.0.names_are c.loop-property.invariant.1),
+      c.in_ok-fault.ensures.read ps c.loop-property.invariant.0.names_are c.loop-property.invariant.1 ∙ ap (package_fields_of ds) (sym more),
     )

@@ -1,11 +1,11 @@
-use Rattle.std.proofs.Common.{Some, map, take}
+use Rattle.std.proofs.Common.{◌≡◌, Some, map, take}
 use Rattle.cudf_text.specs.Promises.Views.{property_view}
-use Rattle.cudf_document.specs.Working.PackageFields.{package_fields_of}
-use Rattle.cudf_document.specs.declared.postmark.Postmark.TheVariants.{Package}
+use Rattle.cudf_document.specs.Working.PackageFields.{package_fields_of, package_fields_view}
+use Rattle.cudf_problem.specs.declared.postmark.Postmark.TheVariants.{Package}
 use Rattle.cudf_document.proofs.PropertyLemmas.{IsJudgedTo}
 use Rattle.cudf_document.proofs.package.reading.read_properties.Given as goal
 
 abbrev pub invariant-loop-property : goal.invariant-loop-property
-invariant-loop-property g l =
+invariant-loop-property l =
     IsJudgedTo l.declarations (Some Package) (map property_view (take l.property-index l.stanza.properties.items)) l.names l.first
-    × g.S.Fields.IsRead (package_fields_of l.declarations (map property_view (take l.property-index l.stanza.properties.items))) l.fields
+    × (package_fields_view l.fields ≡ package_fields_of l.declarations (map property_view (take l.property-index l.stanza.properties.items)))

@@ -1,5 +1,4 @@
-use Rattle.std.proofs.Common.{true}
 use Rattle.cudf_document.proofs.problem.reading.first_fault.Goals as goal
 
 pub returns : goal.returns
-returns c = (c.in_ok-walk.ensures (λ id. true) tt).first_is
+returns c = c.in_ok-walk.ensures.first_is

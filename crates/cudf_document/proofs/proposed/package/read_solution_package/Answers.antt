@@ -1,7 +1,7 @@
 use Rattle.std.proofs.Common.{map, take, get_or, ◌+◌}
 use Rattle.cudf_text.specs.Promises.Views.{property_view}
 use Rattle.cudf_document.specs.Working.SolutionPackages.{solution_package_view}
-use Rattle.cudf_document.proofs.ListLemmas.{map_next-copied}
+use Rattle.cudf_problem.proofs.ListLemmas.{map_next-copied}
 use Rattle.cudf_document.proofs.SolutionPackageLemmas.{IsEnteredTo-next}
 use Rattle.cudf_document.proofs.proposed.package.read_solution_package.Goals as goal
 

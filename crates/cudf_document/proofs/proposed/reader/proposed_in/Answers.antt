@@ -3,7 +3,7 @@ use Rattle.std.proofs.lemmas.List.{take_all}
 use Rattle.std.proofs.lemmas.Result.{IfOk-weaker}
 use Rattle.cudf_text.specs.Promises.Views.{own_stanza_view, text_view}
 use Rattle.cudf_document.specs.Working.Proposed.{IsRead}
-use Rattle.cudf_document.proofs.ListLemmas.{map_next}
+use Rattle.cudf_problem.proofs.ListLemmas.{map_next}
 use Rattle.cudf_document.proofs.proposed.reader.proposed_in.Goals as goal
 
 pub loop-stanza-preserved : goal.loop-stanza-preserved

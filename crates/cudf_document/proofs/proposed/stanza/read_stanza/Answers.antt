@@ -2,12 +2,12 @@ use Rattle.std.proofs.Common.{◌≡◌, Some, not, is_none, ◌++◌, ◌&&◌,
 use Rattle.std.specs.List.{flat_map}
 use Rattle.cudf_text.specs.declared.fault.Kind.TheVariants.{E4, E12}
 use Rattle.cudf_text.specs.Promises.Views.{stanza_view}
-use Rattle.cudf_document.specs.declared.postmark.Postmark.TheVariants.{Package}
+use Rattle.cudf_problem.specs.declared.postmark.Postmark.TheVariants.{Package}
 use Rattle.cudf_document.specs.Faults.{lesser, least, fault_if}
-use Rattle.cudf_document.specs.Documents.{has_name, with_earlier, postmark, marks_package}
+use Rattle.cudf_problem.specs.Documents.{has_name, with_earlier, postmark, marks_package}
 use Rattle.cudf_document.specs.ProblemFaults.{version_property}
 use Rattle.cudf_document.specs.SolutionFaults.{value_faults, values_faults}
-use Rattle.cudf_document.proofs.ListLemmas.{is_none-find}
+use Rattle.cudf_problem.proofs.ListLemmas.{is_none-find}
 use Rattle.cudf_document.proofs.FaultLemmas.{least-append}
 use Rattle.cudf_document.proofs.proposed.stanza.read_stanza.Goals as goal
 

@@ -1,7 +1,7 @@
 use Rattle.std.proofs.Common.{map, take, get_or, ◌+◌, ◌++◌, ◌∷◌, [], ◌≡◌, ◌∙◌}
 use Rattle.cudf_text.specs.Promises.Views.{property_view}
 use Rattle.cudf_document.specs.Working.RequestFields.{request_fields_view}
-use Rattle.cudf_document.proofs.ListLemmas.{map_next-copied}
+use Rattle.cudf_problem.proofs.ListLemmas.{map_next-copied}
 use Rattle.cudf_document.proofs.PropertyLemmas.{IsJudgedTo-none, IsJudgedTo-next}
 use Rattle.cudf_document.proofs.RequestLemmas.{request_fault, asked_next}
 use Rattle.cudf_document.proofs.request.lists.read_request.Goals as goal

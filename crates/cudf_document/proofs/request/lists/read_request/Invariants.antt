@@ -1,7 +1,7 @@
 use Rattle.std.proofs.Common.{◌≡◌, [], Some, map, take}
 use Rattle.cudf_text.specs.Promises.Views.{property_view}
 use Rattle.cudf_document.specs.Working.RequestFields.{request_fields_view, request_fields_of}
-use Rattle.cudf_document.specs.declared.postmark.Postmark.TheVariants.{Request}
+use Rattle.cudf_problem.specs.declared.postmark.Postmark.TheVariants.{Request}
 use Rattle.cudf_document.proofs.PropertyLemmas.{IsJudgedTo}
 use Rattle.cudf_document.proofs.request.lists.read_request.Given as goal
 

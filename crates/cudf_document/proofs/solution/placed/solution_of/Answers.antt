@@ -1,10 +1,10 @@
 use Rattle.std.proofs.Common.{◌≡◌, List, map, take, refl, sym, subst, ◌∙◌, arith}
 use Rattle.std.proofs.lemmas.List.{take_all}
 use Rattle.cudf_text.specs.Stanzas.{PlainStanza}
-use Rattle.cudf_document.specs.Promises.Statuses.{installed_stanzas}
-use Rattle.cudf_document.specs.Promises.Views.{unknown_view}
+use Rattle.cudf_problem.specs.Promises.Statuses.{installed_stanzas}
+use Rattle.cudf_problem.specs.Promises.Views.{unknown_view}
 use Rattle.cudf_document.specs.Working.Placed.{IsPlaced, IsSolutionOf}
-use Rattle.cudf_document.proofs.ListLemmas.{map_next-copied}
+use Rattle.cudf_problem.proofs.ListLemmas.{map_next-copied}
 use Rattle.cudf_document.proofs.PlacedLemmas.{IsSolutionOf-placed}
 use Rattle.cudf_document.proofs.solution.placed.solution_of.Goals as goal
 

@@ -1,5 +1,5 @@
 use Rattle.std.proofs.Common.{map, take}
-use Rattle.cudf_document.specs.Promises.Views.{unknown_view}
+use Rattle.cudf_problem.specs.Promises.Views.{unknown_view}
 use Rattle.cudf_document.specs.Working.Placed.{IsPlaced}
 use Rattle.cudf_document.proofs.solution.placed.solution_of.Given as goal
 

@@ -3,8 +3,8 @@ use Rattle.std.specs.Prelude.{unwrap_or}
 use Rattle.std.specs.FinSet as set
 use Rattle.std.specs.List.{count_by}
 use Rattle.std.proofs.lemmas.List.{length-map}
-use Rattle.cudf_document.specs.Promises.Views.{package_view}
-use Rattle.cudf_universe.specs.Satisfaction.{satisfies_clause}
+use Rattle.cudf_problem.specs.Promises.Views.{package_view}
+use Rattle.cudf_index.specs.Satisfaction.{satisfies_clause}
 use Rattle.cudf_referee.specs.Proposals.{Proposal, proposal}
 use Rattle.cudf_referee.proofs.RecommendLemmas.{counted_held, counted_left_out, recommended_at, nothing, all_counted}
 use Rattle.cudf_referee.proofs.counting.recommends.count_unsatisfied.Goals as goal

@@ -2,8 +2,8 @@ use Rattle.std.proofs.Common.{[], ◌∷◌, ◌++◌, map, ap, sym, subst, ◌�
 use Rattle.std.specs.FinSet as set
 use Rattle.std.specs.Map.{set_value}
 use Rattle.std.proofs.lemmas.Map.{none_passes_from_lookup}
-use Rattle.cudf_document.specs.Promises.Views.{package_view}
-use Rattle.cudf_universe.specs.Satisfaction.{Placed}
+use Rattle.cudf_problem.specs.Promises.Views.{package_view}
+use Rattle.cudf_index.specs.Satisfaction.{Placed}
 use Rattle.cudf_referee.specs.Working.Standings.{StandsFor, names_held, standing_of, standing_with}
 use Rattle.cudf_referee.proofs.NameLemmas.{EachHas, eq_now, kept-each, written-each}
 use Rattle.cudf_referee.proofs.StandingLemmas.{standing-other, standing-own}

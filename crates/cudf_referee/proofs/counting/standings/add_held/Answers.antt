@@ -3,8 +3,8 @@ use Rattle.std.specs.FinSet as set
 use Rattle.std.specs.Map.{keys_of}
 use Rattle.indexmap.specs.IndexMap.{insert_entry}
 use Rattle.indexmap.specs.IndexSet.{insert_key}
-use Rattle.cudf_document.specs.Promises.Views.{package_view}
-use Rattle.cudf_universe.specs.Satisfaction.{Placed}
+use Rattle.cudf_problem.specs.Promises.Views.{package_view}
+use Rattle.cudf_index.specs.Satisfaction.{Placed}
 use Rattle.cudf_referee.specs.declared.counting.standing.Standing.{Standing}
 use Rattle.cudf_referee.specs.Working.Standings.{no_standing, names_held}
 use Rattle.cudf_referee.proofs.NameLemmas.{EachHas, eq_now, inserted-each, inserted-names}

@@ -2,8 +2,8 @@ use Rattle.std.proofs.Common.{◌≡◌, ℕ, Bor, ◌<◌, length, map, take, s
 use Rattle.std.specs.FinSet as set
 use Rattle.std.specs.List.{enumerate_from}
 use Rattle.std.proofs.lemmas.List.{take_all}
-use Rattle.cudf_document.specs.Promises.Views.{package_view}
-use Rattle.cudf_universe.specs.Satisfaction.{Placed}
+use Rattle.cudf_problem.specs.Promises.Views.{package_view}
+use Rattle.cudf_index.specs.Satisfaction.{Placed}
 use Rattle.std.specs.Map.{keys_of}
 use Rattle.cudf_referee.specs.declared.counting.standing.Standing.{Standing}
 use Rattle.cudf_referee.proofs.NameLemmas.{EachHas}

@@ -1,7 +1,7 @@
 use Rattle.std.proofs.Common.{map, take, []}
 use Rattle.std.specs.List.{enumerate_from}
 use Rattle.std.specs.FinSet as set
-use Rattle.cudf_document.specs.Promises.Views.{package_view}
+use Rattle.cudf_problem.specs.Promises.Views.{package_view}
 use Rattle.cudf_referee.specs.Working.Standings.{StandsFor, names_held}
 use Rattle.cudf_referee.proofs.counting.standings.names_of_either.Given as goal
 

@@ -1,7 +1,7 @@
 use Rattle.std.proofs.Common.{◌≡◌, ◌<◌, ◌≤◌, [], length, sym, ap, ◌∙◌, arith}
 use Rattle.std.specs.FinSet as set
 use Rattle.std.proofs.lemmas.List.{length-map, take_all}
-use Rattle.cudf_document.specs.Promises.Views.{package_view}
+use Rattle.cudf_problem.specs.Promises.Views.{package_view}
 use Rattle.std.specs.List.{count_by}
 use Rattle.std.proofs.lemmas.List.FromFn.{length-enumerate_from}
 use Rattle.cudf_referee.specs.Criteria.{is_touched, at_most_max, universe}

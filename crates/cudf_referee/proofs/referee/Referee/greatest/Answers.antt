@@ -1,5 +1,5 @@
 use Rattle.std.proofs.Common.{ap, ◌∙◌}
-use Rattle.cudf_universe.specs.Satisfaction.{numbers_of}
+use Rattle.cudf_index.specs.Satisfaction.{numbers_of}
 use Rattle.cudf_referee.specs.Explanations.{greatest_of}
 use Rattle.cudf_referee.proofs.ExplanationLemmas.{greatest_alone}
 use Rattle.cudf_referee.proofs.referee.Referee.greatest.Goals as goal

@@ -1,8 +1,8 @@
 use Rattle.std.proofs.Common.{◌≡◌, map, ap, sym, ◌∙◌}
 use Rattle.std.specs.FinSet as set
-use Rattle.cudf_document.specs.Statuses.{is_initial}
-use Rattle.cudf_document.specs.Promises.Views.{unknown_view}
-use Rattle.cudf_document.specs.Documents.{is_empty}
+use Rattle.cudf_problem.specs.Statuses.{is_initial}
+use Rattle.cudf_problem.specs.Promises.Views.{unknown_view}
+use Rattle.cudf_problem.specs.Documents.{is_empty}
 use Rattle.cudf_referee.specs.Proposals.{proposal}
 use Rattle.cudf_referee.specs.Working.Walkers.{put_forward}
 use Rattle.cudf_referee.specs.Solutions.{is_solution}

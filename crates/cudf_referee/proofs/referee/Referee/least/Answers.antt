@@ -1,5 +1,5 @@
 use Rattle.std.proofs.Common.{ap, ◌∙◌}
-use Rattle.cudf_universe.specs.Satisfaction.{numbers_of}
+use Rattle.cudf_index.specs.Satisfaction.{numbers_of}
 use Rattle.cudf_referee.specs.Explanations.{least_of}
 use Rattle.cudf_referee.proofs.ExplanationLemmas.{least_alone}
 use Rattle.cudf_referee.proofs.referee.Referee.least.Goals as goal

@@ -1,11 +1,11 @@
 use Rattle.std.proofs.Common.{◌≡◌, Bool, List, [], length, map, arith, ap, sym, ◌∙◌}
 use Rattle.std.proofs.lemmas.List.{length-map}
 use Rattle.std.specs.FinSet as set
-use Rattle.cudf_document.specs.Statuses.{is_initial}
-use Rattle.cudf_document.specs.Promises.Views.{unknown_view}
-use Rattle.cudf_universe.specs.Satisfaction.{members}
+use Rattle.cudf_problem.specs.Statuses.{is_initial}
+use Rattle.cudf_problem.specs.Promises.Views.{unknown_view}
+use Rattle.cudf_index.specs.Satisfaction.{members}
 use Rattle.cudf_referee.specs.Criteria.{criteria}
-use Rattle.cudf_document.specs.Documents.{is_empty}
+use Rattle.cudf_problem.specs.Documents.{is_empty}
 use Rattle.cudf_referee.specs.Proposals.{proposal}
 use Rattle.cudf_referee.specs.Working.Walkers.{put_forward}
 use Rattle.cudf_referee.specs.Solutions.{is_solution}

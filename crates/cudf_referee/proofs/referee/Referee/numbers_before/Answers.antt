@@ -1,7 +1,7 @@
 use Rattle.std.proofs.Common.{◌≡◌, ℕ, List, Option, None, IfOk, ap, ◌∙◌, subst}
 use Rattle.std.specs.FinSet as set
-use Rattle.cudf_document.specs.Statuses.{is_initial}
-use Rattle.cudf_universe.specs.Satisfaction.{gives, members, numbers_of}
+use Rattle.cudf_problem.specs.Statuses.{is_initial}
+use Rattle.cudf_index.specs.Satisfaction.{gives, members, numbers_of}
 use Rattle.cudf_referee.specs.Explanations.{greatest_of}
 use Rattle.cudf_referee.specs.Working.Before.{kept_greatest, with_pairs}
 use Rattle.cudf_referee.specs.Working.Walkers.{installed_before}

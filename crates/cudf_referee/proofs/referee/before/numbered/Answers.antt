@@ -1,8 +1,8 @@
 use Rattle.std.proofs.Common.{None, ap, sym, ◌∙◌, map}
 use Rattle.std.proofs.lemmas.List.{take_all}
 use Rattle.std.specs.FinSet as set
-use Rattle.cudf_document.specs.Promises.Views.{package_view}
-use Rattle.cudf_universe.specs.Satisfaction.{members, gives, package_pairs}
+use Rattle.cudf_problem.specs.Promises.Views.{package_view}
+use Rattle.cudf_index.specs.Satisfaction.{members, gives, package_pairs}
 use Rattle.cudf_referee.specs.Working.Before.{kept_greatest, with_pairs}
 use Rattle.cudf_referee.proofs.BeforeLemmas.{pairs_none, greatest_kept, greatest_left_out}
 use Rattle.cudf_referee.proofs.referee.before.numbered.Goals as goal

@@ -1,7 +1,7 @@
 use Rattle.std.proofs.Common.{◌≡◌, ℕ, List, map, take, None}
 use Rattle.std.specs.FinSet as set
-use Rattle.cudf_document.specs.Promises.Views.{package_view}
-use Rattle.cudf_universe.specs.Satisfaction.{members, gives}
+use Rattle.cudf_problem.specs.Promises.Views.{package_view}
+use Rattle.cudf_index.specs.Satisfaction.{members, gives}
 use Rattle.cudf_referee.specs.Working.Before.{kept_greatest, with_pairs}
 use Rattle.cudf_referee.proofs.referee.before.numbered.Given as goal
 

@@ -1,6 +1,6 @@
 use Rattle.std.proofs.Common.{◌-◌, length, arith}
 use Rattle.std.proofs.lemmas.List.{length-map}
-use Rattle.cudf_document.specs.Promises.Views.{unknown_view}
+use Rattle.cudf_problem.specs.Promises.Views.{unknown_view}
 use Rattle.cudf_referee.proofs.WritableLemmas.{numbers_small}
 use Rattle.cudf_referee.proofs.referee.numbered.number_stanzas.Goals as goal
 

@@ -1,5 +1,5 @@
 use Rattle.std.proofs.Common.{option_and_then, ap, ◌∙◌}
-use Rattle.cudf_document.specs.Universe.{package_at}
+use Rattle.cudf_problem.specs.Universe.{package_at}
 use Rattle.cudf_referee.specs.Promises.Views.{instance_view}
 use Rattle.cudf_referee.specs.Violations.{met_by}
 use Rattle.cudf_check.specs.Report.{what_text}

@@ -7,7 +7,7 @@ use Rattle.cudf_document.proofs.WalkLemmas.{IsKnown-next, none_before}
 use Rattle.cudf_document.proofs.problem.walk.Walk.take_other.Goals as goal
 
 pub returns-clause-known : goal.returns-clause-known
-returns-clause-known g c = λ mode before first ds required so_far.
+returns-clause-known c = λ mode before first ds required so_far.
     IsKnown-next mode (texts c.args.required.now) c.args.self.now _ before (stanza_view c.args.stanza.now) c.postmark_of-mark.result c.args.is_first c.place_fault-place.result c.in_ok-inside.inside
     first ds required so_far c.postmark_of-mark.ensures c.place_fault-place.ensures c.in_ok-inside.ensures.fault
     (c.keep_lesser.ensures ∙ (λ i. lesser (c.in_ok-inside.ensures.first i) (c.or.ensures i)))
@@ -15,6 +15,9 @@ returns-clause-known g c = λ mode before first ds required so_far.
     (c.either-self.ensures ∙ (λ i. c.is_request.ensures i || c.in_ok-inside.ensures.requested i))
 
 pub returns-clause-first : goal.returns-clause-first
-returns-clause-first g c = λ none.
+returns-clause-first c = λ none.
     none_before c.args.self.now.first (option_or c.place_fault-place.result c.in_ok-inside.inside)
     (sym (c.keep_lesser.ensures ∙ (λ i. lesser (c.in_ok-inside.ensures.first i) (c.or.ensures i))) ∙ none)
+
+pub returns-clause-kept : goal.returns-clause-kept
+returns-clause-kept c = λ keeps before ds none so_far. c.in_ok-inside.ensures.kept keeps before (sym c.postmark_of-mark.ensures) ds none so_far

@@ -3,27 +3,27 @@ use Rattle.std.proofs.lemmas.List.{append_assoc}
 use Rattle.std.specs.List.{list_any, flat_map}
 use Rattle.cudf_text.specs.declared.fault.Kind.TheVariants.{E11, E12, E14}
 use Rattle.cudf_text.specs.Promises.Views.{stanza_view}
-use Rattle.cudf_document.specs.declared.postmark.Postmark.TheVariants.{Package}
+use Rattle.cudf_problem.specs.declared.postmark.Postmark.TheVariants.{Package}
 use Rattle.cudf_document.specs.Faults.{lesser, least, fault_if}
-use Rattle.cudf_document.specs.Documents.{with_earlier, line_of}
-use Rattle.cudf_document.specs.Ids.{is_known}
+use Rattle.cudf_problem.specs.Documents.{with_earlier, line_of}
+use Rattle.cudf_problem.specs.Ids.{is_known}
 use Rattle.cudf_document.specs.Working.Judging.{id_under}
-use Rattle.cudf_document.specs.Promises.Packages.{with_id}
+use Rattle.cudf_problem.specs.Promises.Packages.{with_id}
 use Rattle.cudf_document.specs.ProblemFaults.{property_faults, version_property, lacks_one}
 use Rattle.cudf_document.specs.Working.Walks.{texts}
 use Rattle.cudf_document.proofs.FaultLemmas.{least-append}
 use Rattle.cudf_document.proofs.IdentityLemmas.{known_id-is, version_faults}
-use Rattle.cudf_document.proofs.ListLemmas.{list_any-map}
+use Rattle.cudf_problem.proofs.ListLemmas.{list_any-map}
 use Rattle.cudf_document.proofs.NameLemmas.{lacks_one-seen}
 use Rattle.cudf_document.proofs.problem.walk.Walk.take_package.Goals as goal
 
 pub returns-clause-ids : goal.returns-clause-ids
-returns-clause-ids g c =
+returns-clause-ids c =
     c.in_ok-is_repeated.ensures.ids
     ∙ ap (with_id c.args.self.now.ids) (c.id.ensures ∙ known_id-is c.of-identity.result (stanza_view c.args.stanza.now).properties c.of-identity.ensures)
 
 pub returns-clause-fault : goal.returns-clause-fault
-returns-clause-fault g c =
+returns-clause-fault c =
     let s = stanza_view c.args.stanza.now in
     let ids = c.args.self.now.ids in
     let required = texts c.args.required.now in
@@ -35,8 +35,8 @@ returns-clause-fault g c =
     c.in_ok-is_repeated.ensures.is_known
     ∙ ap (is_known ids) (c.id.ensures ∙ known_id-is c.of-identity.result s.properties c.of-identity.ensures) in
     let lacks : c.lacks_one.result ≡ lacks_one required s.properties =
-    c.lacks_one.ensures ∙ sym (list_any-map (λ name. name.now) (λ name. not (list_any (bytes_eq name) c.take_properties.new.names)) c.args.required.now)
-    ∙ lacks_one-seen c.take_properties.new.names s.properties required c.in_ok-fault.ensures.names in
+    c.lacks_one.ensures ∙ sym (list_any-map (λ name. name.now) (λ name. not (list_any (bytes_eq name) c.take_package.new.names)) c.args.required.now)
+    ∙ lacks_one-seen c.take_package.new.names s.properties required c.in_ok-fault.ensures.names in
     let others : c.lesser-fault.result ≡ least (inner ++ (again ++ unversioned)) =
     c.lesser-fault.ensures ∙ (λ i. lesser (c.in_ok-fault.ensures.fault i) (c.package_fault.ensures i))
     ∙ ap (λ faults. lesser (least inner) (least faults))
@@ -47,3 +47,6 @@ returns-clause-fault g c =
     ∙ (λ i. lesser ((c.fault_if-missing.ensures ∙ ap (λ b. least (fault_if b s.last E14)) lacks) i) (others i))
     ∙ sym (least-append missing (inner ++ (again ++ unversioned)))
     ∙ ap least (sym (append_assoc (missing ++ inner) again unversioned ∙ append_assoc missing inner (again ++ unversioned)))
+
+pub returns-clause-kept : goal.returns-clause-kept
+returns-clause-kept c = λ keeps before marked ds none so_far. c.in_ok-fault.ensures.kept keeps before marked ds so_far

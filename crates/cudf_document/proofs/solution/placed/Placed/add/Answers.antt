@@ -1,6 +1,6 @@
 use Rattle.std.proofs.Common.{◌∙◌, Some, None, map, refl, ap, sym}
 use Rattle.std.proofs.lemmas.List.{append-nil, map_push}
-use Rattle.cudf_document.specs.Promises.Views.{unknown_view}
+use Rattle.cudf_problem.specs.Promises.Views.{unknown_view}
 use Rattle.cudf_document.proofs.PlacedLemmas.{IsPlaced-next}
 use Rattle.cudf_document.proofs.solution.placed.Placed.add.Goals as goal
 

@@ -1,7 +1,7 @@
 use Rattle.std.proofs.Common.{◌≡◌, length, replicate, false, map, sym, ap, ◌∙◌}
 use Rattle.std.proofs.lemmas.List.{length-map}
-use Rattle.cudf_document.specs.Promises.Views.{package_view, unknown_view}
-use Rattle.cudf_document.specs.Universe.{package_id}
+use Rattle.cudf_problem.specs.Promises.Views.{package_view, unknown_view}
+use Rattle.cudf_problem.specs.Universe.{package_id}
 use Rattle.cudf_document.specs.Working.Placed.{ids_of}
 use Rattle.cudf_document.proofs.PlacedLemmas.{none_flagged}
 use Rattle.cudf_document.proofs.solution.placed.Placed.new.Goals as goal

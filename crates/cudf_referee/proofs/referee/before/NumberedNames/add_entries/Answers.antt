@@ -1,38 +1,19 @@
-use Rattle.std.proofs.Common.{◌≡◌, ℕ, Some, None, [], ap, sym, ◌∙◌, get_or}
+use Rattle.std.proofs.Common.{ap, sym, ◌∙◌}
 use Rattle.std.specs.Prelude.{option_map}
-use Rattle.cudf_value.specs.declared.relop.Relop.{Relop}
-use Rattle.cudf_value.specs.declared.vpkg.Vpkg.{Vpkg}
-use Rattle.cudf_value.specs.Promises.Views.{vpkg_view}
-use Rattle.cudf_universe.specs.Satisfaction.{entry_pair}
-use Rattle.cudf_referee.specs.Working.Before.{kept_greatest}
-use Rattle.cudf_referee.proofs.BeforeLemmas.{pairs_none, pairs_one, entries-more}
+use Rattle.cudf_value.specs.Promises.Views.{vpkg_view, vpkgs_view}
+use Rattle.cudf_referee.specs.Working.Before.{kept_greatest, with_entries}
+use Rattle.cudf_referee.proofs.BeforeLemmas.{pairs_none, entries-step}
 use Rattle.cudf_referee.proofs.referee.before.NumberedNames.add_entries.Goals as goal
-use Rattle.cudf_referee.proofs.referee.before.NumberedNames.add_entries.Goals.{in-Some+in_ok-add, in_default}
 
--- what stands past the end of a list
-abbrev past : Vpkg
-past = record { name = record { ref_ptr = (0, 0); now = [] }; bound = None }
+pub loop-entry-preserved-in-Continue-1 : goal.loop-entry-preserved-in-Continue-1
+loop-entry-preserved-in-Continue-1 c = λ f.
+    let entry = c.in-Some.entry in
+    let old = kept_greatest f c.loop-entry.self in
+    entries-step f (vpkg_view entry) (vpkgs_view c.next.new.self) (entry.name.now, c.in-Some-bound.number) old (kept_greatest f c.add.new.self)
+    (ap (option_map (λ bound. (entry.name.now, bound.1))) c.in-Some-bound.is) (c.in_ok-add.ensures f)
+    ∙ ap (λ es. with_entries f es old) (sym c.in-Some.ensures.steps) ∙ c.loop-entry.invariant f
 
--- the pair of an entry with a number, and of one without
-pair_some : (e : Vpkg) (relop : Relop) (number : ℕ) → e.bound ≡ Some (relop, number) → Some (e.name.now, number) ≡ entry_pair (vpkg_view e)
-pair_some e relop number is = ap (option_map (λ bound. (e.name.now, bound.1))) (sym is)
-
-pair_none : (e : Vpkg) → e.bound ≡ None → None ≡ entry_pair (vpkg_view e)
-pair_none e is = ap (option_map (λ bound. (e.name.now, bound.1))) (sym is)
-
-pub loop-entry-init : goal.loop-entry-init
-loop-entry-init c = λ f. sym (pairs_none f (kept_greatest f c.args.self.now))
-
-pub loop-entry-preserved : goal.loop-entry-preserved
-loop-entry-preserved c = λ f.
-    let more = entries-more f c.args.entries.now c.loop-entry.entry-index past (kept_greatest f c.args.self.now) (kept_greatest f c.loop-entry.self) in
-    elim c.match-entry.branch [
-      | in-Some+in_ok-add w ↦
-          ap (kept_greatest f) w.self-is
-          ∙ more (kept_greatest f w.add.new.self) _ c.loop-entry-test.true
-          (pair_some (get_or c.args.entries.now c.loop-entry.entry-index past) _ w.in-Some.number w.in-Some.is) (c.loop-entry.invariant f) (w.in_ok-add.ensures f ∙ sym (pairs_one f _ (kept_greatest f c.loop-entry.self)))
-      | in_default w ↦
-          ap (kept_greatest f) w.self-is
-          ∙ more (kept_greatest f c.loop-entry.self) None c.loop-entry-test.true
-          (pair_none (get_or c.args.entries.now c.loop-entry.entry-index past) w.in_default.is) (c.loop-entry.invariant f) (sym (pairs_none f (kept_greatest f c.loop-entry.self)))
-    ]
+pub returns : goal.returns
+returns c = λ f.
+    let old = kept_greatest f c.loop-entry.self in
+    sym (pairs_none f old) ∙ ap (λ es. with_entries f es old) (sym c.in-None.ensures.steps.0) ∙ c.loop-entry.invariant f

@@ -1,8 +1,8 @@
 use Rattle.std.proofs.Common.{ap, sym, ◌∙◌, map}
 use Rattle.std.specs.Prelude.{filter_map}
 use Rattle.cudf_value.specs.Promises.Views.{vpkg_view}
-use Rattle.cudf_document.specs.Promises.Views.{package_view}
-use Rattle.cudf_universe.specs.Satisfaction.{entry_pair}
+use Rattle.cudf_problem.specs.Promises.Views.{package_view}
+use Rattle.cudf_index.specs.Satisfaction.{entry_pair}
 use Rattle.cudf_referee.specs.Working.Before.{kept_greatest, with_entries}
 use Rattle.cudf_referee.proofs.BeforeLemmas.{pairs_first}
 use Rattle.cudf_referee.proofs.referee.before.NumberedNames.add_package.Goals as goal
@@ -11,6 +11,5 @@ pub returns : goal.returns
 returns c = λ f.
     let p = package_view c.args.«package».now in
     c.in_ok-add_entries.ensures f
-    ∙ ap (λ es. with_entries f (map vpkg_view es) (kept_greatest f c.add.new.self)) c.deref.ensures.value
     ∙ ap (with_entries f p.provides) (c.in_ok-add.ensures f)
     ∙ sym (pairs_first f (p.name, p.version) (filter_map entry_pair p.provides) (kept_greatest f c.args.self.now))

@@ -1,6 +1,6 @@
 use Rattle.std.proofs.Common.{sym, subst}
 use Rattle.cudf_referee.specs.Promises.Walks.{Walking}
-use Rattle.cudf_referee.specs.Working.SiteNumbers.{StandsIn}
+use Rattle.cudf_referee.specs.Working.RequestSites.{StandsIn}
 use Rattle.cudf_referee.proofs.SiteNumberLemmas.{within-entries}
 use Rattle.cudf_referee.proofs.referee.instances.Instances.judge_requested.Goals as goal
 

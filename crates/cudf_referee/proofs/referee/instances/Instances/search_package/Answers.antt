@@ -1,36 +1,37 @@
-use Rattle.std.proofs.Common.{List, [], ◌∷◌, ◌++◌, length, map, refl, ap, sym, ◌∙◌, subst, arith}
-use Rattle.std.specs.Prelude.{slice_get}
+use Rattle.std.proofs.Common.{List, [], ◌∷◌, ◌++◌, map, refl, ap, sym, ◌∙◌, subst}
 use Rattle.cudf_referee.specs.Proposals.{Proposal}
-use Rattle.cudf_referee.specs.Promises.Sites.{Site, package_sites, at_site, package_end}
-use Rattle.cudf_referee.specs.Working.SiteNumbers.{placed_view, Fits}
-use Rattle.cudf_referee.proofs.SearchLemmas.{goes-start, part-last, sites-more, sites-found, sites-end}
-use Rattle.cudf_referee.proofs.SiteNumberLemmas.{candidate-sites}
+use Rattle.cudf_referee.specs.Promises.Sites.{Site, at_site, package_end}
+use Rattle.cudf_referee.specs.Working.SiteNumbers.{placed_view, Fits, package_site_view, sites_view}
+use Rattle.cudf_referee.proofs.ComesLemmas.{tail-start, tail-on, tail-comes}
+use Rattle.cudf_referee.proofs.SearchLemmas.{goes-start, part-last, sites-more, sites-found, sites-end, nothing-next}
 use Rattle.cudf_referee.proofs.referee.instances.Instances.search_package.Goals as goal
 
-pub loop-index-init : goal.loop-index-init
-loop-index-init c = goes-start _ _
+pub loop-site-init : goal.loop-site-init
+loop-site-init c = (goes-start _ _, tail-start _)
 
 pub judge-requires-clause-fits : goal.judge-requires-clause-fits
-judge-requires-clause-fits c = subst (λ (s : Proposal). Fits s c.args.candidate) (sym c.loop-index.invariant.judged) c.requires
+judge-requires-clause-fits c = subst (λ (s : Proposal). Fits s c.args.candidate) (sym c.loop-site.invariant.0.judged) c.requires
 
-pub returns-then-judge : goal.returns-then-judge
-returns-then-judge c =
-    let s = c.args.self.now.judged in
+pub returns-then-judge-clause-searches : goal.returns-then-judge-clause-searches
+returns-then-judge-clause-searches c =
     let p = placed_view c.args.candidate in
-    sites-found _ _ _ _ (λ (l : List Site). map at_site l ++ package_end p.0 ∷ []) (λ y ys. refl) (package_sites s p) c.loop-index.index _
-    (ap (λ xs. slice_get xs c.loop-index.index) (candidate-sites s c.args.candidate c.requires) ∙ c.site-site.ensures.site) _ _ c.if-judge.true (c.instance.ensures c.loop-index.self.judged)
-    c.judge.ensures c.loop-index.invariant
+    sites-found _ _ _ _ (λ (l : List Site). map at_site l ++ package_end p.0 ∷ []) (λ y ys. refl) _ _ _ c.in-Some.ensures.gives _ _ c.if-judge.true (c.instance.ensures c.loop-site.self.judged)
+    c.judge.ensures c.loop-site.invariant.0
 
-pub loop-index-preserved : goal.loop-index-preserved
-loop-index-preserved c =
-    let s = c.args.self.now.judged in
+pub returns-then-judge-clause-comes : goal.returns-then-judge-clause-comes
+returns-then-judge-clause-comes c =
     let p = placed_view c.args.candidate in
-    sites-more _ _ _ _ (λ (l : List Site). map at_site l ++ package_end p.0 ∷ []) (λ y ys. refl) (package_sites s p) c.loop-index.index _
-    (ap (λ xs. slice_get xs c.loop-index.index) (candidate-sites s c.args.candidate c.requires) ∙ c.site-site.ensures.site) _ c.if-judge.false c.judge.ensures c.loop-index.invariant
+    tail-comes _ _ c.loop-site.self.judged _ _ _ (ap (λ (l : List Site). map at_site l ++ package_end p.0 ∷ []) c.in-Some.ensures.gives) (c.instance.ensures c.loop-site.self.judged) c.loop-site.invariant.1
 
-pub returns : goal.returns
-returns c =
-    let s = c.args.self.now.judged in
+pub loop-site-preserved : goal.loop-site-preserved
+loop-site-preserved c =
+    let p = placed_view c.args.candidate in (
+      sites-more _ _ _ _ (λ (l : List Site). map at_site l ++ package_end p.0 ∷ []) (λ y ys. refl) _ _ _ c.in-Some.ensures.gives _ c.if-judge.false c.judge.ensures c.loop-site.invariant.0,
+      tail-on _ _ _ _ (ap (λ (l : List Site). map at_site l ++ package_end p.0 ∷ []) c.in-Some.ensures.gives) c.loop-site.invariant.1,
+    )
+
+pub returns-clause-searches : goal.returns-clause-searches
+returns-clause-searches c =
     let p = placed_view c.args.candidate in
-    part-last _ _ _ _ (λ s. package_end p.0 ∷ []) _ (sites-end _ _ _ (λ (l : List Site). map at_site l ++ package_end p.0 ∷ []) (package_sites s p) c.loop-index.index
-    (omega (arith, c.loop-index-test.false, ap length (candidate-sites s c.args.candidate c.requires))) c.loop-index.invariant) (c.pass_end.ensures p.0)
+    part-last _ _ _ _ (λ s. package_end p.0 ∷ []) _ (sites-end _ _ _ (λ (l : List Site). map at_site l ++ package_end p.0 ∷ []) _
+    (nothing-next (package_site_view p) (sites_view p) c.loop-site.sites c.next.new.sites _ c.in_default.is c.next.ensures.gives) c.loop-site.invariant.0) (c.pass_end.ensures p.0)

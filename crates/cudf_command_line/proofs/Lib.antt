@@ -1,0 +1,4 @@
+pub mod FileLemmas
+pub mod GrammarLemmas
+pub mod MatchLemmas
+pub mod OrderLemmas

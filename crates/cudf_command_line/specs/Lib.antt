@@ -1,0 +1,4 @@
+pub mod Command
+pub mod Grammar
+pub mod Orders
+pub mod Usage

@@ -1,0 +1,380 @@
+//! What the words of the command line ask for.
+ghost use Rattle.std.specs.Prelude.{◌≡◌, IfOk, MatchResult, drop, is_some, map, option_map, string_bytes, true, false};
+ghost use Rattle.clap.specs.Matches.{found_of};
+ghost use Rattle.clap.specs.Words.{subcommand_rows_of};
+ghost use Rattle.cudf_command_line.specs.Command.{IsNamedBy, AreNamedBy, AreGivenBy, IsAfter, IsLimit, IsList, words_of, lint_words, check_words, score_words, rank_words, AnswersBy, Lints, Checks, Scores, Ranks, RefusesKey, RefusesLimit, RefusesList, Asks, IsAskedBy, IsRefusedBy, has_list_apart, is_given, mode_of, takes_list, takes_list_apart, takes_standard_twice};
+ghost use Rattle.cudf_command_line.specs.declared.refusal.Refusal.TheVariants.{Memory};
+ghost use Rattle.cudf_command_line.specs.Orders.{IsAskedFor, IsUnasked};
+
+use crate::grammar::{
+    AFTER, CHECK, CRITERIA, EXPLAIN, LIMIT, LINT, PROBLEM, RANK, SCORE, SOLUTION, SOLUTIONS,
+    STRICT, program,
+};
+use crate::refusal::Refusal;
+use crate::topic::Topic;
+use crate::usage::{Usage, unparsed};
+use clap::ArgMatches;
+use cudf_job::{Aim, Job, Key, read_criterion};
+use cudf_problem::Mode;
+use cudf_value::read_posint;
+use std::alloc::{AllocError, Global};
+use std::fmt;
+
+/// A file as the words name it.
+#[derive(Clone, Copy, PartialEq, Eq)]
+pub enum FileName<'w> {
+    /// The file at a path.
+    Path(&'w str),
+    /// Standard input, named `-`.
+    Standard,
+}
+
+impl FileName<'_> {
+    ghost use Rattle.std.specs.Prelude.{◌≡◌};
+    ghost use Rattle.cudf_command_line.specs.Command.{is_standard};
+
+    fn is_standard(&self) -> bool
+        ensures { result ≡ is_standard self.now }
+    {
+        *self == FileName::Standard
+    }
+}
+
+impl fmt::Display for FileName<'_> {
+    fn fmt<W: fmt::Write>(&self, f: &mut fmt::Formatter<W>) -> fmt::Result {
+        match self {
+            FileName::Path(path) => write!(f, "{path}"),
+            FileName::Standard => write!(f, "standard input"),
+        }
+    }
+}
+
+/// What the words ask for.
+#[derive(Drop)]
+pub struct Order<'w> {
+    /// What to do with the files.
+    pub work: Work,
+    /// How strictly to read the files.
+    pub mode: Mode,
+    /// The file of the problem, or of the problem and the solution behind it.
+    pub problem: FileName<'w>,
+    /// The files of the solutions, where they have some of their own: one of a run at most.
+    pub solutions: Vec<FileName<'w>>,
+}
+
+/// What to do with the files.
+#[derive(Drop)]
+pub enum Work {
+    /// One run.
+    Run(Job),
+    /// A ranking of the solutions by these aims.
+    Rank(Vec<Aim>),
+}
+
+/// The run that the words ask for. The first word is the program's name.
+pub fn command<'w>(alloc: Global, words: &'w [String]) -> Result<Order<'w>, Usage<'w>>
+    ensures asks { MatchResult result (IsAskedFor (map (λ word. string_bytes word) words.entry.now)) (IsUnasked (map (λ word. string_bytes word) words.entry.now)) }
+    ensures once { IfOk result (λ order. takes_standard_twice order ≡ false) }
+{
+    let mut program = program(alloc)?;
+    match program.try_get_matches_from_mut(words) {
+        Ok(matches) => match asked_order(alloc, words, &matches) {
+            Ok(order) => Ok(order),
+            Err(refusal) => Err(Usage::Refused(Topic::of(arguments(words)), refusal)),
+        },
+        Err(error) => Err(unparsed(alloc, words, error)?),
+    }
+}
+
+/// What the words ask for, of which a parse met these matches.
+fn asked_order<'w>(
+    alloc: Global,
+    words: &[String],
+    matches: &ArgMatches<'w>,
+) -> Result<Order<'w>, Refusal<'w>>
+    ensures asks { MatchResult result
+        (IsAskedBy (map (λ word. string_bytes word) words.now) (subcommand_rows_of matches.now))
+        (IsRefusedBy (map (λ word. string_bytes word) words.now) (subcommand_rows_of matches.now)) }
+    ensures once { IfOk result (λ order. takes_standard_twice order ≡ false) }
+{
+    if has_list_apart(arguments(words)) {
+        return Err(Refusal::Apart);
+    }
+    match matches.subcommand() {
+        Some((name, found)) => order_of(alloc, name, found),
+        None => Err(Refusal::Missing),
+    }
+}
+
+/// The words behind the program's own name.
+pub(crate) fn arguments(words: &[String]) -> &[String]
+    ensures { map (λ word. string_bytes word) result.now ≡ drop 1 (map (λ word. string_bytes word) words.now) }
+{
+    match words.split_first() {
+        Some((_, arguments)) => arguments,
+        None => words,
+    }
+}
+
+/// Whether a list stands apart from the `--criteria` of a command that takes one.
+pub(crate) fn takes_list_apart(arguments: &[String]) -> bool
+    ensures { result ≡ takes_list_apart (map (λ word. string_bytes word) arguments.now) }
+{
+    takes_list(arguments) && has_list_apart(arguments)
+}
+
+/// Whether the first argument is a command that takes a list.
+fn takes_list(arguments: &[String]) -> bool
+    ensures { result ≡ takes_list (map (λ word. string_bytes word) arguments.now) }
+{
+    match arguments.first() {
+        Some(word) => word.as_str() == SCORE || word.as_str() == RANK,
+        None => false,
+    }
+}
+
+/// Whether `--criteria` is a word without its list. Behind `--` all words are files.
+fn has_list_apart(words: &[String]) -> bool
+    ensures { result ≡ has_list_apart (map (λ word. string_bytes word) words.now) }
+{
+    for word in words {
+        let is_last = word.as_str() == "--";
+        let is_apart = word.as_str() == "--criteria";
+        if is_last || is_apart {
+            return is_apart;
+        }
+    }
+    false
+}
+
+/// What the words of the command `name` ask for.
+fn order_of<'w>(alloc: Global, name: &str, found: &ArgMatches<'w>) -> Result<Order<'w>, Refusal<'w>>
+    ensures asks { Asks name.now (words_of (found_of found.now)) result }
+    ensures once { IfOk result (λ order. takes_standard_twice order ≡ false) }
+{
+    match name {
+        LINT => lint_order(alloc, found),
+        CHECK => check_order(alloc, found),
+        SCORE => score_order(alloc, found),
+        RANK => rank_order(alloc, found),
+        _ => Err(Refusal::Missing),
+    }
+}
+
+fn lint_order<'w>(alloc: Global, found: &ArgMatches<'w>) -> Result<Order<'w>, Refusal<'w>>
+    ensures { AnswersBy Lints (mode_of (words_of (found_of found.now)).strict) (lint_words (words_of (found_of found.now))) result }
+{
+    let explain = is_given(found.get_str(EXPLAIN));
+    let work = Work::Run(Job::Lint { explain });
+    let mode = mode(found.get_str(STRICT));
+    Order::new(alloc, work, mode, found.get_str(PROBLEM), None)
+}
+
+fn check_order<'w>(alloc: Global, found: &ArgMatches<'w>) -> Result<Order<'w>, Refusal<'w>>
+    ensures { AnswersBy Checks (mode_of (words_of (found_of found.now)).strict) (check_words (words_of (found_of found.now))) result }
+{
+    let after = read_after(found.get_str(AFTER))?;
+    let limit = read_limit(found.get_str(LIMIT))?;
+    let explain = is_given(found.get_str(EXPLAIN));
+    let work = Work::Run(Job::Check {
+        after,
+        limit,
+        explain,
+    });
+    let mode = mode(found.get_str(STRICT));
+    Order::new(
+        alloc,
+        work,
+        mode,
+        found.get_str(PROBLEM),
+        found.get_strs(SOLUTION),
+    )
+}
+
+fn score_order<'w>(alloc: Global, found: &ArgMatches<'w>) -> Result<Order<'w>, Refusal<'w>>
+    ensures { AnswersBy Scores (mode_of (words_of (found_of found.now)).strict) (score_words (words_of (found_of found.now))) result }
+{
+    let aims = read_list(alloc, found.get_str(CRITERIA))?;
+    let work = Work::Run(Job::Score { aims });
+    let mode = mode(found.get_str(STRICT));
+    Order::new(
+        alloc,
+        work,
+        mode,
+        found.get_str(PROBLEM),
+        found.get_strs(SOLUTION),
+    )
+}
+
+fn rank_order<'w>(alloc: Global, found: &ArgMatches<'w>) -> Result<Order<'w>, Refusal<'w>>
+    ensures { AnswersBy Ranks (mode_of (words_of (found_of found.now)).strict) (rank_words (words_of (found_of found.now))) result }
+{
+    let aims = read_list(alloc, found.get_str(CRITERIA))?.ok_or(Refusal::Missing)?;
+    let solutions = found.get_strs(SOLUTIONS).ok_or(Refusal::Missing)?;
+    let mode = mode(found.get_str(STRICT));
+    Order::new(
+        alloc,
+        Work::Rank(aims),
+        mode,
+        found.get_str(PROBLEM),
+        Some(solutions),
+    )
+}
+
+/// How strictly to read, by the value of `--strict`.
+fn mode(flag: Option<&str>) -> Mode
+    ensures { result ≡ mode_of (option_map (λ w. w.now) flag.entry) }
+{
+    if is_given(flag) {
+        Mode::Strict
+    } else {
+        Mode::Lenient
+    }
+}
+
+/// Whether a flag is among the words, by its value.
+fn is_given(flag: Option<&str>) -> bool
+    ensures { result ≡ is_given (option_map (λ w. w.now) flag.entry) }
+{
+    match flag {
+        Some("true") => true,
+        _ => false,
+    }
+}
+
+/// The key of the word of `--after`.
+fn read_after(word: Option<&str>) -> Result<Option<Key>, Refusal<'_>>
+    ensures { MatchResult result (IsAfter (option_map (λ w. w.now) word.entry)) (RefusesKey (option_map (λ w. w.now) word.entry)) }
+{
+    match word {
+        Some(word) => match Key::parse(word) {
+            Some(key) => Ok(Some(key)),
+            None => Err(Refusal::NoKey(word)),
+        },
+        None => Ok(None),
+    }
+}
+
+/// The number of the word of `--limit`.
+fn read_limit(word: Option<&str>) -> Result<Option<u64>, Refusal<'_>>
+    ensures { MatchResult result (IsLimit (option_map (λ w. w.now) word.entry)) (RefusesLimit (option_map (λ w. w.now) word.entry)) }
+{
+    match word {
+        Some(word) => match read_posint(word) {
+            Some(limit) => Ok(Some(limit)),
+            None => Err(Refusal::NoNumber(word)),
+        },
+        None => Ok(None),
+    }
+}
+
+/// The aims of the word of `--criteria`.
+fn read_list<'w>(alloc: Global, word: Option<&'w str>) -> Result<Option<Vec<Aim>>, Refusal<'w>>
+    ensures { MatchResult result (λ r. IsList (option_map (λ w. w.now) word.entry) (option_map (λ aims. aims.items) r)) (RefusesList (option_map (λ w. w.now) word.entry)) }
+{
+    match word {
+        Some(word) => match read_criterion(alloc, word)? {
+            Some(aims) => Ok(Some(aims)),
+            None => Err(Refusal::NoList(word)),
+        },
+        None => Ok(None),
+    }
+}
+
+impl From<AllocError> for Refusal<'_> {
+    ghost use Rattle.std.specs.Prelude.{◌≡◌};
+    ghost use Rattle.cudf_command_line.specs.declared.refusal.Refusal.TheVariants.{Memory};
+
+    ghost from_gives = { λ _ refusal. refusal ≡ Memory };
+
+    fn from(_error: AllocError) -> Self {
+        Refusal::Memory
+    }
+}
+
+impl<'w> Order<'w> {
+    ghost use Rattle.std.specs.Prelude.{◌≡◌, MatchResult, count_by, map, option_map};
+    ghost use Rattle.cudf_command_line.specs.Command.{is_standard, takes_standard, takes_standard_twice, files_alone, IsOrder, Refuses};
+
+    /// Some work in a mode, with the files that these words name. The first word has to be there, and `-` can stand for one file only.
+    fn new(
+        alloc: Global,
+        work: Work,
+        mode: Mode,
+        problem: Option<&'w str>,
+        solutions: Option<&[&'w str]>,
+    ) -> Result<Order<'w>, Refusal<'w>>
+        ensures { MatchResult result
+            (IsOrder work mode (option_map (λ w. w.now) problem.entry) (option_map (λ ws. map (λ w. w.now) ws.now) solutions.entry))
+            (Refuses (files_alone (option_map (λ w. w.now) problem.entry) (option_map (λ ws. map (λ w. w.now) ws.now) solutions.entry))) }
+    {
+        let order = Order {
+            work,
+            mode,
+            problem: file_name(problem.ok_or(Refusal::Missing)?),
+            solutions: solution_files(alloc, solutions)?,
+        };
+        if order.takes_standard_twice() {
+            Err(Refusal::Twice)
+        } else {
+            Ok(order)
+        }
+    }
+
+    /// Whether one of the files is standard input.
+    pub fn takes_standard(&self) -> bool
+        ensures { result ≡ takes_standard self.now }
+    {
+        self.problem.is_standard() || self.standard_solutions() > 0
+    }
+
+    /// Whether two of the files are standard input.
+    fn takes_standard_twice(&self) -> bool
+        ensures { result ≡ takes_standard_twice self.now }
+    {
+        self.standard_solutions() > usize::from(!self.problem.is_standard())
+    }
+
+    /// How many of the files of solutions are standard input.
+    fn standard_solutions(&self) -> usize
+        ensures { result ≡ count_by is_standard self.now.solutions.items }
+    {
+        let solutions = self.solutions.iter();
+        solutions.filter(|name| name.is_standard()).count()
+    }
+}
+
+/// The files of the solutions that these words name.
+fn solution_files<'w>(
+    alloc: Global,
+    words: Option<&[&'w str]>,
+) -> Result<Vec<FileName<'w>>, Refusal<'w>>
+    ensures { MatchResult result
+        (λ files. AreGivenBy (option_map (λ ws. map (λ w. w.now) ws.now) words.entry) files.items)
+        (λ refusal. (refusal ≡ Memory) × (is_some words.entry ≡ true)) }
+{
+    match words {
+        Some(words) => Ok(file_names(alloc, words)?),
+        None => Ok(Vec::new(alloc)),
+    }
+}
+
+fn file_names<'w>(alloc: Global, words: &[&'w str]) -> Result<Vec<FileName<'w>>, AllocError>
+    ensures { IfOk result (λ names. AreNamedBy (map (λ w. w.now) words.now) names.items) }
+{
+    let mut names = Vec::new(alloc);
+    for word in words {
+        names.push(file_name(word))?;
+    }
+    Ok(names)
+}
+
+fn file_name(word: &str) -> FileName<'_>
+    ensures { IsNamedBy word.entry.now result }
+{
+    if word == "-" {
+        FileName::Standard
+    } else {
+        FileName::Path(word)
+    }
+}

@@ -1,0 +1,247 @@
+//! The commands, their options and the texts of help.
+ghost use Rattle.std.specs.Prelude.{◌≡◌, IfOk, false};
+ghost use Rattle.clap.specs.Words.{rule_of};
+ghost use Rattle.cudf_command_line.specs.Grammar.{problem_word, solution_word, after_option, limit_option, solutions_word, criteria_option, needed_criteria, strict_flag, explain_flag, lint_grammar, check_grammar, score_grammar, rank_grammar, grammar, IsOf};
+
+use clap::{Arg, ArgAction, Command};
+use std::alloc::{AllocError, Global};
+
+/// The version of the program.
+const VERSION: &str = "1.0.0";
+
+pub(crate) const LINT: &str = "lint";
+
+pub(crate) const CHECK: &str = "check";
+
+pub(crate) const SCORE: &str = "score";
+
+pub(crate) const RANK: &str = "rank";
+
+pub(crate) const PROBLEM: &str = "problem";
+
+pub(crate) const SOLUTION: &str = "solution";
+
+pub(crate) const SOLUTIONS: &str = "solutions";
+
+pub(crate) const AFTER: &str = "after";
+
+pub(crate) const LIMIT: &str = "limit";
+
+pub(crate) const CRITERIA: &str = "criteria";
+
+pub(crate) const STRICT: &str = "strict";
+
+pub(crate) const EXPLAIN: &str = "explain";
+
+const ABOUT_SCORE: &str =
+    "Counts what a solution changes and lacks, by the criteria of the MISC competition";
+
+const ABOUT_SCORE_LINES: &str =
+    "Counts what a solution changes and lacks, by the criteria of the MISC competition.
+
+It prints these lines, and then whether the answer is a solution. They are counted whether or not it is one.
+  removed           counts the names with a package installed before and none after.
+  new               counts the names with a package installed after and none before.
+  changed           counts the names whose set of installed versions differs.
+  notuptodate       counts the names with a package installed after, but not their greatest version in the problem.
+  unsat_recommends  counts the recommended clauses of packages installed after that the answer doesn't satisfy.
+  paranoid          is what the paranoid track minimises: removed, then changed.
+  trendy            is what the trendy track minimises: removed, then notuptodate, unsat_recommends and new.";
+
+const ABOUT_RANK: &str = "Ranks several solutions of a problem by a list of criteria";
+
+const ABOUT_RANK_LINES: &str = "Ranks several solutions of a problem by a list of criteria.
+
+It prints a line for each solution, the best first: its rank, its place among the files of solutions, and yes with its
+counts, or no where it is none, or FAIL. The list is one aim or more with a comma between each two, without blanks. An
+aim is - for the lesser count or + for the greater one, and then removed, new, changed, notuptodate, unsat_recommends
+or touched. Solutions are compared by the first aim whose counts differ. Those that tie stand in the order of their
+files.
+  touched  counts the packages that are installed before or after, and not both.";
+
+const STATUSES: &str = "Exit status:
+  0  the answer is a solution, or the problem is without fault; rank: one of the answers is a solution
+  1  the answer is no solution; rank: none is, and one doesn't say FAIL
+  2  a document is faulty
+  3  the answer says FAIL; rank: all do
+  4  the words aren't understood
+  5  a file can't be opened, a read or a write failed, or an input is longer than 268435456 bytes
+  6  there isn't enough memory
+
+FAIL alone in the file of an answer says that its solver found no solution; whether there is one isn't judged.
+A line of a report begins with a key, as p1.depends.2: the second clause of depends of the first package of the problem.";
+
+/// The program with its commands.
+pub(crate) fn program<'w>(alloc: Global) -> Result<Command<'w>, AllocError>
+    ensures { IfOk result (IsOf grammar) }
+{
+    Command::new(alloc, "cudf_check")
+        .about("Checks solutions of CUDF 2.0 problems")
+        .after_help(STATUSES)
+        .version(VERSION)
+        .subcommand_required(true)
+        .subcommand(lint_command(alloc)?)?
+        .subcommand(check_command(alloc)?)?
+        .subcommand(score_command(alloc)?)?
+        .subcommand(rank_command(alloc)?)
+}
+
+fn lint_command<'w>(alloc: Global) -> Result<Command<'w>, AllocError>
+    ensures { IfOk result (IsOf lint_grammar) }
+{
+    Command::new(alloc, LINT)
+        .about("Says whether a file is a problem without fault")
+        .after_help(STATUSES)
+        .arg(problem(alloc))?
+        .arg(strict_problem(alloc))?
+        .arg(explain_fault(alloc))
+}
+
+fn check_command<'w>(alloc: Global) -> Result<Command<'w>, AllocError>
+    ensures { IfOk result (IsOf check_grammar) }
+{
+    Command::new(alloc, CHECK)
+        .about("Checks a solution, and prints each rule that it breaks")
+        .after_help(STATUSES)
+        .arg(problem(alloc))?
+        .arg(solution(alloc))?
+        .arg(after(alloc))?
+        .arg(limit(alloc))?
+        .arg(strict(alloc))?
+        .arg(explain(alloc))
+}
+
+fn score_command<'w>(alloc: Global) -> Result<Command<'w>, AllocError>
+    ensures { IfOk result (IsOf score_grammar) }
+{
+    Command::new(alloc, SCORE)
+        .about(ABOUT_SCORE)
+        .long_about(ABOUT_SCORE_LINES)
+        .after_help(STATUSES)
+        .arg(problem(alloc))?
+        .arg(solution(alloc))?
+        .arg(criteria(alloc))?
+        .arg(strict(alloc))
+}
+
+fn rank_command<'w>(alloc: Global) -> Result<Command<'w>, AllocError>
+    ensures { IfOk result (IsOf rank_grammar) }
+{
+    Command::new(alloc, RANK)
+        .about(ABOUT_RANK)
+        .long_about(ABOUT_RANK_LINES)
+        .after_help(STATUSES)
+        .arg(problem(alloc))?
+        .arg(solutions(alloc))?
+        .arg(needed_criteria(alloc))?
+        .arg(strict(alloc))
+}
+
+fn problem<'w>(alloc: Global) -> Arg<'w>
+    ensures rule { rule_of result ≡ problem_word }
+    ensures local { result.global ≡ false }
+{
+    Arg::new(alloc, PROBLEM)
+        .value_name("P")
+        .help("The file of the problem; - is standard input")
+        .required(true)
+}
+
+fn solution<'w>(alloc: Global) -> Arg<'w>
+    ensures rule { rule_of result ≡ solution_word }
+    ensures local { result.global ≡ false }
+{
+    Arg::new(alloc, SOLUTION).value_name("S").help(
+        "The file of the solution; without it P holds the solution behind the problem",
+    )
+}
+
+fn solutions<'w>(alloc: Global) -> Arg<'w>
+    ensures rule { rule_of result ≡ solutions_word }
+    ensures local { result.global ≡ false }
+{
+    let files = Arg::new(alloc, SOLUTIONS)
+        .value_name("S")
+        .help("The files of the solutions");
+    files.num_args(1..).required(true)
+}
+
+fn after<'w>(alloc: Global) -> Arg<'w>
+    ensures rule { rule_of result ≡ after_option }
+    ensures local { result.global ≡ false }
+{
+    Arg::new(alloc, AFTER).long(AFTER).value_name("KEY").help(
+        "Prints only the broken rules whose keys come after this one",
+    )
+}
+
+fn limit<'w>(alloc: Global) -> Arg<'w>
+    ensures rule { rule_of result ≡ limit_option }
+    ensures local { result.global ≡ false }
+{
+    Arg::new(alloc, LIMIT).long(LIMIT).value_name("N").help(
+        "Prints at most N broken rules, and after which key the next one comes",
+    )
+}
+
+fn criteria<'w>(alloc: Global) -> Arg<'w>
+    ensures rule { rule_of result ≡ criteria_option }
+    ensures local { result.global ≡ false }
+{
+    Arg::new(alloc, CRITERIA)
+        .long(CRITERIA)
+        .value_name("LIST")
+        .help("The counts to print, as -removed,+new; the list is written after =")
+}
+
+fn needed_criteria<'w>(alloc: Global) -> Arg<'w>
+    ensures rule { rule_of result ≡ needed_criteria }
+    ensures local { result.global ≡ false }
+{
+    let list = criteria(alloc).help(
+        "The counts to compare by, as -removed,+new; the list is written after =",
+    );
+    list.required(true)
+}
+
+fn strict<'w>(alloc: Global) -> Arg<'w>
+    ensures rule { rule_of result ≡ strict_flag }
+    ensures local { result.global ≡ false }
+{
+    strict_problem(alloc).help(
+        "Refuses a package that lacks a property which the preamble declares without a default, and a pair of name and version that a solution gives twice",
+    )
+}
+
+fn strict_problem<'w>(alloc: Global) -> Arg<'w>
+    ensures rule { rule_of result ≡ strict_flag }
+    ensures local { result.global ≡ false }
+{
+    Arg::new(alloc, STRICT)
+        .long(STRICT)
+        .action(ArgAction::SetTrue)
+        .help(
+            "Refuses a package that lacks a property which the preamble declares without a default",
+        )
+}
+
+fn explain<'w>(alloc: Global) -> Arg<'w>
+    ensures rule { rule_of result ≡ explain_flag }
+    ensures local { result.global ≡ false }
+{
+    explain_fault(alloc).help(
+        "Adds to each line of a fault or a broken rule what the documents say beside it, as the first package that would do",
+    )
+}
+
+fn explain_fault<'w>(alloc: Global) -> Arg<'w>
+    ensures rule { rule_of result ≡ explain_flag }
+    ensures local { result.global ≡ false }
+{
+    Arg::new(alloc, EXPLAIN)
+        .long(EXPLAIN)
+        .action(ArgAction::SetTrue)
+        .help(
+            "Adds to the line of a fault what the problem says beside it, as the name that nothing declares",
+        )
+}

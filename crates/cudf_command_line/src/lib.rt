@@ -1,0 +1,13 @@
+//! The command line of `cudf_check`: its grammar, what its words ask for, and what is told of words that ask for nothing.
+#![tactic(auto)]
+
+pub mod command;
+mod grammar;
+mod refusal;
+mod topic;
+mod usage;
+
+pub use command::{FileName, Order, Work};
+pub use refusal::Refusal;
+pub use topic::Topic;
+pub use usage::Usage;

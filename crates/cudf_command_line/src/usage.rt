@@ -1,0 +1,136 @@
+//! Why the words of the command line start no run.
+ghost use Rattle.std.specs.Prelude.{◌≡◌, IfOk, map, string_bytes};
+ghost use Rattle.clap.specs.Values.{kind_of};
+ghost use Rattle.cudf_command_line.specs.Orders.{IsUnparsed, TellsApart};
+ghost use Rattle.cudf_command_line.specs.Usage.{usage_status};
+
+use crate::command::{arguments, takes_list_apart};
+use crate::refusal::Refusal;
+use crate::topic::Topic;
+use clap::error::ErrorKind;
+use std::alloc::{AllocError, Global};
+use std::io::{self, Write};
+
+/// Why the words start no run.
+#[derive(Drop)]
+pub enum Usage<'w> {
+    /// Help or the version was asked for; this is its text.
+    Told(String),
+    /// The words aren't of the grammar; this says why.
+    Mistake(Topic, String),
+    /// What they ask for is refused.
+    Refused(Topic, Refusal<'w>),
+    /// Memory ran out.
+    Memory,
+}
+
+impl Usage<'_> {
+    ghost use Rattle.std.specs.Prelude.{◌≡◌};
+    ghost use Rattle.cudf_command_line.specs.Usage.{usage_status};
+
+    /// The exit status: 0 for `Told`, 4 for `Mistake`, that of the refusal for `Refused`, 6 for `Memory`.
+    pub fn status(&self) -> u8
+        ensures { result ≡ usage_status self.now }
+    {
+        match self {
+            Usage::Told(_) => 0,
+            Usage::Mistake(_, _) => 4,
+            Usage::Refused(_, refusal) => refusal.status(),
+            Usage::Memory => 6,
+        }
+    }
+
+    /// Says why on standard error. Help and the version are no fault, and aren't told there.
+    pub fn tell<E: Write>(&self, errors: &mut E) -> io::Result<()> {
+        match self {
+            Usage::Told(_) => Ok(()),
+            Usage::Mistake(topic, text) => {
+                write!(errors, "{text}")?;
+                tell_usage(*topic, errors)
+            }
+            Usage::Refused(_, Refusal::Memory) | Usage::Memory => writeln!(
+                errors,
+                "cudf_check: there is not enough memory; free some, and run again"
+            ),
+            Usage::Refused(topic, refusal) => {
+                write!(errors, "error: {refusal}")?;
+                tell_usage(*topic, errors)
+            }
+        }
+    }
+}
+
+/// Says how the words of the command are written.
+fn tell_usage<E: Write>(topic: Topic, errors: &mut E) -> io::Result<()> {
+    let (usage, help) = (topic.usage(), topic.help());
+    writeln!(
+        errors,
+        "\n\nUsage: {usage}\n\nFor more information, try '{help}'."
+    )
+}
+
+/// Why the words start no run, where the parse says it.
+pub(crate) fn unparsed<'w>(
+    alloc: Global,
+    words: &[String],
+    error: clap::Error,
+) -> Result<Usage<'w>, AllocError>
+    ensures { IfOk result (IsUnparsed (map (λ word. string_bytes word) words.now) (kind_of error)) }
+{
+    match error.kind() {
+        ErrorKind::DisplayHelp | ErrorKind::DisplayVersion => {
+            Ok(Usage::Told(format!(in alloc; "{error}")?))
+        }
+        ErrorKind::OutOfMemory => Ok(Usage::Memory),
+        _ => fault(alloc, arguments(words), &error),
+    }
+}
+
+/// What is told of a fault that the parse found in these arguments. Where their command takes a list that stands apart,
+/// this is told: the parse speaks of the list as of an unknown option, or as of a file too many.
+fn fault<'w>(
+    alloc: Global,
+    arguments: &[String],
+    error: &clap::Error,
+) -> Result<Usage<'w>, AllocError>
+    ensures status { IfOk result (λ usage. usage_status usage ≡ 4) }
+    ensures apart { IfOk result (TellsApart (map (λ word. string_bytes word) arguments.now)) }
+{
+    let topic = Topic::of(arguments);
+    if takes_list_apart(arguments) {
+        return Ok(Usage::Refused(topic, Refusal::Apart));
+    }
+    Ok(Usage::Mistake(topic, fault_text(alloc, error)?))
+}
+
+/// The text of a fault, up to its usage. A first word that is no command may be a file that was to be checked.
+fn fault_text(alloc: Global, error: &clap::Error) -> Result<String, AllocError> {
+    let whole = format!(in alloc; "{error}")?;
+    let text = before(before(&whole, "\n\nUsage: "), "\n\nFor more information");
+    match error.kind() {
+        ErrorKind::InvalidSubcommand => {
+            let usage = Topic::Check.usage();
+            format!(in alloc; "{text}\n\n  tip: a command comes first, as in '{usage}'")
+        }
+        _ => String::from_str(alloc, text),
+    }
+}
+
+/// The text up to the end that begins so, where it has one.
+fn before<'t>(text: &'t str, end: &str) -> &'t str {
+    match text.split_once(end) {
+        Some((front, _)) => front,
+        None => text,
+    }
+}
+
+impl From<AllocError> for Usage<'_> {
+    ghost use Rattle.std.specs.Prelude.{◌≡◌};
+    ghost use Rattle.cudf_command_line.specs.declared.usage.Usage.TheVariants.{Memory};
+
+    ghost from_gives = { λ _ usage. usage ≡ Memory };
+
+    fn from(_error: AllocError) -> Self {
+        Usage::Memory
+    }
+}

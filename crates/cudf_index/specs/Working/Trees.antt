@@ -1,0 +1,20 @@
+-- The provisions of a name in the order of their places, in halves (own).
+use Rattle.std.specs.Prelude.{◌<◌, List, ◌++◌, length}
+use Rattle.cudf_index.specs.Working.Gathering.{Completes}
+use Rattle.cudf_index.specs.declared.index.entries.Entries.{Entries}
+use Rattle.cudf_index.specs.declared.index.gathered_names.Provision.{Provision}
+use Rattle.cudf_index.specs.declared.index.tree.Node.{Node}
+use Rattle.cudf_index.specs.declared.index.tree.Node.TheVariants.{Few, Halves}
+
+abbrev pub provisions : Node → List Provision
+provisions (Few row) = row.items
+provisions (Halves entries front back) = front.value ++ back.value
+
+pub record AreHalves (entries : Entries) (front back : List Provision) : Type 0 where
+  pub whole : Completes (front ++ back) entries
+  pub front_some : 0 < length front
+  pub back_some : 0 < length back
+
+abbrev pub Holds : Node → Type 0
+Holds (Few row) = Unit
+Holds (Halves entries front back) = AreHalves entries.value front.value back.value

@@ -1,0 +1,36 @@
+//! Numbers, where mostly there is one.
+ghost use Rattle.std.specs.Prelude.{◌≡◌};
+ghost use Rattle.cudf_index.specs.Working.Numbers.{numbers_in};
+
+use std::slice;
+
+/// Numbers in their order. One alone, as most names have, stands beside what else is kept of the
+/// name, so that a look at it goes to no other block of memory.
+#[derive(Drop)]
+pub(crate) enum Numbers {
+    One(u64),
+    Others(Vec<u64>),
+}
+
+impl Numbers {
+    ghost use Rattle.std.specs.Prelude.{◌≡◌};
+    ghost use Rattle.cudf_index.specs.Working.Numbers.{numbers_in};
+
+    pub(crate) fn new(numbers: Vec<u64>) -> Self
+        ensures { numbers_in result ≡ numbers.items }
+    {
+        match numbers.as_slice() {
+            [number] => Numbers::One(*number),
+            _ => Numbers::Others(numbers),
+        }
+    }
+
+    pub(crate) fn as_slice(&self) -> &[u64]
+        ensures { result.now ≡ numbers_in self.now }
+    {
+        match self {
+            Numbers::One(number) => slice::from_ref(number),
+            Numbers::Others(numbers) => numbers.as_slice(),
+        }
+    }
+}

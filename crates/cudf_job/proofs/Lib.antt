@@ -1,0 +1,3 @@
+pub mod AimLemmas
+pub mod KeyLemmas
+pub mod KeyTextLemmas

@@ -1,0 +1,7 @@
+pub mod Aims
+pub mod Comparing
+pub mod Keys
+pub mod KeyViews
+pub mod Promises
+pub mod Vectors
+pub mod Working

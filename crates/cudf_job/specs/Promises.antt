@@ -1,0 +1,2 @@
+pub mod Aims
+pub mod Keys

@@ -1,0 +1,4 @@
+pub mod ListLemmas
+pub mod FlagLemmas
+pub mod IdLemmas
+pub mod StatusLemmas

@@ -1,0 +1,3 @@
+pub mod Packages
+pub mod Statuses
+pub mod Views

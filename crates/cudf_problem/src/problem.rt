@@ -1,0 +1,113 @@
+//! Problems: a universe and a request.
+use crate::package::Package;
+use crate::package::ids::Ids;
+use crate::request::Request;
+use cudf_value::Formula;
+use std::fmt;
+use std::marker::Model;
+
+/// The packages and the request of a document without fault (CUDF 2.0, universes).
+#[derive(Drop)]
+pub struct Problem<'t> {
+    packages: Vec<Package<'t>>,
+    request: Request<'t>,
+    recommends: Option<Formula<'t>>,
+    ids: Ids<'t>,
+}
+
+impl<'t> Model for Problem<'t> {
+    ghost use Rattle.std.specs.Prelude.{◌≡◌, true, map, option_map};
+    ghost use Rattle.cudf_value.specs.Promises.Views.{formula_view};
+    ghost use Rattle.cudf_problem.specs.Promises.Packages.{are_distinct};
+    ghost use Rattle.cudf_problem.specs.Universe.{PlainProblem, package_id};
+    ghost use Rattle.cudf_problem.specs.Promises.Views.{package_view, request_view};
+
+    ghost Value = { PlainProblem };
+
+    ghost view = { λ p. record {
+      packages = map package_view p.packages.items;
+      request = request_view p.request;
+      recommends = option_map formula_view p.recommends;
+    } };
+
+    ghost invariant = { λ p. (p.ids ≡ map package_id (map package_view p.packages.items)) × (are_distinct p.ids ≡ true) };
+}
+
+impl fmt::Debug for Problem<'_> {
+    fn fmt<W: fmt::Write>(&self, f: &mut fmt::Formatter<W>) -> fmt::Result {
+        f.debug_struct("Problem")
+            .field("packages", &self.packages)
+            .field("request", &self.request)
+            .field("recommends", &self.recommends)
+            .finish_non_exhaustive()
+    }
+}
+
+impl<'t> Problem<'t> {
+    ghost use Rattle.std.specs.Prelude.{◌≡◌, ◌<◌, ◌≤◌, true, map, length, option_map, position};
+    ghost use Rattle.cudf_value.specs.Promises.Views.{formula_view};
+    ghost use Rattle.cudf_problem.specs.Ids.{is_id};
+    ghost use Rattle.cudf_problem.specs.Promises.Packages.{are_distinct, recommends_at};
+    ghost use Rattle.cudf_problem.specs.Promises.Views.{package_view, request_view};
+    ghost use Rattle.cudf_problem.specs.Universe.{package_id};
+
+    /// The problem of these, where `ids` are the names and versions of the packages.
+    pub fn new(
+        packages: Vec<Package<'t>>,
+        request: Request<'t>,
+        recommends: Option<Formula<'t>>,
+        ids: Ids<'t>,
+    ) -> Self
+        requires ids { ids ≡ map package_id (map package_view packages.items) }
+        requires distinct { are_distinct ids ≡ true }
+        ensures { result ≡ record {
+          packages = map package_view packages.entry.items;
+          request = request_view request.entry;
+          recommends = option_map formula_view recommends.entry;
+        } }
+    {
+        Problem {
+            packages,
+            request,
+            recommends,
+            ids,
+        }
+    }
+
+    /// The universe: the packages in document order. No two have the same name and version.
+    pub fn packages(&self) -> &[Package<'t>]
+        ensures packages { map package_view result.now ≡ self.now.packages }
+        ensures distinct { are_distinct (map package_id self.now.packages) ≡ true }
+    {
+        self.packages.as_slice()
+    }
+
+    /// The request.
+    pub fn request(&self) -> &Request<'t>
+        ensures { request_view result.now ≡ self.now.request }
+    {
+        &self.request
+    }
+
+    /// What the package at this place of the universe, from 1 to the number of packages, recommends:
+    /// what it says itself, or else the declared default. `None` where neither is there, or where
+    /// `recommends` isn't declared as `vpkgformula`.
+    pub fn recommends(&self, place: u64) -> Option<Formula<'t>>
+        requires from_one { 0 < place }
+        requires in_universe { place ≤ length self.now.packages }
+        ensures { option_map formula_view result ≡ recommends_at self.now place }
+    {
+        self.packages[place as usize - 1]
+            .recommends
+            .or(self.recommends)
+    }
+
+    /// The index of the package of this name and version, if the universe has it.
+    pub fn index_of(&self, name: &str, version: u64) -> Option<usize>
+        ensures index { result
+            ≡ position (is_id (name.now, version)) (map package_id self.now.packages) }
+        ensures distinct { are_distinct (map package_id self.now.packages) ≡ true }
+    {
+        self.ids.index_of(name, version)
+    }
+}

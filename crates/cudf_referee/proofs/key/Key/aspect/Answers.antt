@@ -1,5 +1,0 @@
-use Rattle.std.proofs.Common.{refl}
-use Rattle.cudf_referee.proofs.key.Key.aspect.Goals as goal
-
-pub returns : goal.returns
-returns c = refl

@@ -1,0 +1,66 @@
+-- The places of the request, as the code goes through them.
+use Rattle.std.specs.Prelude.{◌≡◌, ◌≤◌, ℕ, ◌+◌, ◌-◌, ◌<◌, List, [], ◌∷◌, ◌++◌, Option, Some, None, drop, slice_get}
+use Rattle.std.specs.List.{flat_map, enumerate_from}
+use Rattle.cudf_value.specs.declared.vpkg.Vpkg.{Vpkg}
+use Rattle.cudf_value.specs.Vpkgs.{PlainVpkg}
+use Rattle.cudf_value.specs.Promises.Views.{vpkg_view, vpkgs_view}
+use Rattle.cudf_problem.specs.Universe.{PlainRequest}
+use Rattle.cudf_job.specs.declared.key.Aspect.{Aspect}
+use Rattle.cudf_job.specs.declared.key.Aspect.TheVariants.{Unsatisfied, Many, Lower}
+use Rattle.cudf_referee.specs.declared.sites.RequestSite.{RequestSite}
+use Rattle.cudf_referee.specs.declared.sites.RequestSite.TheVariants.{Install, Remove, Upgrade}
+use Rattle.cudf_referee.specs.declared.sites.request_sites.RequestSites.{RequestSites}
+use Rattle.cudf_referee.specs.Promises.Sites.{Site, install_entry, remove_entry, upgrade_entry, upgrade_sites}
+use Rattle.cudf_referee.specs.Working.SiteNumbers.{numbered}
+
+-- the aspects of an entry behind one of them
+abbrev pub later : Vpkg → Aspect → Option (Vpkg × Aspect)
+later v Unsatisfied = Some (v, Many)
+later v Many = Some (v, Lower)
+later v Lower = None
+
+-- those from one of them on
+abbrev pub aspects_from : ℕ → PlainVpkg → Aspect → List Site
+aspects_from n v Unsatisfied = upgrade_entry n v Unsatisfied ∷ upgrade_entry n v Many ∷ upgrade_entry n v Lower ∷ []
+aspects_from n v Many = upgrade_entry n v Many ∷ upgrade_entry n v Lower ∷ []
+aspects_from n v Lower = upgrade_entry n v Lower ∷ []
+
+abbrev pub aspects_left : ℕ → Option (Vpkg × Aspect) → List Site
+aspects_left n None = []
+aspects_left n (Some e) = aspects_from n (vpkg_view e.0) e.1
+
+-- ---- the places that are left
+
+abbrev pub upgrades_view : RequestSites → List Site
+upgrades_view s = aspects_left s.upgraded s.entry ++ flat_map upgrade_sites (enumerate_from (s.upgraded + 1) (vpkgs_view s.upgrade))
+
+abbrev pub request_sites_view : RequestSites → List Site
+request_sites_view s = numbered install_entry s.installed (vpkgs_view s.install) ++ numbered remove_entry s.removed (vpkgs_view s.remove) ++ upgrades_view s
+
+abbrev pub request_site_view : RequestSite → Site
+request_site_view (Install n v) = install_entry n (vpkg_view v)
+request_site_view (Remove n v) = remove_entry n (vpkg_view v)
+request_site_view (Upgrade n v aspect) = upgrade_entry n (vpkg_view v) aspect
+
+-- entries are numbered from 1, and one of `upgrade` stands where its number says
+abbrev pub IsEntry : PlainRequest → ℕ → PlainVpkg → Type 0
+IsEntry r n v = (0 < n) × (slice_get r.upgrade (n - 1) ≡ Some v)
+
+abbrev pub StandsIn : PlainRequest → RequestSite → Type 0
+StandsIn r (Install n v) = 0 < n
+StandsIn r (Remove n v) = 0 < n
+StandsIn r (Upgrade n v aspect) = IsEntry r n (vpkg_view v)
+
+abbrev pub IsHeld : PlainRequest → ℕ → Option (Vpkg × Aspect) → Type 0
+IsHeld r n None = Unit {0}
+IsHeld r n (Some e) = IsEntry r n (vpkg_view e.0)
+
+-- the entries of `upgrade` that are left are those behind so many
+abbrev pub Remains : PlainRequest → RequestSites → Type 0
+Remains r s = (drop s.upgraded r.upgrade ≡ vpkgs_view s.upgrade) × IsHeld r s.upgraded s.entry
+
+-- there are so many entries of `upgrade`
+abbrev pub IsWithin : ℕ → RequestSite → Type 0
+IsWithin count (Install n v) = Unit {0}
+IsWithin count (Remove n v) = Unit {0}
+IsWithin count (Upgrade n v aspect) = (0 < n) × (n ≤ count)
