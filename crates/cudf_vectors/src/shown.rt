@@ -17,10 +17,11 @@ pub(crate) fn push_list<T: Display>(out: &mut String, values: &[T]) -> Result<()
 /// Adds the clauses of a formula between brackets, with a comma between each two.
 pub(crate) fn push_clauses(out: &mut String, formula: Formula<'_>) -> Result<(), AllocError> {
     out.push_str("[")?;
-    let mut between = "";
+    let mut is_first = true;
     for clause in formula.clauses() {
-        write!(out, "{between}{clause}")?;
-        between = ", ";
+        out.push_str(if is_first { "" } else { ", " })?;
+        write!(out, "{clause}")?;
+        is_first = false;
     }
     out.push_str("]")?;
     Ok(())
@@ -29,10 +30,11 @@ pub(crate) fn push_clauses(out: &mut String, formula: Formula<'_>) -> Result<(),
 /// Adds the vpkgs of a list between brackets, with a comma between each two.
 pub(crate) fn push_vpkgs(out: &mut String, list: VpkgList<'_>) -> Result<(), AllocError> {
     out.push_str("[")?;
-    let mut between = "";
+    let mut is_first = true;
     for vpkg in list.vpkgs() {
-        write!(out, "{between}{vpkg}")?;
-        between = ", ";
+        out.push_str(if is_first { "" } else { ", " })?;
+        write!(out, "{vpkg}")?;
+        is_first = false;
     }
     out.push_str("]")?;
     Ok(())
