@@ -1,8 +1,7 @@
 -- Files in a row: the devices over them, and the bytes that these give.
-use Rattle.std.proofs.Common.{◌≡◌, ◌+◌, ◌<◌, ◌≤◌, ℕ, Bool, zero, suc, true, false, cond, List, [], ◌∷◌, ◌++◌, map, take, get_or, Vec, Global, length, slice_index_or, count_by, bytes_eq, nat_lt, codes, Option, Some, None, Result, Ok, Err, MatchResult, inl, refl, sym, ap, ◌∙◌, subst, arith}
+use Rattle.std.proofs.Common.{◌≡◌, ◌≤◌, ℕ, suc, true, List, [], ◌∷◌, ◌++◌, map, Vec, Global, length, slice_index_or, nat_lt, Option, Some, None, Result, Ok, Err, MatchResult, inl, refl, sym, ap, ◌∙◌, subst, arith}
 use Rattle.std.proofs.lemmas.Grind.{common_steps}
-use Rattle.std.proofs.lemmas.List.{map-id}
-use Rattle.std.specs.List.{fold, AllZip}
+use Rattle.std.specs.List.{AllZip}
 use Rattle.std.specs.Option.{option_to_list}
 use Rattle.cudf_check.specs.ManyRuns.{LeavesBehind}
 use Rattle.cudf_check.specs.Readers.{Change, ReadsAll, change, changes}

@@ -1,25 +1,15 @@
 -- The stops of the walk that come after a key: those behind the number of places that the key has passed.
-use Rattle.std.proofs.Common.{◌≡◌, ℕ, zero, suc, not, ◌==◌, ◌+◌, ◌*◌, ◌-◌, ◌<◌, ◌≤◌, Bool, true, false, min, nat_lt, nat_le, List, [], ◌∷◌, ◌++◌, length, map, filter, drop, cond, arith, refl, ap, sym, ◌∙◌, subst, Option, Some, None}
+use Rattle.std.proofs.Common.{◌≡◌, ℕ, zero, suc, ◌==◌, ◌+◌, ◌<◌, Bool, true, false, nat_lt, nat_le, List, [], ◌∷◌, ◌++◌, map, filter, drop, cond, arith, refl, ap, sym, ◌∙◌, subst, Option, Some, None}
 use Rattle.std.specs.Prelude.{slice_get}
 use Rattle.std.proofs.lemmas.Bool.{ltb-true}
 use Rattle.std.proofs.lemmas.Bool.Decides.{nat_tests}
-use Rattle.std.proofs.lemmas.Cmp.{nat_cmp_total, nat_list_cmp_total, tied_itself}
-use Rattle.std.proofs.lemmas.List.{length-map, length-append, length-drop, drop-map, drop_min}
+use Rattle.std.proofs.lemmas.Cmp.{nat_list_cmp_total}
 use Rattle.std.proofs.lemmas.List.Elements.{filter-append, filter_agree}
-use Rattle.std.proofs.lemmas.List.Sums.{length-filter, count_by-le-length}
-use Rattle.std.proofs.lemmas.List.FromFn.{length-enumerate_from}
-use Rattle.std.proofs.Math.ListN.{drop_of_length-le}
 use Rattle.std.specs.Cmp.{nat_cmp_is}
 use Rattle.std.specs.Cmp.Lexicographic.{slice_cmp}
 use Rattle.std.specs.List.{flat_map, enumerate_from}
 use Rattle.std.specs.Ordering.{nat_cmp, ordering_then, ordering_reverse, is_lt}
 use Rattle.std.specs.declared.cmp.Ordering.TheVariants.{Less, Equal, Greater}
-use Rattle.cudf_value.specs.Vpkgs.{PlainVpkg}
-use Rattle.cudf_value.specs.Promises.Views.{clause_view, vpkg_view}
-use Rattle.cudf_problem.specs.declared.package.Keep.{Keep}
-use Rattle.cudf_problem.specs.declared.package.Keep.TheVariants.{Version, Package, Feature, Nothing}
-use Rattle.cudf_problem.specs.declared.request.Request.{Request}
-use Rattle.cudf_problem.specs.Promises.Views.{request_view}
 use Rattle.cudf_problem.specs.Universe.{PlainPackage, PlainRequest}
 use Rattle.cudf_problem.specs.Statuses.{PlainUnknown}
 use Rattle.cudf_index.specs.Satisfaction.{Placed}
@@ -28,17 +18,15 @@ use Rattle.cudf_job.specs.declared.key.Part.TheVariants as part
 use Rattle.cudf_job.specs.declared.key.Rule.{Rule}
 use Rattle.cudf_job.specs.declared.key.Rule.TheVariants as rule
 use Rattle.cudf_job.specs.declared.key.Aspect.{Aspect}
-use Rattle.cudf_job.specs.declared.key.Aspect.TheVariants.{Unsatisfied, Many, Lower}
 use Rattle.cudf_referee.specs.declared.sites.candidate.Sites.{Sites}
-use Rattle.cudf_job.specs.Keys.{PlainKey, package_key, part_rank, part_place, fits, is_key, rule_rank, aspect_rank, key_ranks}
-use Rattle.cudf_job.specs.Promises.Keys.{is_fitting}
+use Rattle.cudf_job.specs.Keys.{PlainKey, part_rank, part_place, is_key, rule_rank, aspect_rank, key_ranks}
 use Rattle.cudf_referee.specs.Proposals.{Proposal}
-use Rattle.cudf_referee.specs.Promises.Sites.{Site, conjunct, conflicts_entry, kept_version, kept_package, kept_feature, install_entry, remove_entry, unknown_stanza, site_key, kept_sites, package_sites, upgrade_sites, request_sites, Stop, at_site, package_end, package_stops, precedes, precedes_end, is_after}
+use Rattle.cudf_referee.specs.Promises.Sites.{unknown_stanza, site_key, package_sites, request_sites, Stop, at_site, package_end, package_stops, precedes, precedes_end, is_after}
 use Rattle.cudf_referee.specs.Working.Searches.{unknown_left, package_rest, packages_rest}
 use Rattle.cudf_referee.specs.Working.SiteNumbers.{sites_in}
-use Rattle.cudf_referee.proofs.AscentLemmas.{Below, same_first, less_first, Climbs, from_lower, to_higher, climbs-over, site_ranks, sites_climb, package_climbs, packages_climb, entries_climb, request_climbs}
-use Rattle.cudf_referee.proofs.ListLemmas.{and_left, and_right, filter-map, all_kept, none_kept}
-use Rattle.cudf_referee.proofs.PositionLemmas.{stop_ranks, lt_less, is_after-ranks}
+use Rattle.cudf_referee.proofs.AscentLemmas.{Below, same_first, less_first, Climbs, from_lower, to_higher, climbs-over, site_ranks, package_climbs, packages_climb, request_climbs}
+use Rattle.cudf_referee.proofs.ListLemmas.{and_left, filter-map, all_kept}
+use Rattle.cudf_referee.proofs.PositionLemmas.{stop_ranks, is_after-ranks}
 
 -- ---- what comes after ranks
 

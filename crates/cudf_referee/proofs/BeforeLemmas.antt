@@ -1,14 +1,12 @@
 -- The greatest number of a name, as it is gathered.
 use Rattle.std.proofs.Common.{◌≡◌, ℕ, ◌+◌, ◌<◌, ◌≤◌, Bool, true, false, cond, List, [], ◌∷◌, ◌++◌, length, get_or, take, map, Option, Some, None, refl, sym, ap, ◌∙◌, subst, arith, nat_lt, bytes_eq, max, append_assoc, length-append}
 use Rattle.std.proofs.Math.Nat.{max-eq_left, max-eq_right}
-use Rattle.std.specs.Prelude.{filter, filter_map, option_map, option_to_list, slice_get, Contains}
+use Rattle.std.specs.Prelude.{filter, filter_map, option_map, slice_get, Contains}
 use Rattle.std.specs.List.{cons_option}
 use Rattle.std.proofs.lemmas.Option.{slice_get-map}
 use Rattle.std.proofs.lemmas.Bool.{true≢false, ltb-true, ltb-false}
-use Rattle.std.proofs.lemmas.List.{append-nil, flat_map_more, map_push, take_more}
+use Rattle.std.proofs.lemmas.List.{append-nil, flat_map_more}
 use Rattle.std.proofs.lemmas.List.Elements.{All-push, Contains-push, Contains-append_left}
-use Rattle.cudf_value.specs.declared.vpkg.Vpkg.{Vpkg}
-use Rattle.cudf_value.specs.Promises.Views.{vpkg_view}
 use Rattle.cudf_value.specs.Vpkgs.{PlainVpkg}
 use Rattle.cudf_problem.specs.Universe.{PlainPackage}
 use Rattle.cudf_problem.specs.Ids.{Id}
@@ -16,7 +14,6 @@ use Rattle.cudf_index.specs.Satisfaction.{Placed, entry_pair, members, gives, nu
 use Rattle.cudf_index.specs.Promises.Members.{IsGreatest}
 use Rattle.cudf_referee.specs.Working.Before.{with_number, with_pairs, with_entries, greatest_before}
 use Rattle.cudf_index.proofs.MemberLemmas.{members_kept, members_left_out}
-use Rattle.cudf_index.proofs.GatheringLemmas.{filter_map_push}
 
 -- ---- pairs one after the other
 

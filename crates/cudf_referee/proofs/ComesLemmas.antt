@@ -20,7 +20,7 @@ use Rattle.cudf_referee.specs.Violations.{unknown_instance}
 use Rattle.cudf_job.specs.Keys.{key_ranks}
 use Rattle.cudf_referee.specs.Instances.{PlainInstance}
 use Rattle.cudf_referee.specs.Promises.Pages.{at_instance}
-use Rattle.cudf_referee.specs.Promises.Sites.{Site, site_key, unknown_stanza, Stop, at_site, package_end, walk, PlainPosition, at_end, is_ahead}
+use Rattle.cudf_referee.specs.Promises.Sites.{Site, unknown_stanza, Stop, at_site, package_end, walk, PlainPosition, at_end, is_ahead}
 use Rattle.cudf_referee.specs.Proposals.{Proposal}
 use Rattle.cudf_referee.specs.Working.Judged.{instance_at}
 use Rattle.cudf_referee.specs.Working.Places.{ahead}

@@ -1,12 +1,11 @@
 -- The places of a package and of the request, gone through.
-use Rattle.std.proofs.Common.{◌≡◌, ℕ, zero, suc, ◌+◌, ◌-◌, ◌<◌, ◌≤◌, Bool, true, false, List, [], ◌∷◌, ◌++◌, length, map, drop, cond, Option, Some, None, refl, ap, sym, ◌∙◌, subst, append-nil, arith}
+use Rattle.std.proofs.Common.{◌≡◌, ℕ, zero, suc, ◌+◌, ◌-◌, Bool, true, false, List, [], ◌∷◌, ◌++◌, length, map, drop, cond, Option, Some, None, refl, ap, sym, ◌∙◌, subst, append-nil, arith}
 use Rattle.std.specs.Prelude.{slice_get, filter}
-use Rattle.std.specs.List.{flat_map, enumerate_from}
 use Rattle.std.proofs.lemmas.Option.{slice_get_within}
 use Rattle.std.proofs.lemmas.List.{length-map}
 use Rattle.cudf_value.specs.Formulas.{PlainAtom}
 use Rattle.cudf_value.specs.Vpkgs.{PlainVpkg}
-use Rattle.cudf_value.specs.Promises.Views.{vpkg_view, formula_view, list_view}
+use Rattle.cudf_value.specs.Promises.Views.{vpkg_view}
 use Rattle.cudf_problem.specs.declared.package.Keep.{Keep}
 use Rattle.cudf_problem.specs.declared.package.Keep.TheVariants.{Version, Package, Feature, Nothing}
 use Rattle.cudf_problem.specs.Universe.{PlainRequest}
@@ -19,8 +18,8 @@ use Rattle.cudf_referee.specs.Proposals.{Proposal}
 use Rattle.cudf_referee.specs.Promises.Sites.{Site, site_key, precedes, conjunct, conflicts_entry, kept_version, kept_package, kept_feature, kept_sites, package_sites}
 use Rattle.cudf_referee.specs.Working.RequestSites.{StandsIn, IsWithin}
 use Rattle.cudf_referee.specs.Working.SiteNumbers.{placed_view, Fits, depends_of, conflicts_of, features_of, kept_features, numbered, candidate_sites, kept_one}
-use Rattle.cudf_referee.proofs.AheadLemmas.{ranks_after, kept_above}
-use Rattle.cudf_referee.proofs.AscentLemmas.{Climbs, from_lower, site_ranks}
+use Rattle.cudf_referee.proofs.AheadLemmas.{kept_above}
+use Rattle.cudf_referee.proofs.AscentLemmas.{Climbs, site_ranks}
 use Rattle.cudf_referee.proofs.PositionLemmas.{lt_less}
 use Rattle.cudf_referee.proofs.SiteLemmas.{key_at}
 use Rattle.cudf_referee.specs.Instances.{PlainInstance}

@@ -2,7 +2,6 @@ use Rattle.std.proofs.Common.{◌≡◌, ◌≤◌, ℕ, length, ◌+◌, ◌==�
 use Rattle.std.specs.Prelude.{option_map, find}
 use Rattle.std.specs.Option.{IfSome}
 use Rattle.std.specs.FinSet as set
-use Rattle.std.proofs.lemmas.List.{length-map}
 use Rattle.cudf_value.specs.Promises.Views.{vpkg_view}
 use Rattle.cudf_index.specs.Satisfaction.{Placed}
 use Rattle.cudf_index.specs.Promises.Prices.{own_entries, own_cost}

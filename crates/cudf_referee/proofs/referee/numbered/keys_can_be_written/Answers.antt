@@ -1,6 +1,5 @@
 use Rattle.std.proofs.Common.{◌≡◌, ℕ, ◌<◌, ◌≤◌, ◌^◌, true, List, length, map, slice_index_or, arith, ap, sym, subst}
 use Rattle.std.specs.Prelude.{All}
-use Rattle.std.proofs.lemmas.List.{length-map}
 use Rattle.std.proofs.lemmas.List.Elements.{All-map}
 use Rattle.cudf_problem.specs.declared.package.Package.{Package}
 use Rattle.cudf_problem.specs.declared.request.Request.{Request}
@@ -8,7 +7,6 @@ use Rattle.cudf_problem.specs.declared.unknown.Unknown.{Unknown}
 use Rattle.cudf_problem.specs.Statuses.{PlainUnknown, ascend_above}
 use Rattle.cudf_problem.specs.Promises.Views.{unknown_view, package_view, request_view}
 use Rattle.cudf_problem.specs.Universe.{PlainPackage, PlainRequest, PlainProblem}
-use Rattle.cudf_value.specs.Promises.Views.{clause_view, vpkg_view}
 use Rattle.cudf_index.specs.Satisfaction.{Placed}
 use Rattle.cudf_referee.specs.Working.Walkers.{put_forward}
 use Rattle.cudf_referee.specs.Working.Numbered.{IsListed, IsNumbered}

@@ -1,8 +1,7 @@
-use Rattle.std.proofs.Common.{◌≡◌, ℕ, List, true, false, ap, sym, ◌∙◌, ◌++◌, ◌∷◌, [], cond, append_assoc, bytes_eq, map}
+use Rattle.std.proofs.Common.{◌≡◌, ℕ, List, true, false, ap, sym, ◌∙◌, ◌++◌, ◌∷◌, [], cond, append_assoc, bytes_eq}
 use Rattle.std.specs.Prelude.{option_map}
 use Rattle.std.proofs.lemmas.List.{append-nil}
 use Rattle.cudf_value.specs.Vpkgs.{PlainVpkg}
-use Rattle.cudf_value.specs.Promises.Views.{vpkg_view}
 use Rattle.cudf_problem.specs.Promises.Views.{package_view}
 use Rattle.cudf_index.specs.declared.index.gathered_names.Provision.{Provision}
 use Rattle.cudf_index.specs.Working.Gathering.{row_of, provisions_of, own_entry}

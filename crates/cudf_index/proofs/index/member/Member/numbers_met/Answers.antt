@@ -1,4 +1,4 @@
-use Rattle.std.proofs.Common.{◌≡◌, ℕ, ◌+◌, Bool, true, false, cond, List, map, ap, sym, ◌∙◌, arith, ◌∷◌}
+use Rattle.std.proofs.Common.{◌≡◌, ℕ, ◌+◌, Bool, true, false, cond, List, ap, sym, ◌∙◌, arith, ◌∷◌}
 use Rattle.std.specs.Prelude.{filter_map}
 use Rattle.std.specs.List.{count_by}
 use Rattle.cudf_value.specs.Vpkgs.{PlainVpkg}

@@ -1,6 +1,5 @@
-use Rattle.std.proofs.Common.{ap, sym, ◌∙◌, map}
+use Rattle.std.proofs.Common.{ap, sym, ◌∙◌}
 use Rattle.std.specs.Prelude.{filter_map}
-use Rattle.cudf_value.specs.Promises.Views.{vpkg_view}
 use Rattle.cudf_problem.specs.Promises.Views.{package_view}
 use Rattle.cudf_index.specs.Satisfaction.{entry_pair}
 use Rattle.cudf_referee.specs.Working.Before.{kept_greatest, with_entries}

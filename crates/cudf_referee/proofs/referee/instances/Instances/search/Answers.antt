@@ -1,4 +1,4 @@
-use Rattle.std.proofs.Common.{ℕ, Some, None, option_map, drop, sym, subst, ◌∙◌}
+use Rattle.std.proofs.Common.{ℕ, Some, None, option_map, drop, subst, ◌∙◌}
 use Rattle.cudf_referee.specs.Promises.Views.{instance_view}
 use Rattle.cudf_referee.specs.Proposals.{Proposal}
 use Rattle.std.specs.List.{enumerate_from}

@@ -1,4 +1,4 @@
-use Rattle.std.proofs.Common.{◌≡◌, length, [], ◌∷◌, ◌++◌, map, option_map, refl, ap, sym, ◌∙◌, subst, arith}
+use Rattle.std.proofs.Common.{◌≡◌, length, [], ◌∷◌, ◌++◌, map, option_map, refl, ap, ◌∙◌, subst, arith}
 use Rattle.std.proofs.lemmas.List.{length-map}
 use Rattle.cudf_problem.specs.Promises.Views.{package_view}
 use Rattle.cudf_referee.specs.Promises.Sites.{at_site, package_end}

@@ -3,7 +3,7 @@ use Rattle.cudf_problem.specs.Universe.{PlainRequest}
 use Rattle.cudf_referee.specs.Promises.Sites.{at_site}
 use Rattle.cudf_referee.specs.Promises.Walks.{Walking}
 use Rattle.cudf_referee.specs.Proposals.{Proposal}
-use Rattle.cudf_referee.specs.Working.RequestSites.{StandsIn, Remains, request_site_view, request_sites_view}
+use Rattle.cudf_referee.specs.Working.RequestSites.{StandsIn, request_site_view, request_sites_view}
 use Rattle.cudf_referee.proofs.ComesLemmas.{tail-start, tail-on, tail-comes}
 use Rattle.cudf_referee.proofs.SearchLemmas.{goes-start, sites-more, sites-found, sites-end, nothing-next, nothing-left}
 use Rattle.cudf_referee.proofs.referee.instances.Instances.search_request.Goals as goal

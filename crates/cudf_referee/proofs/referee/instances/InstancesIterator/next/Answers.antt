@@ -1,16 +1,12 @@
-use Rattle.std.proofs.Common.{◌≡◌, true, map, option_map, ap, sym, ◌∙◌, subst}
-use Rattle.cudf_problem.specs.Promises.Views.{unknown_view}
+use Rattle.std.proofs.Common.{◌≡◌, true, option_map, ap, sym, ◌∙◌, subst}
 use Rattle.cudf_problem.specs.Statuses.{ascend_above}
-use Rattle.cudf_problem.specs.Universe.{PlainRequest}
 use Rattle.cudf_referee.specs.Proposals.{Proposal}
 use Rattle.cudf_referee.specs.Promises.PositionViews.{position_view}
-use Rattle.cudf_referee.specs.Promises.Sites.{PlainPosition}
 use Rattle.cudf_referee.specs.Promises.Views.{instance_view}
 use Rattle.cudf_referee.specs.Promises.Walks.{Walking}
 use Rattle.cudf_referee.specs.Working.Places.{IsFitting, ahead}
 use Rattle.cudf_referee.specs.Working.RequestSites.{Remains}
 use Rattle.cudf_referee.specs.Working.Searches.{Searches, ComesTo, stops_from, first_given}
-use Rattle.cudf_referee.specs.Working.Walkers.{put_forward}
 use Rattle.cudf_referee.proofs.ComesLemmas.{left-ahead}
 use Rattle.cudf_referee.proofs.SearchLemmas.{or_later-none}
 use Rattle.cudf_referee.proofs.MoveLemmas.{searched, moved-on}

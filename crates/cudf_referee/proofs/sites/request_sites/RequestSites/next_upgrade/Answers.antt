@@ -1,6 +1,5 @@
-use Rattle.std.proofs.Common.{◌≡◌, ◌+◌, ◌-◌, Some, ap, ◌∙◌, arith}
+use Rattle.std.proofs.Common.{◌+◌, ◌-◌, ap, ◌∙◌, arith}
 use Rattle.std.specs.Prelude.{slice_get}
-use Rattle.cudf_value.specs.Promises.Views.{vpkg_view}
 use Rattle.cudf_referee.proofs.SiteNumberLemmas.{next-entry, next-rest}
 use Rattle.cudf_referee.proofs.sites.request_sites.RequestSites.next_upgrade.Goals as goal
 
