@@ -194,7 +194,6 @@ def failing_reads(watch):
     few = [always("read", name, 9) for name in inputs]
     calls = watch.calls(words, *few)[1]
     counts = {name: len(of(calls, "read", name)) for name in inputs}
-    # a solution that says so in its first line isn't read on
     watch.same("reads of each input", counts, {name: reads_of(FILES[name], 9) for name in inputs})
     for place, name in enumerate(inputs):
         for at in range(1, counts[name] + 1):

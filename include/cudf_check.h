@@ -66,7 +66,7 @@ uint8_t cudf_check_lint(bool strict, bool explain, const uint8_t *problem, size_
  * Says what is wrong with a solution of a problem: a line for each violation, sorted by key, and the verdict. `after` is
  * the key behind which the lines begin, as `p1.depends.1`, or an empty text; `limit` is how many lines there are at most,
  * or 0 for all. Where a limit leaves lines out, `more after KEY` says where the next page begins. The verdict is of all.
- * With `explain` lines have behind their texts what would do, or that nothing would; a fault has what it has in lint.
+ * With `explain` lines have behind their texts what docs/FORMAT.md lists; a fault has what it has in lint.
  */
 uint8_t cudf_check_check(bool strict, bool explain, const uint8_t *problem, size_t problem_length,
                          const uint8_t *solution, size_t solution_length, const uint8_t *after, size_t after_length,

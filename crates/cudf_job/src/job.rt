@@ -13,7 +13,7 @@ pub enum Job {
         explain: bool,
     },
     /// Judge the solution and list the violated instances: those whose keys come behind `after`, where
-    /// it is given, and at most `limit` of them, which is at least 1. The verdict is of all instances.
+    /// it is given, and at most `limit` of them; with 0 the page is empty. The verdict is of all instances.
     Check {
         after: Option<Key>,
         limit: Option<u64>,
@@ -23,7 +23,7 @@ pub enum Job {
         /// numbers of an upgrade to several or to lower ones. All other bytes are as without it.
         explain: bool,
     },
-    /// Judge the solution and count what it changes and lacks: the counts that `aims` name, one at least, each with its
+    /// Judge the solution and count what it changes and lacks: the counts that `aims` name, each with its
     /// sign and in this order; or else those of the MISC competition's criteria, with its two vectors.
     Score {
         aims: Option<Vec<Aim>>,
