@@ -8,7 +8,7 @@ memory was asked for), the most bytes that were held at once, and the calls of r
 
 - at most as many growths as the input has bytes, and 500 more; for twice the input, at most 2.2 times as many, and 500
   more;
-- at most 64 bytes of memory for each byte of the input, and 1 MB more; behind a fault, where nothing is kept, 3 bytes;
+- at most 64 bytes of memory for each byte of the input, and 1 MB more; behind a fault 3 bytes;
 - no block that is held at the end;
 - of a file, at most a read for each 65,536 bytes, and 8 more; of a pipe that gives a byte at a time, one for each byte;
 - for twice the input, at most 3 times the processor time, where a square takes 4 (the least of some runs, in turns; of more runs where the

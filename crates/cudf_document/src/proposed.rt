@@ -4,18 +4,13 @@ pub(crate) mod pairs;
 pub(crate) mod reader;
 pub(crate) mod stanza;
 
-use crate::proposed::pairs::Pairs;
 use cudf_problem::Unknown;
-use std::fmt;
 use std::marker::Model;
 
 /// What a solution without fault proposes, whatever the problem is.
-#[derive(Drop)]
+#[derive(Debug, Drop)]
 pub struct Proposed<'t> {
     pub(crate) installed: Vec<Unknown<'t>>,
-    /// The pairs by which it was judged, held until it is placed: once a large block was given back, memory for the
-    /// problem costs more.
-    pub(crate) pairs: Pairs<'t>,
 }
 
 impl<'t> Model for Proposed<'t> {
@@ -26,14 +21,6 @@ impl<'t> Model for Proposed<'t> {
     ghost Value = { List PlainUnknown };
 
     ghost view = { λ p. map unknown_view p.installed.items };
-}
-
-impl fmt::Debug for Proposed<'_> {
-    fn fmt<W: fmt::Write>(&self, f: &mut fmt::Formatter<W>) -> fmt::Result {
-        f.debug_struct("Proposed")
-            .field("installed", &self.installed)
-            .finish_non_exhaustive()
-    }
 }
 
 impl<'t> Proposed<'t> {

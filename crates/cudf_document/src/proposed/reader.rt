@@ -160,7 +160,7 @@ impl<'a> Reader<'a> {
         if let Some(fault) = lesser(pairs.first, lesser(line_fault, first)) {
             return Err(ReadError::Fault(fault));
         }
-        Ok(Proposed { installed, pairs })
+        Ok(Proposed { installed })
     }
 }
 
