@@ -9,9 +9,9 @@ line for each crate that was checked, in minutes of processor time:
     minutes cudf_text: proofs 1.2, tests 0.0, wrong bodies 3.4
 
 Each half second the processes below the command are looked over, with the time that they and those that they waited for
-have used: that of the checker is a crate's, whose name stands in its words. In the crate's folder of this repository it
-proves the crate or, with the word --test, its tests; anywhere else it tries wrong bodies on a copy. The last half second
-of each check is lost. Linux and Python's standard library alone. The status is the command's.
+have used: that of the checker is a crate's, whose name stands in its words. In the crate's folder of this repository, or of a
+copy that tools/lanes.sh made, it proves the crate or, with the word --test, its tests; anywhere else it tries wrong bodies
+on a copy. The last half second of each check is lost. Linux and Python's standard library alone. The status is the command's.
 """
 import os
 import subprocess
@@ -55,7 +55,7 @@ def checked(number, words):
         folder = os.readlink(f"/proc/{number}/cwd")
     except OSError:
         return None
-    is_own = folder == f"{ROOT}/crates/{crate}"
+    is_own = folder.endswith(f"/crates/{crate}") and "/wrong-bodies-" not in folder
     return crate, KINDS["--test" in words] if is_own else KINDS[2]
 
 

@@ -4,7 +4,6 @@
 
 pub use cudf_document::{
     Keep, Mode, Package, Problem, Proposed, ReadError, Request, Solution, Status, Unknown,
-    first_fault, initial, problem_of, proposed_of, read_problem, read_solution,
-    solution_of,
+    first_fault, initial, problem_of, proposed_of, read_problem, read_solution, solution_of,
 };
 pub use cudf_index::{Index, Metered, Providers, Steps, laws};
