@@ -17,8 +17,8 @@ _cudf_check()
     fi
     case $command:$word in
         :-*) offered=(-h --help -V --version) ;;
-        :*) offered=(lint check score rank help) ;;
-        help:*) ((COMP_CWORD > 2)) || offered=(lint check score rank help) ;;
+        :*) offered=(lint check score rank cnf refute help) ;;
+        help:*) ((COMP_CWORD > 2)) || offered=(lint check score rank cnf refute help) ;;
         score:--criteria=* | rank:--criteria=*)
             list=${word#*=}
             list=${list%"${list##*,}"}
@@ -30,6 +30,7 @@ _cudf_check()
         lint:-*) offered=(--strict --explain -h --help) ;;
         check:-*) offered=(--after --limit --strict --explain -h --help) ;;
         score:-* | rank:-*) offered=(--criteria= --strict -h --help) ;;
+        cnf:-* | refute:-*) offered=(--strict -h --help) ;;
         *) return ;;
     esac
     # there stands no file

@@ -39,7 +39,8 @@ LINES = {
         good --help; help; -h; --help; help lint; help check; help score; help rank; --version; -V; lint --explain p;
         lint p --explain; lint --explain sized; lint --strict --explain p; check --explain p; check p good --explain;
         check p --explain good --strict; check --explain p - --limit 1; check p --explain twice; check --explain -- p
-        --criteria; lint --explain --help; check --explain -h
+        --criteria; lint --explain --help; check --explain -h; cnf p; cnf p --strict; cnf -- p; cnf --help; cnf -h; help
+        cnf; refute --help; refute p -h; help refute
     """,
     1: """
         check p bad; check both; check -- p bad; check p -- bad; check --strict p bad; check p --strict bad; check p
@@ -48,7 +49,7 @@ LINES = {
         check p --after r.upgrade.1.many bad --limit=9; score p bad; score both; score p bad --criteria=-new; rank
         --criteria=-new p bad; rank p fail bad --criteria=-new; check --explain p bad; check p bad --explain; check p
         --explain bad; check both --explain; check p --limit 1 --explain bad --after=p1.depends.1; check --strict
-        --explain -- p bad
+        --explain -- p bad; refute p empty; refute p p; refute --strict p bad; refute p -; refute -- p --criteria
     """,
     2: """
         lint faulty; lint empty; lint -; lint both; lint sized --strict; lint --strict sized; check faulty; check
@@ -56,7 +57,7 @@ LINES = {
         bad; score p cut; score --strict p twice; rank --criteria=-new p faulty; rank --criteria=-new faulty fail;
         rank --criteria=-new - good; rank --criteria=-new p good twice --strict; lint --explain faulty; lint empty
         --explain; lint - --explain; lint --explain sized --strict; check p --explain twice --strict; check --explain
-        p cut; check cut --explain bad
+        p cut; check cut --explain bad; cnf faulty; cnf -; cnf --strict sized; refute faulty bad; refute sized bad --strict
     """,
     3: """
         check p fail; score p fail; score p fail --criteria=-new; rank --criteria=-new p fail; rank p fail fail
@@ -83,14 +84,15 @@ LINES = {
         check p bad --explain=; check p bad --explain=false; lint p --explai; check p bad --Explain; --explain lint p;
         --explain; --explain check p bad; lint --explain; check --explain; check p good bad --explain; check - -
         --explain; lint p good --explain; check p --explain bad --limit 0; check --explain p bad --after p1.depends;
-        rank --explain
+        rank --explain; cnf; refute; refute p; cnf p good; refute p good bad; cnf --explain p; refute p good --limit 1;
+        refute - -; cnf p --criteria=-new; refute --after p1.depends.1 p good; cnf p --strict --strict
     """,
     5: """
         lint none; check none; check none bad; check p none; check faulty none; check -- -p; check p -- --strict;
         score none bad; score p none --criteria=-new; rank --criteria=-new none good; rank --criteria=-new p good
         none; lint .; check p .; rank --criteria=-new -- p --after --criteria; lint --explain none; check p none
         --explain; check --explain none bad; check -- p --explain; lint -- --explain; check --explain faulty none; lint
-        --explain .
+        --explain .; cnf none; refute none bad; refute p none; cnf .; refute p .
     """,
 }
 # what is no value of these options, in both forms
@@ -109,7 +111,7 @@ PAGED = {
     "user": "package: user\nversion: 1\ndepends: a, a\n\nrequest: r\n",
     "installed": "package: user\nversion: 1\ninstalled: true\n",
 }
-COMMANDS = "error: 'cudf_check' requires a subcommand but one was not provided\n  [subcommands: lint, check, score, rank, help]"
+COMMANDS = "error: 'cudf_check' requires a subcommand but one was not provided\n  [subcommands: lint, check, score, rank, cnf, refute, help]"
 FIRST = "\n\n  tip: a command comes first, as in 'cudf_check check [OPTIONS] <P> [S]'"
 AS_A_VALUE = "\n\n  tip: to pass '{0}' as a value, use '-- {0}'"
 # usage faults, and what is told of them before the usage
@@ -140,6 +142,7 @@ HELP = {
     "cudf_check check --help": ("check --help", "check -h", "help check", "check p --help"),
     "cudf_check score --help": ("score --help", "help score"),
     "cudf_check rank --help": ("rank --help", "help rank", "rank --help --criteria -new"),
+    "cudf_check cnf --help": ("cnf --help", "help cnf"), "cudf_check refute --help": ("refute --help", "help refute", "refute p --help"),
 }
 
 
@@ -202,7 +205,7 @@ def helps(trial):
         for words in forms:
             trial.expect(words, 0, told[asked] + end)
     # a command that has a long help has a short one too
-    for words in ("score -h", "rank -h"):
+    for words in ("score -h", "rank -h", "cnf -h", "refute -h"):
         status, output, errors = trial.run(words.split())
         trial.note(words, (status, output.endswith("\n" + end) or output, errors), 0, True, "")
 

@@ -62,6 +62,7 @@ USAGES = {
     "": "cudf_check <COMMAND>", "lint": "cudf_check lint [OPTIONS] <P>", "check": "cudf_check check [OPTIONS] <P> [S]",
     "score": "cudf_check score [OPTIONS] <P> [S]",
     "rank": "cudf_check rank [OPTIONS] --criteria <LIST> <P> <S>...",
+    "cnf": "cudf_check cnf [OPTIONS] <P>", "refute": "cudf_check refute [OPTIONS] <P> <PROOF>",
 }
 
 FILES = {

@@ -8,7 +8,7 @@ use Rattle.cudf_job.specs.Promises.Keys.{IsWritable}
 use Rattle.cudf_job.specs.declared.aims.Aim.{Aim}
 use Rattle.cudf_job.specs.declared.key.Key.{Key}
 use Rattle.cudf_job.specs.declared.job.Job.{Job}
-use Rattle.cudf_job.specs.declared.job.Job.TheVariants.{Lint, Check, Score}
+use Rattle.cudf_job.specs.declared.job.Job.TheVariants.{Lint, Check, Score, Cnf, Refute}
 
 -- no limit is 0
 abbrev pub limit_of : ℕ → Option ℕ
@@ -49,9 +49,13 @@ abbrev pub IsPage : List ℕ → ℕ → Bool → Job → Type 0
 IsPage after limit told (Lint explain) = ⊥
 IsPage after limit told (Check key number explain) = IsKey after key × (number ≡ limit_of limit) × (explain ≡ told)
 IsPage after limit told (Score aims) = ⊥
+IsPage after limit told Cnf = ⊥
+IsPage after limit told Refute = ⊥
 
 -- the counts of this list
 abbrev pub IsScore : List ℕ → Job → Type 0
 IsScore criteria (Lint explain) = ⊥
 IsScore criteria (Check key number explain) = ⊥
 IsScore criteria (Score aims) = IsList criteria (option_map (λ v. v.items) aims)
+IsScore criteria Cnf = ⊥
+IsScore criteria Refute = ⊥

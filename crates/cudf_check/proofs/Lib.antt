@@ -1,5 +1,7 @@
 pub mod AnswerLemmas
 pub mod CommonLemmas
+pub mod CoreLemmas
+pub mod EncodingLemmas
 mod Examples
 pub mod InputsLemmas
 pub mod JudgingLemmas

@@ -5,7 +5,7 @@ use Rattle.std.proofs.KnownBytes.{Keeps-refl}
 use Rattle.cudf_job.specs.declared.aims.Aim.{Aim}
 use Rattle.cudf_job.specs.declared.key.Key.{Key}
 use Rattle.cudf_job.specs.declared.job.Job.{Job}
-use Rattle.cudf_job.specs.declared.job.Job.TheVariants.{Lint, Check, Score}
+use Rattle.cudf_job.specs.declared.job.Job.TheVariants.{Lint, Check, Score, Cnf, Refute}
 use Rattle.cudf_check.specs.declared.outcome.Outcome.{Outcome}
 use Rattle.cudf_check.specs.declared.outcome.RunError.{RunError}
 use Rattle.cudf_check.specs.declared.outcome.RunError.TheVariants.{Read, TooLong, Write, Memory}
@@ -146,18 +146,21 @@ one_behind reader bytes was = record { all = (was.all, tt); finished = finished;
     short (inl h) = was.short h
     short (inr h) = absurd h
 
--- a job that judges a solution reads it
+-- a job that judges a solution or checks a proof reads it
 pub reads_it : (job : Job) (solutions : List (Change SourceState))
-    → ((after : Option Key) × (limit : Option ℕ) × (explain : Bool) × (job ≡ Check after limit explain)) ⊎ ((aims : Option (Vec Aim Global)) × (job ≡ Score aims))
+    → ((after : Option Key) × (limit : Option ℕ) × (explain : Bool) × (job ≡ Check after limit explain)) ⊎ (((aims : Option (Vec Aim Global)) × (job ≡ Score aims)) ⊎ (job ≡ Refute))
     → read_for job solutions ≡ solutions
 reads_it job solutions (inl check) = ap (λ j. read_for j solutions) check.3
-reads_it job solutions (inr score) = ap (λ j. read_for j solutions) score.1
+reads_it job solutions (inr (inl score)) = ap (λ j. read_for j solutions) score.1
+reads_it job solutions (inr (inr refute)) = ap (λ j. read_for j solutions) refute
 
 -- what holds of none of the readers holds of none that the job reads
 pub none_for : (P : Change SourceState → Type 0) (job : Job) (solutions : List (Change SourceState)) → (OfOne P solutions → ⊥) → OfOne P (read_for job solutions) → ⊥
 none_for P (Lint explain) solutions none h = absurd h
 none_for P (Check after limit explain) solutions none h = none h
 none_for P (Score aims) solutions none h = none h
+none_for P Cnf solutions none h = absurd h
+none_for P Refute solutions none h = none h
 
 -- this holds of one, and so of all
 pub of_one : {A : Type 0} (P : A → Type 0) (x : A) → P x → All P (x ∷ [])

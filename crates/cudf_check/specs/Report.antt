@@ -1,6 +1,7 @@
 -- The report of a run: a function of the job and the inputs to a text and an outcome. Own.
-use Rattle.std.specs.Prelude.{ℕ, Bool, false, List, [], ◌∷◌, ◌++◌, take, codes, decimal, Option, Some, None, option_map, option_and_then, if◌then◌else◌}
-use Rattle.std.specs.List.{flat_map, last_or}
+use Rattle.std.specs.Prelude.{ℕ, ◌-◌, Bool, true, false, ◌||◌, nat_lt, List, [], ◌∷◌, ◌++◌, length, map, filter_map, take, slice_get, codes, decimal, Option, Some, None, unwrap_or, option_map, option_and_then, if◌then◌else◌}
+use Rattle.std.specs.List.{flat_map, last_or, enumerate_from}
+use Rattle.std.specs.Option.{option_map_or}
 use Rattle.std.specs.Str.{is_utf8}
 use Rattle.cudf_text.specs.declared.fault.Fault.{Fault}
 use Rattle.cudf_text.specs.Faults.{fault_text}
@@ -14,11 +15,18 @@ use Rattle.cudf_document.specs.Details.{PlainDetail, fault_detail}
 use Rattle.cudf_document.specs.Faults.{least}
 use Rattle.cudf_document.specs.ProblemFaults.{problem_faults}
 use Rattle.cudf_document.specs.SolutionFaults.{solution_faults}
-use Rattle.cudf_problem.specs.Universe.{PlainPackage, PlainProblem, plain_problem, package_at}
+use Rattle.cudf_problem.specs.declared.package.Keep.{Keep}
+use Rattle.cudf_problem.specs.declared.package.Keep.TheVariants.{Version, Package, Feature, Nothing}
+use Rattle.cudf_problem.specs.Universe.{PlainPackage, PlainProblem, PlainRequest, plain_problem, package_at}
+use Rattle.cudf_index.specs.Satisfaction.{Placed}
 use Rattle.cudf_problem.specs.Statuses.{is_initial, is_proposed, unknown_stanzas}
 use Rattle.cudf_problem.specs.Ids.{Id}
 use Rattle.cudf_job.specs.Aims.{aim_text, count_of, count_text}
 use Rattle.cudf_job.specs.declared.aims.Aim.{Aim}
+use Rattle.cudf_job.specs.declared.key.Part.{Part}
+use Rattle.cudf_job.specs.declared.key.Part.TheVariants as part
+use Rattle.cudf_job.specs.declared.key.Rule.{Rule}
+use Rattle.cudf_job.specs.declared.key.Rule.TheVariants as rule
 use Rattle.cudf_job.specs.declared.key.Aspect.{Aspect}
 use Rattle.cudf_job.specs.declared.key.Aspect.TheVariants.{Unsatisfied, Many, Lower}
 use Rattle.cudf_job.specs.declared.criteria.Count.{Count}
@@ -31,13 +39,19 @@ use Rattle.cudf_job.specs.Keys.{PlainKey, key_text}
 use Rattle.cudf_job.specs.KeyViews.{key_view}
 use Rattle.cudf_referee.specs.Instances.{PlainWhat, needs, conflicts_with, keep_version, keep_package, keep_feature, install, remove, upgrade, unknown, PlainInstance}
 use Rattle.cudf_referee.specs.Proposals.{Proposal, proposal}
-use Rattle.cudf_referee.specs.Violations.{listing, rest, met_by}
+use Rattle.cudf_referee.specs.Violations.{instance, listing, rest, met_by}
 use Rattle.cudf_referee.specs.Solutions.{is_solution}
+use Rattle.cudf_lrat.specs.Answers as lrat
+use Rattle.cudf_lrat.specs.Kinds.{kind_text}
+use Rattle.cudf_lrat.specs.declared.literal.Literal.{Literal}
+use Rattle.cudf_cnf.specs.Cnf.{Keyed, cnf, clauses_of}
+use Rattle.cudf_reasons.specs.Reasons.{reasons_of}
+use Rattle.cudf_reasons.specs.Views.{Told, told_as}
 use Rattle.cudf_check.specs.Explanations.{instance_added, detail_added}
 use Rattle.cudf_job.specs.declared.job.Job.{Job}
-use Rattle.cudf_job.specs.declared.job.Job.TheVariants.{Lint, Check, Score}
+use Rattle.cudf_job.specs.declared.job.Job.TheVariants.{Lint, Check, Score, Cnf, Refute}
 use Rattle.cudf_check.specs.declared.outcome.Outcome.{Outcome}
-use Rattle.cudf_check.specs.declared.outcome.Outcome.TheVariants.{Yes, No, Faulty, Fail}
+use Rattle.cudf_check.specs.declared.outcome.Outcome.TheVariants.{Yes, No, Faulty, Fail, TooLarge}
 
 -- what is written, and how it ends
 pub record Report : Type 0 where
@@ -192,6 +206,111 @@ pair_report explain mode found problem solution =
     (if is_fail solution then alone (codes "solution FAIL") Fail
     else judged_report found (proposal_of (plain_problem (plain_text problem)) (plain_text solution))))
 
+-- ---- CNFs
+
+-- a problem's report, where it has no fault
+abbrev pub problem_report : Mode → List ℕ → (PlainProblem → Report) → Report
+problem_report mode bytes answer = faulty_or (codes "problem") (told false bytes) (problem_fault mode bytes) (answer (plain_problem (plain_text bytes)))
+
+-- more packages or clauses than a CNF may have here
+abbrev pub is_too_large : PlainProblem → Bool
+is_too_large problem = nat_lt 4294967295 (length problem.packages) || nat_lt 4294967295 (length (cnf problem))
+
+-- nothing is written of a CNF that is too large
+abbrev pub unless_too_large : PlainProblem → Report → Report
+unless_too_large problem report = if is_too_large problem then (record { text = []; outcome = TooLarge }) else report
+
+-- a comment for a package, as `c p1 car 1`
+abbrev pub package_comment : Placed → List ℕ
+package_comment (place, p) = codes "c p" ++ decimal place ++ codes " " ++ p.name ++ codes " " ++ line (decimal p.version)
+
+-- `p cnf 5 6`: how many variables and clauses there are
+abbrev pub header_line : ℕ → ℕ → List ℕ
+header_line places clauses = codes "p cnf " ++ decimal places ++ codes " " ++ line (decimal clauses)
+
+-- a literal and a blank
+abbrev pub literal_text : Literal → List ℕ
+literal_text l = (if l.positive then [] else codes "-") ++ decimal l.place ++ codes " "
+
+-- a clause, as `-1 2 0`
+abbrev pub clause_line : List Literal → List ℕ
+clause_line literals = flat_map literal_text literals ++ line (codes "0")
+
+-- the CNF of a problem in DIMACS
+abbrev pub cnf_text : PlainProblem → List ℕ
+cnf_text problem =
+    flat_map package_comment (enumerate_from 1 problem.packages)
+    ++ header_line (length problem.packages) (length (cnf problem))
+    ++ flat_map (λ c. clause_line c.1) (cnf problem)
+
+abbrev pub cnf_answer : PlainProblem → Report
+cnf_answer problem = unless_too_large problem (record { text = cnf_text problem; outcome = Yes })
+
+-- ---- refutations
+
+-- an entry by its number from 1
+abbrev pub entry_at : {A : Type 0} → List A → ℕ → Option A
+entry_at entries number = slice_get entries (number - 1)
+
+-- what a package's rule says of an entry
+abbrev pub kept_what : Keep → Option PlainVpkg → Option PlainWhat
+kept_what Version entry = Some keep_version
+kept_what Package entry = Some keep_package
+kept_what Feature entry = option_map keep_feature entry
+kept_what Nothing entry = None
+
+abbrev pub package_what : PlainPackage → Rule → ℕ → Option PlainWhat
+package_what p rule.Depends number = option_map needs (entry_at p.depends number)
+package_what p rule.Conflicts number = option_map conflicts_with (entry_at p.conflicts number)
+package_what p rule.Keep number = kept_what p.keep (entry_at p.provides number)
+package_what p _ number = None
+
+-- and a rule of the request
+abbrev pub request_what : PlainRequest → Rule → ℕ → Option PlainWhat
+request_what r rule.Install number = option_map install (entry_at r.install number)
+request_what r rule.Remove number = option_map remove (entry_at r.remove number)
+request_what r rule.Upgrade number = option_map upgrade (entry_at r.upgrade number)
+request_what r _ number = None
+
+-- the instance of a rule that a key names, whatever the status
+abbrev pub part_instance : PlainProblem → PlainKey → Part → Option PlainInstance
+part_instance problem key (part.Package place) = option_and_then (λ p. option_map (instance key p.line (Some (p.name, p.version))) (package_what p key.rule key.place)) (package_at problem place)
+part_instance problem key part.Request = option_map (instance key problem.request.line None) (request_what problem.request key.rule key.place)
+part_instance problem key part.Solution = None
+
+abbrev pub instance_of : PlainProblem → PlainKey → Option PlainInstance
+instance_of problem key = part_instance problem key key.part
+
+-- another package that meets an entry
+abbrev pub also_text : Option PlainPackage → List ℕ
+also_text None = []
+also_text (Some p) = codes ", " ++ p.name ++ codes " " ++ decimal p.version
+
+-- the packages at these places, as `, met by mailer 4, proxy 1`
+abbrev pub met_texts : PlainProblem → List ℕ → List ℕ
+met_texts problem [] = []
+met_texts problem (place ∷ places) = meeting_text (package_at problem place) ++ flat_map (λ other. also_text (package_at problem other)) places
+
+-- the line of a needed instance, with all packages by which its clauses are needed
+abbrev pub reason_line : PlainProblem → Told → List ℕ
+reason_line problem (key, places) = option_map_or (λ i. met_text i None ++ line (met_texts problem places)) (instance_of problem key) []
+
+-- the clauses of these numbers from 1
+abbrev pub needed : List Keyed → List ℕ → List Keyed
+needed clauses numbers = filter_map (λ n. slice_get clauses (n - 1)) numbers
+
+-- no status keeps all of these instances, so none is a solution
+abbrev pub core_text : PlainProblem → List ℕ → List ℕ
+core_text problem core = flat_map (reason_line problem) (map told_as (reasons_of (needed (cnf problem) core))) ++ line (codes "no solution exists")
+
+-- what comes of a proof: the line of its first fault, or the core
+abbrev pub proof_report : PlainProblem → lrat.PlainAnswer → Report
+proof_report problem (lrat.faulty number kind) = alone (codes "proof line " ++ decimal number ++ codes ": " ++ kind_text kind) No
+proof_report problem (lrat.refuted core) = record { text = core_text problem core; outcome = Yes }
+
+abbrev pub refute_answer : List ℕ → PlainProblem → Report
+refute_answer proof problem = unless_too_large problem (proof_report problem (lrat.checked (length problem.packages) (clauses_of (cnf problem)) proof))
+
 -- ---- the report
 
 -- the second input is the solution; where there is none, the first one is cut
@@ -203,3 +322,5 @@ unfoldable pub report : Job → Mode → List ℕ → Option (List ℕ) → Repo
 report (Lint explain) mode input solution = faulty_or (codes "problem") (told explain input) (problem_fault mode input) (alone (codes "problem ok") Yes)
 report (Check after limit explain) mode input solution = inputs_report explain mode (check_text explain (option_map key_view after) limit) input solution
 report (Score aims) mode input solution = inputs_report false mode (scored_text (option_map (λ list. list.items) aims)) input solution
+report Cnf mode input solution = problem_report mode input cnf_answer
+report Refute mode input proof = problem_report mode input (refute_answer (unwrap_or proof []))

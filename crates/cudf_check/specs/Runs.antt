@@ -9,9 +9,9 @@ use Rattle.cudf_check.specs.Device.{SourceState, SinkState}
 use Rattle.cudf_check.specs.Readers.{Change, ReadsAll, IsUnfinished, IsTooLong, IsStopped, OfOne}
 use Rattle.cudf_check.specs.Report.{Report, report}
 use Rattle.cudf_job.specs.declared.job.Job.{Job}
-use Rattle.cudf_job.specs.declared.job.Job.TheVariants.{Lint}
+use Rattle.cudf_job.specs.declared.job.Job.TheVariants.{Lint, Cnf}
 use Rattle.cudf_check.specs.declared.outcome.Outcome.{Outcome}
-use Rattle.cudf_check.specs.declared.outcome.Outcome.TheVariants.{Yes, No, Faulty, Fail}
+use Rattle.cudf_check.specs.declared.outcome.Outcome.TheVariants.{Yes, No, Faulty, Fail, TooLarge}
 use Rattle.cudf_check.specs.declared.outcome.RunError.{RunError}
 use Rattle.cudf_check.specs.declared.outcome.RunError.TheVariants.{Read, TooLong, Write, Memory}
 
@@ -53,14 +53,16 @@ pub record Runs (answer : List ℕ → List (List ℕ) → Report) (first : Chan
 abbrev pub job_report : Job → Mode → List ℕ → List (List ℕ) → Report
 job_report job mode input solutions = report job mode input (slice_get solutions 0)
 
--- the reader of a solution, where there is one and the job reads it
+-- the reader of a solution or a proof, where there is one and the job reads it
 abbrev pub read_for : Job → List (Change SourceState) → List (Change SourceState)
 read_for (Lint explain) solutions = []
+read_for Cnf solutions = []
 read_for job solutions = solutions
 
 -- the solution isn't read: the job needs none, or the reading of the first input ended in an error
 abbrev pub SkipsSolution : Job → Change SourceState → Type 0
 SkipsSolution (Lint explain) input = Unit {0}
+SkipsSolution Cnf input = Unit {0}
 SkipsSolution job input = IsStopped input
 
 -- the device behind an optional reference, if there is one, as it was lent
@@ -81,6 +83,7 @@ outcome_status Yes = 0
 outcome_status No = 1
 outcome_status Faulty = 2
 outcome_status Fail = 3
+outcome_status TooLarge = 5
 
 -- the status where there is no whole report
 abbrev pub error_status : RunError → ℕ

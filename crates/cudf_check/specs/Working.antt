@@ -1,4 +1,5 @@
 pub mod Answering
+pub mod Encoded
 pub mod Found
 pub mod InTurn
 pub mod Judged

@@ -10,6 +10,6 @@ pub(crate) fn explains(job: &Job) -> bool
 {
     match job {
         Job::Lint { explain } | Job::Check { explain, .. } => *explain,
-        Job::Score { .. } => false,
+        Job::Score { .. } | Job::Cnf | Job::Refute => false,
     }
 }

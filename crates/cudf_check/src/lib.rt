@@ -11,8 +11,10 @@ ghost use Rattle.cudf_check.specs.Runs.{job_report, lent, read_for, returned, Ru
 
 mod buffer;
 mod device;
+mod encoding;
 mod input;
 mod inputs;
+mod instances;
 mod job;
 mod judging;
 pub mod laws;
@@ -42,8 +44,8 @@ use std::alloc::Global;
 /// mode, answers the job and writes its report to `out`.
 ///
 /// Without a `solution` a job that judges one takes both documents from `input`: the problem goes through the first
-/// blank line behind the line that begins with `request:`, and the rest is the solution. For `Lint` the whole `input`
-/// is the problem.
+/// blank line behind the line that begins with `request:`, and the rest is the solution. For `Lint`, `Cnf` and `Refute`
+/// the whole `input` is the problem; for `Refute` the second input is a proof.
 ///
 /// # Errors
 ///
@@ -82,8 +84,8 @@ pub fn run<R: Source, S: Source, W: Sink>(
     };
     let first = read_all(alloc, input)?;
     match job {
-        Job::Lint { .. } => answer_job(setting, job, &first, None, out),
-        Job::Check { .. } | Job::Score { .. } => {
+        Job::Lint { .. } | Job::Cnf => answer_job(setting, job, &first, None, out),
+        Job::Check { .. } | Job::Score { .. } | Job::Refute => {
             let second = read_all(alloc, solution)?;
             answer_job(setting, job, &first, Some(&second), out)
         }

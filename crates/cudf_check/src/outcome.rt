@@ -6,14 +6,17 @@ use thiserror::Error;
 /// What the report of whole inputs says.
 #[derive(Clone, Copy, Debug, PartialEq, Eq)]
 pub enum Outcome {
-    /// The proposed status is a solution, or the problem has no fault; of a ranking, at least one is a solution.
+    /// The proposed status is a solution, or the problem has no fault; of a ranking, at least one is a solution; of a
+    /// proof, it shows that there is none.
     Yes,
-    /// The proposed status isn't a solution; of a ranking, none is, and not all say FAIL.
+    /// The proposed status isn't a solution; of a ranking, none is, and not all say FAIL; of a proof, it has a fault.
     No,
     /// A document is faulty.
     Faulty,
     /// The solution says that there is none; of a ranking, each says so, or there is none to rank.
     Fail,
+    /// The problem has more packages or CNF clauses than 4294967295. Nothing was written.
+    TooLarge,
 }
 
 /// Why there is no whole report.
@@ -36,7 +39,7 @@ pub enum RunError {
 impl Outcome {
     ghost use Rattle.cudf_check.specs.Runs.{outcome_status};
 
-    /// The exit status: 0 for `Yes`, 1 for `No`, 2 for `Faulty`, 3 for `Fail`.
+    /// The exit status: 0 for `Yes`, 1 for `No`, 2 for `Faulty`, 3 for `Fail`, 5 for `TooLarge`.
     pub fn status(self) -> u8
         ensures { result ≡ outcome_status self }
     {
@@ -45,6 +48,7 @@ impl Outcome {
             Outcome::No => 1,
             Outcome::Faulty => 2,
             Outcome::Fail => 3,
+            Outcome::TooLarge => 5,
         }
     }
 }

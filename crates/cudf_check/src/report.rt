@@ -1,19 +1,19 @@
 //! Decides which report the inputs have.
-ghost use Rattle.std.specs.Prelude.{◌≡◌, ℕ, Bool, IfOk, IfSome, List, Option, codes, option_copied, option_map, if◌then◌else◌};
+ghost use Rattle.std.specs.Prelude.{◌≡◌, ℕ, Bool, false, IfOk, IfSome, List, Option, codes, option_copied, option_map, if◌then◌else◌};
 ghost use Rattle.cudf_text.specs.Joined.{is_fail};
 ghost use Rattle.cudf_text.specs.declared.fault.Fault.{Fault};
 ghost use Rattle.cudf_problem.specs.declared.mode.Mode.{Mode};
 ghost use Rattle.cudf_document.specs.Promises.Views.{detail_view};
 ghost use Rattle.cudf_referee.specs.Proposals.{Proposal};
 ghost use Rattle.cudf_check.specs.declared.outcome.Outcome.TheVariants.{Fail, Yes};
-ghost use Rattle.cudf_check.specs.Report.{Report, alone, faulty_or, problem_fault, solution_fault, pair_report, inputs_report, report, told};
+ghost use Rattle.cudf_check.specs.Report.{Report, alone, faulty_or, cnf_answer, problem_fault, problem_report, refute_answer, solution_fault, pair_report, inputs_report, report, told};
 ghost use Rattle.cudf_check.specs.Working.Answering.{Answers};
 ghost use Rattle.cudf_check.specs.Working.Found.{explains, found_text};
 ghost use Rattle.cudf_check.specs.Working.Unjudged.{IsFaultOf, IsTextOr, IsUnjudged};
 
 use crate::device::Sink;
 use crate::job::explains;
-use crate::lines::{answer, answer_fault, answer_judged};
+use crate::lines::{answer, answer_cnf, answer_fault, answer_judged, answer_proof};
 use crate::outcome::{Outcome, RunError};
 use crate::readings::{Unjudged, problem_in, proposed_in, sound_in};
 use crate::setting::Setting;
@@ -139,6 +139,48 @@ fn lint<W: Sink>(setting: Setting, out: &mut W, problem: Document<'_>) -> Result
     }
 }
 
+/// Writes the CNF of a problem, or says which fault of it is the first.
+fn print_cnf<W: Sink>(setting: Setting, out: &mut W, bytes: &[u8]) -> Result<Outcome, RunError>
+    ensures { Answers (W.state out.old) (W.state out.new) (problem_report setting.mode bytes.now cnf_answer) result }
+{
+    let alloc = setting.alloc;
+    let mut room = Room::new(alloc);
+    match problem_in(setting, bytes, &mut room) {
+        Ok(problem) => answer_cnf(alloc, out, &problem),
+        Err(error) => answer_unread(alloc, out, unexplained(bytes), error),
+    }
+}
+
+/// Checks a proof that a problem has no solution, or says which fault of the problem is the first.
+fn refute<W: Sink>(
+    setting: Setting,
+    out: &mut W,
+    bytes: &[u8],
+    proof: &[u8],
+) -> Result<Outcome, RunError>
+    ensures { Answers (W.state out.old) (W.state out.new) (problem_report setting.mode bytes.now (refute_answer proof.now)) result }
+{
+    let alloc = setting.alloc;
+    let mut room = Room::new(alloc);
+    match problem_in(setting, bytes, &mut room) {
+        Ok(problem) => answer_proof(alloc, out, &problem, proof),
+        Err(error) => answer_unread(alloc, out, unexplained(bytes), error),
+    }
+}
+
+/// A problem of whose fault nothing more is told.
+fn unexplained(bytes: &[u8]) -> Document<'_>
+    ensures whose { result.whose.now ≡ codes "problem" }
+    ensures bytes { result.bytes.now ≡ bytes.entry.now }
+    ensures explain { result.explain ≡ false }
+{
+    Document {
+        whose: "problem",
+        bytes,
+        explain: false,
+    }
+}
+
 /// The problem and its solution: the second input is the solution; where there is none, the first is cut.
 fn parted<'t>(input: &'t [u8], solution: Option<&'t [u8]>) -> (&'t [u8], &'t [u8])
     ensures { (explain : Bool) → (mode : Mode) → (found : Proposal → List ℕ) → pair_report explain mode found result.0.now result.1.now
@@ -174,5 +216,7 @@ pub(crate) fn answer_job<W: Sink>(
             let (problem, solution) = parted(input, solution);
             check(setting, out, job, problem, solution)
         }
+        Job::Cnf => print_cnf(setting, out, input),
+        Job::Refute => refute(setting, out, input, solution.unwrap_or(&[])),
     }
 }

@@ -8,11 +8,12 @@ use Rattle.cudf_command_line.specs.declared.command.Order.{Order}
 use Rattle.cudf_command_line.specs.declared.refusal.Refusal.{Refusal}
 use Rattle.cudf_command_line.specs.Command.{Words, words_of, words_in, Asks, AsksOf, IsAskedBy, IsRefusedBy, arguments, has_list_apart}
 
-abbrev all_words : (problem : Option (List ℕ)) (solution solutions : Option (List (List ℕ))) (after limit criteria strict explain : Option (List ℕ)) → Words
-all_words problem solution solutions after limit criteria strict explain = record {
+abbrev all_words : (problem : Option (List ℕ)) (solution solutions proof : Option (List (List ℕ))) (after limit criteria strict explain : Option (List ℕ)) → Words
+all_words problem solution solutions proof after limit criteria strict explain = record {
   problem = problem;
   solution = solution;
   solutions = solutions;
+  proof = proof;
   after = after;
   limit = limit;
   criteria = criteria;
@@ -29,14 +30,17 @@ words-rows found =
     let before : Option (List (List ℕ)) = option_map raw_values (matched_of found (codes "solution")) in
     let one : Option (List (List ℕ)) = all_of (codes "solution") (rows_of found) in
     let several : Option (List (List ℕ)) = all_of (codes "solutions") (rows_of found) in
-    ap (λ (ws : Option (List (List ℕ))). all_words (old (codes "problem")) before ws (old (codes "after")) (old (codes "limit")) (old (codes "criteria")) (old (codes "strict")) (old (codes "explain"))) (each (codes "solutions"))
-    ∙ (ap (λ (w : Option (List ℕ)). all_words w before several (old (codes "after")) (old (codes "limit")) (old (codes "criteria")) (old (codes "strict")) (old (codes "explain"))) (same (codes "problem"))
-    ∙ (ap (λ (ws : Option (List (List ℕ))). all_words (new (codes "problem")) ws several (old (codes "after")) (old (codes "limit")) (old (codes "criteria")) (old (codes "strict")) (old (codes "explain"))) (each (codes "solution"))
-    ∙ (ap (λ (w : Option (List ℕ)). all_words (new (codes "problem")) one several w (old (codes "limit")) (old (codes "criteria")) (old (codes "strict")) (old (codes "explain"))) (same (codes "after"))
-    ∙ (ap (λ (w : Option (List ℕ)). all_words (new (codes "problem")) one several (new (codes "after")) w (old (codes "criteria")) (old (codes "strict")) (old (codes "explain"))) (same (codes "limit"))
-    ∙ (ap (λ (w : Option (List ℕ)). all_words (new (codes "problem")) one several (new (codes "after")) (new (codes "limit")) w (old (codes "strict")) (old (codes "explain"))) (same (codes "criteria"))
-    ∙ (ap (λ (w : Option (List ℕ)). all_words (new (codes "problem")) one several (new (codes "after")) (new (codes "limit")) (new (codes "criteria")) w (old (codes "explain"))) (same (codes "strict"))
-    ∙ ap (λ (w : Option (List ℕ)). all_words (new (codes "problem")) one several (new (codes "after")) (new (codes "limit")) (new (codes "criteria")) (new (codes "strict")) w) (same (codes "explain"))))))))
+    let proof_before : Option (List (List ℕ)) = option_map raw_values (matched_of found (codes "proof")) in
+    let proof : Option (List (List ℕ)) = all_of (codes "proof") (rows_of found) in
+    ap (λ (ws : Option (List (List ℕ))). all_words (old (codes "problem")) before ws proof_before (old (codes "after")) (old (codes "limit")) (old (codes "criteria")) (old (codes "strict")) (old (codes "explain"))) (each (codes "solutions"))
+    ∙ (ap (λ (w : Option (List ℕ)). all_words w before several proof_before (old (codes "after")) (old (codes "limit")) (old (codes "criteria")) (old (codes "strict")) (old (codes "explain"))) (same (codes "problem"))
+    ∙ (ap (λ (ws : Option (List (List ℕ))). all_words (new (codes "problem")) ws several proof_before (old (codes "after")) (old (codes "limit")) (old (codes "criteria")) (old (codes "strict")) (old (codes "explain"))) (each (codes "solution"))
+    ∙ (ap (λ (ws : Option (List (List ℕ))). all_words (new (codes "problem")) one several ws (old (codes "after")) (old (codes "limit")) (old (codes "criteria")) (old (codes "strict")) (old (codes "explain"))) (each (codes "proof"))
+    ∙ (ap (λ (w : Option (List ℕ)). all_words (new (codes "problem")) one several proof w (old (codes "limit")) (old (codes "criteria")) (old (codes "strict")) (old (codes "explain"))) (same (codes "after"))
+    ∙ (ap (λ (w : Option (List ℕ)). all_words (new (codes "problem")) one several proof (new (codes "after")) w (old (codes "criteria")) (old (codes "strict")) (old (codes "explain"))) (same (codes "limit"))
+    ∙ (ap (λ (w : Option (List ℕ)). all_words (new (codes "problem")) one several proof (new (codes "after")) (new (codes "limit")) w (old (codes "strict")) (old (codes "explain"))) (same (codes "criteria"))
+    ∙ (ap (λ (w : Option (List ℕ)). all_words (new (codes "problem")) one several proof (new (codes "after")) (new (codes "limit")) (new (codes "criteria")) w (old (codes "explain"))) (same (codes "strict"))
+    ∙ ap (λ (w : Option (List ℕ)). all_words (new (codes "problem")) one several proof (new (codes "after")) (new (codes "limit")) (new (codes "criteria")) (new (codes "strict")) w) (same (codes "explain")))))))))
 
 -- what is asked of the entries is asked of the name and the rows
 pub asked : {B : Type 0} (f : B → List ℕ × List Row) (sub : Option B) (name : List ℕ) (found : Found) (result : Result Order Refusal)

@@ -16,7 +16,7 @@ use Rattle.cudf_job.specs.KeyViews.{key_view}
 use Rattle.cudf_job.specs.declared.key.Key.{Key}
 use Rattle.cudf_problem.specs.declared.mode.Mode.{Mode}
 use Rattle.cudf_problem.specs.declared.mode.Mode.TheVariants.{Lenient, Strict}
-use Rattle.cudf_job.specs.declared.job.Job.TheVariants.{Lint, Check, Score}
+use Rattle.cudf_job.specs.declared.job.Job.TheVariants.{Lint, Check, Score, Cnf, Refute}
 use Rattle.cudf_command_line.specs.declared.command.FileName.{FileName}
 use Rattle.cudf_command_line.specs.declared.command.FileName.TheVariants.{Path, Standard}
 use Rattle.cudf_command_line.specs.declared.command.Order.{Order}
@@ -148,6 +148,7 @@ pub record Words : Type 0 where
   pub problem : Option (List ℕ)
   pub solution : Option (List (List ℕ))
   pub solutions : Option (List (List ℕ))
+  pub proof : Option (List (List ℕ))
   pub after : Option (List ℕ)
   pub limit : Option (List ℕ)
   pub criteria : Option (List ℕ)
@@ -159,6 +160,7 @@ words_of found = record {
   problem = first_value found (codes "problem");
   solution = option_map raw_values (matched_of found (codes "solution"));
   solutions = option_map raw_values (matched_of found (codes "solutions"));
+  proof = option_map raw_values (matched_of found (codes "proof"));
   after = first_value found (codes "after");
   limit = first_value found (codes "limit");
   criteria = first_value found (codes "criteria");
@@ -194,6 +196,12 @@ rank_words words = record (files_alone words.problem words.solutions) {
   criteria = words.criteria;
   is_whole = is_some words.criteria && (is_some words.solutions && is_some words.problem);
 }
+
+abbrev pub cnf_words : Words → Taken
+cnf_words words = files_alone words.problem None
+
+abbrev pub refute_words : Words → Taken
+refute_words words = record (files_alone words.problem words.proof) { is_whole = is_some words.proof && is_some words.problem }
 
 -- ---- what is refused
 
@@ -235,17 +243,27 @@ abbrev pub Checks : Taken → Work → Type 0
 Checks taken (Run (Lint explain)) = ⊥
 Checks taken (Run (Check key number explain)) = IsAfter taken.after key × IsLimit taken.limit number × (explain ≡ is_given taken.explain)
 Checks taken (Run (Score aims)) = ⊥
+Checks taken (Run Cnf) = ⊥
+Checks taken (Run Refute) = ⊥
 Checks taken (Rank aims) = ⊥
 
 abbrev pub Scores : Taken → Work → Type 0
 Scores taken (Run (Lint explain)) = ⊥
 Scores taken (Run (Check key number explain)) = ⊥
 Scores taken (Run (Score aims)) = IsList taken.criteria (option_map (λ v. v.items) aims)
+Scores taken (Run Cnf) = ⊥
+Scores taken (Run Refute) = ⊥
 Scores taken (Rank aims) = ⊥
 
 abbrev pub Ranks : Taken → Work → Type 0
 Ranks taken (Run job) = ⊥
 Ranks taken (Rank aims) = IsList taken.criteria (Some aims.items)
+
+abbrev pub PrintsCnf : Taken → Work → Type 0
+PrintsCnf taken work = work ≡ Run Cnf
+
+abbrev pub ChecksProof : Taken → Work → Type 0
+ChecksProof taken work = work ≡ Run Refute
 
 -- the order does this, in a mode and with the files that the words name
 pub record IsOrderOf (Does : Taken → Work → Type 0) (mode : Mode) (taken : Taken) (order : Order) : Type 0 where
@@ -262,6 +280,8 @@ pub record Asks (name : List ℕ) (words : Words) (result : Result Order Refusal
   pub check : name ≡ codes "check" → AnswersBy Checks (mode_of words.strict) (check_words words) result
   pub score : name ≡ codes "score" → AnswersBy Scores (mode_of words.strict) (score_words words) result
   pub rank : name ≡ codes "rank" → AnswersBy Ranks (mode_of words.strict) (rank_words words) result
+  pub cnf : name ≡ codes "cnf" → AnswersBy PrintsCnf (mode_of words.strict) (cnf_words words) result
+  pub refute : name ≡ codes "refute" → AnswersBy ChecksProof (mode_of words.strict) (refute_words words) result
 
 -- the same words, in the rows that a parse has of a command
 abbrev pub words_in : List Row → Words
@@ -269,6 +289,7 @@ words_in rows = record {
   problem = first_of (codes "problem") rows;
   solution = all_of (codes "solution") rows;
   solutions = all_of (codes "solutions") rows;
+  proof = all_of (codes "proof") rows;
   after = first_of (codes "after") rows;
   limit = first_of (codes "limit") rows;
   criteria = first_of (codes "criteria") rows;

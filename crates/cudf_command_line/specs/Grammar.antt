@@ -23,6 +23,10 @@ solutions_word = record (new_rule (codes "solutions")) {
   required = true;
 }
 
+-- the file of a proof, which has to be named
+abbrev pub proof_word : Rule
+proof_word = record (new_rule (codes "proof")) { value_names = 1; required = true }
+
 -- `--after KEY`
 abbrev pub after_option : Rule
 after_option = record (new_rule (codes "after")) { long = Some (codes "after"); value_names = 1 }
@@ -59,6 +63,12 @@ score_grammar = with_rule (with_rule (with_rule (with_rule (new_app (codes "scor
 abbrev pub rank_grammar : App
 rank_grammar = with_rule (with_rule (with_rule (with_rule (new_app (codes "rank")) problem_word) solutions_word) needed_criteria) strict_flag
 
+abbrev pub cnf_grammar : App
+cnf_grammar = with_rule (with_rule (new_app (codes "cnf")) problem_word) strict_flag
+
+abbrev pub refute_grammar : App
+refute_grammar = with_rule (with_rule (with_rule (new_app (codes "refute")) problem_word) proof_word) strict_flag
+
 -- the program has a version, and one of its commands has to be named
 abbrev pub plain_grammar : App
 plain_grammar = record {
@@ -67,7 +77,7 @@ plain_grammar = record {
 }
 
 abbrev pub grammar : App
-grammar = with_subcommand (with_subcommand (with_subcommand (with_subcommand plain_grammar lint_grammar.top) check_grammar.top) score_grammar.top) rank_grammar.top
+grammar = with_subcommand (with_subcommand (with_subcommand (with_subcommand (with_subcommand (with_subcommand plain_grammar lint_grammar.top) check_grammar.top) score_grammar.top) rank_grammar.top) cnf_grammar.top) refute_grammar.top
 
 -- the command is of this grammar, and no argument of it is one of other commands too
 abbrev pub IsOf : App → Command → Type 0

@@ -2,13 +2,13 @@
 ghost use Rattle.std.specs.Prelude.{◌≡◌, IfOk, MatchResult, drop, is_some, map, option_map, string_bytes, true, false};
 ghost use Rattle.clap.specs.Matches.{found_of};
 ghost use Rattle.clap.specs.Words.{subcommand_rows_of};
-ghost use Rattle.cudf_command_line.specs.Command.{IsNamedBy, AreNamedBy, AreGivenBy, IsAfter, IsLimit, IsList, words_of, lint_words, check_words, score_words, rank_words, AnswersBy, Lints, Checks, Scores, Ranks, RefusesKey, RefusesLimit, RefusesList, Asks, IsAskedBy, IsRefusedBy, has_list_apart, is_given, mode_of, takes_list, takes_list_apart, takes_standard_twice};
+ghost use Rattle.cudf_command_line.specs.Command.{IsNamedBy, AreNamedBy, AreGivenBy, IsAfter, IsLimit, IsList, words_of, lint_words, check_words, score_words, rank_words, cnf_words, refute_words, AnswersBy, Lints, Checks, Scores, Ranks, PrintsCnf, ChecksProof, RefusesKey, RefusesLimit, RefusesList, Asks, IsAskedBy, IsRefusedBy, has_list_apart, is_given, mode_of, takes_list, takes_list_apart, takes_standard_twice};
 ghost use Rattle.cudf_command_line.specs.declared.refusal.Refusal.TheVariants.{Memory};
 ghost use Rattle.cudf_command_line.specs.Orders.{IsAskedFor, IsUnasked};
 
 use crate::grammar::{
-    AFTER, CHECK, CRITERIA, EXPLAIN, LIMIT, LINT, PROBLEM, RANK, SCORE, SOLUTION, SOLUTIONS,
-    STRICT, program,
+    AFTER, CHECK, CNF, CRITERIA, EXPLAIN, LIMIT, LINT, PROBLEM, PROOF, RANK, REFUTE, SCORE,
+    SOLUTION, SOLUTIONS, STRICT, program,
 };
 use crate::refusal::Refusal;
 use crate::topic::Topic;
@@ -157,6 +157,8 @@ fn order_of<'w>(alloc: Global, name: &str, found: &ArgMatches<'w>) -> Result<Ord
         CHECK => check_order(alloc, found),
         SCORE => score_order(alloc, found),
         RANK => rank_order(alloc, found),
+        CNF => cnf_order(alloc, found),
+        REFUTE => refute_order(alloc, found),
         _ => Err(Refusal::Missing),
     }
 }
@@ -218,6 +220,33 @@ fn rank_order<'w>(alloc: Global, found: &ArgMatches<'w>) -> Result<Order<'w>, Re
         mode,
         found.get_str(PROBLEM),
         Some(solutions),
+    )
+}
+
+fn cnf_order<'w>(alloc: Global, found: &ArgMatches<'w>) -> Result<Order<'w>, Refusal<'w>>
+    ensures { AnswersBy PrintsCnf (mode_of (words_of (found_of found.now)).strict) (cnf_words (words_of (found_of found.now))) result }
+{
+    let mode = mode(found.get_str(STRICT));
+    Order::new(
+        alloc,
+        Work::Run(Job::Cnf),
+        mode,
+        found.get_str(PROBLEM),
+        None,
+    )
+}
+
+fn refute_order<'w>(alloc: Global, found: &ArgMatches<'w>) -> Result<Order<'w>, Refusal<'w>>
+    ensures { AnswersBy ChecksProof (mode_of (words_of (found_of found.now)).strict) (refute_words (words_of (found_of found.now))) result }
+{
+    let proof = found.get_strs(PROOF).ok_or(Refusal::Missing)?;
+    let mode = mode(found.get_str(STRICT));
+    Order::new(
+        alloc,
+        Work::Run(Job::Refute),
+        mode,
+        found.get_str(PROBLEM),
+        Some(proof),
     )
 }
 

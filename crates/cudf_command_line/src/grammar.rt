@@ -1,7 +1,7 @@
 //! The commands, their options and the texts of help.
 ghost use Rattle.std.specs.Prelude.{◌≡◌, IfOk, false};
 ghost use Rattle.clap.specs.Words.{rule_of};
-ghost use Rattle.cudf_command_line.specs.Grammar.{problem_word, solution_word, after_option, limit_option, solutions_word, criteria_option, needed_criteria, strict_flag, explain_flag, lint_grammar, check_grammar, score_grammar, rank_grammar, grammar, IsOf};
+ghost use Rattle.cudf_command_line.specs.Grammar.{problem_word, solution_word, after_option, limit_option, solutions_word, proof_word, criteria_option, needed_criteria, strict_flag, explain_flag, lint_grammar, check_grammar, score_grammar, rank_grammar, cnf_grammar, refute_grammar, grammar, IsOf};
 
 use clap::{Arg, ArgAction, Command};
 use std::alloc::{AllocError, Global};
@@ -17,11 +17,17 @@ pub(crate) const SCORE: &str = "score";
 
 pub(crate) const RANK: &str = "rank";
 
+pub(crate) const CNF: &str = "cnf";
+
+pub(crate) const REFUTE: &str = "refute";
+
 pub(crate) const PROBLEM: &str = "problem";
 
 pub(crate) const SOLUTION: &str = "solution";
 
 pub(crate) const SOLUTIONS: &str = "solutions";
+
+pub(crate) const PROOF: &str = "proof";
 
 pub(crate) const AFTER: &str = "after";
 
@@ -59,16 +65,32 @@ or touched. Solutions are compared by the first aim whose counts differ. Those t
 files.
   touched  counts the packages that are installed before or after, and not both.";
 
+const ABOUT_CNF: &str = "Prints the rules of a problem as a CNF, for a SAT solver";
+
+const ABOUT_CNF_LINES: &str = "Prints the rules of a problem as a CNF, for a SAT solver.
+
+It is in DIMACS: a comment for each package, as c p1 car 1, with its number, name and version, and a clause for each
+instance of a rule. A model installs the packages of its positive numbers, and is a solution. This program solves
+nothing: it is for a SAT solver to find a model, or a proof that there is none, which refute checks.";
+
+const ABOUT_REFUTE: &str = "Checks a proof that a problem has no solution";
+
+const ABOUT_REFUTE_LINES: &str = "Checks a proof that a problem has no solution.
+
+The proof is in the text form of LRAT, as cadical --lrat --no-binary writes it for what cnf prints. It is checked against
+the rules of the problem itself. Where it holds, this prints the instances of rules of which no answer can keep all, and
+no solution exists; and else the line of the first fault of the proof, which says nothing of the problem.";
+
 const STATUSES: &str = "Exit status:
-  0  the answer is a solution, or the problem is without fault; rank: one of the answers is a solution
-  1  the answer is no solution; rank: none is, and one doesn't say FAIL
+  0  the answer is a solution, or the problem is without fault; rank: one of the answers is a solution; refute: the proof holds
+  1  the answer is no solution; rank: none is, and one doesn't say FAIL; refute: the proof has a fault
   2  a document is faulty
   3  the answer says FAIL; rank: all do
   4  the words aren't understood
-  5  a file can't be opened, a read or a write failed, or an input is longer than 268435456 bytes
+  5  a file can't be opened, a read or a write failed, an input is longer than 268435456 bytes, or a CNF has more than 4294967295 clauses
   6  there isn't enough memory
 
-FAIL alone in the file of an answer says that its solver found no solution; whether there is one isn't judged.
+FAIL alone in the file of an answer says that its solver found no solution; cnf and refute tell whether there is one.
 A line of a report begins with a key, as p1.depends.2: the second clause of depends of the first package of the problem.";
 
 /// The program with its commands.
@@ -83,7 +105,9 @@ pub(crate) fn program<'w>(alloc: Global) -> Result<Command<'w>, AllocError>
         .subcommand(lint_command(alloc)?)?
         .subcommand(check_command(alloc)?)?
         .subcommand(score_command(alloc)?)?
-        .subcommand(rank_command(alloc)?)
+        .subcommand(rank_command(alloc)?)?
+        .subcommand(cnf_command(alloc)?)?
+        .subcommand(refute_command(alloc)?)
 }
 
 fn lint_command<'w>(alloc: Global) -> Result<Command<'w>, AllocError>
@@ -137,6 +161,29 @@ fn rank_command<'w>(alloc: Global) -> Result<Command<'w>, AllocError>
         .arg(strict(alloc))
 }
 
+fn cnf_command<'w>(alloc: Global) -> Result<Command<'w>, AllocError>
+    ensures { IfOk result (IsOf cnf_grammar) }
+{
+    Command::new(alloc, CNF)
+        .about(ABOUT_CNF)
+        .long_about(ABOUT_CNF_LINES)
+        .after_help(STATUSES)
+        .arg(problem(alloc))?
+        .arg(strict_problem(alloc))
+}
+
+fn refute_command<'w>(alloc: Global) -> Result<Command<'w>, AllocError>
+    ensures { IfOk result (IsOf refute_grammar) }
+{
+    Command::new(alloc, REFUTE)
+        .about(ABOUT_REFUTE)
+        .long_about(ABOUT_REFUTE_LINES)
+        .after_help(STATUSES)
+        .arg(problem(alloc))?
+        .arg(proof(alloc))?
+        .arg(strict_problem(alloc))
+}
+
 fn problem<'w>(alloc: Global) -> Arg<'w>
     ensures rule { rule_of result ≡ problem_word }
     ensures local { result.global ≡ false }
@@ -164,6 +211,16 @@ fn solutions<'w>(alloc: Global) -> Arg<'w>
         .value_name("S")
         .help("The files of the solutions");
     files.num_args(1..).required(true)
+}
+
+fn proof<'w>(alloc: Global) -> Arg<'w>
+    ensures rule { rule_of result ≡ proof_word }
+    ensures local { result.global ≡ false }
+{
+    Arg::new(alloc, PROOF)
+        .value_name("PROOF")
+        .help("The file of the proof, in the text form of LRAT; - is standard input")
+        .required(true)
 }
 
 fn after<'w>(alloc: Global) -> Arg<'w>

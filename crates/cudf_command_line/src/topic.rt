@@ -1,5 +1,5 @@
 //! The command that a usage fault is about.
-use crate::grammar::{CHECK, LINT, RANK, SCORE};
+use crate::grammar::{CHECK, CNF, LINT, RANK, REFUTE, SCORE};
 
 /// A command, or the program where the words name none.
 #[derive(Clone, Copy)]
@@ -14,6 +14,10 @@ pub enum Topic {
     Score,
     /// The command `rank`.
     Rank,
+    /// The command `cnf`.
+    Cnf,
+    /// The command `refute`.
+    Refute,
 }
 
 impl Topic {
@@ -31,6 +35,8 @@ impl Topic {
             CHECK => Topic::Check,
             SCORE => Topic::Score,
             RANK => Topic::Rank,
+            CNF => Topic::Cnf,
+            REFUTE => Topic::Refute,
             _ => Topic::Program,
         }
     }
@@ -43,6 +49,8 @@ impl Topic {
             Topic::Check => "cudf_check check [OPTIONS] <P> [S]",
             Topic::Score => "cudf_check score [OPTIONS] <P> [S]",
             Topic::Rank => "cudf_check rank [OPTIONS] --criteria <LIST> <P> <S>...",
+            Topic::Cnf => "cudf_check cnf [OPTIONS] <P>",
+            Topic::Refute => "cudf_check refute [OPTIONS] <P> <PROOF>",
         }
     }
 
@@ -54,6 +62,8 @@ impl Topic {
             Topic::Check => "cudf_check check --help",
             Topic::Score => "cudf_check score --help",
             Topic::Rank => "cudf_check rank --help",
+            Topic::Cnf => "cudf_check cnf --help",
+            Topic::Refute => "cudf_check refute --help",
         }
     }
 }

@@ -28,4 +28,10 @@ pub enum Job {
     Score {
         aims: Option<Vec<Aim>>,
     },
+    /// Print the rules of the problem as a CNF in DIMACS, for a SAT solver (own). The whole input is the problem, and no
+    /// second input is read.
+    Cnf,
+    /// Check a proof, the second input, that the problem has no solution, against the CNF that `Cnf` prints (own). The
+    /// whole first input is the problem; without a second one the proof is empty.
+    Refute,
 }

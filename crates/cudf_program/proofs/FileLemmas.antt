@@ -9,7 +9,7 @@ use Rattle.cudf_check.specs.Runs.{AppendsPrefix, Runs, job_report, read_for}
 use Rattle.cudf_check.specs.RankReport.{rank_report}
 use Rattle.cudf_check.specs.Report.{Report, report}
 use Rattle.cudf_job.specs.declared.job.Job.{Job}
-use Rattle.cudf_job.specs.declared.job.Job.TheVariants.{Lint, Check, Score}
+use Rattle.cudf_job.specs.declared.job.Job.TheVariants.{Lint, Check, Score, Cnf, Refute}
 use Rattle.std.specs.Io.KnownBytes.{Appends, Consumes, Keeps}
 use Rattle.std.proofs.lemmas.Result.{IfOk-weaker}
 use Rattle.cudf_check.specs.Device.{SinkState, SourceState}
@@ -96,9 +96,15 @@ others_of (Check after limit explain) mode text None [] rest h = ([], tt, refl)
 others_of (Check after limit explain) mode text None (bytes ∷ texts) rest h = absurd h
 others_of (Score aims) mode text None [] rest h = ([], tt, refl)
 others_of (Score aims) mode text None (bytes ∷ texts) rest h = absurd h
+others_of Cnf mode text None [] rest h = ([], tt, refl)
+others_of Cnf mode text None (bytes ∷ texts) rest h = absurd h
+others_of Refute mode text None [] rest h = ([], tt, refl)
+others_of Refute mode text None (bytes ∷ texts) rest h = absurd h
 others_of (Lint explain) mode text (Some reader) texts rest h = (map filling (knowns (Some reader) rest), filled (knowns (Some reader) rest), refl)
 others_of (Check after limit explain) mode text (Some reader) texts rest h = read_alone (Check after limit explain) mode text reader texts rest h
 others_of (Score aims) mode text (Some reader) texts rest h = read_alone (Score aims) mode text reader texts rest h
+others_of Cnf mode text (Some reader) texts rest h = (map filling (knowns (Some reader) rest), filled (knowns (Some reader) rest), refl)
+others_of Refute mode text (Some reader) texts rest h = read_alone Refute mode text reader texts rest h
 
 of_run : (P : Report → Type 0) (job : Job) (mode : Mode) (input : Change SourceState) (solution : Option (Change SourceState)) (rest : List (Option (List ℕ)))
     (text : List ℕ) (texts : List (List ℕ)) → ReadsAll input text → AllZip ReadsAll (read_for job (option_to_list solution)) texts → P (job_report job mode text texts)

@@ -23,7 +23,7 @@ use std::fs::File;
 use std::io::{self, Read, Write};
 use std::process::ExitCode;
 use std::rt::Env;
-use stop::Stop;
+use stop::{Stop, tell_outcome};
 
 fn main(rt: HostRuntime) -> ExitCode {
     let (mut out, mut errors) = (Device::new(rt.stdout()), rt.stderr());
@@ -91,7 +91,10 @@ fn finish<I: Read + Drop, W: Sink, E: Write>(
         mut solutions,
     } = task;
     match perform(alloc, &order, &mut problem, &mut solutions, out) {
-        Ok(outcome) => outcome.status(),
+        Ok(outcome) => {
+            let _told = tell_outcome(outcome, order.problem, errors);
+            outcome.status()
+        }
         Err(error) => {
             let stop = Stop::of((order.problem, problem), &order.solutions, solutions);
             let _told = stop.tell(error, errors);

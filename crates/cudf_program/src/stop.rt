@@ -1,6 +1,6 @@
 //! What the program says where a run was broken off.
 use crate::file::{Input, Reading};
-use cudf_check::{Device, RunError};
+use cudf_check::{Device, Outcome, RunError};
 use cudf_command_line::FileName;
 use std::io::{self, Write};
 
@@ -69,5 +69,20 @@ impl<'w> Stop<'w> {
             errors,
             "; check that it is a file that can be read, and run again"
         )
+    }
+}
+
+/// Says why nothing was printed of a problem whose CNF is too large.
+pub(crate) fn tell_outcome<E: Write>(
+    outcome: Outcome,
+    problem: FileName<'_>,
+    errors: &mut E,
+) -> io::Result<()> {
+    match outcome {
+        Outcome::TooLarge => writeln!(
+            errors,
+            "cudf_check: the CNF of {problem} would have more than 4294967295 clauses"
+        ),
+        Outcome::Yes | Outcome::No | Outcome::Faulty | Outcome::Fail => Ok(()),
     }
 }

@@ -5,7 +5,7 @@ use Rattle.cudf_check.specs.Readers.{OfOne}
 use Rattle.cudf_check.specs.Report.{Report}
 use Rattle.cudf_check.specs.Runs.{outcome_status}
 use Rattle.cudf_job.specs.declared.job.Job.{Job}
-use Rattle.cudf_job.specs.declared.job.Job.TheVariants.{Lint, Check, Score}
+use Rattle.cudf_job.specs.declared.job.Job.TheVariants.{Lint, Check, Score, Cnf, Refute}
 use Rattle.cudf_c.specs.Calls.{IsLong, IsShort, Left, Shows, ShowsNothing}
 use Rattle.cudf_c.specs.Working.Stops.{stop_status}
 use Rattle.cudf_c.specs.declared.made.Made.{Made}
@@ -17,6 +17,8 @@ abbrev pub Judges : Job → Type 0
 Judges (Lint explain) = ⊥
 Judges (Check after limit explain) = Unit {0}
 Judges (Score aims) = Unit {0}
+Judges Cnf = ⊥
+Judges Refute = ⊥
 
 -- it is this report, on documents of which none is too long
 pub record IsMade (documents : List (List ℕ)) (answer : Report) (made : Made) : Type 0 where

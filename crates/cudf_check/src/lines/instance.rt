@@ -6,14 +6,14 @@ ghost use Rattle.cudf_problem.specs.Promises.Views.{package_view};
 ghost use Rattle.cudf_problem.specs.Universe.{PlainProblem, package_at};
 ghost use Rattle.cudf_job.specs.Keys.{key_text, part_text, aspect_text};
 ghost use Rattle.cudf_job.specs.KeyViews.{key_view};
-ghost use Rattle.cudf_referee.specs.Promises.Views.{what_view};
-ghost use Rattle.cudf_check.specs.Report.{meeting_text, upgrade_text, what_text, subject_text};
+ghost use Rattle.cudf_referee.specs.Promises.Views.{instance_view, what_view};
+ghost use Rattle.cudf_check.specs.Report.{meeting_text, met_text, upgrade_text, what_text, subject_text};
 ghost use Rattle.cudf_check.specs.Working.Paper.{Says};
 
 use crate::device::Sink;
 use crate::paper::Paper;
 use cudf_document::Package;
-use cudf_referee::{Aspect, Key, Part, What};
+use cudf_referee::{Aspect, Instance, Key, Part, What};
 use cudf_value::{Atom, Clause, Vpkg};
 
 /// Prints a vpkg, with its bound, if it has one.
@@ -55,7 +55,7 @@ fn print_clause<W: Sink>(paper: &mut Paper<'_, W>, clause: Clause<'_>)
 }
 
 /// Prints the package that meets an entry, if there is one.
-fn print_meeting<W: Sink>(paper: &mut Paper<'_, W>, met: Option<&Package<'_>>)
+pub(crate) fn print_meeting<W: Sink>(paper: &mut Paper<'_, W>, met: Option<&Package<'_>>)
     ensures { Says W.state paper.old paper.new (meeting_text (option_map (λ p. package_view p.now) met.entry)) }
 {
     if let Some(package) = met {
@@ -112,7 +112,7 @@ fn print_met<W: Sink>(
 }
 
 /// Prints what is wrong, with the package that meets the entry.
-pub(crate) fn print_what<W: Sink>(
+fn print_what<W: Sink>(
     paper: &mut Paper<'_, W>,
     what: &What<'_>,
     aspect: Option<Aspect>,
@@ -179,7 +179,7 @@ pub(crate) fn print_key<W: Sink>(paper: &mut Paper<'_, W>, key: Key)
 }
 
 /// Prints the name and version that an instance is about, if there are any.
-pub(crate) fn print_subject<W: Sink>(paper: &mut Paper<'_, W>, subject: Option<(&str, u64)>)
+fn print_subject<W: Sink>(paper: &mut Paper<'_, W>, subject: Option<(&str, u64)>)
     ensures { Says W.state paper.old paper.new (subject_text (option_map (λ s. (s.0.now, s.1)) subject.entry)) }
 {
     if let Some((name, version)) = subject {
@@ -188,6 +188,22 @@ pub(crate) fn print_subject<W: Sink>(paper: &mut Paper<'_, W>, subject: Option<(
         paper.text(" ");
         paper.number(version);
     }
+}
+
+/// Prints an instance's line up to what is added to it, with the package that meets its entry.
+pub(crate) fn print_instance<W: Sink>(
+    paper: &mut Paper<'_, W>,
+    instance: &Instance<'_>,
+    met: Option<&Package<'_>>,
+)
+    ensures { Says W.state paper.old paper.new (met_text (instance_view instance.now) (option_map (λ p. package_view p.now) met.entry)) }
+{
+    print_key(paper, instance.key);
+    print_subject(paper, instance.subject);
+    paper.text(" line ");
+    paper.number(instance.line);
+    paper.text(": ");
+    print_what(paper, &instance.what, instance.key.aspect(), met);
 }
 
 /// The package at a place, if there is one.

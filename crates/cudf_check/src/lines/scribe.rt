@@ -1,7 +1,7 @@
 //! Prints the lines of violated instances, each with what is added to it, where lines are explained.
 use crate::device::Sink;
 use crate::lines::explanation::{print_unknown, print_upgrade, print_would_do};
-use crate::lines::instance::{package_at, print_key, print_subject, print_what};
+use crate::lines::instance::{package_at, print_instance};
 use crate::paper::Paper;
 use cudf_referee::{Explainer, Instance, Referee, What};
 use std::alloc::{AllocError, Global};
@@ -70,12 +70,7 @@ impl<'r, 'p, 't> Scribe<'r, 'p, 't> {
     {
         let referee = self.referee;
         let met = package_at(referee.packages(), referee.met_by(instance));
-        print_key(paper, instance.key);
-        print_subject(paper, instance.subject);
-        paper.text(" line ");
-        paper.number(instance.line);
-        paper.text(": ");
-        print_what(paper, &instance.what, instance.key.aspect(), met);
+        print_instance(paper, instance, met);
         self.print_added(paper, instance);
         paper.text("\n");
     }

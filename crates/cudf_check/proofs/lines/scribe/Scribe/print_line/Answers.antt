@@ -2,7 +2,7 @@ use Rattle.std.proofs.Common.{option_and_then, ap, ◌∙◌}
 use Rattle.cudf_problem.specs.Universe.{package_at}
 use Rattle.cudf_referee.specs.Promises.Views.{instance_view}
 use Rattle.cudf_referee.specs.Violations.{met_by}
-use Rattle.cudf_check.specs.Report.{what_text}
+use Rattle.cudf_check.specs.Report.{met_text}
 use Rattle.cudf_check.proofs.PaperLemmas.{Says-as, ◌▸◌}
 use Rattle.cudf_check.proofs.lines.scribe.Scribe.print_line.Goals as goal
 
@@ -12,6 +12,4 @@ returns g c =
     let s = c.self.inside.referee.now in
     let met = c.package_at-met.ensures s.problem c.packages.ensures ∙ ap (option_and_then (package_at s.problem)) c.met_by.ensures
     ∙ ap (λ w. option_and_then (package_at w.judged.problem) (met_by w.judged.proposed i)) c.self.view_is in
-    c.print_key.ensures ▸ c.print_subject.ensures ▸ c.text.ensures ▸ c.number.ensures ▸ c.text-2.ensures
-    ▸ Says-as _ _ _ _ _ (λ k. what_text i.what (c.aspect.ensures k) (met k)) c.print_what.ensures
-    ▸ (c.print_added.ensures ▸ c.text-3.ensures)
+    Says-as _ _ _ _ _ (ap (met_text i) met) c.print_instance.ensures ▸ (c.print_added.ensures ▸ c.text.ensures)

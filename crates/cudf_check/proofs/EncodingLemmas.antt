@@ -1,0 +1,67 @@
+-- Clauses by their indices and numbers.
+use Rattle.std.proofs.Common.{◌≡◌, ◌<◌, ◌≤◌, ◌+◌, ◌-◌, ℕ, zero, suc, Bool, true, false, List, [], ◌∷◌, ◌++◌, length, map, take, get_or, Option, Some, None, slice_get, option_map, filter_map, refl, ap, sym, ◌∙◌, length-append, arith}
+use Rattle.std.proofs.lemmas.List.{take_more}
+use Rattle.std.proofs.lemmas.List.Elements.{filter_map-append}
+use Rattle.std.proofs.lemmas.Option.{slice_get_within, get_or_from_slice_get}
+use Rattle.std.specs.List.{flat_map}
+use Rattle.cudf_job.specs.Keys.{PlainKey}
+use Rattle.cudf_lrat.specs.declared.literal.Literal.{Literal}
+use Rattle.cudf_cnf.specs.Cnf.{Keyed}
+use Rattle.cudf_cnf.specs.Encodings.{PlainEncoder, PlainKeyedClauses, Tells}
+use Rattle.cudf_check.specs.Report.{needed}
+use Rattle.cudf_check.proofs.PaperLemmas.{texts-more}
+
+-- what was taken off the front makes the rest shorter
+pub shorter : {A : Type 0} (put left held all : List A) → put ++ left ≡ held ++ all → length held < length put → length left < length all
+shorter put left held all is more = omega (arith, length-append put left, length-append held all, ap length is)
+
+-- a call that has put a clause leaves less
+pub leaves_less : (more : Bool) (old new : PlainEncoder) (held put : PlainKeyedClauses) → more ≡ true → put.clauses ++ new.left ≡ held.clauses ++ old.left
+    → Tells more old held put → length new.left < length old.left
+leaves_less true old new held put is whole tells = shorter put.clauses new.left held.clauses old.left whole tells
+leaves_less false old new held put is whole tells = absurd (cc is)
+
+-- a call that has put none found none
+pub finds_none : (more : Bool) (old : PlainEncoder) (held put : PlainKeyedClauses) → more ≡ false → Tells more old held put → (old.left ≡ []) × (put ≡ held)
+finds_none true old held put is tells = absurd (cc is)
+finds_none false old held put is tells = tells
+
+-- an entry behind the first one
+pub later_entry : {A : Type 0} (x : A) (xs : List A) (n : ℕ) → 0 < n → slice_get (x ∷ xs) n ≡ slice_get xs (n - 1)
+later_entry x xs zero h = absurd (omega arith)
+later_entry x xs (suc n) h = let less : suc n - 1 ≡ n = omega arith in ap (slice_get xs) (sym less)
+
+-- the text of one element more, which is known by a part of it
+pub next_text : {A B : Type 0} (f : B → List ℕ) (part : A → B) (xs : List A) (i : ℕ) (y : B) → option_map part (slice_get xs i) ≡ Some y
+    → flat_map (λ x. f (part x)) (take i xs) ++ f y ≡ flat_map (λ x. f (part x)) (take (i + 1) xs)
+next_text f part xs i y is = go (slice_get xs i) refl is
+  where
+    go : (found : Option _) → slice_get xs i ≡ found → option_map part found ≡ Some y
+        → flat_map (λ x. f (part x)) (take i xs) ++ f y ≡ flat_map (λ x. f (part x)) (take (i + 1) xs)
+    go None at h = absurd (cc h)
+    go (Some x) at h =
+        let same : part (get_or xs i x) ≡ y = ap part (get_or_from_slice_get xs i x x at) ∙ cc h in
+        ap (λ z. flat_map (λ x. f (part x)) (take i xs) ++ f z) (sym same) ∙ texts-more (λ x. f (part x)) xs i x (slice_get_within xs i x at)
+
+-- a clause by its two halves
+pub halves : (clauses : List Keyed) (index : ℕ) (key : PlainKey) (literals : List Literal) → option_map (λ c. c.0) (slice_get clauses index) ≡ Some key
+    → option_map (λ c. c.1) (slice_get clauses index) ≡ Some literals → slice_get clauses index ≡ Some (key, literals)
+halves clauses index key literals first second = go (slice_get clauses index) first second
+  where
+    go : (found : Option Keyed) → option_map (λ c. c.0) found ≡ Some key → option_map (λ c. c.1) found ≡ Some literals → found ≡ Some (key, literals)
+    go None first second = absurd (cc first)
+    go (Some c) first second =
+        let key_is : c.0 ≡ key = cc first in
+        let literals_are : c.1 ≡ literals = cc second in
+        ap (λ k. Some (k, c.1)) key_is ∙ ap (λ ls. Some (key, ls)) literals_are
+
+-- one number more
+pub needed-more : (clauses : List Keyed) (numbers : List ℕ) (i d : ℕ) (c : Keyed) → i < length numbers → slice_get clauses (get_or numbers i d - 1) ≡ Some c
+    → needed clauses (take i numbers) ++ c ∷ [] ≡ needed clauses (take (i + 1) numbers)
+needed-more clauses numbers i d c below is =
+    ap (λ cs. needed clauses (take i numbers) ++ cs) (sym (one (slice_get clauses (get_or numbers i d - 1)) is))
+    ∙ (sym (filter_map-append (λ n. slice_get clauses (n - 1)) (take i numbers) (get_or numbers i d ∷ [])) ∙ ap (needed clauses) (sym (take_more numbers i d below)))
+  where
+    one : (found : Option Keyed) → found ≡ Some c → filter_map (λ (o : Option Keyed). o) (found ∷ []) ≡ c ∷ []
+    one None h = absurd (cc h)
+    one (Some x) h = let same : x ≡ c = cc h in ap (λ y. y ∷ []) same

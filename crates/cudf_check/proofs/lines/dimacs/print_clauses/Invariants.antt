@@ -1,0 +1,9 @@
+-- The lines so far are printed.
+use Rattle.std.proofs.Common.{take}
+use Rattle.std.specs.List.{flat_map}
+use Rattle.cudf_check.specs.Report.{clause_line}
+use Rattle.cudf_check.specs.Working.Paper.{Says}
+use Rattle.cudf_check.proofs.lines.dimacs.print_clauses.Given as goal
+
+abbrev pub invariant-loop-index : goal.invariant-loop-index
+invariant-loop-index g l = Says g.W.Sink.state l.fn.paper l.paper (flat_map (λ c. clause_line c.1) (take l.index l.clauses.clauses))

@@ -1,0 +1,19 @@
+use Rattle.std.proofs.Common.{◌≡◌, IsTrue, ap, subst, sym, ◌∙◌}
+use Rattle.cudf_lrat.specs.Answers.{answer_view, checked, refuted}
+use Rattle.cudf_reasons.specs.Reasons.{keys_of, never_descend}
+use Rattle.cudf_check.specs.Report.{needed}
+use Rattle.cudf_check.specs.Working.Encoded.{IsEncoded}
+use Rattle.cudf_check.proofs.CoreLemmas.{core_by_key}
+use Rattle.cudf_check.proofs.lines.reasons.answer_proof.Goals as goal
+
+pub answer_core-requires-clause-ordered : goal.answer_core-requires-clause-ordered
+answer_core-requires-clause-ordered g c =
+    let held = c.in-Ok-Some.clauses in
+    let problem = c.args.problem.now in
+    let proof = c.args.proof.now in
+    let numbers = c.in-Ok-Refuted.numbers.items in
+    let encoded = subst (IsEncoded problem) c.in-Ok-Some.field-0-is c.in-Ok-Some.ensures in
+    let shown = subst (λ a. answer_view a ≡ checked c.cnf.result.now.places c.cnf.result.now.clauses proof) c.in-Ok-Refuted.field-0-is c.in-Ok-Refuted.ensures in
+    subst (λ ns. IsTrue (never_descend (keys_of (needed held.clauses ns)))) (sym c.deref.ensures.value)
+    (core_by_key problem c.cnf.result.now.places held.clauses proof numbers c.ordered.ensures (ap (λ k. k.clauses) encoded.1)
+    (ap (λ clauses. checked c.cnf.result.now.places clauses proof) (sym c.cnf.ensures.clauses) ∙ sym shown))

@@ -1,0 +1,17 @@
+use Rattle.std.proofs.Common.{◌≡◌, ◌<◌, ◌++◌, length, take, get_or, ap, sym, ◌∙◌, arith}
+use Rattle.std.specs.List.{flat_map}
+use Rattle.cudf_job.specs.KeyViews.{key_view}
+use Rattle.cudf_reasons.specs.Views.{Told}
+use Rattle.cudf_check.specs.Report.{reason_line}
+use Rattle.cudf_check.proofs.PaperLemmas.{Says-as, ◌▸◌, texts-more}
+use Rattle.cudf_check.proofs.lines.reasons.print_reasons.Goals as goal
+
+pub loop-index-preserved : goal.loop-index-preserved
+loop-index-preserved g c =
+    let reasons = c.args.reasons.now in
+    let i = c.loop-index.index in
+    let f = reason_line c.args.problem.now in
+    let told : Told = (key_view c.key.result, c.met.result.now) in
+    let below : i < length reasons = omega (arith, c.len-index-end.ensures, c.loop-index-test.true) in
+    let is : get_or reasons i told ≡ told = ap (λ key. (key, (get_or reasons i told).1)) (c.key.ensures told) ∙ ap (λ places. (key_view c.key.result, places)) (c.met.ensures told) in
+    Says-as _ _ _ _ _ (ap (λ t. flat_map f (take i reasons) ++ f t) (sym is) ∙ texts-more f reasons i told below) (c.loop-index.invariant ▸ c.print_reason.ensures)

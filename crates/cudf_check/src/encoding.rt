@@ -1,0 +1,86 @@
+//! The CNF of a problem, held whole.
+ghost use Rattle.std.specs.Prelude.{◌≡◌, ◌<◌, ◌≤◌, ◌^◌, ◌++◌, true, false, [], nat_lt, length, IfOk, OnOk};
+ghost use Rattle.cudf_cnf.specs.Cnf.{cnf};
+ghost use Rattle.cudf_check.specs.Working.Encoded.{FillsUpTo, IsEncoded};
+
+use cudf_cnf::{Encoder, KeyedClauses};
+use cudf_document::Problem;
+use std::alloc::{AllocError, Global};
+
+/// So many clauses are held before it is counted whether there are too many: a CNF that is too large is refused before
+/// memory runs out.
+const MANY: usize = 16_777_216;
+
+/// The clauses of the problem's CNF. `None` where it is too large.
+///
+/// # Errors
+///
+/// `AllocError` where memory for them is refused.
+pub(crate) fn encoded(
+    alloc: Global,
+    problem: &Problem<'_>,
+) -> Result<Option<KeyedClauses>, AllocError>
+    ensures { IfOk result (IsEncoded problem.now) }
+{
+    let count = problem.packages().len();
+    if count > u32::MAX as usize {
+        return Ok(None);
+    }
+    let mut encoder = Encoder::new(alloc, problem)?;
+    let mut clauses = KeyedClauses::new(alloc, count as u32);
+    if fill_up_to_many(&mut encoder, &mut clauses)? {
+        return Ok(Some(clauses));
+    }
+    if has_too_many(alloc, problem, count as u32)? {
+        return Ok(None);
+    }
+    fill(&mut encoder, &mut clauses)?;
+    Ok(Some(clauses))
+}
+
+/// Puts the clauses that are left after those that are held, until there are many. Answers whether none is left.
+fn fill_up_to_many(
+    encoder: &mut Encoder<'_, '_>,
+    clauses: &mut KeyedClauses,
+) -> Result<bool, AllocError>
+    requires { encoder.old.places ≤ clauses.old.places }
+    ensures put { OnOk result (clauses.new.clauses ++ encoder.new.left ≡ clauses.old.clauses ++ encoder.old.left) }
+    ensures over { encoder.new.places ≡ encoder.old.places }
+    ensures held { clauses.new.places ≡ clauses.old.places }
+    ensures fills { IfOk result (FillsUpTo MANY encoder.new clauses.new) }
+{
+    while clauses.len() <= MANY {
+        if !encoder.next(clauses)? {
+            return Ok(true);
+        }
+    }
+    Ok(false)
+}
+
+/// Puts all clauses that are left after those that are held.
+fn fill(encoder: &mut Encoder<'_, '_>, clauses: &mut KeyedClauses) -> Result<(), AllocError>
+    requires { encoder.old.places ≤ clauses.old.places }
+    ensures all { OnOk result (clauses.new.clauses ≡ clauses.old.clauses ++ encoder.old.left) }
+    ensures held { clauses.new.places ≡ clauses.old.places }
+{
+    while encoder.next(clauses)? {}
+    Ok(())
+}
+
+/// Whether the CNF has more than 4294967295 clauses. Only a piece of them is held at a time.
+fn has_too_many(alloc: Global, problem: &Problem<'_>, places: u32) -> Result<bool, AllocError>
+    requires { length problem.now.packages ≡ places }
+    ensures { IfOk result (λ is. is ≡ nat_lt 4294967295 (length (cnf problem.now))) }
+{
+    let mut encoder = Encoder::new(alloc, problem)?;
+    let mut piece = KeyedClauses::new(alloc, places);
+    let mut left = u32::MAX as usize;
+    while encoder.next(&mut piece)? {
+        if piece.len() > left {
+            return Ok(true);
+        }
+        left -= piece.len();
+        piece.clear();
+    }
+    Ok(false)
+}

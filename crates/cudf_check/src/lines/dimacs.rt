@@ -1,0 +1,108 @@
+//! Prints a CNF in DIMACS.
+ghost use Rattle.std.specs.Prelude.{◌<◌, ◌<◌, length, map};
+ghost use Rattle.std.specs.List.{flat_map, enumerate_from};
+ghost use Rattle.cudf_problem.specs.Promises.Views.{package_view};
+ghost use Rattle.cudf_check.specs.Report.{clause_line, cnf_answer, header_line, literal_text, package_comment};
+ghost use Rattle.cudf_check.specs.Working.Answering.{Answers};
+ghost use Rattle.cudf_check.specs.Working.Paper.{Says};
+
+use crate::buffer::ReportBuffer;
+use crate::device::Sink;
+use crate::encoding::encoded;
+use crate::outcome::{Outcome, RunError};
+use crate::paper::Paper;
+use cudf_cnf::KeyedClauses;
+use cudf_document::{Package, Problem};
+use cudf_lrat::Literal;
+use std::alloc::Global;
+
+/// Prints the comment for a package at a place.
+fn print_package<W: Sink>(paper: &mut Paper<'_, W>, place: u64, package: &Package<'_>)
+    ensures { Says W.state paper.old paper.new (package_comment (place, package_view «package».now)) }
+{
+    paper.text("c p");
+    paper.number(place);
+    paper.text(" ");
+    paper.text(package.name);
+    paper.text(" ");
+    paper.number(package.version);
+    paper.text("\n");
+}
+
+/// Prints a comment for each package.
+fn print_packages<W: Sink>(paper: &mut Paper<'_, W>, packages: &[Package<'_>])
+    ensures { Says W.state paper.old paper.new (flat_map package_comment (enumerate_from 1 (map package_view packages.now))) }
+{
+    for (index, package) in packages.iter().enumerate() {
+        print_package(paper, index as u64 + 1, package);
+    }
+}
+
+/// Prints how many variables and clauses there are.
+fn print_header<W: Sink>(paper: &mut Paper<'_, W>, places: u64, clauses: u64)
+    ensures { Says W.state paper.old paper.new (header_line places clauses) }
+{
+    paper.text("p cnf ");
+    paper.number(places);
+    paper.text(" ");
+    paper.number(clauses);
+    paper.text("\n");
+}
+
+/// Prints a literal and a blank.
+fn print_literal<W: Sink>(paper: &mut Paper<'_, W>, literal: Literal)
+    ensures { Says W.state paper.old paper.new (literal_text literal) }
+{
+    let sign = if literal.positive { "" } else { "-" };
+    paper.text(sign);
+    paper.number(u64::from(literal.place));
+    paper.text(" ");
+}
+
+/// Prints the literals, each with a blank.
+fn print_literals<W: Sink>(paper: &mut Paper<'_, W>, literals: &[Literal])
+    ensures { Says W.state paper.old paper.new (flat_map literal_text literals.now) }
+{
+    for literal in literals {
+        print_literal(paper, *literal);
+    }
+}
+
+/// Prints the line of a clause.
+fn print_clause<W: Sink>(paper: &mut Paper<'_, W>, literals: &[Literal])
+    ensures { Says W.state paper.old paper.new (clause_line literals.now) }
+{
+    print_literals(paper, literals);
+    paper.text("0\n");
+}
+
+/// Prints a line for each clause.
+fn print_clauses<W: Sink>(paper: &mut Paper<'_, W>, clauses: &KeyedClauses)
+    ensures { Says W.state paper.old paper.new (flat_map (λ c. clause_line c.1) clauses.now.clauses) }
+{
+    for index in 0..clauses.len() {
+        print_clause(paper, clauses.clause(index));
+    }
+}
+
+/// Writes the CNF of a problem, unless it is too large.
+pub(crate) fn answer_cnf<W: Sink>(
+    alloc: Global,
+    out: &mut W,
+    problem: &Problem<'_>,
+) -> Result<Outcome, RunError>
+    ensures { Answers (W.state out.old) (W.state out.new) (cnf_answer problem.now) result }
+{
+    let clauses = match encoded(alloc, problem) {
+        Ok(Some(clauses)) => clauses,
+        Ok(None) => return Ok(Outcome::TooLarge),
+        Err(_) => return Err(RunError::Memory),
+    };
+    let mut waiting = ReportBuffer::new(alloc)?;
+    let mut paper = Paper::new(out, &mut waiting);
+    let packages = problem.packages();
+    print_packages(&mut paper, packages);
+    print_header(&mut paper, packages.len() as u64, clauses.len() as u64);
+    print_clauses(&mut paper, &clauses);
+    paper.finish(Outcome::Yes)
+}

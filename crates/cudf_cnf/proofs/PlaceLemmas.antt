@@ -1,0 +1,116 @@
+-- Places of packages, as numbers and as literals.
+use Rattle.std.proofs.Common.{◌≡◌, ℕ, zero, suc, ◌==◌, Bool, true, false, not, ◌&&◌, List, [], ◌∷◌, ◌++◌, map, filter, refl, sym, subst, ap, ◌∙◌, arith, if◌then◌else◌}
+use Rattle.std.specs.Prelude.{All, Result, Ok, Err, OnOk}
+use Rattle.std.proofs.lemmas.List.Elements.{All-append, All-cons, All-filter, All-map, All-nil, All-weaker, filter_agree}
+use Rattle.cudf_index.specs.Satisfaction.{Placed, without}
+use Rattle.cudf_value.specs.Formulas.{PlainAtom}
+use Rattle.cudf_job.specs.declared.key.Rule.TheVariants as rule
+use Rattle.cudf_job.specs.Keys.{PlainKey, package_key}
+use Rattle.cudf_lrat.specs.declared.literal.Literal.{Literal}
+use Rattle.cudf_lrat.specs.Literals.{IsWithin}
+use Rattle.cudf_referee.proofs.ListLemmas.{filter-both, filter-map}
+use Rattle.cudf_satisfiers.specs.Answers.{meets_clause_alone, places_where}
+use Rattle.cudf_cnf.specs.Cnf.{Keyed, conjunct_clauses, is_in, is_out, one_of}
+use Rattle.cudf_cnf.specs.Working.Parts.{ArePlaces, Fits, IsPlace}
+use Rattle.cudf_cnf.proofs.TestLemmas.{and-swap}
+
+-- ---- what was put
+
+pub when : {E P Q : Type 0} (r : Result (Unit {0}) E) → OnOk r P → (P → Q) → OnOk r Q
+when (Ok u) p f = f p
+when (Err e) p f = p
+
+-- the same clauses, said otherwise
+pub put_as : {E : Type 0} (r : Result (Unit {0}) E) (new old xs ys : List Keyed) → xs ≡ ys → OnOk r (new ≡ old ++ xs) → OnOk r (new ≡ old ++ ys)
+put_as r new old xs ys same h = when r h (λ e. e ∙ ap (λ zs. old ++ zs) same)
+
+-- a list that was emptied before something was added
+pub emptied : {A : Type 0} (xs ys zs : List A) → ys ≡ xs ++ zs → xs ≡ [] → ys ≡ zs
+emptied xs ys zs added empty = added ∙ ap (λ ws. ws ++ zs) empty
+
+-- ---- places
+
+pub map-map : {A B C : Type 0} (f : B → C) (g : A → B) (xs : List A) → map f (map g xs) ≡ map (λ x. f (g x)) xs
+map-map f g [] = refl
+map-map f g (x ∷ xs) = ap (λ ys. f (g x) ∷ ys) (map-map f g xs)
+
+pub one_of-where : (test : Placed → Bool) (all : List Placed) → map is_in (places_where test all) ≡ one_of test all
+one_of-where test all = map-map is_in (λ (q : Placed). q.0) (filter test all)
+
+pub unmapped : (P : ℕ → Type 0) (all : List Placed) → All P (map (λ q. q.0) all) → All (λ (q : Placed). P q.0) all
+unmapped P [] h k d inside = absurd (omega arith)
+unmapped P (q ∷ qs) h zero d inside = h 0 0 (omega arith)
+unmapped P (q ∷ qs) h (suc k) d inside = unmapped P qs (λ j e less. h (suc j) e (omega arith)) k d (omega arith)
+
+-- what is true of all places is true of those of packages that pass a test
+pub all_where : (P : ℕ → Type 0) (test : Placed → Bool) (all : List Placed) → All P (map (λ q. q.0) all) → All P (places_where test all)
+all_where P test all h = All-map P (λ (q : Placed). q.0) (filter test all) (All-filter test (λ (q : Placed). P q.0) all (unmapped P all h))
+
+-- ---- literals
+
+in_within : (places n : ℕ) → IsPlace places n → IsWithin places (is_in n)
+in_within places n p = (p.from_one, p.within)
+
+pub out_within : (places n : ℕ) → IsPlace places n → IsWithin places (is_out n)
+out_within places n p = (p.from_one, p.within)
+
+pub one_out : (places n : ℕ) → IsPlace places n → All (IsWithin places) (is_out n ∷ [])
+one_out places n p = All-cons (IsWithin places) (is_out n) [] (out_within places n p) (All-nil (IsWithin places))
+
+-- literals to which places were added
+pub places_added : (places : ℕ) (literals more : List Literal) (ns : List ℕ) → All (IsWithin places) literals → ArePlaces places ns → more ≡ literals ++ map is_in ns → All (IsWithin places) more
+places_added places literals more ns own fit is =
+    subst (λ (ls : List Literal). All (IsWithin places) ls) (sym is)
+    (All-append (IsWithin places) literals (map is_in ns) own (All-map (IsWithin places) is_in ns (All-weaker (IsPlace places) (λ n. IsWithin places (is_in n)) (in_within places) ns fit)))
+
+-- no literals
+pub none_within : (places : ℕ) (literals : List Literal) → literals ≡ [] → All (IsWithin places) literals
+none_within places literals h = subst (λ (ls : List Literal). All (IsWithin places) ls) (sym h) (All-nil (IsWithin places))
+
+-- places that a search added to none
+pub found_places : (places : ℕ) (test : Placed → Bool) (all : List Placed) (old new read : List ℕ) → Fits places all → new ≡ old ++ places_where test all → old ≡ [] → read ≡ new → ArePlaces places read
+found_places places test all old new read fit added empty is =
+    subst (λ (ns : List ℕ). ArePlaces places ns) (sym (is ∙ emptied old new (places_where test all) added empty)) (all_where (IsPlace places) test all fit)
+
+-- what a search added to none
+pub found : (test : Placed → Bool) (all : List Placed) (old new read : List ℕ) → new ≡ old ++ places_where test all → old ≡ [] → read ≡ new → read ≡ places_where test all
+found test all old new read added empty is = is ∙ emptied old new (places_where test all) added empty
+
+pub one_put : {E : Type 0} (r : Result (Unit {0}) E) (new old : List Keyed) (key key' : PlainKey) (l l' : List Literal) → key ≡ key' → l ≡ l' → OnOk r (new ≡ old ++ (key, l) ∷ []) → OnOk r (new ≡ old ++ (key', l') ∷ [])
+one_put r new old key key' l l' key_is is = put_as r new old ((key, l) ∷ []) ((key', l') ∷ []) (λ i. (key_is i, is i) ∷ [])
+
+-- ---- each rule
+
+-- a conjunct that the package itself doesn't satisfy
+pub conjunct_put : (all : List Placed) (p : Placed) (n : ℕ) (clause : List PlainAtom) → meets_clause_alone clause p ≡ false
+    → (package_key p.0 rule.Depends n, is_out p.0 ∷ one_of (meets_clause_alone clause) all) ∷ [] ≡ conjunct_clauses all p n clause
+conjunct_put all p n clause alone = (λ i. if sym alone i then [] else (package_key p.0 rule.Depends n, is_out p.0 ∷ one_of (meets_clause_alone clause) all) ∷ [])
+
+-- and one that it does
+pub conjunct_met : (all : List Placed) (p : Placed) (n : ℕ) (clause : List PlainAtom) → meets_clause_alone clause p ≡ true → [] ≡ conjunct_clauses all p n clause
+conjunct_met all p n clause alone = (λ i. if sym alone i then [] else (package_key p.0 rule.Depends n, is_out p.0 ∷ one_of (meets_clause_alone clause) all) ∷ [])
+
+-- clauses that rule one package out, and two
+abbrev pub unit : PlainKey → ℕ → Keyed
+unit key n = (key, is_out n ∷ [])
+
+abbrev pub pair : PlainKey → ℕ → ℕ → Keyed
+pair key m n = (key, is_out m ∷ is_out n ∷ [])
+
+pub units_where : (key : PlainKey) (test : Placed → Bool) (all : List Placed) → map (unit key) (places_where test all) ≡ map (λ q. unit key q.0) (filter test all)
+units_where key test all = map-map (unit key) (λ (q : Placed). q.0) (filter test all)
+
+pub pairs_where : (key : PlainKey) (place : ℕ) (test : Placed → Bool) (all : List Placed) → map (pair key place) (places_where test all) ≡ map (λ q. pair key place q.0) (filter test all)
+pairs_where key place test all = map-map (pair key place) (λ (q : Placed). q.0) (filter test all)
+
+filter-swap : {A : Type 0} (p q : A → Bool) (xs : List A) → filter p (filter q xs) ≡ filter q (filter p xs)
+filter-swap p q xs = sym (filter-both q p xs) ∙ filter_agree (λ x. q x && p x) (λ x. p x && q x) (λ x. and-swap (q x) (p x)) xs ∙ filter-both p q xs
+
+-- those of an entry of conflicts, where the own place was taken out
+pub others_where : (place : ℕ) (test : Placed → Bool) (all : List Placed) → filter (λ n. not (n == place)) (places_where test all) ≡ places_where test (without place all)
+others_where place test all =
+    filter-map (λ (n : ℕ). not (n == place)) (λ (q : Placed). q.0) (filter test all)
+    ∙ ap (map (λ (q : Placed). q.0)) (filter-swap (λ (q : Placed). not (q.0 == place)) test all)
+
+pub all_others : (P : ℕ → Type 0) (place : ℕ) (test : Placed → Bool) (all : List Placed) → All P (map (λ q. q.0) all) → All P (filter (λ n. not (n == place)) (places_where test all))
+all_others P place test all h = All-filter (λ n. not (n == place)) P (places_where test all) (all_where P test all h)

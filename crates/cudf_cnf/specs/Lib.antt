@@ -1,0 +1,4 @@
+pub mod Cnf
+pub mod Encodings
+pub mod Laws
+pub mod Working

@@ -1,0 +1,75 @@
+-- Clauses as the code puts them: by places, and by the greatest number before.
+use Rattle.std.specs.Prelude.{◌≡◌, ◌<◌, ◌≤◌, ◌^◌, ℕ, Bool, List, [], ◌∷◌, ◌++◌, map, All, IsTrue, Option, Some, None, if◌then◌else◌}
+use Rattle.std.specs.List.{flat_map}
+use Rattle.cudf_value.specs.Vpkgs.{PlainVpkg}
+use Rattle.cudf_index.specs.Satisfaction.{Placed, meets_alone}
+use Rattle.cudf_referee.specs.Proposals.{holds_place}
+use Rattle.cudf_job.specs.declared.key.Rule.TheVariants as rule
+use Rattle.cudf_job.specs.declared.key.Aspect.TheVariants.{Unsatisfied, Many, Lower}
+use Rattle.cudf_job.specs.Keys.{request_key}
+use Rattle.cudf_satisfiers.specs.Answers.{differ, differs_after, gives_below, gives_number, passes_at, places_where}
+use Rattle.cudf_cnf.specs.declared.upgrades.known.Known.{Known}
+use Rattle.cudf_cnf.specs.Cnf.{Keyed, conflicts_clauses, depends_clauses, is_out, keep_clauses, one_of}
+use Rattle.cudf_cnf.specs.Working.Known.{known_at}
+
+-- ---- places
+
+-- a place of a CNF over places from 1 to a number, that is one of a `u32`
+pub record IsPlace (places : ℕ) (n : ℕ) : Type 0 where
+  pub from_one : 0 < n
+  pub within : n ≤ places
+  pub small : n < 2 ^ 32
+
+abbrev pub ArePlaces : ℕ → List ℕ → Type 0
+ArePlaces places numbers = All (IsPlace places) numbers
+
+-- the packages are those of places that the CNF has
+abbrev pub Fits : ℕ → List Placed → Type 0
+Fits places all = ArePlaces places (map (λ q. q.0) all)
+
+-- the package is the one at its place
+abbrev pub IsAt : List Placed → Placed → Type 0
+IsAt all p = (test : Placed → Bool) → passes_at test p.0 all ≡ test p
+
+-- the numbers are places of packages
+abbrev pub AreHeld : List Placed → List ℕ → Type 0
+AreHeld all numbers = All (λ n. IsTrue (holds_place all n)) numbers
+
+-- ---- packages
+
+-- those of one package, by its own `installed`
+abbrev pub own_clauses : List Placed → Placed → List Keyed
+own_clauses all (place, p) =
+    depends_clauses all (place, p)
+    ++ conflicts_clauses all (place, p)
+    ++ (if p.installed then keep_clauses all p.keep (place, p) else [])
+
+-- ---- the request
+
+-- what is made of numbered entries
+abbrev pub for_numbered : (ℕ → PlainVpkg → List Keyed) → List (ℕ × PlainVpkg) → List Keyed
+for_numbered make entries = flat_map (λ e. make e.0 e.1) entries
+
+abbrev pub install_one : List Placed → ℕ → PlainVpkg → List Keyed
+install_one all number v = (request_key rule.Install number None, one_of (meets_alone v) all) ∷ []
+
+-- upgrade, many: those of the package at a place
+abbrev pub differing_at : List Placed → ℕ → List ℕ → ℕ → List Keyed
+differing_at all number name place =
+    (if passes_at (λ q. differ name q q) place all then (request_key rule.Upgrade number (Some Many), is_out place ∷ []) ∷ [] else [])
+    ++ map (λ n. (request_key rule.Upgrade number (Some Many), is_out place ∷ is_out n ∷ [])) (places_where (differs_after name place all) all)
+
+-- upgrade, lower: by the greatest number before, if there was one
+abbrev pub lower_by : List Placed → ℕ → List ℕ → Option ℕ → List Keyed
+lower_by all number name None = []
+lower_by all number name (Some least) = map (λ n. (request_key rule.Upgrade number (Some Lower), is_out n ∷ [])) (places_where (gives_below name least) all)
+
+-- the packages that give a number of the name, where some differ
+abbrev pub givers_of : List Placed → List ℕ → Bool → List ℕ
+givers_of all name several = if several then places_where (gives_number name) all else []
+
+-- the clauses of an entry, by what is known of its name
+abbrev pub entry_by : List Placed → List Known → ℕ → PlainVpkg → List Keyed
+entry_by all known number v =
+    (request_key rule.Upgrade number (Some Unsatisfied), one_of (meets_alone v) all)
+    ∷ (flat_map (differing_at all number v.name) (givers_of all v.name (known_at known number).several) ++ lower_by all number v.name (known_at known number).floor)

@@ -1,0 +1,24 @@
+//! What follows from the definitions alone.
+ghost use Rattle.cudf_cnf.specs.Laws.{FalsifiedIsViolated, SolutionSatisfies, RefutedAreViolated, RefutedHasNone, KeysNeverDescend};
+
+/// A status doesn't satisfy a clause of a key exactly where the instance of this key is violated.
+pub fn violated()
+    ensures { FalsifiedIsViolated }
+{}
+
+/// A proposed status is a solution exactly where it has no unknown stanza and satisfies each clause.
+pub fn solution()
+    ensures { SolutionSatisfies }
+{}
+
+/// Where clauses of a problem's CNF are refuted, each proposed status violates an instance whose key is that of one of
+/// these clauses, so none is a solution.
+pub fn refuted()
+    ensures violated { RefutedAreViolated }
+    ensures none { RefutedHasNone }
+{}
+
+/// The keys of the CNF never descend: it is in key order, the clauses of one instance beside each other.
+pub fn ordered()
+    ensures { KeysNeverDescend }
+{}

@@ -1,0 +1,250 @@
+//! The clauses of packages.
+ghost use Rattle.std.specs.Prelude.{◌≡◌, ◌==◌, ◌<◌, ◌++◌, ◌∷◌, [], IfOk, IsTrue, None, OnOk, filter, if◌then◌else◌, not};
+ghost use Rattle.std.specs.List.{enumerate_from};
+ghost use Rattle.cudf_value.specs.Promises.Views.{clause_view, vpkg_view};
+ghost use Rattle.cudf_problem.specs.Promises.Views.{package_view};
+ghost use Rattle.cudf_problem.specs.declared.package.Keep.TheVariants.{Feature};
+ghost use Rattle.cudf_job.specs.declared.key.Part.TheVariants as part;
+ghost use Rattle.cudf_job.specs.Keys.{fits, package_key};
+ghost use Rattle.cudf_job.specs.KeyViews.{key_view};
+ghost use Rattle.cudf_satisfiers.specs.Answers.{is_named};
+ghost use Rattle.cudf_cnf.specs.Cnf.{conflict_clauses, conflicts_clauses, conjunct_clauses, depends_clauses, keep_clauses, one_of};
+ghost use Rattle.cudf_cnf.specs.Working.Parts.{Fits, IsAt, IsPlace, own_clauses};
+ghost use Rattle.cudf_cnf.specs.Working.Views.{Goes, packages_left};
+
+use crate::clauses::KeyedClauses;
+use crate::numbered::{Entry, Numbered};
+use crate::put::{Scratch, is_in, is_out, put_meeting, put_one_of, put_pairs_out};
+use cudf_job::{Key, Part, Rule};
+use cudf_problem::{Keep, Package, Problem};
+use cudf_satisfiers::Satisfiers;
+use cudf_value::Clause;
+use std::alloc::AllocError;
+
+/// The key of an instance of a package's rule.
+fn key_of(place: u64, rule: Rule, number: u64) -> Key
+    requires rule { IsTrue (fits (part.Package place) rule None) }
+    requires number { 0 < number }
+    ensures { key_view result ≡ package_key place rule number }
+{
+    Key::new(Part::Package(place), rule, number, None)
+}
+
+/// Puts the clause of a conjunct of `depends`, unless the package itself would do.
+fn put_conjunct(
+    satisfiers: &Satisfiers<'_, '_>,
+    place: u64,
+    package: &Package<'_>,
+    number: u64,
+    clause: &Clause<'_>,
+    scratch: &mut Scratch,
+    clauses: &mut KeyedClauses,
+) -> Result<(), AllocError>
+    requires fits { Fits clauses.old.places satisfiers.now }
+    requires place { IsPlace clauses.old.places place }
+    requires here { IsAt satisfiers.now (place, package_view «package».now) }
+    requires number { 0 < number }
+    ensures put { OnOk result (clauses.new.clauses ≡ clauses.old.clauses ++ conjunct_clauses satisfiers.now (place, package_view «package».now) number (clause_view clause.now)) }
+    ensures places { clauses.new.places ≡ clauses.old.places }
+{
+    if satisfiers.satisfies_alone(place, clause) {
+        return Ok(());
+    }
+    scratch.places.clear();
+    satisfiers.satisfying_clause(clause, &mut scratch.places)?;
+    scratch.literals.clear();
+    scratch.literals.push(is_out(place))?;
+    let key = key_of(place, Rule::Depends, number);
+    put_one_of(clauses, key, &mut scratch.literals, &scratch.places)
+}
+
+fn put_depends(
+    satisfiers: &Satisfiers<'_, '_>,
+    place: u64,
+    package: &Package<'_>,
+    scratch: &mut Scratch,
+    clauses: &mut KeyedClauses,
+) -> Result<(), AllocError>
+    requires fits { Fits clauses.old.places satisfiers.now }
+    requires place { IsPlace clauses.old.places place }
+    requires here { IsAt satisfiers.now (place, package_view «package».now) }
+    ensures put { OnOk result (clauses.new.clauses ≡ clauses.old.clauses ++ depends_clauses satisfiers.now (place, package_view «package».now)) }
+    ensures places { clauses.new.places ≡ clauses.old.places }
+{
+    let mut number = 0;
+    for clause in package.depends.clauses() {
+        number += 1;
+        put_conjunct(
+            satisfiers, place, package, number, &clause, scratch, clauses,
+        )?;
+    }
+    Ok(())
+}
+
+/// Takes a place out.
+fn take_out(places: &mut Vec<u64>, own: u64)
+    ensures { places.new.items ≡ filter (λ n. not (n == own)) places.old.items }
+{
+    places.retain(|place| *place != own);
+}
+
+/// Puts the clauses of an entry of `conflicts`: one for each package other than the entry's own.
+fn put_conflict(
+    satisfiers: &Satisfiers<'_, '_>,
+    place: u64,
+    entry: Entry<'_>,
+    scratch: &mut Scratch,
+    clauses: &mut KeyedClauses,
+) -> Result<(), AllocError>
+    requires fits { Fits clauses.old.places satisfiers.now }
+    requires place { IsPlace clauses.old.places place }
+    ensures put { OnOk result (clauses.new.clauses ≡ clauses.old.clauses ++ conflict_clauses satisfiers.now place entry.entry.number (vpkg_view entry.entry.vpkg)) }
+    ensures places { clauses.new.places ≡ clauses.old.places }
+{
+    scratch.places.clear();
+    satisfiers.satisfying(&entry.vpkg, &mut scratch.places)?;
+    take_out(&mut scratch.places, place);
+    let key = key_of(place, Rule::Conflicts, entry.number);
+    put_pairs_out(clauses, key, place, &scratch.places)
+}
+
+fn put_conflicts(
+    satisfiers: &Satisfiers<'_, '_>,
+    place: u64,
+    package: &Package<'_>,
+    scratch: &mut Scratch,
+    clauses: &mut KeyedClauses,
+) -> Result<(), AllocError>
+    requires fits { Fits clauses.old.places satisfiers.now }
+    requires place { IsPlace clauses.old.places place }
+    ensures put { OnOk result (clauses.new.clauses ≡ clauses.old.clauses ++ conflicts_clauses satisfiers.now (place, package_view «package».now)) }
+    ensures places { clauses.new.places ≡ clauses.old.places }
+{
+    for entry in Numbered::of(package.conflicts) {
+        put_conflict(satisfiers, place, entry, scratch, clauses)?;
+    }
+    Ok(())
+}
+
+/// Puts the clause that one of the packages of the name is installed.
+fn put_named(
+    satisfiers: &Satisfiers<'_, '_>,
+    key: Key,
+    name: &str,
+    scratch: &mut Scratch,
+    clauses: &mut KeyedClauses,
+) -> Result<(), AllocError>
+    requires { Fits clauses.old.places satisfiers.now }
+    ensures put { OnOk result (clauses.new.clauses ≡ clauses.old.clauses ++ (key_view key, one_of (is_named name.now) satisfiers.now) ∷ []) }
+    ensures places { clauses.new.places ≡ clauses.old.places }
+{
+    scratch.places.clear();
+    satisfiers.named(name, &mut scratch.places)?;
+    scratch.literals.clear();
+    put_one_of(clauses, key, &mut scratch.literals, &scratch.places)
+}
+
+/// Puts the clauses of all entries of `provides`, which are to be kept.
+fn put_features(
+    satisfiers: &Satisfiers<'_, '_>,
+    place: u64,
+    package: &Package<'_>,
+    scratch: &mut Scratch,
+    clauses: &mut KeyedClauses,
+) -> Result<(), AllocError>
+    requires fits { Fits clauses.old.places satisfiers.now }
+    requires place { IsPlace clauses.old.places place }
+    ensures put { OnOk result (clauses.new.clauses ≡ clauses.old.clauses ++ keep_clauses satisfiers.now Feature (place, package_view «package».now)) }
+    ensures places { clauses.new.places ≡ clauses.old.places }
+{
+    for entry in Numbered::of(package.provides) {
+        let key = key_of(place, Rule::Keep, entry.number);
+        put_meeting(satisfiers, key, &entry.vpkg, scratch, clauses)?;
+    }
+    Ok(())
+}
+
+fn put_keep(
+    satisfiers: &Satisfiers<'_, '_>,
+    place: u64,
+    package: &Package<'_>,
+    scratch: &mut Scratch,
+    clauses: &mut KeyedClauses,
+) -> Result<(), AllocError>
+    requires fits { Fits clauses.old.places satisfiers.now }
+    requires place { IsPlace clauses.old.places place }
+    ensures put { OnOk result (clauses.new.clauses ≡ clauses.old.clauses ++ keep_clauses satisfiers.now «package».now.keep (place, package_view «package».now)) }
+    ensures places { clauses.new.places ≡ clauses.old.places }
+{
+    let key = key_of(place, Rule::Keep, 1);
+    match package.keep {
+        Keep::Version => clauses.push(key, &[is_in(place)]),
+        Keep::Package => put_named(satisfiers, key, package.name, scratch, clauses),
+        Keep::Feature => put_features(satisfiers, place, package, scratch, clauses),
+        Keep::Nothing => Ok(()),
+    }
+}
+
+/// Puts the clauses of `keep`, of a package that is installed.
+fn put_kept(
+    satisfiers: &Satisfiers<'_, '_>,
+    place: u64,
+    package: &Package<'_>,
+    scratch: &mut Scratch,
+    clauses: &mut KeyedClauses,
+) -> Result<(), AllocError>
+    requires fits { Fits clauses.old.places satisfiers.now }
+    requires place { IsPlace clauses.old.places place }
+    ensures put { OnOk result (clauses.new.clauses ≡ clauses.old.clauses ++ (if «package».now.installed then keep_clauses satisfiers.now «package».now.keep (place, package_view «package».now) else [])) }
+    ensures places { clauses.new.places ≡ clauses.old.places }
+{
+    if package.installed {
+        return put_keep(satisfiers, place, package, scratch, clauses);
+    }
+    Ok(())
+}
+
+/// Puts all clauses of the package at a place.
+fn put_package(
+    satisfiers: &Satisfiers<'_, '_>,
+    place: u64,
+    package: &Package<'_>,
+    scratch: &mut Scratch,
+    clauses: &mut KeyedClauses,
+) -> Result<(), AllocError>
+    requires fits { Fits clauses.old.places satisfiers.now }
+    requires place { IsPlace clauses.old.places place }
+    requires here { IsAt satisfiers.now (place, package_view «package».now) }
+    ensures put { OnOk result (clauses.new.clauses ≡ clauses.old.clauses ++ own_clauses satisfiers.now (place, package_view «package».now)) }
+    ensures places { clauses.new.places ≡ clauses.old.places }
+{
+    put_depends(satisfiers, place, package, scratch, clauses)?;
+    put_conflicts(satisfiers, place, package, scratch, clauses)?;
+    put_kept(satisfiers, place, package, scratch, clauses)
+}
+
+/// Puts the clauses of the next package that has some, from this index on; whether there was one.
+pub(crate) fn next_package(
+    problem: &Problem<'_>,
+    satisfiers: &Satisfiers<'_, '_>,
+    index: &mut usize,
+    scratch: &mut Scratch,
+    clauses: &mut KeyedClauses,
+) -> Result<bool, AllocError>
+    requires all { satisfiers.now ≡ enumerate_from 1 problem.now.packages }
+    requires fits { Fits clauses.old.places satisfiers.now }
+    ensures goes { IfOk result (λ more. Goes more (packages_left satisfiers.now index.old) clauses.old (packages_left satisfiers.now index.new) clauses.new) }
+    ensures places { clauses.new.places ≡ clauses.old.places }
+{
+    let packages = problem.packages();
+    let before = clauses.len();
+    while *index < packages.len() {
+        let place = *index as u64 + 1;
+        put_package(satisfiers, place, &packages[*index], scratch, clauses)?;
+        *index += 1;
+        if clauses.len() > before {
+            return Ok(true);
+        }
+    }
+    Ok(false)
+}

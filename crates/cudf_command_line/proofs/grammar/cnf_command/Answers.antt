@@ -1,0 +1,21 @@
+use Rattle.std.proofs.Common.{codes}
+use Rattle.std.proofs.lemmas.Result.{IfOk-weaker}
+use Rattle.clap.specs.Simple.{App, new_app, with_rule}
+use Rattle.cudf_command_line.specs.Grammar.{IsOf, problem_word, strict_flag}
+use Rattle.cudf_command_line.proofs.GrammarLemmas.{described, followed, long_described, with_word}
+use Rattle.cudf_command_line.proofs.grammar.cnf_command.Goals as goal
+
+abbrev one : App
+one = with_rule (new_app (codes "cnf")) problem_word
+
+pub returns : goal.returns
+returns c =
+    let short : IsOf (new_app (codes "cnf")) c.about.result =
+    described (new_app (codes "cnf")) c.new.result c.about.result _ c.about.ensures (c.new.ensures.app, c.new.ensures.local) in
+    let long : IsOf (new_app (codes "cnf")) c.long_about.result =
+    long_described (new_app (codes "cnf")) c.about.result c.long_about.result _ c.long_about.ensures short in
+    let plain : IsOf (new_app (codes "cnf")) c.after_help.result =
+    followed (new_app (codes "cnf")) c.long_about.result c.after_help.result _ c.after_help.ensures long in
+    let of_one : IsOf one c.in_ok-arg.field-0 =
+    with_word (new_app (codes "cnf")) problem_word c.after_help.result c.problem.result plain c.problem.ensures.rule c.problem.ensures.local c.in_ok-arg.field-0 c.in_ok-arg.ensures in
+    IfOk-weaker c.arg-2.result _ _ (with_word one strict_flag c.in_ok-arg.field-0 c.strict_problem.result of_one c.strict_problem.ensures.rule c.strict_problem.ensures.local) c.arg-2.ensures

@@ -1,0 +1,26 @@
+use Rattle.std.proofs.Common.{codes}
+use Rattle.std.proofs.lemmas.Result.{IfOk-weaker}
+use Rattle.clap.specs.Simple.{App, new_app, with_rule}
+use Rattle.cudf_command_line.specs.Grammar.{IsOf, problem_word, proof_word, strict_flag}
+use Rattle.cudf_command_line.proofs.GrammarLemmas.{described, followed, long_described, with_word}
+use Rattle.cudf_command_line.proofs.grammar.refute_command.Goals as goal
+
+abbrev one : App
+one = with_rule (new_app (codes "refute")) problem_word
+
+abbrev two : App
+two = with_rule one proof_word
+
+pub returns : goal.returns
+returns c =
+    let short : IsOf (new_app (codes "refute")) c.about.result =
+    described (new_app (codes "refute")) c.new.result c.about.result _ c.about.ensures (c.new.ensures.app, c.new.ensures.local) in
+    let long : IsOf (new_app (codes "refute")) c.long_about.result =
+    long_described (new_app (codes "refute")) c.about.result c.long_about.result _ c.long_about.ensures short in
+    let plain : IsOf (new_app (codes "refute")) c.after_help.result =
+    followed (new_app (codes "refute")) c.long_about.result c.after_help.result _ c.after_help.ensures long in
+    let of_one : IsOf one c.in_ok-arg.field-0 =
+    with_word (new_app (codes "refute")) problem_word c.after_help.result c.problem.result plain c.problem.ensures.rule c.problem.ensures.local c.in_ok-arg.field-0 c.in_ok-arg.ensures in
+    let of_two : IsOf two c.in_ok-arg-2.field-0 =
+    with_word one proof_word c.in_ok-arg.field-0 c.proof.result of_one c.proof.ensures.rule c.proof.ensures.local c.in_ok-arg-2.field-0 c.in_ok-arg-2.ensures in
+    IfOk-weaker c.arg-3.result _ _ (with_word two strict_flag c.in_ok-arg-2.field-0 c.strict_problem.result of_two c.strict_problem.ensures.rule c.strict_problem.ensures.local) c.arg-3.ensures

@@ -1,0 +1,16 @@
+mod Examples
+mod FollowLemmas
+mod IndexLemmas
+mod KnownLemmas
+mod LawLemmas
+mod LineLemmas
+mod ListsLemmas
+mod MarkLemmas
+mod NeededLemmas
+mod NumberLemmas
+mod PlaceLemmas
+mod RangeLemmas
+mod ResultLemmas
+mod SearchLemmas
+mod StepsLemmas
+mod WordLemmas

@@ -1,0 +1,5 @@
+use Rattle.cudf_lrat.proofs.LawLemmas.{checked_sound}
+use Rattle.cudf_lrat.proofs.laws.refuted.Goals as goal
+
+pub returns : goal.returns
+returns c = λ places cnf text core is. checked_sound places cnf text core is

@@ -1,0 +1,37 @@
+-- The code's answers, as the definitions have them.
+use Rattle.std.specs.Prelude.{List}
+use Rattle.cudf_lrat.specs.Answers as answers
+use Rattle.cudf_lrat.specs.Lines as lines
+use Rattle.cudf_lrat.specs.Steps as steps
+use Rattle.cudf_lrat.specs.Steps.{Derived}
+use Rattle.cudf_lrat.specs.declared.checker.Taken.{Taken}
+use Rattle.cudf_lrat.specs.declared.checker.Taken.TheVariants.{On, Refuted, Fault}
+use Rattle.cudf_lrat.specs.declared.follow.Followed.{Followed}
+use Rattle.cudf_lrat.specs.declared.follow.Followed.TheVariants.{Conflict, NotUnit, NoConflict}
+use Rattle.cudf_lrat.specs.declared.marks.Reading.{Reading}
+use Rattle.cudf_lrat.specs.declared.marks.Reading.TheVariants.{Falsified, Only, Several}
+use Rattle.cudf_lrat.specs.declared.number.Signed.{Signed}
+use Rattle.cudf_lrat.specs.declared.reader.Line.{Line}
+use Rattle.cudf_lrat.specs.declared.reader.Line.TheVariants.{Skipped, Step, Invalid}
+
+-- with the literals and the hints of a step
+abbrev pub line_view : Line → List Signed → List Signed → lines.Line
+line_view Skipped literals hints = lines.skipped
+line_view (Step number) literals hints = lines.step number literals hints
+line_view Invalid literals hints = lines.invalid
+
+abbrev pub reading_view : Reading → steps.Reading
+reading_view Falsified = steps.falsified
+reading_view (Only literal) = steps.unit literal
+reading_view Several = steps.several
+
+abbrev pub followed_view : Followed → steps.Followed
+followed_view (Conflict n) = steps.conflict n
+followed_view NotUnit = steps.not_unit
+followed_view NoConflict = steps.no_conflict
+
+-- with the steps after it
+abbrev pub taken_view : Taken → List Derived → answers.Taken
+taken_view On taken = answers.on taken
+taken_view Refuted taken = answers.done taken
+taken_view (Fault kind) taken = answers.fault kind

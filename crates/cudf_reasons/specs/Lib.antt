@@ -1,0 +1,4 @@
+pub mod Reasons
+pub mod Laws
+pub mod Views
+pub mod Working

@@ -1,0 +1,4 @@
+pub mod Gathered
+pub mod Runs
+pub mod Tables
+pub mod Walks

@@ -1,0 +1,15 @@
+//! The core of a refutation as a list to be read: the instances of the needed CNF clauses, each once, each behind the one
+//! that brings in its package, with the packages that it is met by.
+#![tactic(auto)]
+
+mod gathering;
+pub mod laws;
+mod needed;
+mod order;
+mod table;
+mod told;
+mod walk;
+
+pub use needed::Needed;
+pub use order::reasons;
+pub use told::Reasons;

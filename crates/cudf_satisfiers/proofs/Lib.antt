@@ -1,0 +1,11 @@
+pub mod TestLemmas
+pub mod SingleLemmas
+pub mod StatusLemmas
+pub mod RowLemmas
+pub mod AnswerLemmas
+pub mod PlaceLemmas
+pub mod KeptLemmas
+pub mod ClauseLemmas
+pub mod PairLemmas
+pub mod JointLemmas
+pub mod TreeLemmas
