@@ -82,6 +82,8 @@ JOBS += [
     ["check", "--explain", "--strict", "car.problem.cudf", "car.twice.cudf"],
     ["check", "--explain", "producer.problem.cudf", *FAULTY_ANSWER], ["check", "--explain", *FOUND],
 ]
+JOBS += [["cnf", name] for name in ("shop.problem.cudf", "rules.problem.cudf", "many.problem.cudf", "e9.cudf")]
+JOBS += [["refute", name, "shop.lrat"] for name in ("shop.problem.cudf", "rules.problem.cudf", "e9.cudf")]
 WRITTEN = {**MADE, **FAULTY, **FAULTY_ANSWER, **FOUND}
 # the statuses of a report
 REPORTED = range(4)
