@@ -25,7 +25,7 @@ export DESTDIR PREFIX LIBDIR PROGRAM LIBRARY DIST PAGES VERSION
 
 # The example is no solution, so the program's status is 1. rt's status is 1 too where a proof fails: then there is no program.
 run: toolchain
-	@echo "Everything is proved before it is built: the first time that takes about a quarter of an hour on four processors, later only what changed."
+	@echo "Everything is proved before it is built: later runs prove only what changed."
 	@rm -f $(BUILT)
 	tools/lanes.sh cudf_referee cudf_command_line -- sh -c 'cd crates/cudf_program && rt run -- check ../../examples/car-and-wheel.cudf'; test $$? -eq 1
 	install -D -m 755 $(BUILT) "$(PROGRAM)"
