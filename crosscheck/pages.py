@@ -3,7 +3,7 @@
 
 usage: pages.py PROGRAM
 
-- Each command that README.md, examples/README.md, docs/COMPETITION.md and docs/DIFFERENCES.md show behind `$`, and each
+- Each command that README.md, examples/README.md and pages of docs/ show behind `$`, and each
   script with a block of output below it, on the repository's own data: it prints what the page says.
 - The scripts of docs/COMPETITION.md in a folder with nastier names and files, and with solvers that end in many ways.
 - The walk by pages of examples/README.md, on a listing of thirteen lines.
@@ -27,7 +27,7 @@ TOO_LONG = 300_000_000
 ROOT = os.path.dirname(os.path.dirname(os.path.abspath(__file__)))
 COMPETITION = "docs/COMPETITION.md"
 DIFFERENCES = "docs/DIFFERENCES.md"
-DOCUMENTS = ("README.md", "examples/README.md", COMPETITION, DIFFERENCES)
+DOCUMENTS = ("README.md", "examples/README.md", COMPETITION, DIFFERENCES, "docs/UNINSTALLABLE.md")
 SHELLS = [name for name in ("dash", "bash") if shutil.which(name)] or ["sh"]
 # the lines of a block, and its end
 BLOCK = r"((?:(?!```).*\n)*)```$"
