@@ -38,6 +38,15 @@ SHOP_CORE = (
     "p2.depends.1 server 2 line 5: needs tls >= 3\np3.conflicts.1 proxy 1 line 9: conflicts with mailer, met by mailer 4\n"
     "p1.depends.2 shop 1 line 1: needs mailer\nno solution exists\n"
 )
+HERE = os.path.dirname(os.path.abspath(__file__))
+
+
+def example(name):
+    with open(os.path.join(os.path.dirname(HERE), "examples", name), encoding="ascii") as file:
+        return file.read()
+
+
+TOGETHER, TOGETHER_PROOF = example("together.problem.cudf"), example("together.lrat")
 A = "package: a\nversion: 1\n"
 # packages and requests, and the clauses of their CNF
 CLAUSES = (
@@ -85,6 +94,20 @@ PROOFS = (
     ("6 9 0 -9 0\n", 2, 1), ("7 9 0 -9 0\n", 3, 1), ("7 3 0 -9 9 0\n", 4, 1), ("7 3 0 1 9 0\n", 5, 1),
     # of a literal and its opposite the last counts
     ("7 -1 1 0 6 0\n", 0, 0), ("7 1 -1 0 6 0\n", 7, 1),
+)
+
+# the shop's proof cut behind so many bytes: within a line it is no step, behind a whole one, with its end or without, none is empty
+CUTS = {
+    **dict.fromkeys(range(1, 13), (1, 1)), **dict.fromkeys(range(15, 25), (1, 2)), **dict.fromkeys(range(27, 37), (1, 3)),
+    **dict.fromkeys((0, 13, 14), (8, 1)), **dict.fromkeys((25, 26), (8, 2)), **dict.fromkeys((37, 38), None),
+}
+# problems of two and of no packages, with as many clauses as stand behind them; and what the shop's proof is for these
+OTHERS = (
+    (A + "\npackage: b\nversion: 2\ndepends: a\n\nrequest:\ninstall: b\n", "7 3 0 6 3 1 0\n", 3),     # 2: there is no package 3
+    ("request:\n", SHOP_PROOF, 3),
+    (A + "\nrequest:\ninstall: " + ", ".join("a" * 7) + "\n", SHOP_PROOF, 2),                           # 7: the number isn't new
+    (SHOP, "11 6 0 9 1 0\n", 3), (SHOP, "11 2 0 9 1 0\n", 5),
+    (SHOP.replace("tls\nversion: 2", "tls\nversion: 3"), SHOP_PROOF, 6),                                  # clause 3 is -2 5, and both are open
 )
 
 
@@ -147,6 +170,23 @@ def rows(trial):
         if wanted:
             trial.note(("second", text), proof_answer(SHOP.encode(), data), wanted)
         trial.expect("refute", proof_answer(SHOP.encode(), data), SHOP.encode(), data)
+    for end, fault in CUTS.items():
+        wanted = (f"proof line {fault[1]}: L{fault[0]} {KINDS[fault[0]]}\n", 1) if fault else (SHOP_CORE, 0)
+        trial.note(("second", end), proof_answer(SHOP.encode(), SHOP_PROOF[:end].encode()), wanted)
+        trial.expect("refute", wanted, SHOP.encode(), SHOP_PROOF[:end].encode())
+    for problem, text, kind in OTHERS:
+        wanted = f"proof line 1: L{kind} {KINDS[kind]}\n", 1
+        trial.note(("second", problem, text), proof_answer(problem.encode(), text.encode()), wanted)
+        trial.expect("refute", wanted, problem.encode(), text.encode())
+    shop = trial.file("p", SHOP.encode())
+    trial.note("no proof", trial.run("refute", shop, os.devnull), ("proof line 1: L8 proof ends early\n", 1))
+    trial.note("no problem", trial.run("refute", os.devnull, shop), ("problem line 1: E13 no request\n", 2))
+    trial.note("neither", trial.run("cnf", os.devnull), ("problem line 1: E13 no request\n", 2))
+    # longer proofs, of which a cut may leave another number
+    for text in (TOGETHER_PROOF, "007 3 0 6 3 1 0\n18446744073709551614 4 0 6 2 00\n18446744073709551615 0 7 18446744073709551614 4 0\n"):
+        problem = (TOGETHER if text == TOGETHER_PROOF else SHOP).encode()
+        for end in range(len(text)):
+            trial.expect("refute", proof_answer(problem, text[:end].encode()), problem, text[:end].encode())
     # an empty clause of the CNF is a core, and no proof is needed
     for data in (b"", b"?\n"):
         trial.expect("refute", ("r.install.2 line 4: needs b\nno solution exists\n", 0), (A + "\nrequest:\ninstall: a, b, c\n").encode(), data)

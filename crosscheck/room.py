@@ -17,7 +17,7 @@ memory was asked for), the most bytes that were held at once, and the calls of r
 Some of the cases are made for `--explain`: what it adds has to be found in about the same time for each line.
 
 An input of exactly 268435456 bytes is answered, with at most three bytes of memory for each of its own, and one byte
-more is told as too long, with status 5.
+more is told as too long, with status 5; and so is a proof.
 
 TESTS is the executable of the tests of cudf_run_tests (`rt test` leaves it in out/). Each of those in `memory` makes calls
 of the library, and must hold no more blocks at its end than `memory::none` does, which takes no memory. They have the usual
@@ -39,6 +39,7 @@ import tempfile
 import threading
 
 HERE = os.path.dirname(os.path.abspath(__file__))
+EXAMPLES = os.path.join(os.path.dirname(HERE), "examples")
 LIMIT_SECONDS = 120
 SMALL_STACK = 128 << 10
 GREATEST_INPUT = 268_435_456
@@ -520,6 +521,24 @@ class Trials:
                     faults.append(f"{counts.peak} bytes of memory")
                 self.note(f"{size} bytes, {job}", f"{counts.peak / MEGABYTE:.0f} MB", faults)
 
+    def try_greatest_proof(self):
+        """A proof of as many bytes as it may have, and of one more: a comment with a hole, and behind it the proof of the shop."""
+        problem, great = os.path.join(EXAMPLES, "shop.problem.cudf"), os.path.join(self.folder, "great")
+        with open(os.path.join(EXAMPLES, "shop.lrat"), "rb") as file:
+            proof = file.read()
+        status, told, _ = self.runner.run([self.path, "refute", problem, os.path.join(EXAMPLES, "shop.lrat")], None, {})
+        for size in (GREATEST_INPUT, GREATEST_INPUT + 1):
+            with open(great, "wb") as file:
+                file.write(b"c ")
+                file.seek(size - len(proof) - 1)
+                file.write(b"\n" + proof)
+            given = self.runner.counted([self.path, "refute", problem, great])
+            wanted = (status, told, b"") if size == GREATEST_INPUT else (5, b"", LONG.format(great).encode())
+            faults = [] if given[:3] == wanted and status == 0 else [f"status {given[0]}: {given[1][-99:]} {given[2][-99:]}"]
+            if given[3].peak > 3 * size + MORE_BYTES:
+                faults.append(f"{given[3].peak} bytes of memory")
+            self.note(f"{size} bytes, refute P G", f"{given[3].peak / MEGABYTE:.0f} MB", faults)
+
     def try_leaks(self, tests):
         """What the calls of the library hold at their end, beside those that take no memory."""
         listed = subprocess.run([tests, "--list"], capture_output=True, text=True, check=True).stdout.split()
@@ -581,6 +600,7 @@ def main(path, tests=None):
             trials.try_case(case)
         trials.try_case(SLOW, is_slow=True)
         trials.try_greatest()
+        trials.try_greatest_proof()
         if tests:
             trials.try_leaks(os.path.abspath(tests))
     print(f"{trials.rows} rows, {trials.wrong} wrong")
