@@ -323,6 +323,29 @@ def pair_repeated(count):
     return with_added(task, f"p{count} 1 stands on line {4 * count - 3}")
 
 
+# clause 1 is -1, of depends, and clause 2 is 1, of install
+BROKEN = "package: a\nversion: 1\ndepends: b\n\nrequest:\ninstall: a\n"
+REFUTED = "r.install.1 line 5: needs a\np1.depends.1 a 1 line 1: needs b\nno solution exists\n"
+
+
+def refuted(proof):
+    return Task("refute", [BROKEN, proof], REFUTED, 0)
+
+
+def many_steps(count):
+    """Steps each of which needs the one before it."""
+    steps = "".join(f"{number} 1 0 {number - 1} 0\n" for number in range(3, count + 3))
+    return refuted(f"{steps}{count + 3} 0 1 {count + 2} 0\n")
+
+
+def cnf_of_many(count):
+    """Packages that all need the first one."""
+    problem = packages(range(1, count + 1), lambda number: "depends: p1\n") + "request:\n"
+    comments = "".join(f"c p{number} p{number} 1\n" for number in range(1, count + 1))
+    clauses = "".join(f"-{number} 1 0\n" for number in range(2, count + 1))
+    return Task("cnf", [problem], f"{comments}p cnf {count} {count - 1}\n{clauses}", 0)
+
+
 CASES = (
     Case("versions of one name, ascending", 20_000, lambda n: versions(range(1, n + 1))),
     Case("versions of one name, descending", 20_000, lambda n: versions(range(n, 0, -1))),
@@ -356,6 +379,10 @@ CASES = (
     Case("a million blank lines", 500_000, lambda n: lint("request:\n" + "\n" * n)),
     Case("a million properties", 500_000, lambda n: lint("request:\n" + "".join(f"e{k}:\n" for k in range(n)))),
     Case("a million short stanzas", 250_000, lambda n: check("request:\n", "request:\n\n" * n)),
+    Case("cnf: each needs the first", 20_000, cnf_of_many),
+    Case("refute: comments before the proof", 500_000, lambda n: refuted("c x\n" * n + "3 0 2 1 0\n")),
+    Case("refute: steps in a chain", 50_000, many_steps),
+    Case("refute: a step of many hints", 500_000, lambda n: refuted("3 0 " + "2 " * n + "1 0\n")),
     Case("one long line", 5_000_000, lambda n: lint("request:\n#" + "x" * n)),
 )
 EXPLAINED = (
