@@ -3,10 +3,10 @@
 
 usage: cadical.py PROGRAM [SEED [COUNT [SPOILT [CHECKED]]]]
 
-COUNT (500 if not given) problems of up to 8 packages, every other one of a kind that has a solution more often. For each of them and each of its statuses the keys of the clauses that the
-status doesn't satisfy are those of the instances that it violates: by the second implementation for all problems, and by the
-program's `check` too for the first CHECKED (100) of them. The CNF that is printed is that of the second implementation. cadical
-then gives
+COUNT (500 if not given) problems of up to 8 packages, every other one of a kind that has a solution more often. For each of
+them and each of its statuses the keys of the clauses that the status doesn't satisfy are those of the instances that it
+violates: by the second implementation for all problems, and by the program's `check` too for the first CHECKED (100) of them.
+The CNF that is printed is that of the second implementation. cadical then gives
 
 - a model: it is a solution, as `check` says of it, and the second implementation has one;
 - or a proof: `refute` accepts it, its lines are those of the second checker, and every status violates one of their instances.

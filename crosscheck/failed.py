@@ -23,13 +23,18 @@ from solvers import SOLVERS, problem
 
 LIMIT_SECONDS = 30
 VERDICTS = {0: "right", 1: "wrong"}
-PACKUP = {"packup": lambda given, answer: ["packup", "--temporary-directory", os.path.dirname(answer), "-u", "-removed,-changed", given, answer]}
+COUNTED = ("FAILs", "right", "wrong", "not decided", "solutions", "no solutions", "no answers")
+
+
+def packup(given, answer):
+    """The words of packup, which needs a folder of its own."""
+    return ["packup", "--temporary-directory", os.path.dirname(answer), "-u", "-removed,-changed", given, answer]
 
 
 def answered(words):
     """Whether a solver ended within its time, by whatever status."""
     try:
-        subprocess.run(words, stdin=subprocess.DEVNULL, stdout=subprocess.DEVNULL, stderr=subprocess.DEVNULL, timeout=LIMIT_SECONDS, check=False)
+        subprocess.run(words, stdin=subprocess.DEVNULL, capture_output=True, timeout=LIMIT_SECONDS, check=False)
     except subprocess.TimeoutExpired:
         return False
     return True
@@ -45,7 +50,7 @@ class Judge:
 
     def __init__(self, program, folder):
         self.program, self.folder, self.told, self.odd = os.path.abspath(program), folder, collections.Counter(), 0
-        self.solvers = {name: words for name, words in {**SOLVERS, **PACKUP}.items() if shutil.which(name)}
+        self.solvers = {name: words for name, words in {**SOLVERS, "packup": packup}.items() if shutil.which(name)}
         self.script = os.path.join(folder, "fail.sh")
         with open(self.script, "w", encoding="ascii") as file:
             file.write(script("# fail.sh"))
@@ -84,15 +89,19 @@ def main(program, seed, count, *files):
     with tempfile.TemporaryDirectory() as folder:
         judge = Judge(program, folder)
         made = os.path.join(folder, "problem")
-        for kind, make in (("plain", lambda: problem(chance, True)), ("other", lambda: problem(chance, False)), ("small", lambda: Small(chance).problem(8).decode())):
+        makers = {
+            "plain": lambda: problem(chance, True), "other": lambda: problem(chance, False),
+            "small": lambda: Small(chance).problem(8).decode(),
+        }
+        for kind in makers:
             for _ in range(int(count)):
                 with open(made, "w", encoding="ascii") as file:
-                    file.write(make())
+                    file.write(makers[kind]())
                 judge.judge(kind, made)
         for given in files:
             judge.judge("file", given)
     for name in judge.solvers:
-        counts = ", ".join(f"{what} {judge.told[name, what]}" for what in ("FAILs", "right", "wrong", "not decided", "solutions", "no solutions", "no answers"))
+        counts = ", ".join(f"{what} {judge.told[name, what]}" for what in COUNTED)
         print(f"{name}: {counts}")
     print(f"problems {3 * int(count) + len(files)}, not as expected {judge.odd}")
     return 1 if judge.odd else 0

@@ -54,7 +54,8 @@ FAULTY = "problem line 1: E12 no version\n"
 ROWS = (
     ("right", SHOP, 0, SHOP_CORE, None), ("wrong", TWO, 1, "solution yes\n", packages(("a", 1), ("b", 2)) + "\n"),
     ("empty clause", LACKING, 0, LACKS_B, None), ("no packages", NOTHING, 1, "solution yes\n", ""),
-    ("faulty", "package: a\n\nrequest:\n", 2, FAULTY, None), ("named in two words", TWO, 1, "solution yes\n", packages(("a", 1), ("b", 2)) + "\n"),
+    ("faulty", "package: a\n\nrequest:\n", 2, FAULTY, None),
+    ("named in two words", TWO, 1, "solution yes\n", packages(("a", 1), ("b", 2)) + "\n"),
     ("-dash", SHOP, 0, SHOP_CORE, None),
 )
 # what a solver must not be believed: another's proof, one that was cut off, a model of less
@@ -81,8 +82,9 @@ class Fails:
             if places:
                 surroundings["PATH"] = places
             write(folder, "fail.sh", script("# fail.sh"))
+            given = [name] if words is None else words
             ran = subprocess.run(
-                [shutil.which(self.shell), "fail.sh", *([name] if words is None else words)], cwd=folder, env=surroundings, stdin=subprocess.DEVNULL,
+                [shutil.which(self.shell), "fail.sh", *given], cwd=folder, env=surroundings, stdin=subprocess.DEVNULL,
                 capture_output=True, timeout=120, check=False,
             )
             left = set(os.listdir(folder)) - {name, "fail.sh"}
@@ -96,7 +98,11 @@ def write(folder, name, text):
 
 
 def read(folder, name):
-    with open(os.path.join(folder, name), encoding="ascii") as file:
+    """The text of a file, or None where there is none."""
+    path = os.path.join(folder, name)
+    if not os.path.isfile(path):
+        return None
+    with open(path, encoding="ascii") as file:
         return file.read()
 
 

@@ -73,6 +73,7 @@ CLAUSES = (
     (A + "provides: f = 1, f = 2\n\npackage: b\nversion: 1\nprovides: f = 1\n\nrequest:\nupgrade: f\n", "1 2 0|-1 0|-1 -2 0"),
     (A + "provides: f = 1\n\npackage: b\nversion: 1\nprovides: f = 1\n\npackage: c\nversion: 1\nprovides: f\n\nrequest:\nupgrade: f\n", "1 2 3 0"),
 )
+ODD_NUMBERS = "007 3 0 6 3 1 0\n18446744073709551614 4 0 6 2 00\n18446744073709551615 0 7 18446744073709551614 4 0\n"
 # proofs for the shop, and what comes of them
 PROOFS = (
     (SHOP_PROOF, SHOP_CORE, 0), (SHOP_PROOF.replace("\n", "\r\n"), SHOP_CORE, 0), (SHOP_PROOF + "?\n", SHOP_CORE, 0),
@@ -80,7 +81,7 @@ PROOFS = (
     # a hint after the conflict isn't used
     ("7 3 0 6 3 1 0\n8 4 0 6 2 0\n9 0 7 8 4 5 0\n", SHOP_CORE, 0),
     # no two steps need stand one number apart
-    ("007 3 0 6 3 1 0\n18446744073709551614 4 0 6 2 00\n18446744073709551615 0 7 18446744073709551614 4 0\n", SHOP_CORE, 0),
+    (ODD_NUMBERS, SHOP_CORE, 0),
     ("", 8, 1), ("\n\n", 8, 2), ("7 3 0 6 3 1 0\nc\n", 8, 2), ("7 3 0 6 3 1 0\nc", 8, 2), ("7 3 0 6 3 1 0\n?\n", 1, 2),
     *((line + "\n" + SHOP_PROOF, 1, 1) for line in (
         "7", "7 3", "7 3 0", "7 3 0 6", "7 3 0 6 3 1 0 0", "+7 3 0 6 3 1 0", "-7 3 0 6 3 1 0", "7 +3 0 6 3 1 0", "7 -0 0 6 0",
@@ -183,8 +184,7 @@ def rows(trial):
     trial.note("no problem", trial.run("refute", os.devnull, shop), ("problem line 1: E13 no request\n", 2))
     trial.note("neither", trial.run("cnf", os.devnull), ("problem line 1: E13 no request\n", 2))
     # longer proofs, of which a cut may leave another number
-    for text in (TOGETHER_PROOF, "007 3 0 6 3 1 0\n18446744073709551614 4 0 6 2 00\n18446744073709551615 0 7 18446744073709551614 4 0\n"):
-        problem = (TOGETHER if text == TOGETHER_PROOF else SHOP).encode()
+    for problem, text in ((TOGETHER.encode(), TOGETHER_PROOF), (SHOP.encode(), ODD_NUMBERS)):
         for end in range(len(text)):
             trial.expect("refute", proof_answer(problem, text[:end].encode()), problem, text[:end].encode())
     # an empty clause of the CNF is a core, and no proof is needed
