@@ -19,7 +19,7 @@ import subprocess
 import sys
 import tempfile
 
-from pages import CARS, SHELLS, Trial, competition, packages, script
+from pages import CARS, ROOT, SHELLS, Trial, competition, packages, script
 from refutations import A, SHOP, SHOP_CORE, SHOP_PROOF
 
 # the last two words are the CNF and the proof
@@ -43,9 +43,13 @@ TWO_CNF = "c p1 a 1\nc p2 b 2\np cnf 2 2\n-2 1 0\n2 0\n"
 # nothing gives b
 LACKING = A + "\nrequest: r\ninstall: a, b\n"
 LACKING_CNF = "c p1 a 1\np cnf 1 2\n1 0\n0\n"
+# of examples/competition, where server 1 alone is a solution
+SERVER_CNF = (
+    "c p1 mail 1\nc p2 mail 2\nc p3 library 1\nc p4 library 2\nc p5 server 1\np cnf 5 3\n-2 4 0\n-5 -1 0\n5 0\n"
+)
 KNOWN = {
     SHOP_CNF: ("proof", SHOP_PROOF), TWO_CNF: ("model", "s SATISFIABLE\nv 1 2 0\n"), LACKING_CNF: ("proof", ""),
-    "p cnf 0 0\n": ("model", "s SATISFIABLE\nv 0\n"),
+    "p cnf 0 0\n": ("model", "s SATISFIABLE\nv 0\n"), SERVER_CNF: ("model", "s SATISFIABLE\nv -1 -2 -3 -4 5 0\n"),
 }
 UNKNOWN = "not decided\n"
 LACKS_B = "r.install.2 line 4: needs b\nno solution exists\n"
@@ -166,6 +170,18 @@ def folder_of_answers(trial, shell, places, answers):
         trial.note(f"its witness, {shell}", read(folder, "judged/two.witness"), ROWS[1][4])
 
 
+def own_answers(trial, shell, places, answers):
+    """The page's own folder: oak says FAIL to `server.cudf`."""
+    with tempfile.TemporaryDirectory() as folder:
+        shutil.copytree(os.path.join(ROOT, "examples/competition"), folder, dirs_exist_ok=True)
+        for name in ("fail.sh", "fails.sh"):
+            write(folder, name, script(f"# {name}"))
+        surroundings = {**trial.surroundings, "PATH": places + os.pathsep + os.environ["PATH"], "ANSWERS": answers}
+        ran = subprocess.run([shell, "fails.sh"], cwd=folder, env=surroundings, capture_output=True, timeout=120, check=False)
+        given = ran.stdout.decode(), ran.stderr.decode(), read(folder, "judged/server.cudf.witness")
+        trial.note(f"the page's own answers, {shell}", given, ("server.cudf wrong\n", "", packages(("server", 1)) + "\n"))
+
+
 def main(path):
     with tempfile.TemporaryDirectory() as folder:
         trial = Trial(path, folder)
@@ -181,6 +197,7 @@ def main(path):
             given = Fails(trial, shell).run("p", SHOP, places=bare)
             trial.note(f"{shell}, no cadical", given, (127, "", "fail.sh: cadical isn't installed\n", {}, []))
             folder_of_answers(trial, shell, places, answers)
+            own_answers(trial, shell, places, answers)
             if shutil.which("cadical"):
                 rows(trial, shell, os.path.dirname(shutil.which("cadical")) + os.pathsep + bare, "cadical")
         if not shutil.which("cadical"):
