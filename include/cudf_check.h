@@ -98,8 +98,8 @@ uint8_t cudf_check_cnf(bool strict, const uint8_t *problem, size_t problem_lengt
 /*
  * Checks a proof, in LRAT's text form, that the CNF of a problem has no model, and so that the problem has no solution. A
  * proof that holds is answered by the instances that it needs, of which every answer violates one, and
- * `no solution exists`; else its first fault is told, as `proof line 3: L5 no such clause`. With `explain` lines and a
- * faulty problem have behind their texts what docs/FORMAT.md lists.
+ * `no solution exists`; else its first fault is reported, as `proof line 3: L5 no such clause`. With `explain` lines have
+ * behind their texts what docs/FORMAT.md lists.
  */
 uint8_t cudf_check_refute(bool strict, bool explain, const uint8_t *problem, size_t problem_length, const uint8_t *proof,
                           size_t proof_length, uint8_t *report, size_t room, size_t *length);
