@@ -7,7 +7,7 @@ LIBRARY_FOLDER has libcudf_check.a and libcudf_check.so.1.
 
 - The examples in C, C++, Python and OCaml, linked to each of the two files, print embedding/expected.txt. What
   docs/EMBEDDING.md shows of them stands in them.
-- 500 random problems with their solutions and proofs, in both modes, explained and not, by all six calls, with pages and
+- 500 random problems with their solutions and proofs, in both modes, by all six calls, those that explain with and without it, with pages and
   lists, right ones and wrong ones: through C and through Python the status and the bytes of the report are the program's,
   and the values that Python gives say the same.
 - Reports that are cut at every length; null pointers; keys, lists and rankings that a command line can't ask for.
@@ -81,16 +81,14 @@ SHOP_CNF = (
     b"c p1 shop 1\nc p2 server 2\nc p3 proxy 1\nc p4 mailer 4\nc p5 tls 2\np cnf 5 6\n"
     b"-1 2 3 0\n-1 4 0\n-2 0\n-3 -4 0\n5 0\n1 0\n"
 )
-# each line, and what is added to it
-SHOP_LINES = (
-    (b"r.install.1 line 21: needs shop", b"; shop 1 line 1 would do"),
-    (b"p1.depends.1 shop 1 line 1: needs server | proxy", b"; server 2 line 5 would do"),
-    (b"p2.depends.1 server 2 line 5: needs tls >= 3", b"; nothing in the problem would do"),
-    (b"p3.conflicts.1 proxy 1 line 9: conflicts with mailer, met by mailer 4", b""),
-    (b"p1.depends.2 shop 1 line 1: needs mailer", b"; mailer 4 line 13 would do"), (b"no solution exists", b""),
+SHOP_CORE = (
+    b"r.install.1 line 21: needs shop\n"
+    b"p1.depends.1 shop 1 line 1: needs server | proxy\n"
+    b"p2.depends.1 server 2 line 5: needs tls >= 3\n"
+    b"p3.conflicts.1 proxy 1 line 9: conflicts with mailer, met by mailer 4\n"
+    b"p1.depends.2 shop 1 line 1: needs mailer\n"
+    b"no solution exists\n"
 )
-SHOP_CORE = b"".join(line + b"\n" for line, _ in SHOP_LINES)
-SHOP_EXPLAINED = b"".join(line + added + b"\n" for line, added in SHOP_LINES)
 # a package that lacks what the preamble declares
 LACKING = b"preamble:\nproperty: size: int\n\npackage: a\nversion: 1\n\nrequest:\n"
 LACKS = b"problem line 5: E14 declared property missing\n"
@@ -340,9 +338,8 @@ def random_requests(number):
     yield Request("cnf", (problem,), is_strict=is_strict)
     small, proof = random_proof(random.Random(f"embedding/{number}"))
     yield Request("cnf", (small,), is_strict=is_strict)
-    for is_explained in (False, True):
-        yield Request("refute", (problem, proof), is_strict=is_strict, is_explained=is_explained)
-        yield Request("refute", (small, proof), is_strict=is_strict, is_explained=is_explained)
+    yield Request("refute", (problem, proof), is_strict=is_strict)
+    yield Request("refute", (small, proof), is_strict=is_strict)
 
 
 def random_proof(chance):
@@ -399,7 +396,7 @@ def python_call(module, request):
         return module.rank(problem, solutions, request.said, request.is_strict)
     if request.call == "cnf":
         return module.cnf(problem, request.is_strict)
-    return module.refute(problem, *solutions, request.is_strict, request.is_explained)
+    return module.refute(problem, *solutions, request.is_strict)
 
 
 def values(trial, module):
@@ -526,7 +523,6 @@ def usual_requests():
         Request("check", rules), Request("check", rules, is_explained=True),
         Request("score", rules, b"-removed,+new,-touched"), Request("rank", tuple(car), b"-changed,-touched"),
         Request("cnf", (SHOP,)), Request("refute", (SHOP, SHOP_PROOF)),
-        Request("refute", (SHOP, SHOP_PROOF), is_explained=True),
     )
 
 
@@ -586,13 +582,12 @@ def refutations_by_hand(faulty):
         (Request("cnf", (LACKING,)), YES, b"c p1 a 1\np cnf 1 0\n"),
         (Request("cnf", (LACKING,), is_strict=True), FAULTY, LACKS),
         (Request("refute", (SHOP, SHOP_PROOF)), YES, SHOP_CORE),
-        (Request("refute", (SHOP, SHOP_PROOF), is_explained=True), YES, SHOP_EXPLAINED),
         (Request("refute", (SHOP, b"c \xff\0\n" + SHOP_PROOF)), YES, SHOP_CORE),
         (Request("refute", (SHOP, SHOP_PROOF[:-1])), YES, SHOP_CORE),
         (Request("refute", (SHOP, b"")), NO, b"proof line 1: L8 proof ends early\n"),
-        (Request("refute", (SHOP, b"7 3 0 6 3 1 0\n8 4 0 9 2 0\n9 0 7 8 4 0\n"), is_explained=True), NO, late),
+        (Request("refute", (SHOP, b"7 3 0 6 3 1 0\n8 4 0 9 2 0\n9 0 7 8 4 0\n")), NO, late),
         (Request("refute", (b"?", SHOP_PROOF)), FAULTY, faulty),
-        (Request("refute", (b"?", b"?"), is_explained=True), FAULTY, faulty),
+        (Request("refute", (b"?", b"?")), FAULTY, faulty),
         (Request("refute", (b"request:\ninstall: a\n", b"?")), YES, unread),
         (Request("refute", (LACKING, b"")), NO, b"proof line 1: L8 proof ends early\n"),
         (Request("refute", (LACKING, b""), is_strict=True), FAULTY, LACKS),
@@ -605,7 +600,7 @@ def lengths():
     rows = [
         Request("lint", (long,)), Request("check", (PROBLEM, long)), Request("score", (long, b"FAIL")),
         Request("rank", (b"?", GOOD, b"FAIL", long), b"-new"), Request("cnf", (long,)),
-        Request("refute", (b"?", long), is_explained=True), Request("refute", (long, SHOP_PROOF)),
+        Request("refute", (b"?", long)), Request("refute", (long, SHOP_PROOF)),
     ]
     for request in rows:
         yield f"too long: {request}", request, request.left(UNREAD, b"")

@@ -140,13 +140,11 @@ pub extern "C" fn cudf_check_cnf(
     show(report, room, length)
 }
 
-/// Checks a proof that a problem has no solution, as the program's `refute` does, with its `--explain` where `explain` says
-/// so. Status 5 as of `cudf_check_cnf`.
+/// Checks a proof that a problem has no solution, as the program's `refute` does. Status 5 as of `cudf_check_cnf`.
 #[unsafe(no_mangle)]
 pub extern "C" fn cudf_check_refute(
     alloc: Global,
     strict: bool,
-    explain: bool,
     problem: &[u8],
     proof: &[u8],
     room: &mut [u8],
