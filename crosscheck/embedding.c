@@ -3,10 +3,10 @@
 usage: embedding FILE [THREADS CALLS STACK]
 
 FILE has requests, one behind the other, in numbers of 64 bits as the machine has them: which call it is (0 lint, 1 check,
-2 score, 3 rank), whether it is strict, whether lines are explained, the limit, the room, how many texts there are, and then
-the texts, each a length and bytes. The problem comes first, then the solutions, and last the key or the list. A length NONE
-stands for a null pointer, and with ZEROES for that many bytes 0, which don't stand in the file; a room NONE stands for a
-null buffer.
+2 score, 3 rank, 4 cnf, 5 refute), whether it is strict, whether lines are explained, the limit, the room, how many texts
+there are, and then the texts, each a length and bytes. The problem comes first, then the solutions or the proof, and last
+the key or the list, where the call has one. A length NONE stands for a null pointer, and with ZEROES for that many bytes 0,
+which don't stand in the file; a room NONE stands for a null buffer.
 
 For each request its answer is written in the same way: the status, the length that was told, and the buffer with GUARD
 bytes behind its room. All its bytes were PATTERN before the call.
@@ -23,7 +23,7 @@ where FILE can't be opened, or memory for a request is refused before its call. 
 
 #define NONE UINT64_MAX
 #define ZEROES (UINT64_C(1) << 63)
-enum { LINT, CHECK, SCORE, RANK };
+enum { LINT, CHECK, SCORE, RANK, CNF, REFUTE };
 enum { GUARD = 64, PATTERN = 0xa5, REFUSED = 70 };
 
 struct text {
@@ -124,6 +124,13 @@ static void call(const struct request *request, struct answer *answer)
     case RANK:
         answer->status = cudf_check_rank(strict, problem->bytes, problem->length, request->solutions, request->count - 2,
                                          words->bytes, words->length, answer->buffer, room, &answer->length);
+        break;
+    case CNF:
+        answer->status = cudf_check_cnf(strict, problem->bytes, problem->length, answer->buffer, room, &answer->length);
+        break;
+    case REFUTE:
+        answer->status = cudf_check_refute(strict, problem->bytes, problem->length, solution->bytes, solution->length,
+                                           answer->buffer, room, &answer->length);
         break;
     default:
         abort();

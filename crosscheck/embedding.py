@@ -7,9 +7,9 @@ LIBRARY_FOLDER has libcudf_check.a and libcudf_check.so.1.
 
 - The examples in C, C++, Python and OCaml, linked to each of the two files, print embedding/expected.txt. What
   docs/EMBEDDING.md shows of them stands in them.
-- 500 random problems with their solutions, in both modes, explained and not, by all four calls, with pages and lists, right
-  ones and wrong ones: through C and through Python the status and the bytes of the report are the program's, and the values
-  that Python gives say the same.
+- 500 random problems with their solutions and proofs, in both modes, by all six calls, those that explain with and without it, with pages and
+  lists, right ones and wrong ones: through C and through Python the status and the bytes of the report are the program's,
+  and the values that Python gives say the same.
 - Reports that are cut at every length; null pointers; keys, lists and rankings that a command line can't ask for.
 - Each growth of memory in a call refused in turn; documents that are too long, and one that just isn't.
 - 10,000 calls by eight threads at once: with stacks of 128 KB, under a sanitizer for addresses and leaks, and under one for
@@ -23,6 +23,7 @@ import ast
 import dataclasses
 import importlib
 import os
+import random
 import re
 import shutil
 import struct
@@ -32,7 +33,10 @@ import tempfile
 
 import programs
 import refusals
+from cnf import Rules
 from inputs import Inputs
+from lrat import Prover
+from refutations import Small, spoilt
 
 HERE = os.path.dirname(os.path.abspath(__file__))
 ROOT = os.path.dirname(HERE)
@@ -45,7 +49,9 @@ LIMIT_SECONDS = 120
 # a section's name, size and flags, as readelf -SW tells them
 SECTION = re.compile(r"^ *\[ *\d+\] (\S.*?) +\S+ +[0-9a-f]{16} [0-9a-f]+ ([0-9a-f]+) [0-9a-f]+ +([A-Za-z]*) ", re.M)
 WARNINGS = ("-O1", "-Wall", "-Wextra", "-pedantic", "-Werror")
-CALLS = ("lint", "check", "score", "rank")
+CALLS = ("lint", "check", "score", "rank", "cnf", "refute")
+# these have neither a key nor a list
+WORDLESS = ("lint", "cnf", "refute")
 PAIRS, THREADS, TURNS, SOME = 500, 8, 10_000, 60
 SMALL_STACK = 128 << 10
 YES, NO, FAULTY, FAIL, USAGE, UNREAD, MEMORY = range(7)
@@ -65,6 +71,27 @@ MISTYPED = b"package: car\nversion: 1\ndepends: wheel" + b",\n wheel" * 69 + b",
 NO_KEYS = (b"p01.keep.1", b"r.upgrade.1", b"r.install.1.many", b" r.install.1", b"r.install.1 ", b"r.install.1\n", b"\xff",
            b"r.install.1\0", b"\0", b"p18446744073709551616.keep.1")
 NO_LISTS = (b"removed", b"-removed,", b"- removed", b"-Removed", b"-size", b",", b"-new\0", b"\0", b"-new,\xff")
+
+# a problem without a solution, with its CNF and what its proof shows, as docs/FORMAT.md and docs/RULES.md have them
+with open(os.path.join(EXAMPLES, "shop.problem.cudf"), "rb") as file:
+    SHOP = file.read()
+with open(os.path.join(EXAMPLES, "shop.lrat"), "rb") as file:
+    SHOP_PROOF = file.read()
+SHOP_CNF = (
+    b"c p1 shop 1\nc p2 server 2\nc p3 proxy 1\nc p4 mailer 4\nc p5 tls 2\np cnf 5 6\n"
+    b"-1 2 3 0\n-1 4 0\n-2 0\n-3 -4 0\n5 0\n1 0\n"
+)
+SHOP_CORE = (
+    b"r.install.1 line 21: needs shop\n"
+    b"p1.depends.1 shop 1 line 1: needs server | proxy\n"
+    b"p2.depends.1 server 2 line 5: needs tls >= 3\n"
+    b"p3.conflicts.1 proxy 1 line 9: conflicts with mailer, met by mailer 4\n"
+    b"p1.depends.2 shop 1 line 1: needs mailer\n"
+    b"no solution exists\n"
+)
+# a package that lacks what the preamble declares
+LACKING = b"preamble:\nproperty: size: int\n\npackage: a\nversion: 1\n\nrequest:\n"
+LACKS = b"problem line 5: E14 declared property missing\n"
 
 # programs that are wrong, to see whether a sanitizer tells
 LEAK = """#include <stdlib.h>
@@ -219,7 +246,10 @@ def shown_blocks(trial):
 
 @dataclasses.dataclass(frozen=True)
 class Request:
-    """A call: the texts are the problem and the solutions, `said` the key or the list. A number is so many bytes 0."""
+    """A call: the texts are the problem and the solutions or the proof, `said` the key or the list.
+
+    A number is so many bytes 0.
+    """
 
     call: str
     texts: tuple
@@ -237,7 +267,7 @@ class Request:
 
     def written(self):
         """The request as the driver reads it."""
-        texts = self.texts if self.call == "lint" else (*self.texts, self.said)
+        texts = self.texts if self.call in WORDLESS else (*self.texts, self.said)
         room = NONE if self.room is None else self.room
         head = struct.pack("6Q", CALLS.index(self.call), self.is_strict, self.is_explained, self.limit, room, len(texts))
         return head + b"".join(map(written, texts))
@@ -305,6 +335,19 @@ def random_requests(number):
     yield Request("score", pair, is_strict=is_strict)
     yield Request("score", pair, inputs.aims().encode(), is_strict=is_strict)
     yield Request("rank", (problem, *solutions), inputs.aims().encode() or b"-new", is_strict=is_strict)
+    yield Request("cnf", (problem,), is_strict=is_strict)
+    small, proof = random_proof(random.Random(f"embedding/{number}"))
+    yield Request("cnf", (small,), is_strict=is_strict)
+    yield Request("refute", (problem, proof), is_strict=is_strict)
+    yield Request("refute", (small, proof), is_strict=is_strict)
+
+
+def random_proof(chance):
+    """A problem of few packages, and a proof, which is whole or spoilt."""
+    problem = Small(chance).problem(5)
+    rules = Rules(problem.decode())
+    proof = Prover(len(rules.packages), [clause for _, clause in rules.clauses]).text()
+    return problem, proof if chance.random() < 0.7 else spoilt(chance, proof or b"1 0 0\n")
 
 
 def with_room(request, report, number):
@@ -349,7 +392,11 @@ def python_call(module, request):
         return module.check(problem, *solutions, request.said, limit, request.is_strict, request.is_explained)
     if request.call == "score":
         return module.score(problem, *solutions, request.said, request.is_strict)
-    return module.rank(problem, solutions, request.said, request.is_strict)
+    if request.call == "rank":
+        return module.rank(problem, solutions, request.said, request.is_strict)
+    if request.call == "cnf":
+        return module.cnf(problem, request.is_strict)
+    return module.refute(problem, *solutions, request.is_strict)
 
 
 def values(trial, module):
@@ -384,6 +431,27 @@ def values(trial, module):
         {"removed": 1, "new": 1, "changed": 2, "notuptodate": 0, "unsat_recommends": 0},
         {"paranoid": (1, 2), "trendy": (1, 0, 0, 1)}, "yes",
     ))
+    encoded = module.cnf(PROBLEM)
+    trial.note("Python's clauses", (encoded.packages, encoded.clauses), ([("car", 1), ("wheel", 2)], [(-1,)]))
+    encoded = module.cnf("package: a")
+    told = encoded.fault, encoded.packages, encoded.clauses
+    trial.note("Python's fault in place of a CNF", told, (module.Fault("problem", *fault), [], []))
+    refuted = module.refute(SHOP, SHOP_PROOF)
+    trial.note("Python's reasons", (refuted.status, refuted.fault, refuted.proof_fault, refuted.reasons), (
+        YES, None, None, [module.Violation(*cells) for cells in (
+            ("r.install.1", "r", "install", 1, None, None, None, 21, "needs shop"),
+            ("p1.depends.1", "p1", "depends", 1, None, "shop", 1, 1, "needs server | proxy"),
+            ("p2.depends.1", "p2", "depends", 1, None, "server", 2, 5, "needs tls >= 3"),
+            ("p3.conflicts.1", "p3", "conflicts", 1, None, "proxy", 1, 9, "conflicts with mailer, met by mailer 4"),
+            ("p1.depends.2", "p1", "depends", 2, None, "shop", 1, 1, "needs mailer"),
+        )],
+    ))
+    refuted = module.refute(SHOP, "7 3 0 9 0\n")
+    told = refuted.status, refuted.fault, refuted.proof_fault, refuted.reasons
+    trial.note("Python's refused proof", told, (NO, None, module.ProofFault(1, "L5", "no such clause"), []))
+    refuted = module.refute("package: a", SHOP_PROOF)
+    told = refuted.status, refuted.fault, refuted.proof_fault, refuted.reasons
+    trial.note("Python's fault beside a proof", told, (FAULTY, module.Fault("problem", *fault), None, []))
     for limit in (0, -1, 2**64):
         try:
             trial.note(f"Python, limit {limit}", module.check(PROBLEM, BAD, limit=limit), ValueError)
@@ -401,6 +469,14 @@ def told_again(request, answer):
         return f"{whose} line {fault.line}: {fault.kind} {said_again(fault)}\n"
     if request.call == "lint":
         lines = ["problem ok"]
+    elif request.call == "cnf":
+        lines = [f"c p{place} {name} {version}" for place, (name, version) in enumerate(answer.packages, 1)]
+        lines.append(f"p cnf {len(answer.packages)} {len(answer.clauses)}")
+        lines += [" ".join(map(str, (*clause, 0))) for clause in answer.clauses]
+    elif request.call == "refute" and answer.proof_fault:
+        lines = [f"proof line {answer.proof_fault.line}: {answer.proof_fault.kind} {answer.proof_fault.text}"]
+    elif request.call == "refute":
+        lines = [violation_again(reason) for reason in answer.reasons] + ["no solution exists"]
     elif request.call == "rank":
         lines = [ranked_again(rank) for rank in answer.ranks]
     elif request.call == "check":
@@ -446,6 +522,7 @@ def usual_requests():
         Request("lint", (example("producer.problem.cudf"),)), Request("lint", (MISTYPED,), is_explained=True),
         Request("check", rules), Request("check", rules, is_explained=True),
         Request("score", rules, b"-removed,+new,-touched"), Request("rank", tuple(car), b"-changed,-touched"),
+        Request("cnf", (SHOP,)), Request("refute", (SHOP, SHOP_PROOF)),
     )
 
 
@@ -464,7 +541,9 @@ def nulls(trial):
         Request("lint", (None,)), Request("check", (PROBLEM, None), None), Request("check", (None, BAD), b"", 1),
         Request("check", (PROBLEM, BAD), None, room=0), Request("score", (PROBLEM, None), None),
         Request("score", (None, None), b"-new"), Request("rank", (PROBLEM, None), b"-new"),
-        Request("rank", (PROBLEM, BAD, None, GOOD), b"-new", room=None),
+        Request("rank", (PROBLEM, BAD, None, GOOD), b"-new", room=None), Request("cnf", (None,)),
+        Request("cnf", (SHOP,), room=None), Request("refute", (None, None)), Request("refute", (SHOP, None), room=0),
+        Request("refute", (SHOP, SHOP_PROOF), room=None),
     ):
         filled = dataclasses.replace(request, texts=tuple(text or b"" for text in request.texts), said=request.said or b"")
         yield f"null pointers: {request}", request, request.left(*asked(trial, filled))
@@ -485,10 +564,34 @@ def by_hand():
     ]
     rows += [(Request("check", (PROBLEM, BAD), key), USAGE, b"") for key in NO_KEYS]
     rows += [(Request(call, (PROBLEM, BAD), said), USAGE, b"") for said in NO_LISTS for call in ("score", "rank")]
+    rows += refutations_by_hand(faulty)
     # the words are judged before the documents
     rows += [(Request("check", (b"?", BAD), b"x"), USAGE, b""), (Request("rank", (b"?",), b"x"), USAGE, b"")]
     for request, status, report in rows:
         yield f"by hand: {request}", request, request.left(status, report)
+
+
+def refutations_by_hand(faulty):
+    """What docs/FORMAT.md says of a CNF, of proofs that hold and of proofs that don't."""
+    unread = b"r.install.1 line 1: needs a\nno solution exists\n"
+    late = b"proof line 2: L5 no such clause\n"
+    return [
+        (Request("cnf", (PROBLEM,)), YES, b"c p1 car 1\nc p2 wheel 2\np cnf 2 1\n-1 0\n"),
+        (Request("cnf", (SHOP,)), YES, SHOP_CNF), (Request("cnf", (b"request:\n",)), YES, b"p cnf 0 0\n"),
+        (Request("cnf", (b"request:\ninstall: a\n",)), YES, b"p cnf 0 1\n0\n"), (Request("cnf", (b"?",)), FAULTY, faulty),
+        (Request("cnf", (LACKING,)), YES, b"c p1 a 1\np cnf 1 0\n"),
+        (Request("cnf", (LACKING,), is_strict=True), FAULTY, LACKS),
+        (Request("refute", (SHOP, SHOP_PROOF)), YES, SHOP_CORE),
+        (Request("refute", (SHOP, b"c \xff\0\n" + SHOP_PROOF)), YES, SHOP_CORE),
+        (Request("refute", (SHOP, SHOP_PROOF[:-1])), YES, SHOP_CORE),
+        (Request("refute", (SHOP, b"")), NO, b"proof line 1: L8 proof ends early\n"),
+        (Request("refute", (SHOP, b"7 3 0 6 3 1 0\n8 4 0 9 2 0\n9 0 7 8 4 0\n")), NO, late),
+        (Request("refute", (b"?", SHOP_PROOF)), FAULTY, faulty),
+        (Request("refute", (b"?", b"?")), FAULTY, faulty),
+        (Request("refute", (b"request:\ninstall: a\n", b"?")), YES, unread),
+        (Request("refute", (LACKING, b"")), NO, b"proof line 1: L8 proof ends early\n"),
+        (Request("refute", (LACKING, b""), is_strict=True), FAULTY, LACKS),
+    ]
 
 
 def lengths():
@@ -496,7 +599,8 @@ def lengths():
     long = GREATEST_INPUT + 1
     rows = [
         Request("lint", (long,)), Request("check", (PROBLEM, long)), Request("score", (long, b"FAIL")),
-        Request("rank", (b"?", GOOD, b"FAIL", long), b"-new"),
+        Request("rank", (b"?", GOOD, b"FAIL", long), b"-new"), Request("cnf", (long,)),
+        Request("refute", (b"?", long)), Request("refute", (long, SHOP_PROOF)),
     ]
     for request in rows:
         yield f"too long: {request}", request, request.left(UNREAD, b"")
@@ -558,7 +662,7 @@ def at_once(trial, driver, named):
 
 
 def symbols(trial):
-    """The shared library exports the five calls alone."""
+    """The shared library exports the seven calls alone."""
     exported = {f"cudf_check_{call}" for call in (*CALLS, "version")}
     status, output, _ = run(["nm", "-D", "--defined-only", trial.shared()], trial.folder)
     told = {line.split()[-1].split("@")[0] for line in output.decode().splitlines()}

@@ -1,15 +1,15 @@
 /*
  * cudf_check: checks proposed solutions of CUDF 2.0 upgrade problems, for C and C++.
  *
- * Four calls make the reports of the program's four commands, byte for byte, of documents that are held in memory. Each
+ * Six calls make the reports of the program's six commands, byte for byte, of documents that are held in memory. Each
  * answers the program's exit status:
  *
- *     0  solution; lint: no fault; rank: at least one of them is a solution
- *     1  not a solution; rank: none of them is one, and not all say FAIL
+ *     0  solution; lint: no fault; rank: at least one of them is a solution; cnf: it was made; refute: the proof holds
+ *     1  not a solution; rank: none of them is one, and not all say FAIL; refute: the proof has a fault
  *     2  faulty document
  *     3  the solution says FAIL; rank: all of them do, or there are none
  *     4  the key isn't one, or the list isn't one
- *     5  a document is longer than 256 MiB (268435456 bytes)
+ *     5  a document is longer than 256 MiB (268435456 bytes); cnf and refute: the CNF has more than 4294967295 clauses
  *     6  out of memory
  *
  * The report goes to the front of the caller's buffer, `report`, as far as it has room, and `*length` is the length of the
@@ -88,6 +88,21 @@ uint8_t cudf_check_rank(bool strict, const uint8_t *problem, size_t problem_leng
                         size_t count, const uint8_t *criteria, size_t criteria_length, uint8_t *report, size_t room,
                         size_t *length);
 
+/*
+ * Makes the rules of a problem a CNF in DIMACS, for a SAT solver: it has a model exactly where the problem has a solution.
+ * It can be far longer than the problem, and is held in memory whole.
+ */
+uint8_t cudf_check_cnf(bool strict, const uint8_t *problem, size_t problem_length, uint8_t *report, size_t room,
+                       size_t *length);
+
+/*
+ * Checks a proof, in LRAT's text form, that the CNF of a problem has no model, and so that the problem has no solution. A
+ * proof that holds is answered by the instances that it needs, of which every answer violates one, and
+ * `no solution exists`; else its first fault is reported, as `proof line 3: L5 no such clause`.
+ */
+uint8_t cudf_check_refute(bool strict, const uint8_t *problem, size_t problem_length, const uint8_t *proof,
+                          size_t proof_length, uint8_t *report, size_t room, size_t *length);
+
 /* Tells the library's version as a report is told: as `1.0.0`. */
 void cudf_check_version(uint8_t *text, size_t room, size_t *length);
 
@@ -134,6 +149,11 @@ static inline const cudf_check_text *cudf_check_texts(const cudf_check_text *tex
 #define cudf_check_rank(strict, problem, problem_length, solutions, count, criteria, criteria_length, report, room, length) \
     cudf_check_rank(strict, cudf_check_bytes(problem), problem_length, cudf_check_texts(solutions), count, \
                     cudf_check_bytes(criteria), criteria_length, cudf_check_room(report), room, length)
+#define cudf_check_cnf(strict, problem, problem_length, report, room, length) \
+    cudf_check_cnf(strict, cudf_check_bytes(problem), problem_length, cudf_check_room(report), room, length)
+#define cudf_check_refute(strict, problem, problem_length, proof, proof_length, report, room, length) \
+    cudf_check_refute(strict, cudf_check_bytes(problem), problem_length, cudf_check_bytes(proof), proof_length, \
+                      cudf_check_room(report), room, length)
 #define cudf_check_version(text, room, length) cudf_check_version(cudf_check_room(text), room, length)
 
 #ifdef __cplusplus

@@ -1,6 +1,6 @@
 /*
- * cudf_check from C99: judges an answer and reads a fault, both explained; counts, ranks, and goes through a report by pages.
- * Prints what stands in embedding/expected.txt.
+ * cudf_check from C99: judges an answer and reads a fault, both explained; counts, ranks, makes a CNF and checks a proof
+ * that it has no model, and goes through a report by pages. Prints what stands in embedding/expected.txt.
  *
  *     cc -std=c99 -Iinclude embedding/c/example.c lib/libcudf_check.a -o example
  */
@@ -23,6 +23,11 @@ static const char both_wheels[] = "package: car\nversion: 1\ninstalled: true\n\n
                                   "package: wheel\nversion: 2\ninstalled: true\n\n"
                                   "package: wheel\nversion: 3\ninstalled: true\n";
 static const char faulty[] = "package: car\nversion: one\n\nrequest:\n";
+/* no wheel is new enough; and what a SAT solver may say of the CNF */
+static const char unsolvable[] = "package: car\nversion: 1\ndepends: wheel > 2\n\n"
+                                 "package: wheel\nversion: 2\n\n"
+                                 "request:\ninstall: car\n";
+static const char proof[] = "3 0 2 1 0\n";
 
 enum { PACKAGES = 10000, LINES = 1000 };
 
@@ -99,6 +104,22 @@ static bool is_whole_by_pages(const char *text, int *pages)
     return is_same;
 }
 
+static void refute(struct report *report)
+{
+    uint8_t status;
+    do
+        status = cudf_check_cnf(false, unsolvable, strlen(unsolvable), (uint8_t *)report->text, report->room,
+                                &report->length);
+    while (!is_whole(report));
+    printf("\ncnf: status %d\n%s", status, report->text);
+
+    do
+        status = cudf_check_refute(false, false, unsolvable, strlen(unsolvable), proof, strlen(proof),
+                                   (uint8_t *)report->text, report->room, &report->length);
+    while (!is_whole(report));
+    printf("\nrefute: status %d\n%s", status, report->text);
+}
+
 int main(void)
 {
     struct report report = {0};
@@ -141,6 +162,7 @@ int main(void)
                                  strlen(criteria), (uint8_t *)report.text, report.room, &report.length);
     while (!is_whole(&report));
     printf("\nrank: status %d\n%s", status, report.text);
+    refute(&report);
     free(report.text);
 
     char *many = broken(PACKAGES);

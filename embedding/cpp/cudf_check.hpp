@@ -1,7 +1,7 @@
 // cudf_check for C++17: the calls of cudf_check.h, which says what each gives, with texts as std::string_view and reports
 // as std::string.
 //
-// The four calls don't throw: where a report gets no memory the status is Status::memory, as where the library gets none.
+// The six calls don't throw: where a report gets no memory the status is Status::memory, as where the library gets none.
 #ifndef CUDF_CHECK_HPP
 #define CUDF_CHECK_HPP
 
@@ -96,6 +96,20 @@ try {
     });
 } catch (const std::exception &) {
     return {Status::memory, {}};
+}
+
+inline Answer cnf(std::string_view problem, bool strict = false) noexcept
+{
+    return detail::answer_of([&](std::uint8_t *report, std::size_t room, std::size_t *length) {
+        return cudf_check_cnf(strict, problem.data(), problem.size(), report, room, length);
+    });
+}
+
+inline Answer refute(std::string_view problem, std::string_view proof, bool strict = false) noexcept
+{
+    return detail::answer_of([&](std::uint8_t *report, std::size_t room, std::size_t *length) {
+        return cudf_check_refute(strict, problem.data(), problem.size(), proof.data(), proof.size(), report, room, length);
+    });
 }
 
 // The library's version, which may differ from CUDF_CHECK_VERSION, the header's.

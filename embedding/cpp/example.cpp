@@ -1,5 +1,5 @@
-// cudf_check from C++17: judges an answer and reads a fault, both explained; counts, ranks, and goes through a report by pages.
-// Prints what stands in embedding/expected.txt.
+// cudf_check from C++17: judges an answer and reads a fault, both explained; counts, ranks, makes a CNF and checks a proof
+// that it has no model, and goes through a report by pages. Prints what stands in embedding/expected.txt.
 //
 //     c++ -std=c++17 -Iinclude embedding/cpp/example.cpp lib/libcudf_check.a -o example
 #include "cudf_check.hpp"
@@ -57,6 +57,18 @@ version: 3
 installed: true
 )";
 constexpr std::string_view faulty = "package: car\nversion: one\n\nrequest:\n";
+// no wheel is new enough; and what a SAT solver may say of the CNF
+constexpr std::string_view unsolvable = R"(package: car
+version: 1
+depends: wheel > 2
+
+package: wheel
+version: 2
+
+request:
+install: car
+)";
+constexpr std::string_view proof = "3 0 2 1 0\n";
 
 constexpr int packages = 10000, lines = 1000;
 
@@ -118,6 +130,8 @@ int main()
     print_fault("lint", cudf_check::lint(faulty, strict, explain));
     print("score", cudf_check::score(problem, new_wheel));
     print("rank", cudf_check::rank(problem, {old_wheel, both_wheels, new_wheel}, "-changed,-touched"));
+    print("cnf", cudf_check::cnf(unsolvable));
+    print("refute", cudf_check::refute(unsolvable, proof));
 
     const std::string many = broken(packages);
     const auto [together, pages] = by_pages(many);

@@ -10,6 +10,8 @@ external check_into : bool -> bool -> string -> string -> string -> int -> bytes
 
 external score_into : bool -> string -> string -> string -> bytes -> status * int = "cudf_check_ocaml_score"
 external rank_into : bool -> string -> string array -> string -> bytes -> status * int = "cudf_check_ocaml_rank"
+external cnf_into : bool -> string -> bytes -> status * int = "cudf_check_ocaml_cnf"
+external refute_into : bool -> string -> string -> bytes -> status * int = "cudf_check_ocaml_refute"
 external version_into : bytes -> status * int = "cudf_check_ocaml_version"
 
 (* Makes a call with a buffer for its report, and again with a larger one where that was too small. *)
@@ -35,5 +37,9 @@ let score ?(strict = false) ?(criteria = "") problem solution =
 
 let rank ?(strict = false) ~criteria problem solutions =
   answer (rank_into strict problem (Array.of_list solutions) criteria)
+
+let cnf ?(strict = false) problem = answer (cnf_into strict problem)
+
+let refute ?(strict = false) problem proof = answer (refute_into strict problem proof)
 
 let version () = (answer version_into).report

@@ -1,5 +1,5 @@
-(* cudf_check from OCaml: judges an answer and reads a fault, both explained; counts, ranks, and goes through a report by pages.
-   Prints what stands in embedding/expected.txt.
+(* cudf_check from OCaml: judges an answer and reads a fault, both explained; counts, ranks, makes a CNF and checks a proof
+   that it has no model, and goes through a report by pages. Prints what stands in embedding/expected.txt.
 
    In embedding/ocaml, or a copy of it:
 
@@ -31,6 +31,21 @@ let old_wheel = String.concat "\n" [ car; wheel_2 ]
 let new_wheel = String.concat "\n" [ car; wheel_3 ]
 let both_wheels = String.concat "\n" [ car; wheel_2; wheel_3 ]
 let faulty = "package: car\nversion: one\n\nrequest:\n"
+
+(* no wheel is new enough; and what a SAT solver may say of the CNF *)
+let unsolvable =
+  {|package: car
+version: 1
+depends: wheel > 2
+
+package: wheel
+version: 2
+
+request:
+install: car
+|}
+
+let proof = "3 0 2 1 0\n"
 let packages = 10_000
 let lines = 1_000
 
@@ -74,6 +89,8 @@ let () =
   print_fault "lint" (Cudf_check.lint ~explain:true faulty);
   print "score" (Cudf_check.score problem new_wheel);
   print "rank" (Cudf_check.rank ~criteria:"-changed,-touched" problem [ old_wheel; both_wheels; new_wheel ]);
+  print "cnf" (Cudf_check.cnf unsolvable);
+  print "refute" (Cudf_check.refute unsolvable proof);
   let many = broken packages in
   let pages = pages_of many in
   let is_same = List.concat pages = lines_of (Cudf_check.check many many).report in

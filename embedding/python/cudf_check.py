@@ -1,9 +1,9 @@
 """cudf_check for Python: checks proposed solutions of CUDF 2.0 upgrade problems, through the library for C.
 
-Each of `lint`, `check`, `score` and `rank` makes the report of the program's command of that name, and gives it with its
-status and with what it says as values; docs/FORMAT.md and docs/RULES.md of cudf_check say what that means. Documents are
-`bytes`, or `str`, which is taken as UTF-8. No document and no list raises an exception: a fault, a key that is none, a
-document that is too long and want of memory in the library are statuses.
+Each of `lint`, `check`, `score`, `rank`, `cnf` and `refute` makes the report of the program's command of that name, and
+gives it with its status and with what it says as values; docs/FORMAT.md and docs/RULES.md of cudf_check say what that
+means. Documents are `bytes`, or `str`, which is taken as UTF-8. No document and no list raises an exception: a fault, a key
+that is none, a document or a CNF that is too large and want of memory in the library are statuses.
 
 The library is the file that the environment's CUDF_CHECK_LIBRARY names, or else what the system finds as
 `libcudf_check.so.1`. Python 3.8 and later; the standard library alone.
@@ -118,6 +118,47 @@ class Ranked:
     ranks: List[Rank]
 
 
+@dataclass(frozen=True)
+class Encoded:
+    """The report is a CNF in DIMACS, or has the problem's fault."""
+
+    status: Status
+    report: str
+    fault: Optional[Fault]
+
+    @property
+    def packages(self) -> List[Tuple[str, int]]:
+        """The name and the version of each package; variable 1 says that the first one is installed."""
+        told = [line.split(" ") for line in _lines(self.report) if line.startswith(_PACKAGE)]
+        return [(name, int(number)) for _, _, name, number in told]
+
+    @property
+    def clauses(self) -> List[Tuple[int, ...]]:
+        """The variables of each clause, negative where the package isn't installed."""
+        told = [] if self.fault else [line for line in _lines(self.report) if not line.startswith((_PACKAGE, _HEADER))]
+        return [tuple(map(int, line.split(" ")[:-1])) for line in told]
+
+
+@dataclass(frozen=True)
+class ProofFault:
+    """The first fault of a proof."""
+
+    line: int
+    kind: str
+    text: str
+
+
+@dataclass(frozen=True)
+class Refuted:
+    """`fault` is the problem's, `proof_fault` the proof's. `reasons` are instances of which every answer violates one."""
+
+    status: Status
+    report: str
+    fault: Optional[Fault]
+    proof_fault: Optional[ProofFault]
+    reasons: List[Violation]
+
+
 # ---- the calls
 
 
@@ -162,6 +203,19 @@ def rank(problem: Text, solutions: Sequence[Text], criteria: Text, strict: bool 
     return Ranked(status, report, fault, [] if fault else [_rank(line) for line in _lines(report)])
 
 
+def cnf(problem: Text, strict: bool = False) -> Encoded:
+    """The rules of a problem as a CNF, for a SAT solver."""
+    status, report = _call(_library.cudf_check_cnf, strict, *_sized(problem))
+    return Encoded(status, report, _fault(report))
+
+
+def refute(problem: Text, proof: Text, strict: bool = False) -> Refuted:
+    """Whether a proof, in LRAT's text form, shows that a problem has no solution, and why it has none."""
+    status, report = _call(_library.cudf_check_refute, strict, *_sized(problem), *_sized(proof))
+    told = [_violation(line) for line in _lines(report)[:-1]] if status == Status.YES else []
+    return Refuted(status, report, _fault(report), _proof_fault(report), told)
+
+
 def version() -> str:
     """The library's version."""
     return _whole(_library.cudf_check_version)[1]
@@ -170,12 +224,14 @@ def version() -> str:
 # ---- the lines of a report, as docs/FORMAT.md tells them
 
 _MORE, _VERDICT, _TRACKS = "more after ", "solution ", ("paranoid", "trendy")
+_PACKAGE, _HEADER = "c ", "p cnf "
 # a text, and behind `; ` what is added to it; no text has a `;`
 _SAID = r"([^;\n]*)(?:; (.*))?"
 _FAULT_LINE = re.compile(rf"(problem|solution)(?: (\d+))? line (\d+): (E\d+) {_SAID}\n")
 _VIOLATION_LINE = re.compile(
     rf"((p\d+|r|s)\.([a-z]+)\.(\d+)(?:\.([a-z]+))?) (?:(\S+) (\d+) )?line (\d+): {_SAID}"
 )
+_PROOF_LINE = re.compile(r"proof line (\d+): (L\d+) (.*)\n")
 _RANK_LINE = re.compile(r"(\d+) solution (\d+) (yes|no|FAIL)(.*)")
 _VERDICTS = {Status.YES: "yes", Status.NO: "no", Status.FAIL: "FAIL"}
 
@@ -197,6 +253,11 @@ def _fault(report: str) -> Optional[Fault]:
         return None
     whose, place, line, kind, text, added = found.groups()
     return Fault(whose, int(line), kind, text, int(place) if place else None, added)
+
+
+def _proof_fault(report: str) -> Optional[ProofFault]:
+    found = _PROOF_LINE.fullmatch(report)
+    return ProofFault(int(found[1]), found[2], found[3]) if found else None
 
 
 def _violation(line: str) -> Violation:
@@ -236,6 +297,8 @@ def _opened(name: str) -> ctypes.CDLL:
         (library.cudf_check_check, [ctypes.c_bool] * 2 + _SIZED * 3 + [ctypes.c_uint64]),
         (library.cudf_check_score, [ctypes.c_bool] + _SIZED * 3),
         (library.cudf_check_rank, [ctypes.c_bool] + _SIZED + rank_texts + _SIZED),
+        (library.cudf_check_cnf, [ctypes.c_bool] + _SIZED),
+        (library.cudf_check_refute, [ctypes.c_bool] + _SIZED * 2),
     ):
         call.argtypes, call.restype = arguments + _REPORT, ctypes.c_uint8
     library.cudf_check_version.argtypes, library.cudf_check_version.restype = _REPORT, None

@@ -1,5 +1,6 @@
 #!/usr/bin/env python3
-"""cudf_check from Python: judges an answer and reads a fault, both explained; counts, ranks, and goes through a report by pages.
+"""cudf_check from Python: judges an answer and reads a fault, both explained; counts, ranks, makes a CNF and checks a proof
+that it has no model, and goes through a report by pages.
 
 Prints what stands in embedding/expected.txt.
 
@@ -30,6 +31,19 @@ WHEEL_3 = "package: wheel\nversion: 3\ninstalled: true\n"
 OLD_WHEEL, NEW_WHEEL = f"{CAR}\n{WHEEL_2}", f"{CAR}\n{WHEEL_3}"
 BOTH_WHEELS = f"{CAR}\n{WHEEL_2}\n{WHEEL_3}"
 FAULTY = "package: car\nversion: one\n\nrequest:\n"
+# no wheel is new enough; and what a SAT solver may say of the CNF
+UNSOLVABLE = """\
+package: car
+version: 1
+depends: wheel > 2
+
+package: wheel
+version: 2
+
+request:
+install: car
+"""
+PROOF = "3 0 2 1 0\n"
 
 PACKAGES, LINES = 10_000, 1_000
 
@@ -47,6 +61,24 @@ def pages_of(problem, solution, limit):
     while page.more_after:
         page = cudf_check.check(problem, solution, after=page.more_after, limit=limit)
         yield page
+
+
+def refute():
+    encoded = cudf_check.cnf(UNSOLVABLE)
+    print(f"\ncnf: status {encoded.status:d}")
+    for place, (name, version) in enumerate(encoded.packages, 1):
+        print(f"c p{place} {name} {version}")
+    print("p cnf", len(encoded.packages), len(encoded.clauses))
+    for clause in encoded.clauses:
+        print(*clause, 0)
+
+    refuted = cudf_check.refute(UNSOLVABLE, PROOF)
+    print(f"\nrefute: status {refuted.status:d}")
+    for told in refuted.reasons:
+        package = f"{told.name} {told.version} " if told.name else ""
+        print(f"{told.key} {package}line {told.line}: {told.text}")
+    if refuted.status == cudf_check.Status.YES:
+        print("no solution exists")
 
 
 def main():
@@ -75,6 +107,8 @@ def main():
     print(f"\nrank: status {ranked.status:d}")
     for told in ranked.ranks:
         print(told.rank, "solution", told.place, told.verdict, *(f"{aim} {count}" for aim, count in told.counts))
+
+    refute()
 
     many = broken(PACKAGES)
     pages = list(pages_of(many, many, LINES))

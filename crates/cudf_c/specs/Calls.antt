@@ -39,7 +39,7 @@ IsShort text = length text ≤ most_bytes
 abbrev pub IsLong : List ℕ → Type 0
 IsLong text = most_bytes < length text
 
--- the report, and its outcome's status; none of the documents is too long
+-- the report, and its outcome's status, which is 5 where a CNF is too large: that report has no text; none of the documents is too long
 pub record Tells (documents : List (List ℕ)) (answer : Report) (call : Left) : Type 0 where
   pub status_is : call.status ≡ outcome_status answer.outcome
   pub shows : Shows answer.text call

@@ -9,7 +9,7 @@
 ghost use Rattle.std.specs.Prelude.{◌≡◌, [], ◌∷◌, Some, None, codes, map};
 ghost use Rattle.cudf_check.specs.RankReport.{rank_report};
 ghost use Rattle.cudf_check.specs.Report.{report};
-ghost use Rattle.cudf_job.specs.declared.job.Job.TheVariants.{Lint};
+ghost use Rattle.cudf_job.specs.declared.job.Job.TheVariants.{Cnf, Lint, Refute};
 ghost use Rattle.cudf_c.specs.Calls.{Answers, AnswersAsked, Shows, left, mode_of};
 ghost use Rattle.cudf_c.specs.Words.{IsAims, IsNoKey, IsNoList, IsPage, IsScore};
 
@@ -18,8 +18,8 @@ mod made;
 mod stop;
 mod words;
 
-use cudf_check::Mode;
-use made::{copy_front, judged, linted, ranked, refuse, show};
+use cudf_check::{Job, Mode};
+use made::{copy_front, judged, ranked, refuse, show, single};
 use std::alloc::Global;
 use words::{aims, page, score};
 
@@ -43,7 +43,8 @@ pub extern "C" fn cudf_check_lint(
 ) -> u8
     ensures { Answers (problem.now ∷ []) (report (Lint explain) (mode_of strict) problem.now None) (left room.old room.new length.new result) }
 {
-    let report = linted(alloc, mode(strict), explain, problem);
+    let lint = Job::Lint { explain };
+    let report = single(alloc, &lint, mode(strict), problem);
     show(report, room, length)
 }
 
@@ -120,6 +121,40 @@ pub extern "C" fn cudf_check_rank(
         }
         Err(stop) => refuse(stop, length),
     }
+}
+
+/// Makes the rules of a problem a CNF for a SAT solver, as the program's `cnf` does. Status 5 where a document is too long,
+/// and where the problem has more packages or CNF clauses than 4294967295: then the report has no bytes.
+#[unsafe(no_mangle)]
+pub extern "C" fn cudf_check_cnf(
+    alloc: Global,
+    strict: bool,
+    problem: &[u8],
+    room: &mut [u8],
+    length: &mut usize,
+) -> u8
+    ensures { Answers (problem.now ∷ []) (report Cnf (mode_of strict) problem.now None) (left room.old room.new length.new result) }
+{
+    let cnf = Job::Cnf;
+    let report = single(alloc, &cnf, mode(strict), problem);
+    show(report, room, length)
+}
+
+/// Checks a proof that a problem has no solution, as the program's `refute` does. Status 5 as of `cudf_check_cnf`.
+#[unsafe(no_mangle)]
+pub extern "C" fn cudf_check_refute(
+    alloc: Global,
+    strict: bool,
+    problem: &[u8],
+    proof: &[u8],
+    room: &mut [u8],
+    length: &mut usize,
+) -> u8
+    ensures { Answers (problem.now ∷ proof.now ∷ []) (report Refute (mode_of strict) problem.now (Some proof.now)) (left room.old room.new length.new result) }
+{
+    let refute = Job::Refute;
+    let report = judged(alloc, &refute, mode(strict), problem, proof);
+    show(report, room, length)
 }
 
 /// Tells the library's version, which is that of the program: as `1.0.0`.

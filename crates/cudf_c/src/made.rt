@@ -3,7 +3,6 @@ ghost use Rattle.std.specs.Prelude.{◌≡◌, ◌++◌, [], ◌∷◌, IfErr, I
 ghost use Rattle.std.specs.List.{All};
 ghost use Rattle.cudf_check.specs.RankReport.{rank_report};
 ghost use Rattle.cudf_check.specs.Report.{report};
-ghost use Rattle.cudf_job.specs.declared.job.Job.TheVariants.{Lint};
 ghost use Rattle.cudf_c.specs.Calls.{left};
 ghost use Rattle.cudf_c.specs.Working.Documents.{IsNew};
 ghost use Rattle.cudf_c.specs.Working.Made.{IsMade, IsStopped, IsTold, IsUnmade, Judges};
@@ -38,32 +37,31 @@ impl Made {
     }
 }
 
-/// The report on a problem alone, explained or not.
-pub(crate) fn linted(alloc: Global, mode: Mode, explain: bool, problem: &[u8]) -> Result<Made, Stop>
-    ensures { MatchResult result (IsMade (problem.now ∷ []) (report (Lint explain) mode problem.now None)) (IsUnmade (problem.now ∷ [])) }
+/// The report of a job on a problem alone.
+pub(crate) fn single(alloc: Global, job: &Job, mode: Mode, problem: &[u8]) -> Result<Made, Stop>
+    ensures { MatchResult result (IsMade (problem.now ∷ []) (report job.now mode problem.now None)) (IsUnmade (problem.now ∷ [])) }
 {
     let mut first = Document::new(problem);
     let mut out = Device::new(Vec::new(alloc));
-    let job = Job::Lint { explain };
-    let outcome = run::<_, Document<'_>, _>(alloc, &job, mode, &mut first, None, &mut out)?;
+    let outcome = run::<_, Document<'_>, _>(alloc, job, mode, &mut first, None, &mut out)?;
     Ok(Made::of(outcome, out))
 }
 
-/// The report of a job on a problem and a solution.
+/// The report of a job on a problem and the solution or the proof that it judges.
 pub(crate) fn judged(
     alloc: Global,
     job: &Job,
     mode: Mode,
     problem: &[u8],
-    solution: &[u8],
+    answer: &[u8],
 ) -> Result<Made, Stop>
     requires { Judges job.now }
 
-    ensures { MatchResult result (IsMade (problem.now ∷ solution.now ∷ []) (report job.now mode problem.now (Some solution.now)))
-        (IsUnmade (problem.now ∷ solution.now ∷ [])) }
+    ensures { MatchResult result (IsMade (problem.now ∷ answer.now ∷ []) (report job.now mode problem.now (Some answer.now)))
+        (IsUnmade (problem.now ∷ answer.now ∷ [])) }
 {
     let mut first = Document::new(problem);
-    let mut second = Document::new(solution);
+    let mut second = Document::new(answer);
     let mut out = Device::new(Vec::new(alloc));
     let outcome = run(alloc, job, mode, &mut first, Some(&mut second), &mut out)?;
     Ok(Made::of(outcome, out))

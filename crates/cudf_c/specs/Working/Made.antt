@@ -12,13 +12,13 @@ use Rattle.cudf_c.specs.declared.made.Made.{Made}
 use Rattle.cudf_c.specs.declared.stop.Stop.{Stop}
 use Rattle.cudf_c.specs.declared.stop.Stop.TheVariants.{TooLong, Memory}
 
--- the job reads a solution
+-- the job reads a solution or a proof
 abbrev pub Judges : Job → Type 0
 Judges (Lint explain) = ⊥
 Judges (Check after limit explain) = Unit {0}
 Judges (Score aims) = Unit {0}
 Judges Cnf = ⊥
-Judges Refute = ⊥
+Judges Refute = Unit {0}
 
 -- it is this report, on documents of which none is too long
 pub record IsMade (documents : List (List ℕ)) (answer : Report) (made : Made) : Type 0 where
