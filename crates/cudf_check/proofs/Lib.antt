@@ -12,4 +12,5 @@ pub mod PaperLemmas
 pub mod RankExamples
 pub mod RankingLawLemmas
 pub mod ReadingLemmas
+pub mod RefutationLemmas
 pub mod RunLemmas

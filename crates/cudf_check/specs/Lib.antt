@@ -6,6 +6,7 @@ pub mod Promises
 pub mod RankReport
 pub mod Ranking
 pub mod Readers
+pub mod Refutations
 pub mod Report
 pub mod Runs
 pub mod Working

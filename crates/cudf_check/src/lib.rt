@@ -2,11 +2,12 @@
 //! `run` reports each rule that a solution breaks, `rank` compares several solutions of one problem.
 #![tactic(auto)]
 
-ghost use Rattle.std.specs.Prelude.{◌≡◌};
+ghost use Rattle.std.specs.Prelude.{◌≡◌, IfOk};
 ghost use Rattle.std.specs.List.{All};
 ghost use Rattle.cudf_check.specs.ManyRuns.{LeavesBehind};
 ghost use Rattle.cudf_check.specs.RankReport.{rank_report};
 ghost use Rattle.cudf_check.specs.Readers.{change, IsStopped, IsWithinTurns, changes};
+ghost use Rattle.cudf_check.specs.Refutations.{HasRefutedIfYes};
 ghost use Rattle.cudf_check.specs.Runs.{job_report, lent, read_for, returned, Runs, SkipsSolution};
 
 mod buffer;
@@ -30,6 +31,7 @@ mod setting;
 
 pub use cudf_document::Mode;
 pub use cudf_job::Job;
+use cudf_lrat::laws::refuted;
 pub use cudf_referee::{Aim, Count, Criteria, Key, Sign, compare, read_criterion};
 pub use device::{Device, Sink, Source, Trouble};
 use input::read_all;
@@ -69,6 +71,10 @@ pub fn run<R: Source, S: Source, W: Sink>(
         (read_for job.now (changes S.state (lent solution.entry) (returned solution.exit)))
         (change W.state out.old out.new) result }
 
+    // Where a refutation ends with `Yes`, no proposed status of its problem is a solution: each violates an instance
+    // with the key of a written reason.
+    ensures refuted { IfOk result (λ outcome. HasRefutedIfYes job.now outcome (change R.state input.old input.new) (change W.state out.old out.new)) }
+
     // No reader is called more often than an input may take.
     ensures turns { IsWithinTurns (change R.state input.old input.new) }
     ensures solution_turns { All IsWithinTurns (changes S.state (lent solution.entry) (returned solution.exit)) }
@@ -77,6 +83,7 @@ pub fn run<R: Source, S: Source, W: Sink>(
     ensures unread { SkipsSolution job.now (change R.state input.old input.new)
         → returned solution.exit ≡ lent solution.entry }
 {
+    refuted();
     let setting = Setting { alloc, mode };
     let Some(solution) = solution else {
         let first = read_all(alloc, input)?;

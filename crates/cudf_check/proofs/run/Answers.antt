@@ -1,9 +1,10 @@
-use Rattle.std.proofs.Common.{[], ◌∷◌, Some, refl, subst, sym}
+use Rattle.std.proofs.Common.{[], ◌∷◌, Some, None, refl, subst, sym}
 use Rattle.cudf_check.specs.Readers.{IsTooLong, IsUnfinished, IsWithinTurns, change, changes}
 use Rattle.cudf_check.specs.Report.{report}
 use Rattle.cudf_check.specs.Runs.{Runs, job_report}
 use Rattle.cudf_check.specs.Working.Answering.{Answers}
 use Rattle.cudf_check.proofs.InputsLemmas.{IsBeyondTurns, beyond_turns_fails, each_within, none_still, too_long_fails, unfinished_fails}
+use Rattle.cudf_check.proofs.RefutationLemmas.{job_refutes}
 use Rattle.cudf_check.proofs.RunLemmas.{all_answered, first_stopped, none_for, of_one, one_behind, reads_it, second_stopped, was_read}
 use Rattle.cudf_check.proofs.run.Goals as goal
 
@@ -74,3 +75,26 @@ returns-clause-runs g c =
 
 pub returns-clause-solution_turns : goal.returns-clause-solution_turns
 returns-clause-solution_turns g c = rw c.in-Some.is (of_one IsWithinTurns _ c.in_ok-second-in-Check.ensures.turns)
+
+pub returns-in_default-clause-refuted : goal.returns-in_default-clause-refuted
+returns-in_default-clause-refuted g c =
+    let job = c.args.job.now in
+    let mode = c.args.mode in
+    let first = change g.R.Source.state c.args.input.now c.read_all.new.source in
+    let before = g.W.Sink.state c.args.out.now in
+    let after = g.W.Sink.state c.answer_job.new.out in
+    job_refutes c.refuted.ensures job mode first (record { before = before; after = after }) c.in_ok-first.first.items None c.answer_job.result c.in_ok-first.ensures.all
+    (subst (λ t. Answers before after (report job mode t None) c.answer_job.result) c.deref.ensures.value c.answer_job.ensures)
+
+pub returns-clause-refuted : goal.returns-clause-refuted
+returns-clause-refuted g c =
+    let job = c.args.job.now in
+    let mode = c.args.mode in
+    let first = change g.R.Source.state c.args.input.now c.read_all-2.new.source in
+    let before = g.W.Sink.state c.args.out.now in
+    let after = g.W.Sink.state c.answer_job-in-Check.new.out in
+    let bytes = c.in_ok-second-in-Check.second.items in
+    job_refutes c.refuted.ensures job mode first (record { before = before; after = after }) c.in_ok-first-2.first.items (Some bytes) c.answer_job-in-Check.result c.in_ok-first-2.ensures.all
+    (subst (λ t. Answers before after (report job mode t (Some bytes)) c.answer_job-in-Check.result) c.deref-in-Check.ensures.value
+    (subst (λ b. Answers before after (report job mode c.deref-in-Check.result.now (Some b)) c.answer_job-in-Check.result) c.deref-in-Check-2.ensures.value
+    c.answer_job-in-Check.ensures))
