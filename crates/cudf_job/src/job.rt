@@ -17,10 +17,11 @@ pub enum Job {
     Check {
         after: Option<Key>,
         limit: Option<u64>,
-        /// Whether the line of a fault tells so, as for `Lint`, and that of an instance as well (own): the first package
-        /// of the problem that alone would do what is needed, with its version and its line, as
-        /// `; wheel 3 line 9 would do`; the first package of the name, where its version isn't in the problem; the
-        /// numbers of an upgrade to several or to lower ones. All other bytes are as without it.
+        /// Whether the line of a fault tells so, as for `Lint`, and that of an instance as well (own): of the packages
+        /// that alone would do what is needed the first that was installed, or else the first of all, with its version
+        /// and its line, as `; wheel 3 line 9 was installed` or `; wheel 3 line 9 would do`; the first package of the
+        /// name, where its version isn't in the problem; the numbers of an upgrade to several or to lower ones. All
+        /// other bytes are as without it.
         explain: bool,
     },
     /// Judge the solution and count what it changes and lacks: the counts that `aims` name, each with its
@@ -33,5 +34,10 @@ pub enum Job {
     Cnf,
     /// Check a proof, the second input, that the problem has no solution, against the CNF that `Cnf` prints (own). The
     /// whole first input is the problem; without a second one the proof is empty.
-    Refute,
+    Refute {
+        /// Whether the line of a fault tells so, as for `Lint`, and that of an instance of depends, install or upgrade
+        /// as well (own): the first package that was installed, or else the first of all, that alone would do what is
+        /// needed. All other bytes are as without it.
+        explain: bool,
+    },
 }
