@@ -31,8 +31,8 @@ use Rattle.cudf_check.specs.declared.outcome.Outcome.TheVariants.{Yes, No, Fault
 use Rattle.cudf_check.specs.declared.outcome.RunError.{RunError}
 use Rattle.cudf_check.proofs.CoreLemmas.{core_by_key}
 
-abbrev refute_report : Mode → List ℕ → List ℕ → Report
-refute_report mode bytes proof = problem_report mode bytes (refute_answer proof)
+abbrev refute_report : Bool → Mode → List ℕ → List ℕ → Report
+refute_report explain mode bytes proof = problem_report explain mode bytes (refute_answer explain proof)
 
 -- ---- each needed clause has a reason
 
@@ -104,13 +104,13 @@ violates_one law problem text core is is_installed unknown =
       key = v.key ∙ sym (same_is reason.0 v.clause.0 found.2);
     }
 
-pub refutes : RefutedIsCore → (mode : Mode) (bytes proof : List ℕ) → let r = refute_report mode bytes proof in r.outcome ≡ Yes → Refutes (plain_problem (plain_text bytes)) r.text
-refutes law mode bytes proof is = by_fault (problem_fault mode bytes) is
+pub refutes : RefutedIsCore → (explain : Bool) (mode : Mode) (bytes proof : List ℕ) → let r = refute_report explain mode bytes proof in r.outcome ≡ Yes → Refutes explain (plain_problem (plain_text bytes)) r.text
+refutes law explain mode bytes proof is = by_fault (problem_fault mode bytes) is
   where
     problem : PlainProblem
     problem = plain_problem (plain_text bytes)
 
-    by_answer : (answer : PlainAnswer) → checked (length problem.packages) (clauses_of (cnf problem)) proof ≡ answer → (proof_report problem answer).outcome ≡ Yes → Refutes problem (proof_report problem answer).text
+    by_answer : (answer : PlainAnswer) → checked (length problem.packages) (clauses_of (cnf problem)) proof ≡ answer → (proof_report explain problem answer).outcome ≡ Yes → Refutes explain problem (proof_report explain problem answer).text
     by_answer (faulty number kind) is h = absurd (cc h)
     by_answer (refuted core) is h = record {
       reasons = told_of_core problem core;
@@ -119,37 +119,37 @@ refutes law mode bytes proof is = by_fault (problem_fault mode bytes) is
       none = refuted_has_none problem core (law (length problem.packages) (clauses_of (cnf problem)) proof core is);
     }
 
-    by_size : (large : Bool) → let r : Report = if large then (record { text = []; outcome = TooLarge }) else proof_report problem (checked (length problem.packages) (clauses_of (cnf problem)) proof) in
-        r.outcome ≡ Yes → Refutes problem r.text
+    by_size : (large : Bool) → let r : Report = if large then (record { text = []; outcome = TooLarge }) else proof_report explain problem (checked (length problem.packages) (clauses_of (cnf problem)) proof) in
+        r.outcome ≡ Yes → Refutes explain problem r.text
     by_size true h = absurd (cc h)
     by_size false h = by_answer (checked (length problem.packages) (clauses_of (cnf problem)) proof) refl h
 
-    by_fault : (fault : Option Fault) → let r = faulty_or (codes "problem") (told false bytes) fault (refute_answer proof problem) in r.outcome ≡ Yes → Refutes problem r.text
+    by_fault : (fault : Option Fault) → let r = faulty_or (codes "problem") (told explain bytes) fault (refute_answer explain proof problem) in r.outcome ≡ Yes → Refutes explain problem r.text
     by_fault (Some f) h = absurd (cc h)
     by_fault None h = by_size (is_too_large problem) h
 
 -- ---- a run
 
-run_refutes : RefutedIsCore → (mode : Mode) (first : Change SourceState) (out : Change SinkState) (bytes proof : List ℕ) (result : Result Outcome RunError) → ReadsAll first bytes
-    → Answers out.before out.after (refute_report mode bytes proof) result → IfOk result (λ outcome. HasRefutedIfYes Refute outcome first out)
-run_refutes law mode first out bytes proof (Err e) read answers = tt
-run_refutes law mode first out bytes proof (Ok Yes) read answers = record {
+run_refutes : RefutedIsCore → (explain : Bool) (mode : Mode) (first : Change SourceState) (out : Change SinkState) (bytes proof : List ℕ) (result : Result Outcome RunError) → ReadsAll first bytes
+    → Answers out.before out.after (refute_report explain mode bytes proof) result → IfOk result (λ outcome. HasRefutedIfYes (Refute explain) outcome first out)
+run_refutes law explain mode first out bytes proof (Err e) read answers = tt
+run_refutes law explain mode first out bytes proof (Ok Yes) read answers = record {
   bytes = bytes;
-  text = (refute_report mode bytes proof).text;
+  text = (refute_report explain mode bytes proof).text;
   read = read;
   written = answers.ok.written;
-  refutes = refutes law mode bytes proof (sym answers.ok.answered);
+  refutes = refutes law explain mode bytes proof (sym answers.ok.answered);
 }
-run_refutes law mode first out bytes proof (Ok No) read answers = tt
-run_refutes law mode first out bytes proof (Ok Faulty) read answers = tt
-run_refutes law mode first out bytes proof (Ok Fail) read answers = tt
-run_refutes law mode first out bytes proof (Ok TooLarge) read answers = tt
+run_refutes law explain mode first out bytes proof (Ok No) read answers = tt
+run_refutes law explain mode first out bytes proof (Ok Faulty) read answers = tt
+run_refutes law explain mode first out bytes proof (Ok Fail) read answers = tt
+run_refutes law explain mode first out bytes proof (Ok TooLarge) read answers = tt
 
 -- any other job promises nothing here
 pub job_refutes : RefutedIsCore → (job : Job) (mode : Mode) (first : Change SourceState) (out : Change SinkState) (bytes : List ℕ) (second : Option (List ℕ)) (result : Result Outcome RunError) → ReadsAll first bytes
     → Answers out.before out.after (report job mode bytes second) result → IfOk result (λ outcome. HasRefutedIfYes job outcome first out)
 unfolding report
-job_refutes law Refute mode first out bytes second result read answers = run_refutes law mode first out bytes (unwrap_or second []) result read answers
+job_refutes law (Refute explain) mode first out bytes second result read answers = run_refutes law explain mode first out bytes (unwrap_or second []) result read answers
 job_refutes law (Lint explain) mode first out bytes second (Ok outcome) read answers = tt
 job_refutes law (Lint explain) mode first out bytes second (Err e) read answers = tt
 job_refutes law (Check after limit explain) mode first out bytes second (Ok outcome) read answers = tt

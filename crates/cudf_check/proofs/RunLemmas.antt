@@ -160,7 +160,7 @@ none_for P (Lint explain) solutions none h = absurd h
 none_for P (Check after limit explain) solutions none h = none h
 none_for P (Score aims) solutions none h = none h
 none_for P Cnf solutions none h = absurd h
-none_for P Refute solutions none h = none h
+none_for P (Refute explain) solutions none h = none h
 
 -- this holds of one, and so of all
 pub of_one : {A : Type 0} (P : A → Type 0) (x : A) → P x → All P (x ∷ [])

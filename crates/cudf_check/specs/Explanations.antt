@@ -1,13 +1,13 @@
 -- What is added to a line, where lines are explained: own.
-use Rattle.std.specs.Prelude.{ℕ, Bool, List, [], ◌++◌, codes, decimal, Option, Some, None, unwrap_or, option_and_then, if◌then◌else◌}
+use Rattle.std.specs.Prelude.{ℕ, Bool, true, false, List, [], ◌++◌, codes, decimal, Option, Some, None, unwrap_or, option_and_then, if◌then◌else◌}
 use Rattle.cudf_document.specs.Details.{PlainDetail, begins_with, request_on, name_on, undeclared, mistyped, misdeclared, package_on, lacking}
 use Rattle.cudf_problem.specs.Ids.{Id}
-use Rattle.cudf_problem.specs.Universe.{PlainPackage, package_at}
+use Rattle.cudf_problem.specs.Universe.{PlainPackage, PlainProblem, package_at}
 use Rattle.cudf_index.specs.Satisfaction.{numbers_of, first_named}
 use Rattle.cudf_job.specs.declared.key.Aspect.{Aspect}
 use Rattle.cudf_job.specs.declared.key.Aspect.TheVariants.{Unsatisfied, Many, Lower}
 use Rattle.cudf_referee.specs.Criteria.{universe}
-use Rattle.cudf_referee.specs.Explanations.{would_do, least_of, greatest_of}
+use Rattle.cudf_referee.specs.Explanations.{was_installed, would_do, least_of, greatest_of}
 use Rattle.cudf_referee.specs.Instances.{PlainWhat, needs, install, upgrade, unknown, PlainInstance}
 use Rattle.cudf_referee.specs.Proposals.{Proposal}
 
@@ -17,10 +17,24 @@ use Rattle.cudf_referee.specs.Proposals.{Proposal}
 abbrev pub stanza_text : PlainPackage → List ℕ
 stanza_text p = p.name ++ codes " " ++ decimal p.version ++ codes " line " ++ decimal p.line
 
--- the first package that alone would do, where there is one
-abbrev pub would_do_text : Option PlainPackage → List ℕ
-would_do_text None = codes "; nothing in the problem would do"
-would_do_text (Some p) = codes "; " ++ stanza_text p ++ codes " would do"
+-- a package that was installed and alone would help, or else one that would
+abbrev pub help_text : Option PlainPackage → Option PlainPackage → List ℕ
+help_text (Some p) does = codes "; " ++ stanza_text p ++ codes " was installed"
+help_text None (Some p) = codes "; " ++ stanza_text p ++ codes " would do"
+help_text None None = codes "; nothing in the problem would do"
+
+-- the instance is of depends, install or upgrade, and lacks a package that satisfies its clause or entry
+abbrev pub lacks_package : PlainWhat → Option Aspect → Bool
+lacks_package (needs clause) aspect = true
+lacks_package (install v) aspect = true
+lacks_package (upgrade v) (Some Unsatisfied) = true
+lacks_package what aspect = false
+
+-- `; wheel 3 line 9 was installed`, of the first by place
+abbrev pub help_of : PlainProblem → PlainInstance → List ℕ
+help_of problem i = if lacks_package i.what i.key.aspect
+    then help_text (option_and_then (package_at problem) (was_installed problem i)) (option_and_then (package_at problem) (would_do problem i))
+    else []
 
 -- the first package of this name, where there is one
 abbrev pub named_text : List ℕ → Option PlainPackage → List ℕ
@@ -32,29 +46,31 @@ abbrev pub number_text : Option ℕ → List ℕ
 number_text number = decimal (unwrap_or number 0)
 
 -- `; 2 and 5 now`, `; 1 now, 4 before`
-abbrev pub upgrade_added : Proposal → List ℕ → Option PlainPackage → Option Aspect → List ℕ
-upgrade_added s name does None = []
-upgrade_added s name does (Some Unsatisfied) = would_do_text does
-upgrade_added s name does (Some Many) = let numbers = numbers_of name s.proposed in
+abbrev pub numbers_added : Proposal → List ℕ → Option Aspect → List ℕ
+numbers_added s name None = []
+numbers_added s name (Some Unsatisfied) = []
+numbers_added s name (Some Many) = let numbers = numbers_of name s.proposed in
     codes "; " ++ number_text (least_of numbers) ++ codes " and " ++ number_text (greatest_of numbers) ++ codes " now"
-upgrade_added s name does (Some Lower) =
+numbers_added s name (Some Lower) =
     codes "; " ++ number_text (least_of (numbers_of name s.proposed)) ++ codes " now, " ++ number_text (greatest_of (numbers_of name s.initial)) ++ codes " before"
 
 abbrev pub unknown_added : Proposal → Option Id → List ℕ
 unknown_added s None = []
 unknown_added s (Some (name, version)) = named_text name (option_and_then (package_at s.problem) (first_named (universe s) name))
 
--- what is added of what is wrong, with the package that would do
-abbrev pub what_added : Proposal → PlainWhat → Option Aspect → Option Id → Option PlainPackage → List ℕ
-what_added s (needs clause) aspect subject does = would_do_text does
-what_added s (install v) aspect subject does = would_do_text does
-what_added s (upgrade v) aspect subject does = upgrade_added s v.name does aspect
-what_added s unknown aspect subject does = unknown_added s subject
-what_added s what aspect subject does = []
+-- what the statuses say of what is wrong
+abbrev pub status_added : Proposal → PlainWhat → Option Aspect → Option Id → List ℕ
+status_added s (upgrade v) aspect subject = numbers_added s v.name aspect
+status_added s unknown aspect subject = unknown_added s subject
+status_added s what aspect subject = []
 
--- `; wheel 3 line 9 would do`, where lines are explained
+-- what is added to the line of a violated instance, where lines are explained
 abbrev pub instance_added : Bool → Proposal → PlainInstance → List ℕ
-instance_added explain s i = if explain then what_added s i.what i.key.aspect i.subject (option_and_then (package_at s.problem) (would_do s i)) else []
+instance_added explain s i = if explain then help_of s.problem i ++ status_added s i.what i.key.aspect i.subject else []
+
+-- and to that of an instance of a problem, whatever the status
+abbrev pub reason_added : Bool → PlainProblem → PlainInstance → List ℕ
+reason_added explain problem i = if explain then help_of problem i else []
 
 -- ---- faults
 

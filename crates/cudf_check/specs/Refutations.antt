@@ -28,21 +28,21 @@ pub record ViolatesOneOf (reasons : List Told) (s : Proposal) : Type 0 where
   pub key : instance.key ≡ reason.0
 
 -- the text is the lines of reasons, of which each proposed status violates one, so none is a solution
-pub record Refutes (problem : PlainProblem) (text : List ℕ) : Type 0 where
+pub record Refutes (explain : Bool) (problem : PlainProblem) (text : List ℕ) : Type 0 where
   pub reasons : List Told
-  pub lines : text ≡ flat_map (reason_line problem) reasons ++ line (codes "no solution exists")
+  pub lines : text ≡ flat_map (reason_line explain problem) reasons ++ line (codes "no solution exists")
   pub violated : (is_installed : ℕ → Bool) (unknown : List PlainUnknown) → ViolatesOneOf reasons (proposed problem is_installed unknown)
   pub none : (is_installed : ℕ → Bool) (unknown : List PlainUnknown) → is_solution (proposed problem is_installed unknown) ≡ false
 
 -- the first input was read whole, and what was written refutes its problem
-pub record HasRefuted (first : Change SourceState) (out : Change SinkState) : Type 0 where
+pub record HasRefuted (explain : Bool) (first : Change SourceState) (out : Change SinkState) : Type 0 where
   pub bytes : List ℕ
   pub text : List ℕ
   pub read : ReadsAll first bytes
   pub written : Appends out.before.contents out.after.contents text
-  pub refutes : Refutes (plain_problem (plain_text bytes)) text
+  pub refutes : Refutes explain (plain_problem (plain_text bytes)) text
 
 -- a refutation that ends with `Yes` has refuted its problem
 abbrev pub HasRefutedIfYes : Job → Outcome → Change SourceState → Change SinkState → Type 0
-HasRefutedIfYes Refute Yes first out = HasRefuted first out
+HasRefutedIfYes (Refute explain) Yes first out = HasRefuted explain first out
 HasRefutedIfYes job outcome first out = Unit {0}

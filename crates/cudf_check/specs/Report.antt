@@ -47,7 +47,7 @@ use Rattle.cudf_lrat.specs.declared.literal.Literal.{Literal}
 use Rattle.cudf_cnf.specs.Cnf.{Keyed, cnf, clauses_of}
 use Rattle.cudf_reasons.specs.Reasons.{reasons_of}
 use Rattle.cudf_reasons.specs.Views.{Told, told_as}
-use Rattle.cudf_check.specs.Explanations.{instance_added, detail_added}
+use Rattle.cudf_check.specs.Explanations.{instance_added, reason_added, detail_added}
 use Rattle.cudf_job.specs.declared.job.Job.{Job}
 use Rattle.cudf_job.specs.declared.job.Job.TheVariants.{Lint, Check, Score, Cnf, Refute}
 use Rattle.cudf_check.specs.declared.outcome.Outcome.{Outcome}
@@ -209,8 +209,8 @@ pair_report explain mode found problem solution =
 -- ---- CNFs
 
 -- a problem's report, where it has no fault
-abbrev pub problem_report : Mode → List ℕ → (PlainProblem → Report) → Report
-problem_report mode bytes answer = faulty_or (codes "problem") (told false bytes) (problem_fault mode bytes) (answer (plain_problem (plain_text bytes)))
+abbrev pub problem_report : Bool → Mode → List ℕ → (PlainProblem → Report) → Report
+problem_report explain mode bytes answer = faulty_or (codes "problem") (told explain bytes) (problem_fault mode bytes) (answer (plain_problem (plain_text bytes)))
 
 -- more packages or clauses than a CNF may have here
 abbrev pub is_too_large : PlainProblem → Bool
@@ -291,25 +291,26 @@ abbrev pub met_texts : PlainProblem → List ℕ → List ℕ
 met_texts problem [] = []
 met_texts problem (place ∷ places) = meeting_text (package_at problem place) ++ flat_map (λ other. also_text (package_at problem other)) places
 
--- the line of a needed instance, with all packages by which its clauses are needed
-abbrev pub reason_line : PlainProblem → Told → List ℕ
-reason_line problem (key, places) = option_map_or (λ i. met_text i None ++ line (met_texts problem places)) (instance_of problem key) []
+-- the line of a needed instance, with all packages by which its clauses are needed, and what is added where lines are explained
+abbrev pub reason_line : Bool → PlainProblem → Told → List ℕ
+reason_line explain problem (key, places) =
+    option_map_or (λ i. met_text i None ++ met_texts problem places ++ line (reason_added explain problem i)) (instance_of problem key) []
 
 -- the clauses of these numbers from 1
 abbrev pub needed : List Keyed → List ℕ → List Keyed
 needed clauses numbers = filter_map (λ n. slice_get clauses (n - 1)) numbers
 
 -- no status keeps all of these instances, so none is a solution
-abbrev pub core_text : PlainProblem → List ℕ → List ℕ
-core_text problem core = flat_map (reason_line problem) (map told_as (reasons_of (needed (cnf problem) core))) ++ line (codes "no solution exists")
+abbrev pub core_text : Bool → PlainProblem → List ℕ → List ℕ
+core_text explain problem core = flat_map (reason_line explain problem) (map told_as (reasons_of (needed (cnf problem) core))) ++ line (codes "no solution exists")
 
 -- what comes of a proof: the line of its first fault, or the core
-abbrev pub proof_report : PlainProblem → lrat.PlainAnswer → Report
-proof_report problem (lrat.faulty number kind) = alone (codes "proof line " ++ decimal number ++ codes ": " ++ kind_text kind) No
-proof_report problem (lrat.refuted core) = record { text = core_text problem core; outcome = Yes }
+abbrev pub proof_report : Bool → PlainProblem → lrat.PlainAnswer → Report
+proof_report explain problem (lrat.faulty number kind) = alone (codes "proof line " ++ decimal number ++ codes ": " ++ kind_text kind) No
+proof_report explain problem (lrat.refuted core) = record { text = core_text explain problem core; outcome = Yes }
 
-abbrev pub refute_answer : List ℕ → PlainProblem → Report
-refute_answer proof problem = unless_too_large problem (proof_report problem (lrat.checked (length problem.packages) (clauses_of (cnf problem)) proof))
+abbrev pub refute_answer : Bool → List ℕ → PlainProblem → Report
+refute_answer explain proof problem = unless_too_large problem (proof_report explain problem (lrat.checked (length problem.packages) (clauses_of (cnf problem)) proof))
 
 -- ---- the report
 
@@ -322,5 +323,5 @@ unfoldable pub report : Job → Mode → List ℕ → Option (List ℕ) → Repo
 report (Lint explain) mode input solution = faulty_or (codes "problem") (told explain input) (problem_fault mode input) (alone (codes "problem ok") Yes)
 report (Check after limit explain) mode input solution = inputs_report explain mode (check_text explain (option_map key_view after) limit) input solution
 report (Score aims) mode input solution = inputs_report false mode (scored_text (option_map (λ list. list.items) aims)) input solution
-report Cnf mode input solution = problem_report mode input cnf_answer
-report Refute mode input proof = problem_report mode input (refute_answer (unwrap_or proof []))
+report Cnf mode input solution = problem_report false mode input cnf_answer
+report (Refute explain) mode input proof = problem_report explain mode input (refute_answer explain (unwrap_or proof []))

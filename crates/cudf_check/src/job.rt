@@ -9,7 +9,7 @@ pub(crate) fn explains(job: &Job) -> bool
     ensures { result ≡ explains job.now }
 {
     match job {
-        Job::Lint { explain } | Job::Check { explain, .. } => *explain,
-        Job::Score { .. } | Job::Cnf | Job::Refute => false,
+        Job::Lint { explain } | Job::Check { explain, .. } | Job::Refute { explain } => *explain,
+        Job::Score { .. } | Job::Cnf => false,
     }
 }

@@ -92,7 +92,7 @@ pub fn run<R: Source, S: Source, W: Sink>(
     let first = read_all(alloc, input)?;
     match job {
         Job::Lint { .. } | Job::Cnf => answer_job(setting, job, &first, None, out),
-        Job::Check { .. } | Job::Score { .. } | Job::Refute => {
+        Job::Check { .. } | Job::Score { .. } | Job::Refute { .. } => {
             let second = read_all(alloc, solution)?;
             answer_job(setting, job, &first, Some(&second), out)
         }

@@ -102,11 +102,7 @@ fn check<W: Sink>(
 {
     let alloc = setting.alloc;
     let explain = explains(job);
-    let problem = Document {
-        whose: "problem",
-        bytes: problem,
-        explain,
-    };
+    let problem = problem_document(problem, explain);
     let solution = Document {
         whose: "solution",
         bytes: solution,
@@ -141,13 +137,13 @@ fn lint<W: Sink>(setting: Setting, out: &mut W, problem: Document<'_>) -> Result
 
 /// Writes the CNF of a problem, or says which fault of it is the first.
 fn print_cnf<W: Sink>(setting: Setting, out: &mut W, bytes: &[u8]) -> Result<Outcome, RunError>
-    ensures { Answers (W.state out.old) (W.state out.new) (problem_report setting.mode bytes.now cnf_answer) result }
+    ensures { Answers (W.state out.old) (W.state out.new) (problem_report false setting.mode bytes.now cnf_answer) result }
 {
     let alloc = setting.alloc;
     let mut room = Room::new(alloc);
     match problem_in(setting, bytes, &mut room) {
         Ok(problem) => answer_cnf(alloc, out, &problem),
-        Err(error) => answer_unread(alloc, out, unexplained(bytes), error),
+        Err(error) => answer_unread(alloc, out, problem_document(bytes, false), error),
     }
 }
 
@@ -157,27 +153,28 @@ fn refute<W: Sink>(
     out: &mut W,
     bytes: &[u8],
     proof: &[u8],
+    explain: bool,
 ) -> Result<Outcome, RunError>
-    ensures { Answers (W.state out.old) (W.state out.new) (problem_report setting.mode bytes.now (refute_answer proof.now)) result }
+    ensures { Answers (W.state out.old) (W.state out.new) (problem_report explain setting.mode bytes.now (refute_answer explain proof.now)) result }
 {
     let alloc = setting.alloc;
     let mut room = Room::new(alloc);
     match problem_in(setting, bytes, &mut room) {
-        Ok(problem) => answer_proof(alloc, out, &problem, proof),
-        Err(error) => answer_unread(alloc, out, unexplained(bytes), error),
+        Ok(problem) => answer_proof(alloc, out, &problem, proof, explain),
+        Err(error) => answer_unread(alloc, out, problem_document(bytes, explain), error),
     }
 }
 
-/// A problem of whose fault nothing more is told.
-fn unexplained(bytes: &[u8]) -> Document<'_>
+/// The problem, as a document whose faults are reported.
+fn problem_document(bytes: &[u8], explain: bool) -> Document<'_>
     ensures whose { result.whose.now ≡ codes "problem" }
     ensures bytes { result.bytes.now ≡ bytes.entry.now }
-    ensures explain { result.explain ≡ false }
+    ensures explain { result.explain ≡ explain }
 {
     Document {
         whose: "problem",
         bytes,
-        explain: false,
+        explain,
     }
 }
 
@@ -204,19 +201,14 @@ pub(crate) fn answer_job<W: Sink>(
     ensures { Answers (W.state out.old) (W.state out.new) (report job.now setting.mode input.now (option_copied solution.entry)) result }
 {
     match job {
-        Job::Lint { explain } => {
-            let problem = Document {
-                whose: "problem",
-                bytes: input,
-                explain: *explain,
-            };
-            lint(setting, out, problem)
-        }
+        Job::Lint { explain } => lint(setting, out, problem_document(input, *explain)),
         Job::Check { .. } | Job::Score { .. } => {
             let (problem, solution) = parted(input, solution);
             check(setting, out, job, problem, solution)
         }
         Job::Cnf => print_cnf(setting, out, input),
-        Job::Refute => refute(setting, out, input, solution.unwrap_or(&[])),
+        Job::Refute { explain } => {
+            refute(setting, out, input, solution.unwrap_or(&[]), *explain)
+        }
     }
 }

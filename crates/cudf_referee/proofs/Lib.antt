@@ -18,6 +18,7 @@ pub mod PlaceLemmas
 pub mod PositionLemmas
 pub mod PriceExamples
 pub mod RecommendLemmas
+pub mod RemedyLemmas
 pub mod SearchLemmas
 pub mod SiteLemmas
 pub mod SiteNumberLemmas

@@ -1,20 +1,26 @@
--- What of a universe would help where an instance is violated: own.
+-- What of a problem would help where an instance is violated: own.
 use Rattle.std.specs.Prelude.{ℕ, min, max, List, [], ◌∷◌, Option, Some, None}
+use Rattle.std.specs.List.{enumerate_from}
 use Rattle.std.specs.Option.{option_map_or}
-use Rattle.cudf_index.specs.Satisfaction.{Placed, first_meeting, first_satisfying}
-use Rattle.cudf_referee.specs.Criteria.{universe}
+use Rattle.cudf_problem.specs.Statuses.{is_initial}
+use Rattle.cudf_problem.specs.Universe.{PlainProblem}
+use Rattle.cudf_index.specs.Satisfaction.{Placed, members, first_meeting, first_satisfying}
 use Rattle.cudf_referee.specs.Instances.{PlainWhat, needs, install, upgrade, PlainInstance}
-use Rattle.cudf_referee.specs.Proposals.{Proposal}
 
-abbrev pub would_do_for : List Placed → PlainWhat → Option ℕ
-would_do_for all (needs clause) = first_satisfying all clause
-would_do_for all (install v) = first_meeting all v
-would_do_for all (upgrade v) = first_meeting all v
-would_do_for all what = None
+-- the place of the first of these packages that alone satisfies the clause or the entry
+abbrev pub first_helping : List Placed → PlainWhat → Option ℕ
+first_helping packages (needs clause) = first_satisfying packages clause
+first_helping packages (install v) = first_meeting packages v
+first_helping packages (upgrade v) = first_meeting packages v
+first_helping packages what = None
 
--- the place of the first package of the universe, installed or not, that alone satisfies the clause or the entry
-abbrev pub would_do : Proposal → PlainInstance → Option ℕ
-would_do s i = would_do_for (universe s) i.what
+-- among all packages of the problem, installed or not
+abbrev pub would_do : PlainProblem → PlainInstance → Option ℕ
+would_do problem i = first_helping (enumerate_from 1 problem.packages) i.what
+
+-- among those that were installed
+abbrev pub was_installed : PlainProblem → PlainInstance → Option ℕ
+was_installed problem i = first_helping (members (is_initial problem) problem.packages) i.what
 
 -- the least and the greatest of the numbers, where there are any
 abbrev pub least_of : List ℕ → Option ℕ

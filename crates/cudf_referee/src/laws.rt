@@ -4,7 +4,7 @@ ghost use Rattle.std.specs.Ordering.{is_lt, partial_lt};
 ghost use Rattle.cudf_job.specs.KeyViews.{key_view};
 ghost use Rattle.cudf_job.specs.Keys.{key_cmp};
 ghost use Rattle.cudf_referee.specs.Laws.{SolutionIsEmpty, ListingAscends};
-ghost use Rattle.cudf_referee.specs.Promises.Laws.{TextsTellKeys, PagesJoin, PagesSuffice, PagesAreBound, NothingDoes, WouldDo};
+ghost use Rattle.cudf_referee.specs.Promises.Laws.{TextsTellKeys, PagesJoin, PagesSuffice, PagesAreBound, NothingDoes, WasInstalled, WouldDo};
 
 use cudf_job::Key;
 
@@ -42,12 +42,15 @@ pub fn pages()
     ensures price { PagesAreBound }
 {}
 
-/// What would do does: a status that installs that package alone satisfies the clause.
+/// What would do does: a status that installs that package alone satisfies the clause or the entry. And what is said to
+/// have been installed was, and does as well.
 pub fn does()
-    ensures { WouldDo }
+    ensures would_do { WouldDo }
+    ensures was_installed { WasInstalled }
 {}
 
-/// Where no package of a universe alone would do, no status of it satisfies the clause, unless the clause needs none.
+/// Where no package of a problem alone would do, no status of it satisfies the clause or the entry, unless the empty one
+/// does.
 pub fn nothing()
     ensures { NothingDoes }
 {}

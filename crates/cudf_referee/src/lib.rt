@@ -12,4 +12,4 @@ mod sites;
 
 pub use cudf_job::{Aim, Aspect, Count, Criteria, Key, Part, Rule, Sign, compare, read_criterion};
 pub use instance::{Instance, What};
-pub use referee::{Explainer, Instances, Referee};
+pub use referee::{Explainer, Instances, Referee, Remedies};

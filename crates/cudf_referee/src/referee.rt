@@ -12,16 +12,18 @@ mod before;
 mod explainer;
 mod instances;
 mod numbered;
+mod remedies;
 
 use crate::counting::count;
 use crate::instance::{Instance, What};
 use before::{NumberedNames, greatest_before, numbered};
-use cudf_index::{Index, Providers};
+use cudf_index::Index;
 use cudf_job::{Criteria, Key, Part};
 use cudf_problem::{Keep, Package, Problem, Solution, initial};
 pub use explainer::Explainer;
 pub use instances::Instances;
 use numbered::keys_can_be_written;
+pub use remedies::Remedies;
 use std::alloc::{AllocError, Global};
 use std::fmt;
 use std::marker::Model;
@@ -120,7 +122,7 @@ impl<'p, 't> Referee<'p, 't> {
     ghost use Rattle.cudf_problem.specs.Promises.Views.{unknown_view};
     ghost use Rattle.cudf_index.specs.Promises.Prices.{digits};
     ghost use Rattle.cudf_index.specs.Satisfaction.{numbers_of};
-    ghost use Rattle.cudf_referee.specs.Criteria.{criteria, universe};
+    ghost use Rattle.cudf_referee.specs.Criteria.{criteria};
     ghost use Rattle.cudf_referee.specs.Explanations.{least_of, greatest_of};
     ghost use Rattle.cudf_referee.specs.Working.Before.{kept_greatest};
     ghost use Rattle.cudf_problem.specs.Documents.{is_empty};
@@ -174,11 +176,11 @@ impl<'p, 't> Referee<'p, 't> {
         self.problem.packages()
     }
 
-    /// What all packages of the universe give.
-    fn providers(&self, alloc: Global) -> Result<Providers<'p, 't>, AllocError>
-        ensures { IfOk result (λ providers. providers ≡ universe self.entry.now) }
+    /// The remedies of its problem.
+    fn remedies(&self, alloc: Global) -> Result<Remedies<'p, 't>, AllocError>
+        ensures { IfOk result (λ remedies. remedies ≡ self.entry.now.problem) }
     {
-        Providers::build(alloc, self.problem)
+        Remedies::new(alloc, self.problem)
     }
 
     /// The numbers of all names that the initial status gives: of `upgrade` alone they are kept already.

@@ -17,17 +17,23 @@ const FIRST_CAR: &str =
 /// nor of the one that is lower, and the first car; and none for the pair beyond the universe.
 const WOULD_DO: [Option<u64>; 8] = [Some(3), None, None, Some(4), None, None, Some(1), None];
 
+/// For each of them the package that would do and was installed: the second car alone, of the last entry of `upgrade`.
+const WAS_INSTALLED: [Option<u64>; 8] = [None, None, None, None, None, None, Some(2), None];
+
 fn is_explained(alloc: Global, referee: &Referee<'_, '_>) -> bool {
     match Explainer::new(alloc, referee) {
-        Ok(explainer) => would_do(&explainer) && has_numbers(&explainer),
+        Ok(explainer) => helps(&explainer) && has_numbers(&explainer),
         Err(_) => false,
     }
 }
 
-fn would_do(explainer: &Explainer<'_, '_, '_>) -> bool {
+fn helps(explainer: &Explainer<'_, '_, '_>) -> bool {
+    let remedies = explainer.remedies();
     let mut place = 0;
     for instance in explainer.referee().instances() {
-        if WOULD_DO.get(place) != Some(&explainer.would_do(&instance)) {
+        let does = Some(&remedies.would_do(&instance));
+        let was = Some(&remedies.was_installed(&instance));
+        if (WOULD_DO.get(place), WAS_INSTALLED.get(place)) != (does, was) {
             return false;
         }
         place += 1;
@@ -42,7 +48,10 @@ fn has_numbers(explainer: &Explainer<'_, '_, '_>) -> bool {
             explainer.greatest_before("car"),
             explainer.greatest_before("bus"),
         ) == (Some(2), None)
-        && (explainer.first_named("car"), explainer.first_named("door")) == (Some(1), None)
+        && (
+            explainer.remedies().first_named("car"),
+            explainer.remedies().first_named("door"),
+        ) == (Some(1), None)
 }
 
 fn is_judged(alloc: Global, problem: &Problem<'_>, text: &Text<'_>) -> bool {

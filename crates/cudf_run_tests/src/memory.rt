@@ -147,7 +147,7 @@ fn is_judged(alloc: Global, problem: &Problem<'_>) -> Result<bool, Ended> {
 fn is_explained(alloc: Global, referee: &Referee<'_, '_>) -> Result<bool, Ended> {
     let explainer = Explainer::new(alloc, referee)?;
     Ok(
-        explainer.first_named("g") == Some(1)
+        explainer.remedies().first_named("g") == Some(1)
             && (explainer.least("g"), explainer.greatest_before("g")) == (Some(1), Some(2)),
     )
 }

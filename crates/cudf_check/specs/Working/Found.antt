@@ -12,7 +12,7 @@ explains (Lint explain) = explain
 explains (Check after limit explain) = explain
 explains (Score aims) = false
 explains Cnf = false
-explains Refute = false
+explains (Refute explain) = explain
 
 -- what is found for the job: nothing to lint
 abbrev pub found_text : Job → Proposal → List ℕ
@@ -20,4 +20,4 @@ found_text (Lint explain) s = []
 found_text (Check after limit explain) s = check_text explain (option_map key_view after) limit s
 found_text (Score aims) s = scored_text (option_map (λ list. list.items) aims) s
 found_text Cnf s = []
-found_text Refute s = []
+found_text (Refute explain) s = []

@@ -1,8 +1,14 @@
 -- What contracts see of who prints the lines of instances.
 use Rattle.std.specs.Prelude.{Bool}
+use Rattle.cudf_problem.specs.Universe.{PlainProblem}
 use Rattle.cudf_referee.specs.Proposals.{Proposal}
 
 -- what is judged, and whether lines are explained
 pub record Wording : Type 0 where
   pub judged : Proposal
+  pub explain : Bool
+
+-- the problem whose instances are printed, and whether lines are explained
+pub record ReasonWording : Type 0 where
+  pub problem : PlainProblem
   pub explain : Bool

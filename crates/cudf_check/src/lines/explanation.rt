@@ -1,14 +1,15 @@
 //! Prints what the problem says beside a violated instance.
-ghost use Rattle.std.specs.Prelude.{◌++◌, Some, option_map, true};
+ghost use Rattle.std.specs.Prelude.{◌≡◌, ◌++◌, Some, codes, option_map, true};
 ghost use Rattle.cudf_problem.specs.Promises.Views.{package_view};
-ghost use Rattle.cudf_check.specs.Explanations.{stanza_text, would_do_text, named_text, number_text, upgrade_added, unknown_added};
+ghost use Rattle.cudf_referee.specs.Promises.Views.{instance_view};
+ghost use Rattle.cudf_check.specs.Explanations.{stanza_text, help_of, help_text, lacks_package, named_text, number_text, numbers_added, unknown_added};
 ghost use Rattle.cudf_check.specs.Working.Paper.{Says};
 
 use crate::device::Sink;
 use crate::lines::instance::package_at;
 use crate::paper::Paper;
 use cudf_document::Package;
-use cudf_referee::{Aspect, Explainer};
+use cudf_referee::{Aspect, Explainer, Instance, Remedies, What};
 
 /// Prints where a package stands.
 fn print_stanza<W: Sink>(paper: &mut Paper<'_, W>, package: &Package<'_>)
@@ -21,17 +22,56 @@ fn print_stanza<W: Sink>(paper: &mut Paper<'_, W>, package: &Package<'_>)
     paper.number(package.line);
 }
 
-/// Prints the package that alone would do, or that none would.
-pub(crate) fn print_would_do<W: Sink>(paper: &mut Paper<'_, W>, does: Option<&Package<'_>>)
-    ensures { Says W.state paper.old paper.new (would_do_text (option_map (λ p. package_view p.now) does.entry)) }
+/// Prints a package, and behind it how it would help.
+fn print_helper<W: Sink>(paper: &mut Paper<'_, W>, package: &Package<'_>, behind: &str)
+    ensures { Says W.state paper.old paper.new (codes "; " ++ stanza_text (package_view «package».now) ++ behind.now) }
 {
-    match does {
-        Some(package) => {
-            paper.text("; ");
-            print_stanza(paper, package);
-            paper.text(" would do");
-        }
-        None => paper.text("; nothing in the problem would do"),
+    paper.text("; ");
+    print_stanza(paper, package);
+    paper.text(behind);
+}
+
+/// Prints the package that was installed, or else the one that would do, or that none would.
+fn print_either<W: Sink>(
+    paper: &mut Paper<'_, W>,
+    was: Option<&Package<'_>>,
+    does: Option<&Package<'_>>,
+)
+    ensures { Says W.state paper.old paper.new (help_text (option_map (λ p. package_view p.now) was.entry) (option_map (λ p. package_view p.now) does.entry)) }
+{
+    match was {
+        Some(package) => print_helper(paper, package, " was installed"),
+        None => match does {
+            Some(package) => print_helper(paper, package, " would do"),
+            None => paper.text("; nothing in the problem would do"),
+        },
+    }
+}
+
+/// Whether the instance is of depends, install or upgrade, and lacks a package that satisfies its conjunct or entry.
+fn lacks_package(instance: &Instance<'_>) -> bool
+    ensures { result ≡ lacks_package (instance_view instance.now).what (instance_view instance.now).key.aspect }
+{
+    match instance.what {
+        What::Needs(_) | What::Install(_) => true,
+        What::Upgrade(_) => matches!(instance.key.aspect(), Some(Aspect::Unsatisfied)),
+        _ => false,
+    }
+}
+
+/// Prints the package of the problem that would help, where the instance lacks one.
+pub(crate) fn print_help<W: Sink>(
+    paper: &mut Paper<'_, W>,
+    remedies: &Remedies<'_, '_>,
+    instance: &Instance<'_>,
+)
+    ensures { Says W.state paper.old paper.new (help_of remedies.now (instance_view instance.now)) }
+{
+    if lacks_package(instance) {
+        let packages = remedies.packages();
+        let was = package_at(packages, remedies.was_installed(instance));
+        let does = package_at(packages, remedies.would_do(instance));
+        print_either(paper, was, does);
     }
 }
 
@@ -59,19 +99,17 @@ fn print_number<W: Sink>(paper: &mut Paper<'_, W>, number: Option<u64>, behind: 
     paper.text(behind);
 }
 
-/// Prints what is added to an entry of `upgrade` that is violated in this way.
-pub(crate) fn print_upgrade<W: Sink>(
+/// Prints the numbers of an entry of `upgrade` that is violated by them.
+pub(crate) fn print_numbers<W: Sink>(
     paper: &mut Paper<'_, W>,
     explainer: &Explainer<'_, '_, '_>,
     name: &str,
-    does: Option<&Package<'_>>,
     aspect: Option<Aspect>,
 )
-    ensures { Says W.state paper.old paper.new (upgrade_added explainer.now name.now (option_map (λ p. package_view p.now) does.entry) aspect) }
+    ensures { Says W.state paper.old paper.new (numbers_added explainer.now name.now aspect) }
 {
     match aspect {
-        None => {}
-        Some(Aspect::Unsatisfied) => print_would_do(paper, does),
+        None | Some(Aspect::Unsatisfied) => {}
         Some(Aspect::Many) => {
             paper.text("; ");
             print_number(paper, explainer.least(name), " and ");
@@ -94,11 +132,8 @@ pub(crate) fn print_unknown<W: Sink>(
     ensures { Says W.state paper.old paper.new (unknown_added explainer.now (option_map (λ s. (s.0.now, s.1)) subject.entry)) }
 {
     if let Some((name, _)) = subject {
-        let packages = explainer.referee().packages();
-        print_named(
-            paper,
-            name,
-            package_at(packages, explainer.first_named(name)),
-        );
+        let remedies = explainer.remedies();
+        let named = package_at(remedies.packages(), remedies.first_named(name));
+        print_named(paper, name, named);
     }
 }

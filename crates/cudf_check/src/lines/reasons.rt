@@ -3,13 +3,12 @@ ghost use Rattle.std.specs.Prelude.{◌≡◌, ◌≤◌, ◌<◌, ◌++◌, All
 ghost use Rattle.std.specs.List.{flat_map};
 ghost use Rattle.cudf_problem.specs.Promises.Views.{package_view};
 ghost use Rattle.cudf_problem.specs.Universe.{package_at};
-ghost use Rattle.cudf_job.specs.KeyViews.{key_view};
 ghost use Rattle.cudf_lrat.specs.Kinds.{kind_text};
 ghost use Rattle.cudf_cnf.specs.Cnf.{cnf};
 ghost use Rattle.cudf_reasons.specs.Reasons.{keys_of, never_descend};
 ghost use Rattle.cudf_reasons.specs.Views.{needed_view};
 ghost use Rattle.cudf_check.specs.declared.outcome.Outcome.TheVariants.{No, Yes};
-ghost use Rattle.cudf_check.specs.Report.{alone, also_text, core_text, met_texts, needed, reason_line, refute_answer};
+ghost use Rattle.cudf_check.specs.Report.{alone, also_text, core_text, met_texts, needed, refute_answer};
 ghost use Rattle.cudf_check.specs.Working.Answering.{Answers};
 ghost use Rattle.cudf_check.specs.Working.Paper.{Says};
 
@@ -17,6 +16,7 @@ use crate::buffer::ReportBuffer;
 use crate::device::Sink;
 use crate::encoding::encoded;
 use crate::instances::instance_of;
+use crate::lines::explanation::print_help;
 use crate::lines::instance::{package_at, print_instance, print_meeting};
 use crate::outcome::{Outcome, RunError};
 use crate::paper::Paper;
@@ -26,8 +26,9 @@ use cudf_document::{Package, Problem};
 use cudf_lrat::laws::refuted;
 use cudf_lrat::{Answer, Kind, check};
 use cudf_reasons::{Needed, Reasons, reasons};
-use cudf_referee::Key;
+use cudf_referee::{Instance, Key, Remedies};
 use std::alloc::{AllocError, Global};
+use std::marker::Model;
 
 /// Prints another package that meets an entry, if there is one.
 fn print_also<W: Sink>(paper: &mut Paper<'_, W>, met: Option<&Package<'_>>)
@@ -64,23 +65,79 @@ fn print_met<W: Sink>(paper: &mut Paper<'_, W>, problem: &Problem<'_>, places: &
     }
 }
 
-/// Prints the line of a needed instance.
-fn print_reason<W: Sink>(paper: &mut Paper<'_, W>, problem: &Problem<'_>, key: Key, met: &[u32])
-    ensures { Says W.state paper.old paper.new (reason_line problem.now (key_view key, met.now)) }
-{
-    if let Some(instance) = instance_of(problem, key) {
-        print_instance(paper, &instance, None);
-        print_met(paper, problem, met);
-        paper.text("\n");
-    }
+/// The problem whose instances are printed, with its remedies, where lines are explained. Contracts see the problem, and
+/// whether they are.
+#[derive(Drop)]
+struct ReasonScribe<'p, 't> {
+    problem: &'p Problem<'t>,
+    remedies: Option<Remedies<'p, 't>>,
 }
 
-/// Prints the lines of the needed instances.
-fn print_reasons<W: Sink>(paper: &mut Paper<'_, W>, problem: &Problem<'_>, reasons: &Reasons)
-    ensures { Says W.state paper.old paper.new (flat_map (reason_line problem.now) reasons.now) }
-{
-    for index in 0..reasons.len() {
-        print_reason(paper, problem, reasons.key(index), reasons.met(index));
+impl<'p, 't> Model for ReasonScribe<'p, 't> {
+    ghost use Rattle.std.specs.Prelude.{◌≡◌, is_some, IfSome};
+    ghost use Rattle.cudf_check.specs.Working.Scribes.{ReasonWording};
+
+    ghost Value = { ReasonWording };
+
+    ghost view = { λ s. record { problem = s.problem.now; explain = is_some s.remedies } };
+
+    ghost invariant = { λ s. IfSome s.remedies (λ r. r ≡ s.problem.now) };
+}
+
+impl<'p, 't> ReasonScribe<'p, 't> {
+    ghost use Rattle.std.specs.Prelude.{◌≡◌, IfOk};
+    ghost use Rattle.std.specs.List.{flat_map};
+    ghost use Rattle.cudf_job.specs.KeyViews.{key_view};
+    ghost use Rattle.cudf_referee.specs.Promises.Views.{instance_view};
+    ghost use Rattle.cudf_check.specs.Explanations.{reason_added};
+    ghost use Rattle.cudf_check.specs.Report.{reason_line};
+    ghost use Rattle.cudf_check.specs.Working.Paper.{Says};
+
+    /// The scribe of a problem. Memory for what is added to lines is taken here.
+    fn new(alloc: Global, problem: &'p Problem<'t>, explain: bool) -> Result<Self, AllocError>
+        ensures { IfOk result (λ s. s ≡ record { problem = problem.entry.now; explain = explain }) }
+    {
+        if !explain {
+            return Ok(ReasonScribe {
+                problem,
+                remedies: None,
+            });
+        }
+        let remedies = Remedies::new(alloc, problem)?;
+        Ok(ReasonScribe {
+            problem,
+            remedies: Some(remedies),
+        })
+    }
+
+    /// Prints the lines of the needed instances.
+    fn print_reasons<W: Sink>(&self, paper: &mut Paper<'_, W>, reasons: &Reasons)
+        ensures { Says W.state paper.old paper.new (flat_map (reason_line self.now.explain self.now.problem) reasons.now) }
+    {
+        for index in 0..reasons.len() {
+            self.print_reason(paper, reasons.key(index), reasons.met(index));
+        }
+    }
+
+    /// Prints the line of a needed instance.
+    fn print_reason<W: Sink>(&self, paper: &mut Paper<'_, W>, key: Key, met: &[u32])
+        ensures { Says W.state paper.old paper.new (reason_line self.now.explain self.now.problem (key_view key, met.now)) }
+    {
+        if let Some(instance) = instance_of(self.problem, key) {
+            print_instance(paper, &instance, None);
+            print_met(paper, self.problem, met);
+            self.print_added(paper, &instance);
+            paper.text("\n");
+        }
+    }
+
+    /// Prints what the problem says beside an instance, where lines are explained.
+    fn print_added<W: Sink>(&self, paper: &mut Paper<'_, W>, instance: &Instance<'_>)
+        ensures { Says W.state paper.old paper.new (reason_added self.now.explain self.now.problem (instance_view instance.now)) }
+    {
+        if let Some(remedies) = &self.remedies {
+            print_help(paper, remedies, instance);
+        }
     }
 }
 
@@ -111,11 +168,12 @@ fn answer_core<W: Sink>(
     problem: &Problem<'_>,
     clauses: &KeyedClauses,
     numbers: &[u32],
+    explain: bool,
 ) -> Result<Outcome, RunError>
     requires clauses { clauses.now.clauses ≡ cnf problem.now }
     requires within { All (λ n. (0 < n) × (n ≤ length clauses.now.clauses)) numbers.now }
     requires ordered { IsTrue (never_descend (keys_of (needed clauses.now.clauses numbers.now))) }
-    ensures { Answers (W.state out.old) (W.state out.new) (record { text = core_text problem.now numbers.now; outcome = Yes }) result }
+    ensures { Answers (W.state out.old) (W.state out.new) (record { text = core_text explain problem.now numbers.now; outcome = Yes }) result }
 {
     let Ok(needed) = needed_of(alloc, clauses, numbers) else {
         return Err(RunError::Memory);
@@ -123,9 +181,12 @@ fn answer_core<W: Sink>(
     let Ok(reasons) = reasons(alloc, &needed) else {
         return Err(RunError::Memory);
     };
+    let Ok(scribe) = ReasonScribe::new(alloc, problem, explain) else {
+        return Err(RunError::Memory);
+    };
     let mut waiting = ReportBuffer::new(alloc)?;
     let mut paper = Paper::new(out, &mut waiting);
-    print_reasons(&mut paper, problem, &reasons);
+    scribe.print_reasons(&mut paper, &reasons);
     paper.text("no solution exists\n");
     paper.finish(Outcome::Yes)
 }
@@ -155,8 +216,9 @@ pub(crate) fn answer_proof<W: Sink>(
     out: &mut W,
     problem: &Problem<'_>,
     proof: &[u8],
+    explain: bool,
 ) -> Result<Outcome, RunError>
-    ensures { Answers (W.state out.old) (W.state out.new) (refute_answer proof.now problem.now) result }
+    ensures { Answers (W.state out.old) (W.state out.new) (refute_answer explain proof.now problem.now) result }
 {
     refuted();
     ordered();
@@ -167,7 +229,9 @@ pub(crate) fn answer_proof<W: Sink>(
     };
     match check(alloc, clauses.cnf(), proof) {
         Ok(Answer::Faulty { line, kind }) => answer_step_fault(alloc, out, line, kind),
-        Ok(Answer::Refuted(numbers)) => answer_core(alloc, out, problem, &clauses, &numbers),
+        Ok(Answer::Refuted(numbers)) => answer_core(
+            alloc, out, problem, &clauses, &numbers, explain,
+        ),
         Err(_) => Err(RunError::Memory),
     }
 }

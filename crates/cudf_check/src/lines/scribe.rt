@@ -1,6 +1,6 @@
 //! Prints the lines of violated instances, each with what is added to it, where lines are explained.
 use crate::device::Sink;
-use crate::lines::explanation::{print_unknown, print_upgrade, print_would_do};
+use crate::lines::explanation::{print_help, print_numbers, print_unknown};
 use crate::lines::instance::{package_at, print_instance};
 use crate::paper::Paper;
 use cudf_referee::{Explainer, Instance, Referee, What};
@@ -82,17 +82,18 @@ impl<'r, 'p, 't> Scribe<'r, 'p, 't> {
         let Some(explainer) = &self.explainer else {
             return;
         };
-        let packages = explainer.referee().packages();
-        let does = package_at(packages, explainer.would_do(instance));
-        let aspect = instance.key.aspect();
+        print_help(paper, explainer.remedies(), instance);
         match instance.what {
-            What::Needs(_) | What::Install(_) => print_would_do(paper, does),
-            What::Upgrade(vpkg) => print_upgrade(paper, explainer, vpkg.name, does, aspect),
+            What::Upgrade(vpkg) => {
+                print_numbers(paper, explainer, vpkg.name, instance.key.aspect());
+            }
             What::Unknown => print_unknown(paper, explainer, instance.subject),
-            What::ConflictsWith(_)
+            What::Needs(_)
+            | What::ConflictsWith(_)
             | What::KeepVersion
             | What::KeepPackage
             | What::KeepFeature(_)
+            | What::Install(_)
             | What::Remove(_) => {}
         }
     }

@@ -1,13 +1,14 @@
 -- Laws of texts of keys and of pages, over the definitions alone: own.
 use Rattle.std.specs.Prelude.{◌≡◌, ◌≤◌, ◌==◌, ℕ, Bool, true, false, List, [], All, length, take, sum, Option, Some, None, IsTrue}
-use Rattle.std.specs.List.{flat_map, enumerate_from}
-use Rattle.cudf_value.specs.Formulas.{PlainAtom}
-use Rattle.cudf_problem.specs.Universe.{PlainPackage, PlainProblem}
-use Rattle.cudf_problem.specs.Statuses.{PlainUnknown, ascend_above}
-use Rattle.cudf_index.specs.Satisfaction.{first_satisfying, members, satisfies_clause}
+use Rattle.std.specs.List.{flat_map}
+use Rattle.cudf_problem.specs.Universe.{PlainProblem}
+use Rattle.cudf_problem.specs.Statuses.{PlainUnknown, ascend_above, is_initial}
+use Rattle.cudf_index.specs.Satisfaction.{Placed, members, satisfies, satisfies_clause}
 use Rattle.cudf_job.specs.Keys.{PlainKey, key_text}
 use Rattle.cudf_job.specs.Promises.Keys.{IsWritable}
 use Rattle.cudf_referee.specs.Promises.Pages.{pages, ReadsKeys, page_bound, page_price}
+use Rattle.cudf_referee.specs.Explanations.{was_installed, would_do}
+use Rattle.cudf_referee.specs.Instances.{PlainInstance, PlainWhat, needs, install, upgrade}
 use Rattle.cudf_referee.specs.Proposals.{proposal}
 use Rattle.cudf_referee.specs.Violations.{listing}
 
@@ -41,12 +42,23 @@ PagesAreBound = (problem : PlainProblem) (was_installed is_installed : ℕ → B
     → let s = proposal problem was_installed is_installed unknown in
     (key : Option PlainKey) (n : ℕ) → page_price s key n ≤ page_bound s key n
 
--- the status of the package alone that would do satisfies the clause
-abbrev pub WouldDo : Type 0
-WouldDo = (packages : List PlainPackage) (clause : List PlainAtom) (place : ℕ) → first_satisfying (enumerate_from 1 packages) clause ≡ Some place
-    → satisfies_clause (members (λ n. n == place) packages) clause ≡ true
+-- the status satisfies the clause or the entry of an instance of depends, install or upgrade
+abbrev pub satisfies_what : List Placed → PlainWhat → Bool
+satisfies_what status (needs clause) = satisfies_clause status clause
+satisfies_what status (install v) = satisfies status v
+satisfies_what status (upgrade v) = satisfies status v
+satisfies_what status what = false
 
--- where no package of the universe alone would do, no status of it satisfies the clause, unless the empty one does
+-- the status of the package alone that would do satisfies it
+abbrev pub WouldDo : Type 0
+WouldDo = (problem : PlainProblem) (i : PlainInstance) (place : ℕ) → would_do problem i ≡ Some place → satisfies_what (members (λ n. n == place) problem.packages) i.what ≡ true
+
+-- so does that of the package that was installed, and it was
+abbrev pub WasInstalled : Type 0
+WasInstalled = (problem : PlainProblem) (i : PlainInstance) (place : ℕ) → was_installed problem i ≡ Some place
+    → (is_initial problem place ≡ true) × (satisfies_what (members (λ n. n == place) problem.packages) i.what ≡ true)
+
+-- where no package of the problem alone would do, no status of it satisfies the clause or the entry, unless the empty one does
 abbrev pub NothingDoes : Type 0
-NothingDoes = (packages : List PlainPackage) (is_installed : ℕ → Bool) (clause : List PlainAtom) → satisfies_clause [] clause ≡ false
-    → first_satisfying (enumerate_from 1 packages) clause ≡ None → satisfies_clause (members is_installed packages) clause ≡ false
+NothingDoes = (problem : PlainProblem) (is_installed : ℕ → Bool) (i : PlainInstance) → satisfies_what [] i.what ≡ false
+    → would_do problem i ≡ None → satisfies_what (members is_installed problem.packages) i.what ≡ false

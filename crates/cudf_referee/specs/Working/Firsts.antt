@@ -1,5 +1,16 @@
--- The first place that would do, atom by atom (own).
-use Rattle.std.specs.Prelude.{ℕ, min, Option, Some, None}
+-- Where the first package that would help is searched, and the first place atom by atom (own).
+use Rattle.std.specs.Prelude.{ℕ, min, List, Option, Some, None}
+use Rattle.std.specs.List.{enumerate_from}
+use Rattle.cudf_problem.specs.Statuses.{is_initial}
+use Rattle.cudf_problem.specs.Universe.{PlainProblem}
+use Rattle.cudf_index.specs.Satisfaction.{Placed, members}
+use Rattle.cudf_referee.specs.declared.referee.remedies.Among.{Among}
+use Rattle.cudf_referee.specs.declared.referee.remedies.Among.TheVariants.{All, Initial}
+
+-- the packages among which one is searched
+abbrev pub searched : PlainProblem → Among → List Placed
+searched problem All = enumerate_from 1 problem.packages
+searched problem Initial = members (is_initial problem) problem.packages
 
 -- the lesser one of those that are there
 abbrev pub lesser_of : Option ℕ → Option ℕ → Option ℕ

@@ -1,4 +1,4 @@
-use Rattle.cudf_referee.proofs.ExplanationLemmas.{nothing_does}
+use Rattle.cudf_referee.proofs.RemedyLemmas.{nothing_does}
 use Rattle.cudf_referee.proofs.laws.nothing.Goals as goal
 
 pub returns : goal.returns

@@ -4,13 +4,13 @@ use Rattle.cudf_job.specs.KeyViews.{key_view}
 use Rattle.cudf_reasons.specs.Views.{Told}
 use Rattle.cudf_check.specs.Report.{reason_line}
 use Rattle.cudf_check.proofs.PaperLemmas.{Says-as, ◌▸◌, texts-more}
-use Rattle.cudf_check.proofs.lines.reasons.print_reasons.Goals as goal
+use Rattle.cudf_check.proofs.lines.reasons.ReasonScribe.print_reasons.Goals as goal
 
 pub loop-index-preserved : goal.loop-index-preserved
 loop-index-preserved g c =
     let reasons = c.args.reasons.now in
     let i = c.loop-index.index in
-    let f = reason_line c.args.problem.now in
+    let f = reason_line c.args.self.now.explain c.args.self.now.problem in
     let told : Told = (key_view c.key.result, c.met.result.now) in
     let below : i < length reasons = omega (arith, c.len-index-end.ensures, c.loop-index-test.true) in
     let is : get_or reasons i told ≡ told = ap (λ key. (key, (get_or reasons i told).1)) (c.key.ensures told) ∙ ap (λ places. (key_view c.key.result, places)) (c.met.ensures told) in
