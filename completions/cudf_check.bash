@@ -27,10 +27,10 @@ _cudf_check()
             done
             ;;
         *:--*=*) ;;
-        lint:-*) offered=(--strict --explain -h --help) ;;
+        lint:-* | refute:-*) offered=(--strict --explain -h --help) ;;
         check:-*) offered=(--after --limit --strict --explain -h --help) ;;
         score:-* | rank:-*) offered=(--criteria= --strict -h --help) ;;
-        cnf:-* | refute:-*) offered=(--strict -h --help) ;;
+        cnf:-*) offered=(--strict -h --help) ;;
         *) return ;;
     esac
     # there stands no file

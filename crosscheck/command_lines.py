@@ -3,7 +3,7 @@
 
 usage: command_lines.py PROGRAM
 
-- Some 230 command lines, started as `cudf_check` and by four names that look like its words: each has the same status, and
+- Some 280 command lines, started as `cudf_check` and by four names that look like its words: each has the same status, and
   where this is from 4 to 6, nothing on standard output.
 - What each command of help prints, to the byte (help.txt), and the version.
 - Pages of a report of two lines.
@@ -40,7 +40,7 @@ LINES = {
         lint p --explain; lint --explain sized; lint --strict --explain p; check --explain p; check p good --explain;
         check p --explain good --strict; check --explain p - --limit 1; check p --explain twice; check --explain -- p
         --criteria; lint --explain --help; check --explain -h; cnf p; cnf p --strict; cnf -- p; cnf --help; cnf -h; help
-        cnf; refute --help; refute p -h; help refute
+        cnf; refute --help; refute p -h; help refute; refute --explain -h
     """,
     1: """
         check p bad; check both; check -- p bad; check p -- bad; check --strict p bad; check p --strict bad; check p
@@ -49,7 +49,8 @@ LINES = {
         check p --after r.upgrade.1.many bad --limit=9; score p bad; score both; score p bad --criteria=-new; rank
         --criteria=-new p bad; rank p fail bad --criteria=-new; check --explain p bad; check p bad --explain; check p
         --explain bad; check both --explain; check p --limit 1 --explain bad --after=p1.depends.1; check --strict
-        --explain -- p bad; refute p empty; refute p p; refute --strict p bad; refute p -; refute -- p --criteria
+        --explain -- p bad; refute p empty; refute p p; refute --strict p bad; refute p -; refute -- p --criteria; refute
+        --explain p bad; refute p empty --explain; refute p --explain bad --strict; refute --explain -- p --criteria
     """,
     2: """
         lint faulty; lint empty; lint -; lint both; lint sized --strict; lint --strict sized; check faulty; check
@@ -57,7 +58,8 @@ LINES = {
         bad; score p cut; score --strict p twice; rank --criteria=-new p faulty; rank --criteria=-new faulty fail;
         rank --criteria=-new - good; rank --criteria=-new p good twice --strict; lint --explain faulty; lint empty
         --explain; lint - --explain; lint --explain sized --strict; check p --explain twice --strict; check --explain
-        p cut; check cut --explain bad; cnf faulty; cnf -; cnf --strict sized; refute faulty bad; refute sized bad --strict
+        p cut; check cut --explain bad; cnf faulty; cnf -; cnf --strict sized; refute faulty bad; refute sized bad
+        --strict; refute --explain faulty bad; refute sized --strict bad --explain
     """,
     3: """
         check p fail; score p fail; score p fail --criteria=-new; rank --criteria=-new p fail; rank p fail fail
@@ -85,14 +87,16 @@ LINES = {
         --explain; --explain check p bad; lint --explain; check --explain; check p good bad --explain; check - -
         --explain; lint p good --explain; check p --explain bad --limit 0; check --explain p bad --after p1.depends;
         rank --explain; cnf; refute; refute p; cnf p good; refute p good bad; cnf --explain p; refute p good --limit 1;
-        refute - -; cnf p --criteria=-new; refute --after p1.depends.1 p good; cnf p --strict --strict
+        refute - -; cnf p --criteria=-new; refute --after p1.depends.1 p good; cnf p --strict --strict; refute --explain;
+        refute p --explain; refute --explain p bad --explain; refute p bad --explain=true; refute - - --explain
     """,
     5: """
         lint none; check none; check none bad; check p none; check faulty none; check -- -p; check p -- --strict;
         score none bad; score p none --criteria=-new; rank --criteria=-new none good; rank --criteria=-new p good
         none; lint .; check p .; rank --criteria=-new -- p --after --criteria; lint --explain none; check p none
         --explain; check --explain none bad; check -- p --explain; lint -- --explain; check --explain faulty none; lint
-        --explain .; cnf none; refute none bad; refute p none; cnf .; refute p .
+        --explain .; cnf none; refute none bad; refute p none; cnf .; refute p .; refute --explain none bad; refute p none
+        --explain; refute p -- --explain
     """,
 }
 # what is no value of these options, in both forms
@@ -127,6 +131,8 @@ FAULTS = (
     ("rank --criteria=-new p --explain good", "error: unexpected argument '--explain' found" + AS_A_VALUE.format("--explain")),
     ("lint p --explain --explain", "error: the argument '--explain' cannot be used multiple times"),
     ("check --explain p bad --explain", "error: the argument '--explain' cannot be used multiple times"),
+    ("refute --explain p bad --explain", "error: the argument '--explain' cannot be used multiple times"),
+    ("cnf p --explain", "error: unexpected argument '--explain' found" + AS_A_VALUE.format("--explain")),
     # behind `--` it is a file
     ("rank p -- --criteria -new", "error: the following required arguments were not provided:\n  --criteria <LIST>"),
     ("rank p --criteria -new --none", "error: " + APART), ("rank --criteria --help", "error: " + APART),

@@ -129,8 +129,8 @@ static void call(const struct request *request, struct answer *answer)
         answer->status = cudf_check_cnf(strict, problem->bytes, problem->length, answer->buffer, room, &answer->length);
         break;
     case REFUTE:
-        answer->status = cudf_check_refute(strict, problem->bytes, problem->length, solution->bytes, solution->length,
-                                           answer->buffer, room, &answer->length);
+        answer->status = cudf_check_refute(strict, explain, problem->bytes, problem->length, solution->bytes,
+                                           solution->length, answer->buffer, room, &answer->length);
         break;
     default:
         abort();

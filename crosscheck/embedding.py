@@ -89,9 +89,25 @@ SHOP_CORE = (
     b"p1.depends.2 shop 1 line 1: needs mailer\n"
     b"no solution exists\n"
 )
+SHOP_EXPLAINED = (
+    b"r.install.1 line 21: needs shop; shop 1 line 1 would do\n"
+    b"p1.depends.1 shop 1 line 1: needs server | proxy; server 2 line 5 would do\n"
+    b"p2.depends.1 server 2 line 5: needs tls >= 3; nothing in the problem would do\n"
+    b"p3.conflicts.1 proxy 1 line 9: conflicts with mailer, met by mailer 4\n"
+    b"p1.depends.2 shop 1 line 1: needs mailer; mailer 4 line 13 would do\n"
+    b"no solution exists\n"
+)
 # a package that lacks what the preamble declares
 LACKING = b"preamble:\nproperty: size: int\n\npackage: a\nversion: 1\n\nrequest:\n"
 LACKS = b"problem line 5: E14 declared property missing\n"
+LACKS_EXPLAINED = b"problem line 5: E14 declared property missing; it lacks size\n"
+# the one car was installed, and is to go
+GONE = b"package: car\nversion: 1\ninstalled: true\n\nrequest:\ninstall: car\nremove: car\n"
+GONE_EXPLAINED = (
+    b"r.install.1 line 5: needs car; car 1 line 1 was installed\n"
+    b"r.remove.1 line 5: must remove car, met by car 1\n"
+    b"no solution exists\n"
+)
 
 # programs that are wrong, to see whether a sanitizer tells
 LEAK = """#include <stdlib.h>
@@ -338,8 +354,9 @@ def random_requests(number):
     yield Request("cnf", (problem,), is_strict=is_strict)
     small, proof = random_proof(random.Random(f"embedding/{number}"))
     yield Request("cnf", (small,), is_strict=is_strict)
-    yield Request("refute", (problem, proof), is_strict=is_strict)
-    yield Request("refute", (small, proof), is_strict=is_strict)
+    for is_explained in (False, True):
+        yield Request("refute", (problem, proof), is_strict=is_strict, is_explained=is_explained)
+        yield Request("refute", (small, proof), is_strict=is_strict, is_explained=is_explained)
 
 
 def random_proof(chance):
@@ -396,7 +413,7 @@ def python_call(module, request):
         return module.rank(problem, solutions, request.said, request.is_strict)
     if request.call == "cnf":
         return module.cnf(problem, request.is_strict)
-    return module.refute(problem, *solutions, request.is_strict)
+    return module.refute(problem, *solutions, request.is_strict, request.is_explained)
 
 
 def values(trial, module):
@@ -446,6 +463,10 @@ def values(trial, module):
             ("p1.depends.2", "p1", "depends", 2, None, "shop", 1, 1, "needs mailer"),
         )],
     ))
+    refuted = module.refute(GONE, "3 0 1 2 0\n", explain=True)
+    trial.note("Python's explained reasons", [(reason.text, reason.added) for reason in refuted.reasons], [
+        ("needs car", "car 1 line 1 was installed"), ("must remove car, met by car 1", None),
+    ])
     refuted = module.refute(SHOP, "7 3 0 9 0\n")
     told = refuted.status, refuted.fault, refuted.proof_fault, refuted.reasons
     trial.note("Python's refused proof", told, (NO, None, module.ProofFault(1, "L5", "no such clause"), []))
@@ -522,7 +543,7 @@ def usual_requests():
         Request("lint", (example("producer.problem.cudf"),)), Request("lint", (MISTYPED,), is_explained=True),
         Request("check", rules), Request("check", rules, is_explained=True),
         Request("score", rules, b"-removed,+new,-touched"), Request("rank", tuple(car), b"-changed,-touched"),
-        Request("cnf", (SHOP,)), Request("refute", (SHOP, SHOP_PROOF)),
+        Request("cnf", (SHOP,)), Request("refute", (SHOP, SHOP_PROOF)), Request("refute", (SHOP, SHOP_PROOF), is_explained=True),
     )
 
 
@@ -582,6 +603,8 @@ def refutations_by_hand(faulty):
         (Request("cnf", (LACKING,)), YES, b"c p1 a 1\np cnf 1 0\n"),
         (Request("cnf", (LACKING,), is_strict=True), FAULTY, LACKS),
         (Request("refute", (SHOP, SHOP_PROOF)), YES, SHOP_CORE),
+        (Request("refute", (SHOP, SHOP_PROOF), is_explained=True), YES, SHOP_EXPLAINED),
+        (Request("refute", (GONE, b"3 0 1 2 0\n"), is_explained=True), YES, GONE_EXPLAINED),
         (Request("refute", (SHOP, b"c \xff\0\n" + SHOP_PROOF)), YES, SHOP_CORE),
         (Request("refute", (SHOP, SHOP_PROOF[:-1])), YES, SHOP_CORE),
         (Request("refute", (SHOP, b"")), NO, b"proof line 1: L8 proof ends early\n"),
@@ -591,6 +614,8 @@ def refutations_by_hand(faulty):
         (Request("refute", (b"request:\ninstall: a\n", b"?")), YES, unread),
         (Request("refute", (LACKING, b"")), NO, b"proof line 1: L8 proof ends early\n"),
         (Request("refute", (LACKING, b""), is_strict=True), FAULTY, LACKS),
+        (Request("refute", (SHOP, b""), is_explained=True), NO, b"proof line 1: L8 proof ends early\n"),
+        (Request("refute", (LACKING, b""), is_strict=True, is_explained=True), FAULTY, LACKS_EXPLAINED),
     ]
 
 

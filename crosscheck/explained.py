@@ -25,12 +25,17 @@ class Explainer:
 
     def __init__(self, packages):
         self.packages, self.known = packages, {}
+        self.initial = [package for package in packages if package.installed]
 
     def would_do(self, wanted, is_satisfied):
-        """The first package that alone does it."""
+        """The first package that alone does it and was installed, or else the first that alone does it."""
         if wanted not in self.known:
-            found = next((package for package in self.packages if is_satisfied([package], wanted)), None)
-            self.known[wanted] = f"{place_of(found)} would do" if found else "nothing in the problem would do"
+            ways = (self.initial, "was installed"), (self.packages, "would do")
+            told = (
+                f"{place_of(package)} {said}"
+                for packages, said in ways for package in packages if is_satisfied([package], wanted)
+            )
+            self.known[wanted] = next(told, "nothing in the problem would do")
         return self.known[wanted]
 
     def clause(self, clause):
@@ -134,7 +139,7 @@ def fault_detail(data, fault):
 
 KINDS = (
     r": (E9) .*; \S+ is no (\w+), entry (\d+)", r": (E9) .*; \S+ is no (\w+)", r": (E10) .*; (declaration) (\d+)", r": (E\d+) .*;",
-    r": (E10) bad declaration$", r"^\w+\.(depends|install|upgrade)\..*; (nothing)\b", r"^\w+\.(depends|install|upgrade)\..* (do)",
+    r": (E10) bad declaration$", r"^\w+\.(depends|install|upgrade)\..*; (nothing)\b", r"^\w+\.(depends|install|upgrade)\..* (do|installed)$",
     r"^s\.(unknown)\..* (no) \S+$", r"^s\.(unknown)\..*;", r"^r\.upgrade\.\d+\.(many|lower) .*;",
 )
 

@@ -1,4 +1,5 @@
 """The core of a refutation as a list of lines, as docs/FORMAT.md tells it. Python's standard library alone."""
+import explained
 import keys
 from judge import clause_text, vpkg_text
 
@@ -38,8 +39,9 @@ def request_text(rule, vpkg, aspect):
 class Reasons:
     """The lines of the instances whose clauses have these numbers."""
 
-    def __init__(self, rules, numbers):
+    def __init__(self, rules, numbers, explains=False):
         self.rules, self.clauses, self.told = rules, {}, []
+        self.explainer = explained.Explainer(rules.packages)
         for number in numbers:
             key, clause = rules.clauses[number - 1]
             self.clauses.setdefault(key, []).append(clause)
@@ -49,7 +51,7 @@ class Reasons:
         for key in (*asked, *kept):
             self.tell(key)
         self.told += [key for key in self.order if key not in self.told]
-        self.lines = [self.line(key) for key in self.told]
+        self.lines = [explained.behind(self.line(key), self.added(key) if explains else "") for key in self.told]
 
     def negative(self, key):
         return sorted({-place for clause in self.clauses[key] for place in clause if place < 0})
@@ -68,3 +70,14 @@ class Reasons:
         met = [place for place in self.negative(key) if part != 0 or place != own]
         words = ", ".join(self.rules.packages[place - 1].words() for place in met)
         return instance_line(self.rules, key) + f", met by {words}" * bool(met)
+
+    def added(self, key):
+        """What the problem has for a clause of depends and an entry of install and upgrade."""
+        _, place, _, entry, _ = keys.parse(key)
+        if ".depends." in key:
+            return self.explainer.clause(self.rules.packages[place - 1].depends[entry - 1])
+        if ".install." in key:
+            return self.explainer.entry(self.rules.wished["install"][entry - 1])
+        if key.endswith(".unsatisfied"):
+            return self.explainer.entry(self.rules.wished["upgrade"][entry - 1])
+        return ""

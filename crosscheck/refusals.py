@@ -70,7 +70,7 @@ FAULTY_ANSWER = {"e9.answer.cudf": "package: a\nversion: 0\n"}
 # instances for each of which the problem has something
 FOUND = {
     "found.problem.cudf": "package: a\nversion: 1\ndepends: x | b, b > 1\n\npackage: b\nversion: 2\nprovides: c\n\n"
-                          "request:\ninstall: b, c\nupgrade: b\n",
+                          "package: d\nversion: 1\ninstalled: true\n\nrequest:\ninstall: b, c, d\nupgrade: b\n",
     "found.answer.cudf": "package: a\nversion: 1\ninstalled: true\n\npackage: b\nversion: 9\ninstalled: true\n",
 }
 JOBS += [[command, "--explain", "--strict", name] for name in FAULTY for command in ("lint", "check")]
@@ -83,7 +83,10 @@ JOBS += [
     ["check", "--explain", "producer.problem.cudf", *FAULTY_ANSWER], ["check", "--explain", *FOUND],
 ]
 JOBS += [["cnf", name] for name in ("shop.problem.cudf", "rules.problem.cudf", "many.problem.cudf", "e9.cudf")]
-JOBS += [["refute", name, "shop.lrat"] for name in ("shop.problem.cudf", "rules.problem.cudf", "e9.cudf")]
+JOBS += [
+    ["refute", *options, name, "shop.lrat"]
+    for name in ("shop.problem.cudf", "rules.problem.cudf", "e9.cudf") for options in ((), ("--explain",))
+]
 WRITTEN = {**MADE, **FAULTY, **FAULTY_ANSWER, **FOUND}
 # the statuses of a report
 REPORTED = range(4)

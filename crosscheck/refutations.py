@@ -3,11 +3,11 @@
 
 usage: refutations.py PROGRAM [SEED [COUNT]]
 
-- Rows: problems with their CNF, and proofs with what comes of them, to the byte.
+- Rows: problems with their CNF, and proofs with what comes of them, to the byte, also with `--explain`.
 - COUNT (200 if not given) random problems: the CNF is that of the second implementation; the keys of the clauses that a status
   doesn't satisfy are those of the instances that it violates, for every status; where no status satisfies all, a proof is made,
-  and the program's lines are those of the second checker; spoilt proofs are answered as by that, and where one is taken, every
-  status violates an instance of a printed line.
+  and the program's lines are those of the second checker, without and with `--explain`; spoilt proofs are answered as by that,
+  and where one is taken, every status violates an instance of a printed line.
 
 Prints each row that isn't as wanted, and then how many there were. The status is 1 where one is wrong, and 2 where there is no
 program. Python's standard library alone.
@@ -37,6 +37,13 @@ SHOP_CORE = (
     "r.install.1 line 21: needs shop\np1.depends.1 shop 1 line 1: needs server | proxy\n"
     "p2.depends.1 server 2 line 5: needs tls >= 3\np3.conflicts.1 proxy 1 line 9: conflicts with mailer, met by mailer 4\n"
     "p1.depends.2 shop 1 line 1: needs mailer\nno solution exists\n"
+)
+SHOP_EXPLAINED = (
+    "r.install.1 line 21: needs shop; shop 1 line 1 would do\n"
+    "p1.depends.1 shop 1 line 1: needs server | proxy; server 2 line 5 would do\n"
+    "p2.depends.1 server 2 line 5: needs tls >= 3; nothing in the problem would do\n"
+    "p3.conflicts.1 proxy 1 line 9: conflicts with mailer, met by mailer 4\n"
+    "p1.depends.2 shop 1 line 1: needs mailer; mailer 4 line 13 would do\nno solution exists\n"
 )
 HERE = os.path.dirname(os.path.abspath(__file__))
 
@@ -110,6 +117,29 @@ OTHERS = (
     (SHOP, "11 6 0 9 1 0\n", 3), (SHOP, "11 2 0 9 1 0\n", 5),
     (SHOP.replace("tls\nversion: 2", "tls\nversion: 3"), SHOP_PROOF, 6),                                  # clause 3 is -2 5, and both are open
 )
+LACKING = A + "\nrequest:\ninstall: a, b, c\n"
+ALL_REMOVED = A + "depends: b\n\npackage: b\nversion: 2\n\npackage: b\nversion: 3\ninstalled: true\n\nrequest:\ninstall: a\nremove: b\n"
+UPGRADED = A + "\npackage: a\nversion: 2\ninstalled: true\nkeep: version\n\nrequest:\nupgrade: a, a < 2\n"
+# problems with their proofs, and what comes of them with --explain
+EXPLAINED = (
+    (SHOP, SHOP_PROOF, SHOP_EXPLAINED, 0), (SHOP, "?\n", "proof line 1: L1 not a step\n", 1),
+    # 1: -1 2 3, 2: 1, 3: -2, 4: -3
+    (ALL_REMOVED, "5 0 2 3 4 1 0\n", "r.install.1 line 12: needs a; a 1 line 1 would do\n"
+     "p1.depends.1 a 1 line 1: needs b; b 3 line 8 was installed\nr.remove.1 line 12: must remove b, met by b 2, b 3\n"
+     "no solution exists\n", 0),
+    # 1: 2, 2: 1 2, 3: -1 -2, 4: -1, 5: 1, 6: -1 -2, 7: -1
+    (UPGRADED, "8 0 1 5 3 0\n", "r.upgrade.2.unsatisfied line 9: upgrade needs a < 2; a 1 line 1 would do\n"
+     "p2.keep.1 a 2 line 4: keep version\nr.upgrade.1.many line 9: upgrade a has several versions, met by a 1, a 2\n"
+     "no solution exists\n", 0),
+    (UPGRADED, "8 0 5 4 0\n", "r.upgrade.2.unsatisfied line 9: upgrade needs a < 2; a 1 line 1 would do\n"
+     "r.upgrade.1.lower line 9: upgrade a is lower than before, met by a 1\nno solution exists\n", 0),
+    # 1: -1, 2: 1
+    (A + "installed: true\n\nrequest:\nremove: a\nupgrade: a\n", "3 0 2 1 0\n", "r.upgrade.1.unsatisfied line 5: upgrade needs a; "
+     "a 1 line 1 was installed\nr.remove.1 line 5: must remove a, met by a 1\nno solution exists\n", 0),
+    (LACKING, "", "r.install.2 line 4: needs b; nothing in the problem would do\nno solution exists\n", 0),
+    (A + "size: 1\n\nrequest:\n", "", "problem line 3: E8 property not declared; nothing declares size\n", 2),
+    (A, "", "problem line 2: E13 no request\n", 2),
+)
 
 
 class Trial:
@@ -135,7 +165,12 @@ class Trial:
     def expect(self, command, wanted, problem, *proof, options=()):
         """One run on files of these bytes."""
         files = [self.file("p", problem)] + [self.file("proof", data) for data in proof]
-        self.note((command, problem, *proof), self.run(command, *files, *options), wanted)
+        self.note((command, problem, *proof, *options), self.run(command, *files, *options), wanted)
+
+    def refute(self, problem, proof):
+        """One proof, without and with `--explain`, beside the second implementation."""
+        for options in ((), ("--explain",)):
+            self.expect("refute", proof_answer(problem, proof, explains=bool(options)), problem, proof, options=options)
 
 
 def cnf_of(problem, is_strict=False):
@@ -144,8 +179,8 @@ def cnf_of(problem, is_strict=False):
     return "".join(line + "\n" for line in lines), status
 
 
-def proof_answer(problem, data, is_strict=False):
-    fault = reports.problem_fault(problem, is_strict)
+def proof_answer(problem, data, is_strict=False, explains=False):
+    fault = reports.problem_fault(problem, is_strict, explains)
     if fault:
         return "".join(line + "\n" for line in fault[0]), fault[1]
     rules = Rules(problem.decode())
@@ -153,7 +188,7 @@ def proof_answer(problem, data, is_strict=False):
     if shown.fault:
         line, kind = shown.fault
         return f"proof line {line}: L{kind} {KINDS[kind]}\n", 1
-    return "".join(line + "\n" for line in [*Reasons(rules, shown.core).lines, "no solution exists"]), 0
+    return "".join(line + "\n" for line in [*Reasons(rules, shown.core, explains).lines, "no solution exists"]), 0
 
 
 def rows(trial):
@@ -170,7 +205,10 @@ def rows(trial):
         wanted = (told, 0) if isinstance(told, str) else (f"proof line {at}: L{told} {KINDS[told]}\n", 1) if told else None
         if wanted:
             trial.note(("second", text), proof_answer(SHOP.encode(), data), wanted)
-        trial.expect("refute", proof_answer(SHOP.encode(), data), SHOP.encode(), data)
+        trial.refute(SHOP.encode(), data)
+    for problem, text, told, status in EXPLAINED:
+        trial.note(("second", problem, text), proof_answer(problem.encode(), text.encode(), explains=True), (told, status))
+        trial.refute(problem.encode(), text.encode())
     for end, fault in CUTS.items():
         wanted = (f"proof line {fault[1]}: L{fault[0]} {KINDS[fault[0]]}\n", 1) if fault else (SHOP_CORE, 0)
         trial.note(("second", end), proof_answer(SHOP.encode(), SHOP_PROOF[:end].encode()), wanted)
@@ -189,7 +227,7 @@ def rows(trial):
             trial.expect("refute", proof_answer(problem, text[:end].encode()), problem, text[:end].encode())
     # an empty clause of the CNF is a core, and no proof is needed
     for data in (b"", b"?\n"):
-        trial.expect("refute", ("r.install.2 line 4: needs b\nno solution exists\n", 0), (A + "\nrequest:\ninstall: a, b, c\n").encode(), data)
+        trial.expect("refute", ("r.install.2 line 4: needs b\nno solution exists\n", 0), LACKING.encode(), data)
     for options in ((), ("--strict",)):
         for command, more in (("cnf", ()), ("refute", (b"",))):
             trial.expect(command, ("problem line 2: E13 no request\n", 2), A.encode(), *more, options=options)
@@ -262,7 +300,7 @@ def random_problem(trial, seed, chance):
     inputs = Inputs(seed)
     spoilt_one = inputs.problem(inputs.pairs())
     trial.expect("cnf", cnf_of(spoilt_one), spoilt_one)
-    trial.expect("refute", proof_answer(spoilt_one, b""), spoilt_one, b"")
+    trial.refute(spoilt_one, b"")
     problem = Small(chance).problem(5)
     trial.expect("cnf", cnf_of(problem), problem)
     text = problem.decode()
@@ -277,8 +315,8 @@ def random_problem(trial, seed, chance):
     trial.note(("refuted", problem), prover.is_refuted, has_none)
     data = prover.text()
     for proof in (data, *(spoilt(chance, data or b"1 0 0\n") for _ in range(3))):
+        trial.refute(problem, proof)
         wanted = proof_answer(problem, proof)
-        trial.expect("refute", wanted, problem, proof)
         if wanted[1] == 0:
             keys = {line.split(" ")[0] for line in wanted[0].splitlines()[:-1]}
             trial.note(("core", problem, proof), all(keys & violated(text, rules, status) for status in every), True)

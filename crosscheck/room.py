@@ -248,6 +248,18 @@ def later_versions(count, order=1):
     return check_explained(problem, installed(["user"], name="{}"), lines)
 
 
+def installed_last(count):
+    """A package that needs a later version of one name in each clause, of versions the last of which alone was installed."""
+    numbers = range(1, count + 1)
+    problem = packages(numbers, lambda number: "installed: true\n" * (number == count), "a", "{}")
+    problem += f"package: user\nversion: 1\ndepends: {', '.join(f'a > {number}' for number in range(1, count))}\n\nrequest:\n"
+    lines = (
+        f"p{count + 1}.depends.{number} user 1 line {3 * count + 2}: needs a > {number}; "
+        f"a {count} line {3 * count - 2} was installed" for number in range(1, count)
+    )
+    return check_explained(problem, installed(["user"], name="{}"), lines)
+
+
 def atoms(count):
     """A clause of many atoms, the last of which is a package."""
     clause = " | ".join(f"x{number}" for number in range(1, count + 1))
@@ -338,6 +350,18 @@ def many_steps(count):
     return refuted(f"{steps}{count + 3} 0 1 {count + 2} 0\n")
 
 
+def chain(count):
+    """Packages each of which needs the next one, and the last one what isn't there; clause N is of package N."""
+    numbers = range(1, count + 1)
+    problem = packages(numbers, lambda number: f"depends: p{number + 1}\n") + "request:\ninstall: p1\n"
+    lines = [f"r.install.1 line {4 * count + 1}: needs p1; p1 1 line 1 would do"]
+    for number in numbers:
+        next_one = f"p{number + 1} 1 line {4 * number + 1} would do" if number < count else "nothing in the problem would do"
+        lines.append(f"p{number}.depends.1 p{number} 1 line {4 * number - 3}: needs p{number + 1}; {next_one}")
+    proof = f"{count + 2} 0 {count + 1} {' '.join(map(str, numbers))} 0\n"
+    return Task("refute --explain", [problem, proof], "".join(line + "\n" for line in [*lines, "no solution exists"]), 0)
+
+
 def cnf_of_many(count):
     """Packages that all need the first one."""
     problem = packages(range(1, count + 1), lambda number: "depends: p1\n") + "request:\n"
@@ -389,6 +413,7 @@ EXPLAINED = (
     Case("explained: each needs another one of as many", 20_000, askers),
     Case("explained: a later version, ascending", 20_000, later_versions),
     Case("explained: a later version, descending", 20_000, lambda n: later_versions(n, -1)),
+    Case("explained: a later version, of which the last was installed", 20_000, installed_last),
     Case("explained: a clause of many atoms", 100_000, atoms),
     Case("explained: wishes, given and not", 20_000, wishes),
     Case("explained: other versions of many names", 20_000, other_versions),
@@ -402,6 +427,7 @@ EXPLAINED = (
     Case("explained: a property repeated behind many", 50_000, lambda n: with_added(property_repeated(n), "e0 stands on line 2")),
     Case("explained: a distribution", 20_000, lambda n: check(*distribution(n))._replace(job="check --explain")),
     Case("explained: a distribution, linted", 20_000, lambda n: lint(distribution(n)[0])._replace(job="lint --explain")),
+    Case("explained: a refutation of many lines", 20_000, chain),
 )
 SLOW = Case("a byte at a time", 50_000, lambda n: lint("request:\n" + "#\n" * n))
 

@@ -98,10 +98,11 @@ uint8_t cudf_check_cnf(bool strict, const uint8_t *problem, size_t problem_lengt
 /*
  * Checks a proof, in LRAT's text form, that the CNF of a problem has no model, and so that the problem has no solution. A
  * proof that holds is answered by the instances that it needs, of which every answer violates one, and
- * `no solution exists`; else its first fault is reported, as `proof line 3: L5 no such clause`.
+ * `no solution exists`; else its first fault is reported, as `proof line 3: L5 no such clause`. With `explain` instances
+ * and the problem's fault have behind their texts what docs/FORMAT.md lists.
  */
-uint8_t cudf_check_refute(bool strict, const uint8_t *problem, size_t problem_length, const uint8_t *proof,
-                          size_t proof_length, uint8_t *report, size_t room, size_t *length);
+uint8_t cudf_check_refute(bool strict, bool explain, const uint8_t *problem, size_t problem_length,
+                          const uint8_t *proof, size_t proof_length, uint8_t *report, size_t room, size_t *length);
 
 /* Tells the library's version as a report is told: as `1.0.0`. */
 void cudf_check_version(uint8_t *text, size_t room, size_t *length);
@@ -151,8 +152,8 @@ static inline const cudf_check_text *cudf_check_texts(const cudf_check_text *tex
                     cudf_check_bytes(criteria), criteria_length, cudf_check_room(report), room, length)
 #define cudf_check_cnf(strict, problem, problem_length, report, room, length) \
     cudf_check_cnf(strict, cudf_check_bytes(problem), problem_length, cudf_check_room(report), room, length)
-#define cudf_check_refute(strict, problem, problem_length, proof, proof_length, report, room, length) \
-    cudf_check_refute(strict, cudf_check_bytes(problem), problem_length, cudf_check_bytes(proof), proof_length, \
+#define cudf_check_refute(strict, explain, problem, problem_length, proof, proof_length, report, room, length) \
+    cudf_check_refute(strict, explain, cudf_check_bytes(problem), problem_length, cudf_check_bytes(proof), proof_length, \
                       cudf_check_room(report), room, length)
 #define cudf_check_version(text, room, length) cudf_check_version(cudf_check_room(text), room, length)
 

@@ -114,7 +114,7 @@ static void refute(struct report *report)
     printf("\ncnf: status %d\n%s", status, report->text);
 
     do
-        status = cudf_check_refute(false, unsolvable, strlen(unsolvable), proof, strlen(proof),
+        status = cudf_check_refute(false, false, unsolvable, strlen(unsolvable), proof, strlen(proof),
                                    (uint8_t *)report->text, report->room, &report->length);
     while (!is_whole(report));
     printf("\nrefute: status %d\n%s", status, report->text);

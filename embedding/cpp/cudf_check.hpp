@@ -105,10 +105,11 @@ inline Answer cnf(std::string_view problem, bool strict = false) noexcept
     });
 }
 
-inline Answer refute(std::string_view problem, std::string_view proof, bool strict = false) noexcept
+inline Answer refute(std::string_view problem, std::string_view proof, bool strict = false, bool explain = false) noexcept
 {
     return detail::answer_of([&](std::uint8_t *report, std::size_t room, std::size_t *length) {
-        return cudf_check_refute(strict, problem.data(), problem.size(), proof.data(), proof.size(), report, room, length);
+        return cudf_check_refute(strict, explain, problem.data(), problem.size(), proof.data(), proof.size(), report, room,
+                                 length);
     });
 }
 

@@ -11,7 +11,7 @@ external check_into : bool -> bool -> string -> string -> string -> int -> bytes
 external score_into : bool -> string -> string -> string -> bytes -> status * int = "cudf_check_ocaml_score"
 external rank_into : bool -> string -> string array -> string -> bytes -> status * int = "cudf_check_ocaml_rank"
 external cnf_into : bool -> string -> bytes -> status * int = "cudf_check_ocaml_cnf"
-external refute_into : bool -> string -> string -> bytes -> status * int = "cudf_check_ocaml_refute"
+external refute_into : bool -> bool -> string -> string -> bytes -> status * int = "cudf_check_ocaml_refute"
 external version_into : bytes -> status * int = "cudf_check_ocaml_version"
 
 (* Makes a call with a buffer for its report, and again with a larger one where that was too small. *)
@@ -40,6 +40,7 @@ let rank ?(strict = false) ~criteria problem solutions =
 
 let cnf ?(strict = false) problem = answer (cnf_into strict problem)
 
-let refute ?(strict = false) problem proof = answer (refute_into strict problem proof)
+let refute ?(strict = false) ?(explain = false) problem proof =
+  answer (refute_into strict explain problem proof)
 
 let version () = (answer version_into).report

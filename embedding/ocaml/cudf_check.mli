@@ -41,7 +41,7 @@ val cnf : ?strict:bool -> string -> answer
 
 (** [refute problem proof] checks a proof, in LRAT's text form, that the CNF has no model, so that the problem has no
     solution: the report has the instances that it needs, or its first fault. *)
-val refute : ?strict:bool -> string -> string -> answer
+val refute : ?strict:bool -> ?explain:bool -> string -> string -> answer
 
 (** The library's version. *)
 val version : unit -> string

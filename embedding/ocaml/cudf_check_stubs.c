@@ -85,12 +85,12 @@ value cudf_check_ocaml_cnf(value strict, value problem, value report)
     return pair_of(status, length);
 }
 
-value cudf_check_ocaml_refute(value strict, value problem, value proof, value report)
+value cudf_check_ocaml_refute(value strict, value explain, value problem, value proof, value report)
 {
     size_t length;
-    uint8_t status = cudf_check_refute(Bool_val(strict), String_val(problem), caml_string_length(problem), String_val(proof),
-                                       caml_string_length(proof),
-                                       Bytes_val(report), caml_string_length(report), &length);
+    uint8_t status = cudf_check_refute(Bool_val(strict), Bool_val(explain), String_val(problem), caml_string_length(problem),
+                                       String_val(proof), caml_string_length(proof), Bytes_val(report),
+                                       caml_string_length(report), &length);
     return pair_of(status, length);
 }
 

@@ -209,9 +209,9 @@ def cnf(problem: Text, strict: bool = False) -> Encoded:
     return Encoded(status, report, _fault(report))
 
 
-def refute(problem: Text, proof: Text, strict: bool = False) -> Refuted:
+def refute(problem: Text, proof: Text, strict: bool = False, explain: bool = False) -> Refuted:
     """Whether a proof, in LRAT's text form, shows that a problem has no solution, and why it has none."""
-    status, report = _call(_library.cudf_check_refute, strict, *_sized(problem), *_sized(proof))
+    status, report = _call(_library.cudf_check_refute, strict, explain, *_sized(problem), *_sized(proof))
     told = [_violation(line) for line in _lines(report)[:-1]] if status == Status.YES else []
     return Refuted(status, report, _fault(report), _proof_fault(report), told)
 
@@ -298,7 +298,7 @@ def _opened(name: str) -> ctypes.CDLL:
         (library.cudf_check_score, [ctypes.c_bool] + _SIZED * 3),
         (library.cudf_check_rank, [ctypes.c_bool] + _SIZED + rank_texts + _SIZED),
         (library.cudf_check_cnf, [ctypes.c_bool] + _SIZED),
-        (library.cudf_check_refute, [ctypes.c_bool] + _SIZED * 2),
+        (library.cudf_check_refute, [ctypes.c_bool] * 2 + _SIZED * 2),
     ):
         call.argtypes, call.restype = arguments + _REPORT, ctypes.c_uint8
     library.cudf_check_version.argtypes, library.cudf_check_version.restype = _REPORT, None

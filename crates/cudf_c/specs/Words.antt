@@ -50,7 +50,7 @@ IsPage after limit told (Lint explain) = ⊥
 IsPage after limit told (Check key number explain) = IsKey after key × (number ≡ limit_of limit) × (explain ≡ told)
 IsPage after limit told (Score aims) = ⊥
 IsPage after limit told Cnf = ⊥
-IsPage after limit told Refute = ⊥
+IsPage after limit told (Refute explain) = ⊥
 
 -- the counts of this list
 abbrev pub IsScore : List ℕ → Job → Type 0
@@ -58,4 +58,4 @@ IsScore criteria (Lint explain) = ⊥
 IsScore criteria (Check key number explain) = ⊥
 IsScore criteria (Score aims) = IsList criteria (option_map (λ v. v.items) aims)
 IsScore criteria Cnf = ⊥
-IsScore criteria Refute = ⊥
+IsScore criteria (Refute explain) = ⊥

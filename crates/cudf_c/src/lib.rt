@@ -140,19 +140,21 @@ pub extern "C" fn cudf_check_cnf(
     show(report, room, length)
 }
 
-/// Checks a proof that a problem has no solution, as the program's `refute` does. Status 5 as of `cudf_check_cnf`.
+/// Checks a proof that a problem has no solution, as the program's `refute` does, with its `--explain` where `explain` says
+/// so. Status 5 as of `cudf_check_cnf`.
 #[unsafe(no_mangle)]
 pub extern "C" fn cudf_check_refute(
     alloc: Global,
     strict: bool,
+    explain: bool,
     problem: &[u8],
     proof: &[u8],
     room: &mut [u8],
     length: &mut usize,
 ) -> u8
-    ensures { Answers (problem.now ∷ proof.now ∷ []) (report Refute (mode_of strict) problem.now (Some proof.now)) (left room.old room.new length.new result) }
+    ensures { Answers (problem.now ∷ proof.now ∷ []) (report (Refute explain) (mode_of strict) problem.now (Some proof.now)) (left room.old room.new length.new result) }
 {
-    let refute = Job::Refute;
+    let refute = Job::Refute { explain };
     let report = judged(alloc, &refute, mode(strict), problem, proof);
     show(report, room, length)
 }

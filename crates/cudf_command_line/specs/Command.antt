@@ -201,7 +201,10 @@ abbrev pub cnf_words : Words → Taken
 cnf_words words = files_alone words.problem None
 
 abbrev pub refute_words : Words → Taken
-refute_words words = record (files_alone words.problem words.proof) { is_whole = is_some words.proof && is_some words.problem }
+refute_words words = record (files_alone words.problem words.proof) {
+  explain = words.explain;
+  is_whole = is_some words.proof && is_some words.problem;
+}
 
 -- ---- what is refused
 
@@ -244,7 +247,7 @@ Checks taken (Run (Lint explain)) = ⊥
 Checks taken (Run (Check key number explain)) = IsAfter taken.after key × IsLimit taken.limit number × (explain ≡ is_given taken.explain)
 Checks taken (Run (Score aims)) = ⊥
 Checks taken (Run Cnf) = ⊥
-Checks taken (Run Refute) = ⊥
+Checks taken (Run (Refute explain)) = ⊥
 Checks taken (Rank aims) = ⊥
 
 abbrev pub Scores : Taken → Work → Type 0
@@ -252,7 +255,7 @@ Scores taken (Run (Lint explain)) = ⊥
 Scores taken (Run (Check key number explain)) = ⊥
 Scores taken (Run (Score aims)) = IsList taken.criteria (option_map (λ v. v.items) aims)
 Scores taken (Run Cnf) = ⊥
-Scores taken (Run Refute) = ⊥
+Scores taken (Run (Refute explain)) = ⊥
 Scores taken (Rank aims) = ⊥
 
 abbrev pub Ranks : Taken → Work → Type 0
@@ -263,7 +266,7 @@ abbrev pub PrintsCnf : Taken → Work → Type 0
 PrintsCnf taken work = work ≡ Run Cnf
 
 abbrev pub ChecksProof : Taken → Work → Type 0
-ChecksProof taken work = work ≡ Run Refute
+ChecksProof taken work = work ≡ Run (Refute (is_given taken.explain))
 
 -- the order does this, in a mode and with the files that the words name
 pub record IsOrderOf (Does : Taken → Work → Type 0) (mode : Mode) (taken : Taken) (order : Order) : Type 0 where

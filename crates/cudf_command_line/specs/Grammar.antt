@@ -67,7 +67,7 @@ abbrev pub cnf_grammar : App
 cnf_grammar = with_rule (with_rule (new_app (codes "cnf")) problem_word) strict_flag
 
 abbrev pub refute_grammar : App
-refute_grammar = with_rule (with_rule (with_rule (new_app (codes "refute")) problem_word) proof_word) strict_flag
+refute_grammar = with_rule (with_rule (with_rule (with_rule (new_app (codes "refute")) problem_word) proof_word) strict_flag) explain_flag
 
 -- the program has a version, and one of its commands has to be named
 abbrev pub plain_grammar : App

@@ -240,14 +240,10 @@ fn refute_order<'w>(alloc: Global, found: &ArgMatches<'w>) -> Result<Order<'w>, 
     ensures { AnswersBy ChecksProof (mode_of (words_of (found_of found.now)).strict) (refute_words (words_of (found_of found.now))) result }
 {
     let proof = found.get_strs(PROOF).ok_or(Refusal::Missing)?;
+    let explain = is_given(found.get_str(EXPLAIN));
+    let work = Work::Run(Job::Refute { explain });
     let mode = mode(found.get_str(STRICT));
-    Order::new(
-        alloc,
-        Work::Run(Job::Refute),
-        mode,
-        found.get_str(PROBLEM),
-        Some(proof),
-    )
+    Order::new(alloc, work, mode, found.get_str(PROBLEM), Some(proof))
 }
 
 /// How strictly to read, by the value of `--strict`.

@@ -181,7 +181,8 @@ fn refute_command<'w>(alloc: Global) -> Result<Command<'w>, AllocError>
         .after_help(STATUSES)
         .arg(problem(alloc))?
         .arg(proof(alloc))?
-        .arg(strict_problem(alloc))
+        .arg(strict_problem(alloc))?
+        .arg(explain(alloc))
 }
 
 fn problem<'w>(alloc: Global) -> Arg<'w>
@@ -287,7 +288,7 @@ fn explain<'w>(alloc: Global) -> Arg<'w>
     ensures local { result.global ≡ false }
 {
     explain_fault(alloc).help(
-        "Adds to each line of a fault or a broken rule what the documents say beside it, as the first package that would do",
+        "Adds to each line of a fault or a rule what the documents say beside it, as a package that would do",
     )
 }
 

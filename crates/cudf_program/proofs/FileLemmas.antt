@@ -98,13 +98,13 @@ others_of (Score aims) mode text None [] rest h = ([], tt, refl)
 others_of (Score aims) mode text None (bytes ∷ texts) rest h = absurd h
 others_of Cnf mode text None [] rest h = ([], tt, refl)
 others_of Cnf mode text None (bytes ∷ texts) rest h = absurd h
-others_of Refute mode text None [] rest h = ([], tt, refl)
-others_of Refute mode text None (bytes ∷ texts) rest h = absurd h
+others_of (Refute explain) mode text None [] rest h = ([], tt, refl)
+others_of (Refute explain) mode text None (bytes ∷ texts) rest h = absurd h
 others_of (Lint explain) mode text (Some reader) texts rest h = (map filling (knowns (Some reader) rest), filled (knowns (Some reader) rest), refl)
 others_of (Check after limit explain) mode text (Some reader) texts rest h = read_alone (Check after limit explain) mode text reader texts rest h
 others_of (Score aims) mode text (Some reader) texts rest h = read_alone (Score aims) mode text reader texts rest h
 others_of Cnf mode text (Some reader) texts rest h = (map filling (knowns (Some reader) rest), filled (knowns (Some reader) rest), refl)
-others_of Refute mode text (Some reader) texts rest h = read_alone Refute mode text reader texts rest h
+others_of (Refute explain) mode text (Some reader) texts rest h = read_alone (Refute explain) mode text reader texts rest h
 
 of_run : (P : Report → Type 0) (job : Job) (mode : Mode) (input : Change SourceState) (solution : Option (Change SourceState)) (rest : List (Option (List ℕ)))
     (text : List ℕ) (texts : List (List ℕ)) → ReadsAll input text → AllZip ReadsAll (read_for job (option_to_list solution)) texts → P (job_report job mode text texts)

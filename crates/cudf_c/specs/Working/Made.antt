@@ -18,7 +18,7 @@ Judges (Lint explain) = ⊥
 Judges (Check after limit explain) = Unit {0}
 Judges (Score aims) = Unit {0}
 Judges Cnf = ⊥
-Judges Refute = Unit {0}
+Judges (Refute explain) = Unit {0}
 
 -- it is this report, on documents of which none is too long
 pub record IsMade (documents : List (List ℕ)) (answer : Report) (made : Made) : Type 0 where
