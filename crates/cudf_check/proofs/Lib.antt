@@ -5,6 +5,7 @@ pub mod EncodingLemmas
 mod Examples
 pub mod InputsLemmas
 pub mod JudgingLemmas
+pub mod NamedInstanceLemmas
 pub mod OutputLemmas
 pub mod PageLemmas
 pub mod PagePriceLemmas

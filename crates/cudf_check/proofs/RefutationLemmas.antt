@@ -1,5 +1,5 @@
 -- A refutation that ends with `Yes` is one.
-use Rattle.std.proofs.Common.{◌≡◌, ◌<◌, ◌-◌, ◌||◌, ℕ, zero, suc, Bool, true, false, List, [], ◌∷◌, length, map, slice_get, get_or, Option, Some, None, Result, Ok, Err, IfOk, codes, unwrap_or, refl, ap, sym, ◌∙◌, arith, if◌then◌else◌}
+use Rattle.std.proofs.Common.{◌≡◌, ◌<◌, ◌-◌, ◌||◌, ℕ, zero, suc, Bool, true, false, List, [], ◌∷◌, length, map, slice_get, get_or, Option, Some, None, Result, Ok, Err, IfOk, Contains, codes, unwrap_or, refl, ap, sym, ◌∙◌, arith, if◌then◌else◌}
 use Rattle.std.specs.List.{cons_option, list_any}
 use Rattle.std.proofs.lemmas.List.Sorted.{list_any-IsPermutation}
 use Rattle.cudf_text.specs.declared.fault.Fault.{Fault}
@@ -24,12 +24,13 @@ use Rattle.cudf_reasons.proofs.LawLemmas.{each_told_once}
 use Rattle.cudf_check.specs.Device.{SinkState, SourceState}
 use Rattle.cudf_check.specs.Readers.{Change, ReadsAll}
 use Rattle.cudf_check.specs.Refutations.{HasRefutedIfYes, Refutes, ViolatesOneOf}
-use Rattle.cudf_check.specs.Report.{Report, faulty_or, is_too_large, needed, problem_fault, problem_report, proof_report, refute_answer, report, told}
+use Rattle.cudf_check.specs.Report.{Report, faulty_or, instance_of, is_too_large, needed, problem_fault, problem_report, proof_report, refute_answer, report, told}
 use Rattle.cudf_check.specs.Working.Answering.{Answers}
 use Rattle.cudf_check.specs.declared.outcome.Outcome.{Outcome}
 use Rattle.cudf_check.specs.declared.outcome.Outcome.TheVariants.{Yes, No, Faulty, Fail, TooLarge}
 use Rattle.cudf_check.specs.declared.outcome.RunError.{RunError}
 use Rattle.cudf_check.proofs.CoreLemmas.{core_by_key}
+use Rattle.cudf_check.proofs.NamedInstanceLemmas.{known_instances, known_is_listed, listed_is_known, named_by_key}
 
 abbrev refute_report : Bool → Mode → List ℕ → List ℕ → Report
 refute_report explain mode bytes proof = problem_report explain mode bytes (refute_answer explain proof)
@@ -86,7 +87,9 @@ violates_one : RefutedIsCore → (problem : PlainProblem) (text core : List ℕ)
     → (is_installed : ℕ → Bool) (unknown : List PlainUnknown) → ViolatesOneOf (told_of_core problem core) (proposed problem is_installed unknown)
 violates_one law problem text core is is_installed unknown =
     let clauses = cnf problem in
-    let v = refuted_are_violated problem core (law (length problem.packages) (clauses_of clauses) text core is) is_installed unknown in
+    let s = proposed problem is_installed unknown in
+    let v = refuted_are_violated problem core (law (length problem.packages) (clauses_of clauses) text core is) is_installed [] in
+    let known : Contains (known_instances s) v.instance = listed_is_known problem is_installed v.instance v.violated in
     let test : PlainKey → Bool = λ key. same_key key v.clause.0 in
     let up = core_by_key problem (length problem.packages) clauses text core keys_never_descend refl is in
     let by_needed : list_any (λ n. test n.0) (needed clauses core) ≡ true =
@@ -99,9 +102,9 @@ violates_one law problem text core is is_installed unknown =
     record {
       instance = v.instance;
       reason = reason;
-      violated = v.violated;
+      violated = known_is_listed s v.instance known;
       given = found.1;
-      key = v.key ∙ sym (same_is reason.0 v.clause.0 found.2);
+      named = ap (instance_of problem) (same_is reason.0 v.clause.0 found.2 ∙ sym v.key) ∙ named_by_key s v.instance known;
     }
 
 pub refutes : RefutedIsCore → (explain : Bool) (mode : Mode) (bytes proof : List ℕ) → let r = refute_report explain mode bytes proof in r.outcome ≡ Yes → Refutes explain (plain_problem (plain_text bytes)) r.text

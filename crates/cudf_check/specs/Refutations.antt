@@ -1,5 +1,5 @@
 -- What a refutation says of the statuses of its problem: own.
-use Rattle.std.specs.Prelude.{◌≡◌, ℕ, Bool, false, List, ◌++◌, Contains, codes}
+use Rattle.std.specs.Prelude.{◌≡◌, ℕ, Bool, false, List, ◌++◌, Contains, codes, Some}
 use Rattle.std.specs.List.{flat_map}
 use Rattle.std.specs.Io.KnownBytes.{Appends}
 use Rattle.cudf_text.specs.Stanzas.{plain_text}
@@ -15,17 +15,17 @@ use Rattle.cudf_cnf.specs.Laws.{proposed}
 use Rattle.cudf_reasons.specs.Views.{Told}
 use Rattle.cudf_check.specs.Device.{SinkState, SourceState}
 use Rattle.cudf_check.specs.Readers.{Change, ReadsAll}
-use Rattle.cudf_check.specs.Report.{line, reason_line}
+use Rattle.cudf_check.specs.Report.{instance_of, line, reason_line}
 use Rattle.cudf_check.specs.declared.outcome.Outcome.{Outcome}
 use Rattle.cudf_check.specs.declared.outcome.Outcome.TheVariants.{Yes}
 
--- an instance that the status violates, and the reason that has its key
+-- an instance that the status violates, and the reason whose key names it
 pub record ViolatesOneOf (reasons : List Told) (s : Proposal) : Type 0 where
   pub instance : PlainInstance
   pub reason : Told
   pub violated : Contains (listing s) instance
   pub given : Contains reasons reason
-  pub key : instance.key ≡ reason.0
+  pub named : instance_of s.problem reason.0 ≡ Some instance
 
 -- the text is the lines of reasons, of which each proposed status violates one, so none is a solution
 pub record Refutes (explain : Bool) (problem : PlainProblem) (text : List ℕ) : Type 0 where

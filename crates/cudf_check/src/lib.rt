@@ -71,8 +71,8 @@ pub fn run<R: Source, S: Source, W: Sink>(
         (read_for job.now (changes S.state (lent solution.entry) (returned solution.exit)))
         (change W.state out.old out.new) result }
 
-    // Where a refutation ends with `Yes`, no proposed status of its problem is a solution: each violates an instance
-    // with the key of a written reason.
+    // Where a refutation ends with `Yes`, no proposed status of its problem is a solution: each violates the instance
+    // of a written reason.
     ensures refuted { IfOk result (λ outcome. HasRefutedIfYes job.now outcome (change R.state input.old input.new) (change W.state out.old out.new)) }
 
     // No reader is called more often than an input may take.
