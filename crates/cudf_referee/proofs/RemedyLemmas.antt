@@ -153,30 +153,32 @@ module _ (holds : ℕ → Bool) where
   none_more : (n i : ℕ) (xs : List PlainPackage) → i < length xs → holds (n + i) ≡ false → held_from n (take i xs) ≡ [] → held_from n (take (i + 1) xs) ≡ []
   none_more n i [] inside out none = absurd (omega (arith, inside))
   none_more n zero (x ∷ xs) inside out none = ap (λ b. cond b ((n, x) ∷ []) []) (ap holds (omega arith) ∙ out)
-  none_more n (suc i) (x ∷ xs) inside out none = by (holds n) refl none
+  none_more n (suc i) (x ∷ xs) inside out none = by (holds n) none (none_more (n + 1) i xs (omega (arith, inside)) (ap holds (omega arith) ∙ out))
     where
-      by : (b : Bool) → holds n ≡ b → cond b ((n, x) ∷ held_from (n + 1) (take i xs)) (held_from (n + 1) (take i xs)) ≡ []
+      by : (b : Bool) → cond b ((n, x) ∷ held_from (n + 1) (take i xs)) (held_from (n + 1) (take i xs)) ≡ []
+          → (held_from (n + 1) (take i xs) ≡ [] → held_from (n + 1) (take (i + 1) xs) ≡ [])
           → cond b ((n, x) ∷ held_from (n + 1) (take (i + 1) xs)) (held_from (n + 1) (take (i + 1) xs)) ≡ []
-      by true is none = absurd (omega (arith, ap length none))
-      by false is none = none_more (n + 1) i xs (omega (arith, inside)) (ap holds (omega arith) ∙ out) none
+      by true none more = absurd (omega (arith, ap length none))
+      by false none more = more none
 
   -- the one behind those that aren't is the first
   first_is : (n i : ℕ) (xs : List PlainPackage) → i < length xs → holds (n + i) ≡ true → held_from n (take i xs) ≡ [] → Some (n + i) ≡ first_of (λ p. true) (held_from n xs)
   first_is n i [] inside holds_it none = absurd (omega (arith, inside))
   first_is n zero (x ∷ xs) inside holds_it none =
       ap Some (omega arith) ∙ ap (λ b. option_map (λ (p : Placed). p.0) (find (λ p. true) (cond b ((n, x) ∷ held_from (n + 1) xs) (held_from (n + 1) xs)))) (sym (ap holds (omega arith) ∙ holds_it))
-  first_is n (suc i) (x ∷ xs) inside holds_it none = by (holds n) none
+  first_is n (suc i) (x ∷ xs) inside holds_it none = by (holds n) none (first_is (n + 1) i xs (omega (arith, inside)) (ap holds (omega arith) ∙ holds_it))
     where
       by : (b : Bool) → cond b ((n, x) ∷ held_from (n + 1) (take i xs)) (held_from (n + 1) (take i xs)) ≡ []
+          → (held_from (n + 1) (take i xs) ≡ [] → Some (n + 1 + i) ≡ first_of (λ p. true) (held_from (n + 1) xs))
           → Some (n + suc i) ≡ option_map (λ (p : Placed). p.0) (find (λ p. true) (cond b ((n, x) ∷ held_from (n + 1) xs) (held_from (n + 1) xs)))
-      by true none = absurd (omega (arith, ap length none))
-      by false none = ap Some (omega arith) ∙ first_is (n + 1) i xs (omega (arith, inside)) (ap holds (omega arith) ∙ holds_it) none
+      by true none more = absurd (omega (arith, ap length none))
+      by false none more = ap Some (omega arith) ∙ more none
 
   pub none_held_more : (packages : List PlainPackage) (i : ℕ) → i < length packages → holds (i + 1) ≡ false → members holds (take i packages) ≡ [] → members holds (take (i + 1) packages) ≡ []
   none_held_more packages i inside out none = none_more 1 i packages inside (ap holds (omega arith) ∙ out) none
 
-  pub first_held : (packages : List PlainPackage) (i : ℕ) → i < length packages → holds (i + 1) ≡ true → members holds (take i packages) ≡ [] → Some (i + 1) ≡ first_of (λ p. true) (members holds packages)
-  first_held packages i inside holds_it none = ap Some (omega arith) ∙ first_is 1 i packages inside (ap holds (omega arith) ∙ holds_it) none
+  pub first_is_held : (packages : List PlainPackage) (i : ℕ) → i < length packages → holds (i + 1) ≡ true → members holds (take i packages) ≡ [] → Some (i + 1) ≡ first_of (λ p. true) (members holds packages)
+  first_is_held packages i inside holds_it none = ap Some (omega arith) ∙ first_is 1 i packages inside (ap holds (omega arith) ∙ holds_it) none
 
 -- ---- what would do does
 
@@ -255,7 +257,7 @@ found_held holds test place (p ∷ ps) found = by (holds p.0) refl found (found_
 one_held : (holds : ℕ → Bool) (place : ℕ) → holds place ≡ true → (ps : List Placed)
     → filter (λ (q : Placed). q.0 == place) (filter (λ (q : Placed). holds q.0) ps) ≡ filter (λ (q : Placed). q.0 == place) ps
 one_held holds place is [] = refl
-one_held holds place is (p ∷ ps) = by (p.0 == place) refl (holds p.0) refl
+one_held holds place is (p ∷ ps) = by (p.0 == place) refl (holds p.0) refl (one_held holds place is ps)
   where
     test : Placed → Bool
     test q = q.0 == place
@@ -266,11 +268,11 @@ one_held holds place is (p ∷ ps) = by (p.0 == place) refl (holds p.0) refl
     same : (p.0 == place) ≡ true → p.0 ≡ place
     same e = grind (arith, nat_tests)
 
-    by : (b : Bool) → (p.0 == place) ≡ b → (c : Bool) → holds p.0 ≡ c → filter test (cond c (p ∷ rest) rest) ≡ cond b (p ∷ filter test ps) (filter test ps)
-    by true e true h = ap (λ b. cond b (p ∷ filter test rest) (filter test rest)) e ∙ ap (λ qs. p ∷ qs) (one_held holds place is ps)
-    by false e true h = ap (λ b. cond b (p ∷ filter test rest) (filter test rest)) e ∙ one_held holds place is ps
-    by true e false h = absurd (true≢false (sym (ap holds (same e) ∙ is) ∙ h))
-    by false e false h = one_held holds place is ps
+    by : (b : Bool) → (p.0 == place) ≡ b → (c : Bool) → holds p.0 ≡ c → filter test rest ≡ filter test ps → filter test (cond c (p ∷ rest) rest) ≡ cond b (p ∷ filter test ps) (filter test ps)
+    by true e true h more = ap (λ b. cond b (p ∷ filter test rest) (filter test rest)) e ∙ ap (λ qs. p ∷ qs) more
+    by false e true h more = ap (λ b. cond b (p ∷ filter test rest) (filter test rest)) e ∙ more
+    by true e false h more = absurd (true≢false (sym (ap holds (same e) ∙ is) ∙ h))
+    by false e false h more = more
 
 pub was_installed_was : WasInstalled
 was_installed_was problem i place found =
@@ -303,11 +305,11 @@ any-none (p ∷ status) = any-none status
 -- a status satisfies a clause that needs a package where one of its packages alone does
 clause_alone : (status : List Placed) (clause : List PlainAtom) → satisfies_clause [] clause ≡ false
     → satisfies_clause status clause ≡ list_any (λ p. satisfies_clause (p ∷ []) clause) status
-clause_alone status [] needs = any-none status
-clause_alone status (truth_atom ∷ atoms) needs = absurd (true≢false needs)
-clause_alone status (falsehood_atom ∷ atoms) needs = clause_alone status atoms needs
-clause_alone status (named v ∷ atoms) needs =
-    (λ i. member_alone status v i || clause_alone status atoms needs i) ∙ any-or (meets_alone v) (λ p. satisfies_clause (p ∷ []) atoms) status
+clause_alone status [] lacks = any-none status
+clause_alone status (truth_atom ∷ atoms) lacks = absurd (true≢false lacks)
+clause_alone status (falsehood_atom ∷ atoms) lacks = clause_alone status atoms lacks
+clause_alone status (named v ∷ atoms) lacks =
+    (λ i. member_alone status v i || clause_alone status atoms lacks i) ∙ any-or (meets_alone v) (λ p. satisfies_clause (p ∷ []) atoms) status
 
 -- what none of all passes none of some passes
 some-none : (q test : Placed → Bool) (xs : List Placed) → list_any test xs ≡ false → list_any test (filter q xs) ≡ false
@@ -334,7 +336,7 @@ none_does f alone packages holds none =
     alone (members holds packages) ∙ some-none (λ p. holds p.0) test all nowhere
 
 pub nothing_does : NothingDoes
-nothing_does problem holds i needs_some none = by i.what needs_some none
+nothing_does problem holds i lacks none = by i.what lacks none
   where
     by : (what : PlainWhat) → satisfies_what [] what ≡ false → first_helping (enumerate_from 1 problem.packages) what ≡ None → satisfies_what (members holds problem.packages) what ≡ false
     by (needs clause) h none = none_does (λ status. satisfies_clause status clause) (λ status. clause_alone status clause h) problem.packages holds none

@@ -162,9 +162,19 @@ impl<'p, 't> Remedies<'p, 't> {
         ensures { result ≡ option_map (λ p. p.0) (find (λ _. true) (searched self.now among)) }
     {
         match among {
-            Among::All if self.problem.packages().is_empty() => None,
-            Among::All => Some(1),
+            Among::All => self.first_of_all(),
             Among::Initial => self.first_installed,
+        }
+    }
+
+    /// The place of the first package of the problem, if there is one.
+    fn first_of_all(&self) -> Option<u64>
+        ensures { result ≡ option_map (λ p. p.0) (find (λ _. true) (enumerate_from 1 self.now.packages)) }
+    {
+        if self.problem.packages().is_empty() {
+            None
+        } else {
+            Some(1)
         }
     }
 }
