@@ -150,14 +150,14 @@ module _ (holds : ℕ → Bool) where
   held_from n xs = filter (λ (q : Placed). holds q.0) (enumerate_from n xs)
 
   -- one more isn't held
-  none_more : (n i : ℕ) (xs : List PlainPackage) → i < length xs → holds (n + i) ≡ false → held_from n (take i xs) ≡ [] → held_from n (take (i + 1) xs) ≡ []
+  none_more : (n i : ℕ) (xs : List PlainPackage) → i < length xs → holds (n + i) ≡ false → held_from n (take i xs) ≡ [] → held_from n (take (suc i) xs) ≡ []
   none_more n i [] inside out none = absurd (omega (arith, inside))
   none_more n zero (x ∷ xs) inside out none = ap (λ b. cond b ((n, x) ∷ []) []) (ap holds (omega arith) ∙ out)
   none_more n (suc i) (x ∷ xs) inside out none = by (holds n) none (none_more (n + 1) i xs (omega (arith, inside)) (ap holds (omega arith) ∙ out))
     where
       by : (b : Bool) → cond b ((n, x) ∷ held_from (n + 1) (take i xs)) (held_from (n + 1) (take i xs)) ≡ []
-          → (held_from (n + 1) (take i xs) ≡ [] → held_from (n + 1) (take (i + 1) xs) ≡ [])
-          → cond b ((n, x) ∷ held_from (n + 1) (take (i + 1) xs)) (held_from (n + 1) (take (i + 1) xs)) ≡ []
+          → (held_from (n + 1) (take i xs) ≡ [] → held_from (n + 1) (take (suc i) xs) ≡ [])
+          → cond b ((n, x) ∷ held_from (n + 1) (take (suc i) xs)) (held_from (n + 1) (take (suc i) xs)) ≡ []
       by true none more = absurd (omega (arith, ap length none))
       by false none more = more none
 
@@ -175,7 +175,9 @@ module _ (holds : ℕ → Bool) where
       by false none more = ap Some (omega arith) ∙ more none
 
   pub none_held_more : (packages : List PlainPackage) (i : ℕ) → i < length packages → holds (i + 1) ≡ false → members holds (take i packages) ≡ [] → members holds (take (i + 1) packages) ≡ []
-  none_held_more packages i inside out none = none_more 1 i packages inside (ap holds (omega arith) ∙ out) none
+  none_held_more packages i inside out none =
+      let one : i + 1 ≡ suc i = omega arith in
+      ap (λ k. members holds (take k packages)) one ∙ none_more 1 i packages inside (ap holds (omega arith) ∙ out) none
 
   pub first_is_held : (packages : List PlainPackage) (i : ℕ) → i < length packages → holds (i + 1) ≡ true → members holds (take i packages) ≡ [] → Some (i + 1) ≡ first_of (λ p. true) (members holds packages)
   first_is_held packages i inside holds_it none = ap Some (omega arith) ∙ first_is 1 i packages inside (ap holds (omega arith) ∙ holds_it) none

@@ -76,11 +76,14 @@ impl<'p, 't> Remedies<'p, 't> {
         ensures { IfOk result (λ r. r ≡ problem.entry.now) }
     {
         let was_installed = initial(alloc, problem)?;
+        let all = Providers::build(alloc, problem)?;
+        let given = Index::build(alloc, problem, &was_installed)?;
+        let first_installed = first_held(problem, &was_installed);
         Ok(Remedies {
             problem,
-            all: Providers::build(alloc, problem)?,
-            initial: Index::build(alloc, problem, &was_installed)?,
-            first_installed: first_held(problem, &was_installed),
+            all,
+            initial: given,
+            first_installed,
         })
     }
 
