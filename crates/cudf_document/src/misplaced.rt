@@ -1,5 +1,5 @@
 //! Properties whose names have no meaning in their stanzas, which strictly are faults (own).
-ghost use Rattle.std.specs.Prelude.{◌≡◌, not, ◌&&◌, codes, bytes_eq};
+ghost use Rattle.std.specs.Prelude.{◌≡◌, Some, bytes_eq};
 ghost use Rattle.std.specs.List.{list_any, flat_map};
 ghost use Rattle.cudf_text.specs.declared.fault.Kind.TheVariants.{E16};
 ghost use Rattle.cudf_text.specs.Promises.Views.{stanza_view};

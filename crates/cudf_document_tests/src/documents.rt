@@ -131,11 +131,7 @@ const MISPLACED: [ModesRow; 14] = [
         None,
         None,
     ),
-    (
-        "preamble:\nmaker: x\ninstall: a\n\nrequest:\n",
-        None,
-        None,
-    ),
+    ("preamble:\nmaker: x\ninstall: a\n\nrequest:\n", None, None),
     // beside others
     (
         "request: r\nnote: x\nnote: y\n",
@@ -192,8 +188,16 @@ fn finds_in(alloc: Global, mode: Mode, source: &str, want: Found) -> bool {
 #[test]
 fn misplaced(rt: HostRuntime) {
     for row in &MISPLACED {
-        assert!(rt; finds_in(rt.alloc(), Mode::Strict, row.0, row.1), "{}", row.0);
-        assert!(rt; finds_in(rt.alloc(), Mode::Lenient, row.0, row.2), "{}", row.0);
+        assert!(rt;
+            finds_in(rt.alloc(), Mode::Strict, row.0, row.1),
+            "{}",
+            row.0
+        );
+        assert!(rt;
+            finds_in(rt.alloc(), Mode::Lenient, row.0, row.2),
+            "{}",
+            row.0
+        );
     }
 }
 
@@ -259,8 +263,16 @@ fn fault_in(proposed: Result<Proposed<'_>, ReadError>) -> Option<Fault> {
 #[test]
 fn misplaced_in_solutions(rt: HostRuntime) {
     for row in &MISPLACED_IN_SOLUTIONS {
-        assert!(rt; proposes(rt.alloc(), Mode::Strict, row.0, row.1), "{}", row.0);
-        assert!(rt; proposes(rt.alloc(), Mode::Lenient, row.0, row.2), "{}", row.0);
+        assert!(rt;
+            proposes(rt.alloc(), Mode::Strict, row.0, row.1),
+            "{}",
+            row.0
+        );
+        assert!(rt;
+            proposes(rt.alloc(), Mode::Lenient, row.0, row.2),
+            "{}",
+            row.0
+        );
     }
 }
 

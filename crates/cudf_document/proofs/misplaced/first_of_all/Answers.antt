@@ -1,4 +1,4 @@
-use Rattle.std.proofs.Common.{Some, map, take, get_or, sym, ap, ◌+◌, ◌∙◌}
+use Rattle.std.proofs.Common.{Some, map, take, get_or, sym, ap, ◌∙◌}
 use Rattle.std.specs.List.{flat_map}
 use Rattle.cudf_text.specs.declared.fault.Kind.TheVariants.{E16}
 use Rattle.cudf_text.specs.Stanzas.{PlainProperty}
