@@ -2,7 +2,7 @@
 import re
 from dataclasses import dataclass, field
 
-from values import BLANKS, BUILT_IN, IDENT, is_pkgname, read_declarations, read_posint, read_vpkglist
+from values import BLANKS, BUILT_IN, IDENT, RESERVED, is_pkgname, read_declarations, read_posint, read_vpkglist
 
 POSTMARKS = ("preamble", "package", "request")
 KINDS = {
@@ -10,6 +10,7 @@ KINDS = {
     4: "stanza without postmark", 5: "preamble is not first", 6: "stanza after the request", 7: "property repeated",
     8: "property not declared", 9: "value is not of its type", 10: "bad declaration", 11: "package repeated",
     12: "no version", 13: "no request", 14: "declared property missing", 15: "pair repeated",
+    16: "property out of place",
 }
 
 
@@ -151,6 +152,18 @@ def request_faults(stanza):
     yield from ((line, 7) for line in repeated(stanza))
 
 
+def out_of_place(stanza, has_wishes):
+    """The lines of a preamble or a request whose names have no meaning in it; only a problem's request has wishes."""
+    mark = stanza.mark()
+    for line, name, _ in stanza.properties:
+        if mark == "request" and has_wishes:
+            is_out = name not in ("request", "install", "remove", "upgrade")
+        else:
+            is_out = mark in ("preamble", "request") and name in RESERVED - {mark}
+        if is_out:
+            yield line
+
+
 def place_faults(stanza, is_first, is_late):
     if stanza.mark() not in POSTMARKS:
         yield (stanza.line, 4)
@@ -176,6 +189,8 @@ def problem_faults(text, is_strict=False):
             faults |= set(package_faults(stanza, declared, ids, is_strict))
         else:
             faults |= set(request_faults(stanza))
+        if is_strict:
+            faults |= {(line, 16) for line in out_of_place(stanza, has_wishes=True)}
     if not is_late:
         faults.add((max(lines, 1), 13))
     return faults
@@ -198,6 +213,8 @@ def solution_faults(text, is_strict=False):
     for stanza in stanzas:
         if stanza.mark() not in POSTMARKS:
             faults.add((stanza.line, 4))
+        if is_strict:
+            faults |= {(line, 16) for line in out_of_place(stanza, has_wishes=False)}
         if stanza.mark() != "package":
             continue
         counted = ("package", "version", "installed")

@@ -3,7 +3,7 @@ alone.
 """
 import re
 
-from documents import declared_by, package_id, read_stanzas
+from documents import POSTMARKS, declared_by, package_id, read_stanzas
 from universe import satisfies, satisfies_clause
 from values import ENTRIES, WORDS, read_declarations, wrong_declaration, wrong_entry
 
@@ -77,11 +77,22 @@ def behind_the_request(_line, _stanza, stanzas):
 
 def repeated_property(line, stanza, _stanzas):
     name, _ = property_on(line, stanza)
-    return f"{name} stands on line {stanza.line_of(name)}"
+    return f"{name} stands on line {stanza.line_of(name)}" + perhaps_glued(name)
 
 
 def undeclared(line, stanza, _stanzas):
-    return f"nothing declares {property_on(line, stanza)[0]}"
+    name, _ = property_on(line, stanza)
+    return f"nothing declares {name}" + perhaps_glued(name)
+
+
+def perhaps_glued(name):
+    """What is added of a postmark, with which another stanza may begin."""
+    return ", a blank line may be missing before it" if name in POSTMARKS else ""
+
+
+def out_of_place(line, stanza, _stanzas):
+    name, _ = property_on(line, stanza)
+    return f"a blank line is missing before {name}" if name in POSTMARKS else f"{name} has no meaning here"
 
 
 def type_word(name, stanza, stanzas):
@@ -121,7 +132,7 @@ def missing_property(_line, stanza, stanzas):
 
 ADDED = {
     4: without_postmark, 6: behind_the_request, 7: repeated_property, 8: undeclared, 9: wrong_value, 10: bad_declaration,
-    11: repeated_pair, 14: missing_property, 15: repeated_pair,
+    11: repeated_pair, 14: missing_property, 15: repeated_pair, 16: out_of_place,
 }
 
 

@@ -21,6 +21,9 @@ DECLARED = ("x", "e", "recommends", "install", "upgrade", "property", "size-2", 
 FIRST = ("version: 1", "depends: a", "Package: a", "x:", "installed: true", "property: x: int", "preambles: ", "requests:")
 UNDECLARED = ("size: 3", "install: a", "request: r", "preamble:", "property: x: int", "Version: 1", "recommend: a", "e1: red")
 IGNORED = {"package": ("was-installed: x",), "request": ("note: x", "size: 1", "property: x"), "preamble": ("maker: x", "size: 1")}
+STRAY = (
+    "package: a", "version: 1", "keep: none", "was-installed: x", "preamble: x", "request: r", "instal: a", "recommends: a",
+)
 GOOD_DECLARATIONS = (
     "k{}: int", "k{} : nat = [3]", 'k{}: string = ["a, \\"b\\" [c"]', "k{}: enum[red, green] = [red]", "k{}: vpkglist = [a, b > 1]",
     "k{}:vpkgformula = [true!, a | b]", "k{}: veqpkglist = []",
@@ -48,12 +51,12 @@ class Faults:
         ways = (
             self.begins_otherwise, self.follows, self.repeats, self.undeclared, self.wrong_value, self.wrong_value,
             self.wrong_wish, self.declared_value, self.declared_value, self.declared_value, self.bad_declaration,
-            self.bad_declaration, self.bad_declaration, self.repeats_package,
+            self.bad_declaration, self.bad_declaration, self.repeats_package, self.out_of_place, self.out_of_place,
         )
         self.pick(ways)(stanzas)
 
     def in_solution(self, stanzas):
-        self.pick((self.begins_otherwise, self.repeats, self.wrong_value, self.wrong_name))(stanzas)
+        self.pick((self.begins_otherwise, self.repeats, self.wrong_value, self.wrong_name, self.out_of_place))(stanzas)
 
     # ---- stanzas
 
@@ -95,6 +98,10 @@ class Faults:
 
     def undeclared(self, stanzas):
         self.put(self.of_kind(stanzas, "package"), self.pick(UNDECLARED))
+
+    def out_of_place(self, stanzas):
+        """A name in a preamble or a request that mostly has no meaning there."""
+        self.put(self.of_kind(stanzas, self.pick(("preamble", "request"))), self.pick(STRAY))
 
     # ---- values
 

@@ -56,7 +56,7 @@ typedef struct cudf_check_text {
 
 /*
  * Says whether a problem is without fault: `problem ok`, or its first fault. The whole text is the problem. With `strict`
- * two things more are faults, as with the program's `--strict`. With `explain` a fault has behind its text what the problem
+ * three things more are faults, as with the program's `--strict`. With `explain` a fault has behind its text what the problem
  * says beside it, as with `--explain`.
  */
 uint8_t cudf_check_lint(bool strict, bool explain, const uint8_t *problem, size_t problem_length, uint8_t *report,

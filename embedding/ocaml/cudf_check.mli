@@ -1,7 +1,7 @@
 (** cudf_check: checks proposed solutions of CUDF 2.0 upgrade problems, through the library for C.
 
     Each of the six functions makes the report of the program's command of its name, byte for byte, of documents that are
-    held in memory; docs/FORMAT.md and docs/RULES.md of cudf_check say what a report says. With [~strict:true] two things
+    held in memory; docs/FORMAT.md and docs/RULES.md of cudf_check say what a report says. With [~strict:true] three things
     more are faults, as with the program's [--strict]; with [~explain:true] lines say more, as with its [--explain]. No
     document and no list raises an exception. *)
 

@@ -1,6 +1,7 @@
 -- What is added to a line, where lines are explained: own.
-use Rattle.std.specs.Prelude.{ℕ, Bool, true, false, List, [], ◌++◌, codes, decimal, Option, Some, None, unwrap_or, option_and_then, if◌then◌else◌}
-use Rattle.cudf_document.specs.Details.{PlainDetail, begins_with, request_on, name_on, undeclared, mistyped, misdeclared, package_on, lacking}
+use Rattle.std.specs.Prelude.{ℕ, Bool, true, false, List, [], ◌++◌, codes, decimal, Option, Some, None, is_some, unwrap_or, option_and_then, if◌then◌else◌}
+use Rattle.cudf_document.specs.Details.{PlainDetail, begins_with, request_on, name_on, undeclared, mistyped, misdeclared, package_on, lacking, misplaced}
+use Rattle.cudf_problem.specs.Documents.{postmark_named}
 use Rattle.cudf_problem.specs.Ids.{Id}
 use Rattle.cudf_problem.specs.Universe.{PlainPackage, PlainProblem, package_at}
 use Rattle.cudf_index.specs.Satisfaction.{numbers_of, first_named}
@@ -74,16 +75,25 @@ reason_added explain problem i = if explain then help_of problem i else []
 
 -- ---- faults
 
+-- behind the name of a postmark, which may be that of the next stanza
+abbrev pub unparted_added : List ℕ → List ℕ
+unparted_added name = if is_some (postmark_named name) then codes ", a blank line may be missing before it" else []
+
+-- what is said of a name that has no meaning where it stands
+abbrev pub misplaced_text : List ℕ → List ℕ
+misplaced_text name = if is_some (postmark_named name) then codes "a blank line is missing before " ++ name else name ++ codes " has no meaning here"
+
 abbrev pub detail_text : PlainDetail → List ℕ
 detail_text (begins_with name) = codes "it begins with " ++ name
 detail_text (request_on n) = codes "the request stands on line " ++ decimal n
-detail_text (name_on name n) = name ++ codes " stands on line " ++ decimal n
-detail_text (undeclared name) = codes "nothing declares " ++ name
+detail_text (name_on name n) = name ++ codes " stands on line " ++ decimal n ++ unparted_added name
+detail_text (undeclared name) = codes "nothing declares " ++ name ++ unparted_added name
 detail_text (mistyped name word None) = name ++ codes " is no " ++ word
 detail_text (mistyped name word (Some n)) = name ++ codes " is no " ++ word ++ codes ", entry " ++ decimal n
 detail_text (misdeclared n) = codes "declaration " ++ decimal n
 detail_text (package_on name version n) = name ++ codes " " ++ decimal version ++ codes " stands on line " ++ decimal n
 detail_text (lacking name) = codes "it lacks " ++ name
+detail_text (misplaced name) = misplaced_text name
 
 -- `; nothing declares size`, where there is a detail
 abbrev pub detail_added : Option PlainDetail → List ℕ

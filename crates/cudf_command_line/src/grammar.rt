@@ -267,7 +267,7 @@ fn strict<'w>(alloc: Global) -> Arg<'w>
     ensures local { result.global ≡ false }
 {
     strict_problem(alloc).help(
-        "Refuses a package that lacks a property which the preamble declares without a default, and a pair of name and version that a solution gives twice",
+        "Refuses a package that lacks a property which the preamble declares without a default, a pair of name and version that a solution gives twice, and a property that has no meaning in its preamble or request",
     )
 }
 
@@ -279,7 +279,7 @@ fn strict_problem<'w>(alloc: Global) -> Arg<'w>
         .long(STRICT)
         .action(ArgAction::SetTrue)
         .help(
-            "Refuses a package that lacks a property which the preamble declares without a default",
+            "Refuses a package that lacks a property which the preamble declares without a default, and a property that has no meaning in its preamble or request",
         )
 }
 

@@ -20,7 +20,7 @@ use Rattle.cudf_problem.specs.Ids.{Id, is_id, is_among, is_known, id_of}
 use Rattle.cudf_document.specs.Working.Judging.{request_in, id_under, placed_faults}
 use Rattle.cudf_problem.specs.Promises.Packages.{are_distinct, with_id, packages_in}
 use Rattle.cudf_problem.specs.Preamble.{declared_after, declared}
-use Rattle.cudf_document.specs.ProblemFaults.{place_faults, property_faults, version_property, required_names, lacks_one, inner_faults, stanza_faults, requestless_faults, problem_faults}
+use Rattle.cudf_document.specs.ProblemFaults.{place_faults, property_faults, version_property, repeated_package_faults, unversioned_faults, required_names, lacks_one, missing_faults, problem_misplaces, misplaced_faults, inner_faults, stanza_faults, requestless_faults, problem_faults}
 use Rattle.cudf_problem.specs.Universe.{PlainPackage, package_id, package_with, package_of, request_of}
 use Rattle.cudf_document.specs.Working.ProblemBuilders.{PlainBuilder, with_stanza, faults_inside, IsBuilt, IsListed, first_ids}
 use Rattle.cudf_problem.proofs.ListLemmas.{as_list, option_or-none, list_any-insert_key, is_some-find, is_some-option_map}
@@ -151,7 +151,14 @@ module _ (g : PlainBuilder) (before : List PlainStanza) (s : PlainStanza) (so_fa
       ++ fault_if (is_known (filter_map id_of before) (id_under mark s.properties)) (line_of (version_property s)) E11
       ++ fault_if (marks_package mark && is_none (version_property s)) s.last E12
 
-  inside_is : (mode : Mode) (mark : Postmark) → postmark s ≡ Some mark → faults_inside (Some mark) (required_names mode (declared before)) g s ≡ inner_faults mode before s
+  -- those inside, but for properties out of place
+  abbrev other_faults : Mode → List Fault
+  other_faults mode =
+      missing_faults (required_names mode (declared before)) s
+      ++ flat_map (property_faults (declared before) (postmark s)) (with_earlier [] s.properties)
+      ++ repeated_package_faults (filter_map id_of before) s ++ unversioned_faults s
+
+  inside_is : (mode : Mode) (mark : Postmark) → postmark s ≡ Some mark → faults_inside (Some mark) (required_names mode (declared before)) g s ≡ other_faults mode
   inside_is mode Preamble marked = simp (marked, and-false, append-nil)
   inside_is mode Request marked = simp (marked, and-false, append-nil)
   inside_is mode Package marked =
@@ -171,26 +178,33 @@ module _ (g : PlainBuilder) (before : List PlainStanza) (s : PlainStanza) (so_fa
       ++ fault_if (marks_package (postmark s) && is_none (version_property s)) s.last E12)
       (is_known-along g.ids (filter_map id_of before) (id_of s) so_far.ids_are)
 
-  -- a stanza's first fault, by where it stands or else inside it
-  pub stanza_least : (mode : Mode) (mark : Option Postmark) (is_first : Bool) (place inside : Option Fault) → postmark s ≡ mark → is_first ≡ is_empty before
+  -- a stanza's first fault, by where it stands or else inside it, and a property out of place
+  pub stanza_least : (mode : Mode) (mark : Option Postmark) (is_first : Bool) (place inside stray : Option Fault) → postmark s ≡ mark → is_first ≡ is_empty before
       → place ≡ least (placed_faults is_first (is_some g.request) mark s.line) → inside ≡ least (faults_inside mark (required_names mode (declared before)) g s)
-      → option_or place inside ≡ least (stanza_faults mode (before, s))
-  stanza_least mode mark is_first place inside marked first place_is inside_eq =
-      (λ i. option_or ((place_is ∙ (λ j. least (placed_faults (first j) (requested_is g before so_far j) (sym marked j) s.line))) i) (inside_eq i))
+      → stray ≡ least (misplaced_faults mode (problem_misplaces mark) s.properties)
+      → option_or place (lesser inside stray) ≡ least (stanza_faults mode (before, s))
+  stanza_least mode mark is_first place inside stray marked first place_is inside_eq stray_is =
+      (λ i. option_or ((place_is ∙ (λ j. least (placed_faults (first j) (requested_is g before so_far j) (sym marked j) s.line))) i)
+      (lesser (inside_eq i) ((stray_is ∙ ap stray_of (sym marked)) i)))
       ∙ within mark marked
       ∙ sym (least-faults_or (place_faults before s) (inner_faults mode before s))
     where
+      stray_of : Option Postmark → Option Fault
+      stray_of m = least (misplaced_faults mode (problem_misplaces m) s.properties)
+
       some_or : (f : Fault) (x y z : Option Fault) → option_or (lesser (Some f) x) y ≡ option_or (lesser (Some f) x) z
       some_or f None y z = refl
       some_or f (Some g') y z = refl
 
       within : (m : Option Postmark) → postmark s ≡ m
-          → option_or (least (place_faults before s)) (least (faults_inside m (required_names mode (declared before)) g s))
+          → option_or (least (place_faults before s)) (lesser (least (faults_inside m (required_names mode (declared before)) g s)) (stray_of (postmark s)))
           ≡ option_or (least (place_faults before s)) (least (inner_faults mode before s))
-      within (Some m) e = ap (λ fs. option_or (least (place_faults before s)) (least fs)) (inside_is mode m e)
+      within (Some m) e =
+          ap (λ fs. option_or (least (place_faults before s)) (lesser (least fs) (stray_of (postmark s)))) (inside_is mode m e)
+          ∙ ap (option_or (least (place_faults before s))) (sym (least-append (other_faults mode) (misplaced_faults mode (problem_misplaces (postmark s)) s.properties)))
       within None e =
-          ap (λ m. option_or (least (placed_faults (is_empty before) (list_any is_request before) m s.line)) None) e
-          ∙ some_or (record { line = s.line; kind = E4 }) (least ([] ++ fault_if (list_any is_request before) s.line E6)) None (least (inner_faults mode before s))
+          ap (λ m. option_or (least (placed_faults (is_empty before) (list_any is_request before) m s.line)) (lesser None (stray_of (postmark s)))) e
+          ∙ some_or (record { line = s.line; kind = E4 }) (least ([] ++ fault_if (list_any is_request before) s.line E6)) (lesser None (stray_of (postmark s))) (least (inner_faults mode before s))
           ∙ ap (λ m. option_or (least (placed_faults (is_empty before) (list_any is_request before) m s.line)) (least (inner_faults mode before s))) (sym e)
 
 -- ---- each pair once

@@ -6,7 +6,7 @@ use Rattle.std.specs.Option.{option_or, option_map_or}
 use Rattle.cudf_text.specs.Chars.{trim}
 use Rattle.cudf_text.specs.declared.fault.Fault.{Fault}
 use Rattle.cudf_text.specs.declared.fault.Kind.{Kind}
-use Rattle.cudf_text.specs.declared.fault.Kind.TheVariants.{E4, E6, E7, E8, E9, E10, E11, E14, E15}
+use Rattle.cudf_text.specs.declared.fault.Kind.TheVariants.{E4, E6, E7, E8, E9, E10, E11, E14, E15, E16}
 use Rattle.cudf_text.specs.Stanzas.{PlainProperty, PlainStanza, PlainText}
 use Rattle.cudf_value.specs.Spots.{pieces}
 use Rattle.cudf_value.specs.Declarations.{PlainDeclaration, declaration}
@@ -16,7 +16,7 @@ use Rattle.cudf_value.specs.Misfits.{type_word}
 use Rattle.cudf_problem.specs.declared.postmark.Postmark.TheVariants.{Package}
 use Rattle.cudf_problem.specs.declared.mode.Mode.TheVariants.{Strict}
 use Rattle.cudf_document.specs.declared.details.found.Passed.{Passed}
-use Rattle.cudf_document.specs.Details.{PlainDetail, request_on, package_on, undeclared, misdeclared, lacking, stanza_on, property_on, package_words, words, bad_piece, package_detail, repeated_detail, misdeclared_detail, property_detail, stanza_detail, fault_detail}
+use Rattle.cudf_document.specs.Details.{PlainDetail, request_on, package_on, undeclared, misdeclared, lacking, misplaced, stanza_on, property_on, package_words, words, bad_piece, package_detail, repeated_detail, misdeclared_detail, property_detail, stanza_detail, fault_detail}
 use Rattle.cudf_problem.specs.Documents.{is_empty, with_earlier, is_request, has_name}
 use Rattle.cudf_problem.specs.Ids.{Id, id_of, is_known}
 use Rattle.cudf_problem.specs.Preamble.{is_declarable, added_by, declared_after, declared}
@@ -126,6 +126,9 @@ of_stanza E9 line before s h =
     ∙ ap (option_and_then (mistyped_after (declared before) s)) (property_at-is line s)
 of_stanza E10 line before s h = misdeclared_in-is (property_detail E10 (before, s)) (λ earlier p. refl) line [] s.properties
 of_stanza E14 line before s h = refl
+of_stanza E16 line before s h =
+    through (property_detail E16 (before, s)) (λ p. Some (misplaced p.name)) (λ earlier p. refl) (property_on line s)
+    ∙ ap (option_and_then (λ p. Some (misplaced p.name))) (property_at-is line s) ∙ then_some (λ p. misplaced p.name) (property_at line s)
 of_stanza _ line before s h = absurd cc
 
 of_pair : (kind : Kind) (line : ℕ) (before : List PlainStanza) (s : PlainStanza) → is_of_pair kind ≡ true
@@ -145,6 +148,7 @@ of_none E10 line before s h k = absurd cc
 of_none E11 line before s h k = absurd cc
 of_none E14 line before s h k = absurd cc
 of_none E15 line before s h k = absurd cc
+of_none E16 line before s h k = absurd cc
 of_none kind line before s h k = none (property_on line s)
   where
     none : (x : Option (List PlainProperty × PlainProperty)) → ◌≡◌ {A = Option PlainDetail} (option_and_then (λ r. None) x) None

@@ -3,7 +3,7 @@ use Rattle.std.proofs.Common.{◌≡◌, ℕ, List, [], ◌∷◌, ◌++◌, Opt
 use Rattle.std.specs.List.{flat_map}
 use Rattle.cudf_text.specs.declared.fault.Fault.{Fault}
 use Rattle.cudf_text.specs.declared.fault.Kind.{Kind}
-use Rattle.cudf_text.specs.declared.fault.Kind.TheVariants.{E4, E5, E6, E7, E8, E9, E10, E11, E12, E13, E14, E15}
+use Rattle.cudf_text.specs.declared.fault.Kind.TheVariants.{E4, E5, E6, E7, E8, E9, E10, E11, E12, E13, E14, E15, E16}
 use Rattle.cudf_text.specs.Stanzas.{plain_text}
 use Rattle.cudf_text.specs.Chars.{is_ident}
 use Rattle.cudf_value.specs.Words.{truth, is_pkgname}
@@ -107,6 +107,34 @@ missing_repeated : least (problem_faults (plain_text (sized (codes "package: a" 
 unfolding problem_faults plain_text is_pkgname truth positive natural declarations is_ident
 missing_repeated = refl
 
+-- ---- strictly a name has to have a meaning where it stands
+
+-- a list that is misspelt, and a package with no blank line before it
+stray : problem_faults (plain_text (text_of (codes "request: r" ∷ codes "instal: a" ∷ codes "package: a" ∷ []))) Strict
+    ≡ record { line = 2; kind = E16 } ∷ record { line = 3; kind = E16 } ∷ []
+unfolding problem_faults plain_text is_ident
+stray = refl
+
+stray_leniently : problem_faults (plain_text (text_of (codes "request: r" ∷ codes "instal: a" ∷ codes "package: a" ∷ []))) Lenient ≡ []
+unfolding problem_faults plain_text is_ident
+stray_leniently = refl
+
+-- in a preamble the reserved names, but its own; where a name stands again, that is told too
+stray_repeated : problem_faults (plain_text (text_of (codes "preamble:" ∷ codes "maker: x" ∷ codes "preamble: x" ∷ codes "keep: x" ∷ codes "keep: y" ∷ [] ∷ codes "request:" ∷ []))) Strict
+    ≡ record { line = 3; kind = E7 } ∷ record { line = 5; kind = E7 } ∷ record { line = 4; kind = E16 } ∷ record { line = 5; kind = E16 } ∷ []
+unfolding problem_faults plain_text is_ident
+stray_repeated = refl
+
+-- on one line the lesser kind is first
+stray_requestless : least (problem_faults (plain_text (text_of (codes "preamble:" ∷ codes "version: 1" ∷ []))) Strict) ≡ on 2 E13
+unfolding problem_faults plain_text is_ident
+stray_requestless = refl
+
+-- a stanza in a wrong place has none
+stray_late : problem_faults (plain_text (text_of (codes "request:" ∷ [] ∷ codes "request:" ∷ codes "instal: a" ∷ []))) Strict ≡ record { line = 3; kind = E6 } ∷ []
+unfolding problem_faults plain_text is_ident
+stray_late = refl
+
 -- of a solution's package three properties count
 other_properties : solution_faults (plain_text (text_of (codes "package: a" ∷ codes "version: 1" ∷ codes "depends: ," ∷ codes "depends: ," ∷ codes "size: 3" ∷ []))) Lenient ≡ []
 unfolding solution_faults plain_text is_pkgname positive natural is_ident
@@ -139,7 +167,19 @@ pair_beside_others : solution_faults (plain_text (text_of (codes "package: a" �
 unfolding solution_faults plain_text is_pkgname positive natural truth is_ident
 pair_beside_others = refl
 
--- the name alone, or the version alone, may stand again, and so may a pair that no package has
-pair_other : solution_faults (plain_text (text_of (codes "package: a" ∷ codes "version: 1" ∷ [] ∷ codes "package: a" ∷ codes "version: 2" ∷ [] ∷ codes "package: b" ∷ codes "version: 1" ∷ [] ∷ codes "request:" ∷ codes "package: a" ∷ codes "version: 1" ∷ []))) Strict ≡ []
+-- the name alone, or the version alone, may stand again
+pair_other : solution_faults (plain_text (text_of (codes "package: a" ∷ codes "version: 1" ∷ [] ∷ codes "package: a" ∷ codes "version: 2" ∷ [] ∷ codes "package: b" ∷ codes "version: 1" ∷ []))) Strict ≡ []
 unfolding solution_faults plain_text is_pkgname positive natural is_ident
 pair_other = refl
+
+-- ---- and a name has to have a meaning where it stands
+
+-- in a preamble or a request the reserved names, but its own; a pair that no package has isn't repeated
+stray_proposed : solution_faults (plain_text (text_of (codes "preamble:" ∷ codes "preamble: x" ∷ codes "version: 1" ∷ [] ∷ codes "request:" ∷ codes "request: r" ∷ codes "instal: a" ∷ codes "package: a" ∷ codes "version: 1" ∷ [] ∷ codes "package: a" ∷ codes "version: 1" ∷ codes "request: r" ∷ []))) Strict
+    ≡ record { line = 3; kind = E16 } ∷ record { line = 8; kind = E16 } ∷ record { line = 9; kind = E16 } ∷ []
+unfolding solution_faults plain_text is_pkgname positive natural is_ident
+stray_proposed = refl
+
+stray_proposed_leniently : solution_faults (plain_text (text_of (codes "preamble:" ∷ codes "version: 1" ∷ [] ∷ codes "request:" ∷ codes "package: a" ∷ []))) Lenient ≡ []
+unfolding solution_faults plain_text is_ident
+stray_proposed_leniently = refl

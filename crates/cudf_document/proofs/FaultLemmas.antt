@@ -78,4 +78,12 @@ faults-next faults xs x first fault before here =
     ∙ sym (flat_map-append faults (with_earlier [] xs) ((xs, x) ∷ []))
     ∙ ap (flat_map faults) (sym (with_earlier-push [] xs x)))
 
+-- the same, whatever stands before it
+pub faults-push : {A : Type 0} (faults : A → List Fault) (xs : List A) (x : A) (first fault : Option Fault)
+    → first ≡ least (flat_map faults xs) → fault ≡ least (faults x) → lesser first fault ≡ least (flat_map faults (xs ++ x ∷ []))
+faults-push faults xs x first fault before here =
+    (λ i. lesser (before i) (here i))
+    ∙ sym (least-append (flat_map faults xs) (faults x))
+    ∙ ap least (ap (λ fs. flat_map faults xs ++ fs) (sym (append-nil (faults x))) ∙ sym (flat_map-append faults xs (x ∷ [])))
+
 pub ruleset appended = (least-append)

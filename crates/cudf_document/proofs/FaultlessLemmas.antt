@@ -27,7 +27,7 @@ use Rattle.cudf_problem.specs.Values.{Test, name_value}
 use Rattle.cudf_document.specs.Working.Reads.{version_value}
 use Rattle.cudf_value.specs.Parts.{look_up}
 use Rattle.cudf_problem.specs.Preamble.{declared}
-use Rattle.cudf_document.specs.ProblemFaults.{tests, place_faults, property_faults, repeated_faults, undeclared_faults, mistyped_faults, misdeclared_faults, version_property, repeated_package_faults, unversioned_faults, required_names, missing_faults, inner_faults, stanza_faults, requestless_faults, problem_faults}
+use Rattle.cudf_document.specs.ProblemFaults.{tests, place_faults, property_faults, repeated_faults, undeclared_faults, mistyped_faults, misdeclared_faults, version_property, repeated_package_faults, unversioned_faults, required_names, missing_faults, problem_misplaces, misplaced_faults, inner_faults, stanza_faults, requestless_faults, problem_faults}
 use Rattle.cudf_problem.specs.Universe.{PlainPackage, package_id, package_with, package_of}
 use Rattle.cudf_document.specs.Promises.Laws.{IsSound}
 use Rattle.cudf_problem.proofs.IdLemmas.{distinct-places}
@@ -83,7 +83,9 @@ clean mode before s none =
     (fault_if (list_any is_request before) s.line E6) both.0 in
     let missing = missing_faults (required_names mode (declared before)) s in
     let properties = flat_map (property_faults (declared before) (postmark s)) (with_earlier [] s.properties) in
-    let inner = nil_parts (missing ++ properties ++ repeated_package_faults (filter_map id_of before) s) (unversioned_faults s) both.1 in
+    let others = nil_parts (missing ++ properties ++ repeated_package_faults (filter_map id_of before) s ++ unversioned_faults s)
+    (misplaced_faults mode (problem_misplaces (postmark s)) s.properties) both.1 in
+    let inner = nil_parts (missing ++ properties ++ repeated_package_faults (filter_map id_of before) s) (unversioned_faults s) others.0 in
     let front = nil_parts (missing ++ properties) (repeated_package_faults (filter_map id_of before) s) inner.0 in
     let typed = nil_parts missing properties front.0 in
     record {

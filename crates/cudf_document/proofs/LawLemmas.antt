@@ -5,7 +5,7 @@ use Rattle.std.proofs.lemmas.Option.{same_Some}
 use Rattle.std.proofs.lemmas.List.Elements.{Contains-append_cases, Contains-append_right}
 use Rattle.cudf_text.specs.declared.fault.Fault.{Fault}
 use Rattle.cudf_text.specs.declared.fault.Kind.{Kind}
-use Rattle.cudf_text.specs.declared.fault.Kind.TheVariants.{E1, E2, E3, E4, E5, E6, E7, E8, E9, E10, E11, E12, E13, E14, E15}
+use Rattle.cudf_text.specs.declared.fault.Kind.TheVariants.{E1, E2, E3, E4, E5, E6, E7, E8, E9, E10, E11, E12, E13, E14, E15, E16}
 use Rattle.cudf_document.specs.Faults.{rank, precedes, lesser, least}
 use Rattle.cudf_document.specs.Promises.Laws.{IsFirst, LeastIsFirst}
 use Rattle.cudf_document.proofs.FaultLemmas.{precedes_along, least-none}
@@ -15,7 +15,8 @@ use Rattle.cudf_document.proofs.FaultLemmas.{precedes_along, least-none}
 abbrev kind_numbered : ℕ → Kind
 kind_numbered n = if n == 1 then E1 else (if n == 2 then E2 else (if n == 3 then E3 else (if n == 4 then E4 else (if n == 5 then E5
     else (if n == 6 then E6 else (if n == 7 then E7 else (if n == 8 then E8 else (if n == 9 then E9 else (if n == 10 then E10
-    else (if n == 11 then E11 else (if n == 12 then E12 else (if n == 13 then E13 else (if n == 14 then E14 else E15)))))))))))))
+    else (if n == 11 then E11 else (if n == 12 then E12 else (if n == 13 then E13 else (if n == 14 then E14
+    else (if n == 15 then E15 else E16))))))))))))))
 
 numbered : (k : Kind) → kind_numbered (rank k) ≡ k
 numbered E1 = refl

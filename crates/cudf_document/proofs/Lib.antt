@@ -10,6 +10,7 @@ pub mod PreambleLemmas
 pub mod BuilderLemmas
 pub mod FaultlessLemmas
 pub mod LawLemmas
+pub mod MisplacedLemmas
 mod ModeLemmas
 pub mod SolutionPackageLemmas
 mod PairLemmas

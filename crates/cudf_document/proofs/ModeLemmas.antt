@@ -1,10 +1,10 @@
 -- The faults of a document in both modes.
-use Rattle.std.proofs.Common.{◌≡◌, ◌⊎◌, ℕ, Bool, true, false, not, ◌&&◌, max, List, [], ◌∷◌, ◌++◌, Option, None, Some, is_none, is_some, Contains, All, inl, inr, refl, subst, option_to_list, filter_map}
+use Rattle.std.proofs.Common.{◌≡◌, ◌⊎◌, ℕ, Bool, true, false, not, ◌&&◌, max, List, [], ◌∷◌, ◌++◌, Option, None, Some, is_none, is_some, Contains, All, inl, inr, refl, ◌∙◌, subst, IsTrue, option_to_list, filter_map}
 use Rattle.std.proofs.lemmas.List.Elements.{All-nil, All-cons, All-append, All-contains, Contains-append_cases, Contains-append_left, Contains-append_right}
 use Rattle.std.specs.List.{list_any, flat_map}
 use Rattle.cudf_text.specs.declared.fault.Fault.{Fault}
 use Rattle.cudf_text.specs.declared.fault.Kind.{Kind}
-use Rattle.cudf_text.specs.declared.fault.Kind.TheVariants.{E4, E5, E6, E7, E8, E9, E10, E11, E12, E13, E14, E15}
+use Rattle.cudf_text.specs.declared.fault.Kind.TheVariants.{E4, E5, E6, E7, E8, E9, E10, E11, E12, E13, E14, E15, E16}
 use Rattle.cudf_text.specs.Stanzas.{PlainProperty, PlainStanza, PlainText}
 use Rattle.cudf_value.specs.Declarations.{PlainDeclaration}
 use Rattle.cudf_problem.specs.declared.mode.Mode.TheVariants.{Lenient, Strict}
@@ -17,22 +17,22 @@ use Rattle.cudf_problem.specs.Ids.{id_of, is_known}
 use Rattle.cudf_problem.specs.Preamble.{declared, declared_by, declared_after}
 use Rattle.cudf_problem.specs.Values.{solution_tests}
 use Rattle.cudf_value.specs.Parts.{look_up}
-use Rattle.cudf_document.specs.ProblemFaults.{tests, declares, property_faults, place_faults, version_property, repeated_package_faults, unversioned_faults, required_names, lacks_one, missing_faults, inner_faults, stanza_faults, requestless_faults, problem_faults}
-use Rattle.cudf_document.specs.SolutionFaults.{value_faults, values_faults, solution_stanza_faults, repeated_pair_faults, repeated_pairs_faults, solution_faults}
-use Rattle.cudf_document.specs.Promises.Laws.{is_strict, StrictAdds, StrictAddsOneKind}
+use Rattle.cudf_document.specs.ProblemFaults.{unmarked_faults, tests, declares, property_faults, place_faults, version_property, repeated_package_faults, unversioned_faults, required_names, lacks_one, missing_faults, problem_misplaces, misplaced_faults, inner_faults, stanza_faults, requestless_faults, problem_faults}
+use Rattle.cudf_document.specs.SolutionFaults.{value_faults, values_faults, solution_misplaces, solution_stanza_faults, repeated_pair_faults, repeated_pairs_faults, solution_faults}
+use Rattle.cudf_document.specs.Promises.Laws.{is_strict_of_problem, is_strict_of_solution, is_strict, StrictAdds, StrictAddsTwoKinds}
 use Rattle.cudf_document.proofs.LawLemmas.{head_or_after, none_in_nil, at_head}
 
--- ---- faults of one kind besides
+-- ---- faults of some kinds besides
 
-record Adds (kind : Kind) (fs gs : List Fault) : Type 0 where
+record Adds (is_added : Kind → Bool) (fs gs : List Fault) : Type 0 where
   kept : (f : Fault) → Contains fs f → Contains gs f
-  added : (f : Fault) → Contains gs f → Contains fs f ⊎ (f.kind ≡ kind)
+  added : (f : Fault) → Contains gs f → Contains fs f ⊎ IsTrue (is_added f.kind)
 
-Adds-same : (kind : Kind) (fs : List Fault) → Adds kind fs fs
-Adds-same kind fs = record { kept = λ f there. there; added = λ f there. inl there }
+Adds-same : (is_added : Kind → Bool) (fs : List Fault) → Adds is_added fs fs
+Adds-same is_added fs = record { kept = λ f there. there; added = λ f there. inl there }
 
-Adds-append : (kind : Kind) (fs gs more others : List Fault) → Adds kind fs gs → Adds kind more others → Adds kind (fs ++ more) (gs ++ others)
-Adds-append kind fs gs more others front back = record {
+Adds-append : (is_added : Kind → Bool) (fs gs more others : List Fault) → Adds is_added fs gs → Adds is_added more others → Adds is_added (fs ++ more) (gs ++ others)
+Adds-append is_added fs gs more others front back = record {
   kept = λ f there. elim (Contains-append_cases fs more f there) [
     | inl here ↦ Contains-append_left gs others f (front.kept f here)
     | inr behind ↦ Contains-append_right gs others f (back.kept f behind)
@@ -43,26 +43,33 @@ Adds-append kind fs gs more others front back = record {
   ];
 }
 
-Adds-flat_map : {A : Type 0} (kind : Kind) (faults others : A → List Fault) → ((x : A) → Adds kind (faults x) (others x))
-    → (xs : List A) → Adds kind (flat_map faults xs) (flat_map others xs)
-Adds-flat_map kind faults others adds [] = Adds-same kind []
-Adds-flat_map kind faults others adds (x ∷ xs) =
-    Adds-append kind (faults x) (others x) (flat_map faults xs) (flat_map others xs) (adds x) (Adds-flat_map kind faults others adds xs)
+Adds-flat_map : {A : Type 0} (is_added : Kind → Bool) (faults others : A → List Fault) → ((x : A) → Adds is_added (faults x) (others x))
+    → (xs : List A) → Adds is_added (flat_map faults xs) (flat_map others xs)
+Adds-flat_map is_added faults others adds [] = Adds-same is_added []
+Adds-flat_map is_added faults others adds (x ∷ xs) =
+    Adds-append is_added (faults x) (others x) (flat_map faults xs) (flat_map others xs) (adds x) (Adds-flat_map is_added faults others adds xs)
 
--- faults of the kind, where there were none
-Adds-kind : (kind : Kind) (test : Bool) (line : ℕ) → Adds kind [] (fault_if test line kind)
-Adds-kind kind false line = Adds-same kind []
-Adds-kind kind true line = record {
+-- faults of such a kind, where there were none
+Adds-kind : (is_added : Kind → Bool) (kind : Kind) → IsTrue (is_added kind) → (test : Bool) (line : ℕ) → Adds is_added [] (fault_if test line kind)
+Adds-kind is_added kind adds false line = Adds-same is_added []
+Adds-kind is_added kind adds true line = record {
   kept = λ f there. absurd (none_in_nil f there);
   added = λ f there. elim (head_or_after (record { line = line; kind = kind }) f [] there) [
-    | inl one ↦ inr (λ i. (one i).kind)
+    | inl one ↦ inr ((λ i. is_added (one i).kind) ∙ adds)
     | inr more ↦ absurd (none_in_nil f more)
   ];
 }
 
-Adds-faults_or : (kind : Kind) (place fs gs : List Fault) → Adds kind fs gs → Adds kind (faults_or place fs) (faults_or place gs)
-Adds-faults_or kind [] fs gs adds = adds
-Adds-faults_or kind (f ∷ place) fs gs adds = Adds-same kind (f ∷ place)
+-- properties out of place, where none is told
+Adds-misplaced : (is_added : Kind → Bool) → IsTrue (is_added E16) → (misplaces : List ℕ → Bool) (ps : List PlainProperty) → Adds is_added [] (misplaced_faults Strict misplaces ps)
+Adds-misplaced is_added adds misplaces [] = Adds-same is_added []
+Adds-misplaced is_added adds misplaces (p ∷ ps) =
+    Adds-append is_added [] (fault_if (misplaces p.name) p.line E16) [] (misplaced_faults Strict misplaces ps)
+    (Adds-kind is_added E16 adds (misplaces p.name) p.line) (Adds-misplaced is_added adds misplaces ps)
+
+Adds-faults_or : (is_added : Kind → Bool) (place fs gs : List Fault) → Adds is_added fs gs → Adds is_added (faults_or place fs) (faults_or place gs)
+Adds-faults_or is_added [] fs gs adds = adds
+Adds-faults_or is_added (f ∷ place) fs gs adds = Adds-same is_added (f ∷ place)
 
 -- ---- faults that are told in both modes
 
@@ -112,7 +119,7 @@ module _ (line : Option Fault) where
       let repeated = told_if E11 refl (is_known (filter_map id_of before) (id_of s)) (line_of (version_property s)) in
       told-faults_or (place_faults before s) (inner_faults Lenient before s)
       (both_told _ _ (both_told _ _ (told_if E4 refl (is_none (postmark s)) s.line) late_preamble) late)
-      (both_told _ _ (both_told _ _ properties repeated) (unversioned_told s))
+      (both_told _ _ (both_told _ _ (both_told _ _ properties repeated) (unversioned_told s)) (All-nil (IsTold line)))
 
   value_told : (x : List PlainProperty × PlainProperty) → All (IsTold line) (value_faults x)
   value_told (before, p) =
@@ -123,14 +130,17 @@ module _ (line : Option Fault) where
   values_told (Some Package) ps = told-flat_map value_faults value_told (with_earlier [] ps)
   values_told _ ps = All-nil (IsTold line)
 
-  solution_stanza_told : (s : PlainStanza) → All (IsTold line) (solution_stanza_faults s)
-  solution_stanza_told s = both_told _ _ (both_told _ _ (told_if E4 refl (is_none (postmark s)) s.line) (values_told (postmark s) s.properties)) (unversioned_told s)
+  solution_stanza_told : (s : PlainStanza) → All (IsTold line) (solution_stanza_faults Lenient s)
+  solution_stanza_told s =
+      both_told _ _ (both_told _ _ (both_told _ _ (told_if E4 refl (is_none (postmark s)) s.line) (values_told (postmark s) s.properties)) (unversioned_told s))
+      (All-nil (IsTold line))
 
 -- ---- a document
 
--- what is told in both modes, with faults of one kind besides
-adds-told : (kind : Kind) (line : Option Fault) (lenient strict : List Fault) → Adds kind lenient strict → All (IsTold line) lenient → StrictAdds kind line lenient strict
-adds-told kind line lenient strict adds told = record {
+-- what is told in both modes, with faults of some kinds besides
+adds-told : (is_added : Kind → Bool) (line : Option Fault) (lenient strict : List Fault) → Adds is_added lenient strict → All (IsTold line) lenient
+    → StrictAdds is_added line lenient strict
+adds-told is_added line lenient strict adds told = record {
   kept = adds.kept;
   added = adds.added;
   lenient_kinds = λ f there. All-contains (IsTold line) lenient f told there;
@@ -141,43 +151,54 @@ adds-told kind line lenient strict adds told = record {
     by [] none = refl
     by (f ∷ fs) none = absurd (none f (at_head f fs))
 
-stanza_adds : (x : List PlainStanza × PlainStanza) → Adds E14 (stanza_faults Lenient x) (stanza_faults Strict x)
+stanza_adds : (x : List PlainStanza × PlainStanza) → Adds is_strict_of_problem (stanza_faults Lenient x) (stanza_faults Strict x)
 stanza_adds (before, s) =
     let ds = declared before in
-    let missing = Adds-kind E14 (lacks_one (required_names Strict ds) s.properties && marks_package (postmark s)) s.last in
-    Adds-faults_or E14 (place_faults before s) (inner_faults Lenient before s) (inner_faults Strict before s)
-    (Adds-append E14 _ _ (unversioned_faults s) (unversioned_faults s)
-    (Adds-append E14 _ _ (repeated_package_faults (filter_map id_of before) s) (repeated_package_faults (filter_map id_of before) s)
-    (Adds-append E14 [] (missing_faults (required_names Strict ds) s) (properties_faults ds (postmark s) s.properties) (properties_faults ds (postmark s) s.properties) missing
-    (Adds-same E14 _)) (Adds-same E14 _)) (Adds-same E14 _))
+    let K : Kind → Bool = is_strict_of_problem in
+    let missing = Adds-kind K E14 refl (lacks_one (required_names Strict ds) s.properties && marks_package (postmark s)) s.last in
+    let misplaced = Adds-misplaced K refl (problem_misplaces (postmark s)) s.properties in
+    Adds-faults_or K (place_faults before s) (inner_faults Lenient before s) (inner_faults Strict before s)
+    (Adds-append K _ _ [] (misplaced_faults Strict (problem_misplaces (postmark s)) s.properties)
+    (Adds-append K _ _ (unversioned_faults s) (unversioned_faults s)
+    (Adds-append K _ _ (repeated_package_faults (filter_map id_of before) s) (repeated_package_faults (filter_map id_of before) s)
+    (Adds-append K [] (missing_faults (required_names Strict ds) s) (properties_faults ds (postmark s) s.properties) (properties_faults ds (postmark s) s.properties) missing
+    (Adds-same K _)) (Adds-same K _)) (Adds-same K _)) misplaced)
 
-problem_adds : (text : PlainText) → StrictAdds E14 text.fault (problem_faults text Lenient) (problem_faults text Strict)
+problem_adds : (text : PlainText) → StrictAdds is_strict_of_problem text.fault (problem_faults text Lenient) (problem_faults text Strict)
 unfolding problem_faults
 problem_adds text =
     let each = with_earlier [] text.stanzas in
-    adds-told E14 text.fault _ _
-    (Adds-append E14 _ _ (requestless_faults text) (requestless_faults text)
-    (Adds-append E14 (option_to_list text.fault) (option_to_list text.fault) (flat_map (stanza_faults Lenient) each) (flat_map (stanza_faults Strict) each)
-    (Adds-same E14 _) (Adds-flat_map E14 (stanza_faults Lenient) (stanza_faults Strict) stanza_adds each)) (Adds-same E14 _))
+    let K : Kind → Bool = is_strict_of_problem in
+    adds-told K text.fault _ _
+    (Adds-append K _ _ (requestless_faults text) (requestless_faults text)
+    (Adds-append K (option_to_list text.fault) (option_to_list text.fault) (flat_map (stanza_faults Lenient) each) (flat_map (stanza_faults Strict) each)
+    (Adds-same K _) (Adds-flat_map K (stanza_faults Lenient) (stanza_faults Strict) stanza_adds each)) (Adds-same K _))
     (both_told text.fault _ _ (both_told text.fault _ _ (line_told text.fault) (told-flat_map text.fault (stanza_faults Lenient) (stanza_told text.fault) each))
     (told_if text.fault E13 refl (not (list_any is_request text.stanzas)) (max 1 text.lines)))
 
 -- a pair that stands again, where none counts
-pairs_add : (xs : List (List PlainStanza × PlainStanza)) → Adds E15 [] (flat_map repeated_pair_faults xs)
-pairs_add [] = Adds-same E15 []
+pairs_add : (xs : List (List PlainStanza × PlainStanza)) → Adds is_strict_of_solution [] (flat_map repeated_pair_faults xs)
+pairs_add [] = Adds-same is_strict_of_solution []
 pairs_add ((before, s) ∷ xs) =
-    Adds-append E15 [] (repeated_pair_faults (before, s)) [] (flat_map repeated_pair_faults xs)
-    (Adds-kind E15 (is_known (filter_map id_of before) (id_of s)) (line_of (version_property s))) (pairs_add xs)
+    Adds-append is_strict_of_solution [] (repeated_pair_faults (before, s)) [] (flat_map repeated_pair_faults xs)
+    (Adds-kind is_strict_of_solution E15 refl (is_known (filter_map id_of before) (id_of s)) (line_of (version_property s))) (pairs_add xs)
 
-solution_adds : (text : PlainText) → StrictAdds E15 text.fault (solution_faults text Lenient) (solution_faults text Strict)
+solution_stanza_adds : (s : PlainStanza) → Adds is_strict_of_solution (solution_stanza_faults Lenient s) (solution_stanza_faults Strict s)
+solution_stanza_adds s =
+    Adds-append is_strict_of_solution _ _ [] (misplaced_faults Strict (solution_misplaces (postmark s)) s.properties)
+    (Adds-same is_strict_of_solution (unmarked_faults s ++ values_faults (postmark s) s.properties ++ unversioned_faults s))
+    (Adds-misplaced is_strict_of_solution refl (solution_misplaces (postmark s)) s.properties)
+
+solution_adds : (text : PlainText) → StrictAdds is_strict_of_solution text.fault (solution_faults text Lenient) (solution_faults text Strict)
 unfolding solution_faults
 solution_adds text =
-    let stanzas = flat_map solution_stanza_faults text.stanzas in
-    adds-told E15 text.fault _ _
-    (Adds-append E15 _ _ stanzas stanzas
-    (Adds-append E15 [] (repeated_pairs_faults Strict text.stanzas) (option_to_list text.fault) (option_to_list text.fault)
-    (pairs_add (with_earlier [] text.stanzas)) (Adds-same E15 _)) (Adds-same E15 _))
-    (both_told text.fault _ _ (line_told text.fault) (told-flat_map text.fault solution_stanza_faults (solution_stanza_told text.fault) text.stanzas))
+    let K : Kind → Bool = is_strict_of_solution in
+    adds-told K text.fault _ _
+    (Adds-append K _ _ (flat_map (solution_stanza_faults Lenient) text.stanzas) (flat_map (solution_stanza_faults Strict) text.stanzas)
+    (Adds-append K [] (repeated_pairs_faults Strict text.stanzas) (option_to_list text.fault) (option_to_list text.fault)
+    (pairs_add (with_earlier [] text.stanzas)) (Adds-same K _))
+    (Adds-flat_map K (solution_stanza_faults Lenient) (solution_stanza_faults Strict) solution_stanza_adds text.stanzas))
+    (both_told text.fault _ _ (line_told text.fault) (told-flat_map text.fault (solution_stanza_faults Lenient) (solution_stanza_told text.fault) text.stanzas))
 
-pub strict_adds_one_kind : StrictAddsOneKind
-strict_adds_one_kind text = (problem_adds text, solution_adds text)
+pub strict_adds_two_kinds : StrictAddsTwoKinds
+strict_adds_two_kinds text = (problem_adds text, solution_adds text)

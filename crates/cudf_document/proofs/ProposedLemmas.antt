@@ -1,7 +1,6 @@
 -- What a solution proposes, one stanza after the other, and once they are read.
 use Rattle.std.proofs.Common.{◌≡◌, ℕ, suc, ◌+◌, List, [], ◌∷◌, ◌++◌, map, length, filter_map, Option, Some, None, option_map, option_to_list, refl, sym, ap, subst, ◌∙◌, arith}
 use Rattle.std.proofs.lemmas.List.{append_assoc, append-nil, length_push}
-use Rattle.std.proofs.lemmas.List.Concat.{flat_map-append}
 use Rattle.std.proofs.lemmas.List.Elements.{filter_map-append}
 use Rattle.std.specs.List.{flat_map, enumerate_from, cons_option}
 use Rattle.cudf_text.specs.declared.fault.Fault.{Fault}
@@ -17,7 +16,7 @@ use Rattle.cudf_problem.specs.Statuses.{installed_id, installed_ids}
 use Rattle.cudf_document.specs.Working.Pairs.{ArePairs}
 use Rattle.cudf_document.specs.Working.Placed.{pair_of}
 use Rattle.cudf_document.specs.Working.Proposed.{IsRead, GoesOn}
-use Rattle.cudf_document.proofs.FaultLemmas.{least-append}
+use Rattle.cudf_document.proofs.FaultLemmas.{least-append, faults-push}
 use Rattle.cudf_problem.proofs.ListLemmas.{as_list}
 
 -- ---- stanzas that install a pair
@@ -49,16 +48,14 @@ installed_pairs n (s ∷ stanzas) = by (installed_id s) (installed_pairs (n + 1)
 
 pub IsRead-next : (mode : Mode) (old new : Reader) (seen : List PlainStanza) (s : PlainStanza) (fault : Option Fault) (id : Option Id)
     → IsRead mode seen old
-    → ArePairs mode (seen ++ s ∷ []) new.pairs → fault ≡ least (solution_stanza_faults s) → new.first ≡ lesser old.first fault → id ≡ installed_id s → new.number ≡ old.number + 1
+    → ArePairs mode (seen ++ s ∷ []) new.pairs → fault ≡ least (solution_stanza_faults old.pairs.mode s) → new.first ≡ lesser old.first fault → id ≡ installed_id s → new.number ≡ old.number + 1
     → map unknown_view new.installed.items ≡ map unknown_view old.installed.items ++ option_to_list (option_map (installed_with new.number s.line) id)
     → IsRead mode (seen ++ s ∷ []) new
 IsRead-next mode old new seen s fault id so_far pairs_are fault_is lesser_is id_is number_is installed_is =
     let next : new.number ≡ 1 + length seen = let e = so_far.number_is in omega (arith, e, number_is) in
     record {
-      first_is = lesser_is ∙ (λ i. lesser (so_far.first_is i) (fault_is i))
-          ∙ sym (least-append (flat_map solution_stanza_faults seen) (solution_stanza_faults s))
-          ∙ ap (λ fs. least (flat_map solution_stanza_faults seen ++ fs)) (sym (append-nil (solution_stanza_faults s)))
-          ∙ ap least (sym (flat_map-append solution_stanza_faults seen (s ∷ [])));
+      first_is = lesser_is ∙ faults-push (solution_stanza_faults mode) seen s old.first fault so_far.first_is
+          (fault_is ∙ ap (λ m. least (solution_stanza_faults m s)) so_far.pairs_are.mode_is);
       pairs_are = pairs_are;
       number_is = let m = length_push seen s in omega (arith, next, m);
       installed_are = installed_is
@@ -82,7 +79,7 @@ solution_least mode text r fault fault_is read =
     pair_faults = repeated_pairs_faults mode text.stanzas
 
     stanza_faults : List Fault
-    stanza_faults = flat_map solution_stanza_faults text.stanzas
+    stanza_faults = flat_map (solution_stanza_faults mode) text.stanzas
 
     by : (f : Option Fault) → lesser f (least stanza_faults) ≡ least (option_to_list f ++ stanza_faults)
     by None = refl

@@ -18,7 +18,7 @@ use Rattle.cudf_problem.specs.Documents.{is_empty, with_earlier, postmark, is_re
 use Rattle.cudf_problem.specs.Ids.{is_id, id_of}
 use Rattle.cudf_problem.specs.Preamble.{declared}
 use Rattle.cudf_problem.specs.Promises.Packages.{is_preamble, packages_in}
-use Rattle.cudf_document.specs.ProblemFaults.{required_names, stanza_faults}
+use Rattle.cudf_document.specs.ProblemFaults.{required_names, problem_misplaces, misplaced_faults, stanza_faults}
 use Rattle.cudf_document.specs.Working.Judging.{request_in, placed_faults, properties_faults}
 use Rattle.cudf_problem.specs.Universe.{package_id}
 use Rattle.cudf_document.specs.Working.ProblemBuilders.{PlainBuilder, with_stanza, faults_inside, IsBuilt, first_ids}
@@ -44,21 +44,23 @@ ids_inside : (mark : Option Postmark) (is_first : Bool) (k : Walk) (before : Lis
 ids_inside (Some Package) is_first k before s = refl
 ids_inside _ is_first k before s = refl
 
-pub IsKnown-next : (mode : Mode) (required : List (List ℕ)) (old new : Walk) (before : List PlainStanza) (s : PlainStanza) (mark : Option Postmark) (is_first : Bool) (place inside : Option Fault)
+pub IsKnown-next : (mode : Mode) (required : List (List ℕ)) (old new : Walk) (before : List PlainStanza) (s : PlainStanza) (mark : Option Postmark) (is_first : Bool) (place inside stray : Option Fault)
     → is_first ≡ is_empty before → old.declarations ≡ declared before → required ≡ required_names mode (declared before) → IsKnown mode old before → mark ≡ postmark s
     → place ≡ least (placed_faults is_first old.requested mark s.line) → inside ≡ least (judged_faults mark required old.declarations old.ids s)
-    → new.first ≡ lesser old.first (option_or place inside) → new.ids ≡ judged_ids mark old.ids s → new.requested ≡ (marks_request mark || old.requested)
+    → stray ≡ least (misplaced_faults mode (problem_misplaces mark) s.properties)
+    → new.first ≡ lesser old.first (option_or place (lesser inside stray)) → new.ids ≡ judged_ids mark old.ids s → new.requested ≡ (marks_request mark || old.requested)
     → IsKnown mode new (before ++ s ∷ [])
-IsKnown-next mode required old new before s mark is_first place inside first ds required_are so_far marked place_is inside_is first_is ids_are requested =
+IsKnown-next mode required old new before s mark is_first place inside stray first ds required_are so_far marked place_is inside_is stray_is first_is ids_are requested =
     let g = as_builder old before in
     let builder = is_built mode old before so_far ds in
     let was = requested_is g before builder in
     record {
-      first_is = first_is ∙ faults-next (stanza_faults mode) before s old.first (option_or place inside) so_far.first_is
-          (stanza_least g before s builder mode mark is_first place inside (sym marked) first
+      first_is = first_is ∙ faults-next (stanza_faults mode) before s old.first (option_or place (lesser inside stray)) so_far.first_is
+          (stanza_least g before s builder mode mark is_first place inside stray (sym marked) first
           (place_is ∙ ap (λ late. least (placed_faults is_first late mark s.line)) (so_far.requested_is ∙ sym was))
           (inside_is ∙ ap (λ names. least (judged_faults mark names old.declarations old.ids s)) required_are
-          ∙ ap least (judged_inside mark (required_names mode (declared before)) old before s)));
+          ∙ ap least (judged_inside mark (required_names mode (declared before)) old before s))
+          stray_is);
       ids_are = λ id.
           ap (λ l. list_any (is_id id) l) (ids_are ∙ ids_inside mark is_first old before s)
           ∙ (IsBuilt-next g before s builder mark is_first (sym marked) first).ids_are id;
@@ -82,13 +84,21 @@ preamble_mark : (mark : Option Postmark) → marks_preamble mark ≡ true → ma
 preamble_mark (Some Preamble) h = refl
 preamble_mark _ h = absurd cc
 
-pub IsKnown-preamble : (mode : Mode) (old new : Walk) (s : PlainStanza) → is_preamble s ≡ true → old.declarations ≡ [] → IsKnown mode old []
-    → new.first ≡ lesser old.first (least (properties_faults [] (Some Preamble) s.properties)) → new.ids ≡ old.ids → new.requested ≡ old.requested
+IsKnown-preamble : (mode : Mode) (old new : Walk) (s : PlainStanza) → is_preamble s ≡ true → old.declarations ≡ [] → IsKnown mode old []
+    → new.first ≡ lesser old.first (lesser (least (properties_faults [] (Some Preamble) s.properties)) (least (misplaced_faults mode (problem_misplaces (Some Preamble)) s.properties)))
+    → new.ids ≡ old.ids → new.requested ≡ old.requested
     → IsKnown mode new (s ∷ [])
 IsKnown-preamble mode old new s marked ds so_far first ids requested =
-    IsKnown-next mode [] old new [] s (Some Preamble) true None (least (properties_faults [] (Some Preamble) s.properties)) refl ds (required_none mode) so_far
+    IsKnown-next mode [] old new [] s (Some Preamble) true None (least (properties_faults [] (Some Preamble) s.properties))
+    (least (misplaced_faults mode (problem_misplaces (Some Preamble)) s.properties)) refl ds (required_none mode) so_far
     (sym (preamble_mark (postmark s) marked))
-    (ap (λ late. least (placed_faults true late (Some Preamble) s.line)) (sym so_far.requested_is)) refl first ids requested
+    (ap (λ late. least (placed_faults true late (Some Preamble) s.line)) (sym so_far.requested_is)) refl refl first ids requested
+
+pub IsKnown-head : {A E : Type 0} (r : Result A E) (mode : Mode) (old new : Walk) (s : PlainStanza) → is_preamble s ≡ true → old.declarations ≡ [] → IsKnown mode old []
+    → OnOk r (new.first ≡ lesser old.first (lesser (least (properties_faults [] (Some Preamble) s.properties)) (least (misplaced_faults mode (problem_misplaces (Some Preamble)) s.properties))))
+    → OnOk r (new.ids ≡ old.ids) → OnOk r (new.requested ≡ old.requested) → OnOk r (IsKnown mode new (s ∷ []))
+IsKnown-head (Ok v) mode old new s marked ds so_far first ids requested = IsKnown-preamble mode old new s marked ds so_far first ids requested
+IsKnown-head (Err e) mode old new s marked ds so_far first ids requested = tt
 
 -- where there is no fault now, there was none before
 pub none_before : (x y : Option Fault) → lesser x y ≡ None → x ≡ None

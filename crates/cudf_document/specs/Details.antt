@@ -5,7 +5,7 @@ use Rattle.std.specs.Option.{option_map_or}
 use Rattle.cudf_text.specs.Chars.{trim}
 use Rattle.cudf_text.specs.declared.fault.Fault.{Fault}
 use Rattle.cudf_text.specs.declared.fault.Kind.{Kind}
-use Rattle.cudf_text.specs.declared.fault.Kind.TheVariants.{E4, E6, E7, E8, E9, E10, E11, E14, E15}
+use Rattle.cudf_text.specs.declared.fault.Kind.TheVariants.{E4, E6, E7, E8, E9, E10, E11, E14, E15, E16}
 use Rattle.cudf_text.specs.Stanzas.{PlainProperty, PlainStanza, PlainText}
 use Rattle.cudf_value.specs.Parts.{look_up}
 use Rattle.cudf_value.specs.Misfits.{type_word, misfit}
@@ -37,6 +37,8 @@ pub data PlainDetail : Type 0 where
   package_on : List ℕ → ℕ → ℕ → PlainDetail
   -- the first name that a package has to have, and lacks
   lacking : List ℕ → PlainDetail
+  -- a name that has no meaning where it stands
+  misplaced : List ℕ → PlainDetail
 
 -- ---- where the fault is
 
@@ -116,6 +118,7 @@ property_detail E7 (before, s) (earlier, p) = repeated_detail s p
 property_detail E8 (before, s) (earlier, p) = Some (undeclared p.name)
 property_detail E9 (before, s) (earlier, p) = mistyped_detail before s p
 property_detail E10 (before, s) (earlier, p) = misdeclared_detail earlier p
+property_detail E16 (before, s) (earlier, p) = Some (misplaced p.name)
 property_detail kind q r = None
 
 -- ---- and of a fault

@@ -1,23 +1,23 @@
 -- What is wrong with a problem: a definition for each kind of fault, with its line (own). The rules that they break are
 -- those of CUDF 2.0, syntax of documents and of stanzas, the preamble, package and request properties; that a property has
 -- to be declared, and that some names can't be, is own.
-use Rattle.std.specs.Prelude.{ℕ, Bool, false, not, ◌&&◌, max, List, [], ◌++◌, map, is_none, Option, Some, find, filter_map, option_to_list, if◌then◌else◌, bytes_eq, codes}
+use Rattle.std.specs.Prelude.{ℕ, Bool, false, not, ◌&&◌, max, List, [], ◌∷◌, ◌++◌, map, is_none, Option, Some, find, filter_map, option_to_list, if◌then◌else◌, bytes_eq, codes}
 use Rattle.std.specs.List.{list_any, flat_map}
 use Rattle.std.specs.Option.{option_map_or}
 use Rattle.cudf_text.specs.declared.fault.Fault.{Fault}
-use Rattle.cudf_text.specs.declared.fault.Kind.TheVariants.{E4, E5, E6, E7, E8, E9, E10, E11, E12, E13, E14}
+use Rattle.cudf_text.specs.declared.fault.Kind.TheVariants.{E4, E5, E6, E7, E8, E9, E10, E11, E12, E13, E14, E16}
 use Rattle.cudf_text.specs.Stanzas.{PlainProperty, PlainStanza, PlainText}
 use Rattle.cudf_value.specs.Parts.{some_if, look_up}
 use Rattle.cudf_value.specs.Declarations.{PlainDeclaration}
 use Rattle.cudf_problem.specs.declared.mode.Mode.{Mode}
 use Rattle.cudf_problem.specs.declared.mode.Mode.TheVariants.{Lenient, Strict}
 use Rattle.cudf_problem.specs.declared.postmark.Postmark.{Postmark}
-use Rattle.cudf_problem.specs.declared.postmark.Postmark.TheVariants.{Package, Request}
+use Rattle.cudf_problem.specs.declared.postmark.Postmark.TheVariants.{Preamble, Package, Request}
 use Rattle.cudf_document.specs.Faults.{fault_if}
 use Rattle.cudf_problem.specs.Documents.{is_empty, with_earlier, postmark, marks_preamble, marks_package, is_request, has_name, line_of}
 use Rattle.cudf_problem.specs.Ids.{Id, id_of, is_known}
 use Rattle.cudf_problem.specs.Values.{Test, package_tests, request_tests, declared_test}
-use Rattle.cudf_problem.specs.Preamble.{declared_by, declared_after, declared}
+use Rattle.cudf_problem.specs.Preamble.{reserved_names, declared_by, declared_after, declared}
 
 -- ---- where a stanza stands
 
@@ -102,6 +102,27 @@ lacks_one names ps = list_any (λ name. not (list_any (has_name name) ps)) names
 abbrev pub missing_faults : List (List ℕ) → PlainStanza → List Fault
 missing_faults required s = fault_if (lacks_one required s.properties && marks_package (postmark s)) s.last E14
 
+-- ---- strictly, what has no meaning where it stands
+
+-- a reserved name, other than this one
+abbrev pub is_reserved_but : List ℕ → List ℕ → Bool
+is_reserved_but own name = list_any (bytes_eq name) reserved_names && not (bytes_eq name own)
+
+-- the names that the properties of a request may have
+abbrev pub request_names : List (List ℕ)
+request_names = codes "request" ∷ codes "install" ∷ codes "remove" ∷ codes "upgrade" ∷ []
+
+-- the names that have no meaning in a stanza of a problem: in a preamble the reserved ones but its own, in a request all but these
+abbrev pub problem_misplaces : Option Postmark → List ℕ → Bool
+problem_misplaces (Some Preamble) name = is_reserved_but (codes "preamble") name
+problem_misplaces (Some Request) name = not (list_any (bytes_eq name) request_names)
+problem_misplaces _ name = false
+
+-- E16, property out of place: strictly each whose name has no meaning there
+abbrev pub misplaced_faults : Mode → (List ℕ → Bool) → List PlainProperty → List Fault
+misplaced_faults Lenient misplaces ps = []
+misplaced_faults Strict misplaces ps = flat_map (λ p. fault_if (misplaces p.name) p.line E16) ps
+
 -- ---- a stanza after those before it, and a problem
 
 abbrev pub inner_faults : Mode → List PlainStanza → PlainStanza → List Fault
@@ -109,6 +130,7 @@ inner_faults mode before s =
     missing_faults (required_names mode (declared before)) s
     ++ flat_map (property_faults (declared before) (postmark s)) (with_earlier [] s.properties)
     ++ repeated_package_faults (filter_map id_of before) s ++ unversioned_faults s
+    ++ misplaced_faults mode (problem_misplaces (postmark s)) s.properties
 
 -- a stanza in a wrong place has no other fault (own)
 abbrev pub stanza_faults : Mode → List PlainStanza × PlainStanza → List Fault

@@ -1,5 +1,5 @@
 -- What is wrong with a proposed solution (own): of its packages three properties count, and stanzas may stand in any order.
-use Rattle.std.specs.Prelude.{List, [], ◌++◌, ◌&&◌, is_some, Option, filter_map, option_to_list, if◌then◌else◌}
+use Rattle.std.specs.Prelude.{ℕ, Bool, false, List, [], ◌++◌, ◌&&◌, is_some, Option, Some, filter_map, option_to_list, if◌then◌else◌, codes}
 use Rattle.std.specs.List.{flat_map}
 use Rattle.cudf_text.specs.declared.fault.Fault.{Fault}
 use Rattle.cudf_text.specs.declared.fault.Kind.TheVariants.{E7, E15}
@@ -8,11 +8,12 @@ use Rattle.cudf_value.specs.Parts.{look_up}
 use Rattle.cudf_problem.specs.declared.mode.Mode.{Mode}
 use Rattle.cudf_problem.specs.declared.mode.Mode.TheVariants.{Lenient, Strict}
 use Rattle.cudf_problem.specs.declared.postmark.Postmark.{Postmark}
+use Rattle.cudf_problem.specs.declared.postmark.Postmark.TheVariants.{Preamble, Request}
 use Rattle.cudf_document.specs.Faults.{fault_if}
 use Rattle.cudf_problem.specs.Documents.{with_earlier, postmark, marks_package, line_of}
 use Rattle.cudf_problem.specs.Ids.{id_of, is_known}
 use Rattle.cudf_problem.specs.Values.{solution_tests}
-use Rattle.cudf_document.specs.ProblemFaults.{unmarked_faults, repeats, mistyped_faults, unversioned_faults, version_property}
+use Rattle.cudf_document.specs.ProblemFaults.{unmarked_faults, repeats, mistyped_faults, unversioned_faults, version_property, is_reserved_but, misplaced_faults}
 
 -- the faults of a property after those before it: E7, where its name counts, and E9
 abbrev pub value_faults : List PlainProperty × PlainProperty → List Fault
@@ -22,9 +23,17 @@ value_faults (before, p) = fault_if (repeats before p && is_some (look_up p.name
 abbrev pub values_faults : Option Postmark → List PlainProperty → List Fault
 values_faults mark ps = if marks_package mark then flat_map value_faults (with_earlier [] ps) else []
 
--- a stanza's faults: E4, E7 and E9, and E12
-abbrev pub solution_stanza_faults : PlainStanza → List Fault
-solution_stanza_faults s = unmarked_faults s ++ values_faults (postmark s) s.properties ++ unversioned_faults s
+-- the names that have no meaning in a stanza of a solution: in a preamble or a request the reserved ones but its own
+abbrev pub solution_misplaces : Option Postmark → List ℕ → Bool
+solution_misplaces (Some Preamble) name = is_reserved_but (codes "preamble") name
+solution_misplaces (Some Request) name = is_reserved_but (codes "request") name
+solution_misplaces _ name = false
+
+-- a stanza's faults: E4, E7 and E9, E12, and strictly E16
+abbrev pub solution_stanza_faults : Mode → PlainStanza → List Fault
+solution_stanza_faults mode s =
+    unmarked_faults s ++ values_faults (postmark s) s.properties ++ unversioned_faults s
+    ++ misplaced_faults mode (solution_misplaces (postmark s)) s.properties
 
 -- E15, pair repeated: an earlier package has this name and version, whether or not they are installed
 abbrev pub repeated_pair_faults : List PlainStanza × PlainStanza → List Fault
@@ -37,4 +46,4 @@ repeated_pairs_faults Strict ss = flat_map repeated_pair_faults (with_earlier []
 
 -- the faults of a solution, in no order; the fault of a line is E2 or E3
 unfoldable pub solution_faults : PlainText → Mode → List Fault
-solution_faults text mode = repeated_pairs_faults mode text.stanzas ++ option_to_list text.fault ++ flat_map solution_stanza_faults text.stanzas
+solution_faults text mode = repeated_pairs_faults mode text.stanzas ++ option_to_list text.fault ++ flat_map (solution_stanza_faults mode) text.stanzas

@@ -2,6 +2,7 @@ pub mod Details
 pub mod Enums
 pub mod Identities
 pub mod Kept
+pub mod Misplaced
 pub mod Pairs
 pub mod PackageFields
 pub mod Placed

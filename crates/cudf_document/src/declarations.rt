@@ -268,7 +268,7 @@ fn both(one: bool, other: bool) -> bool
 }
 
 /// Whether the name can't be declared.
-fn is_reserved(name: &str) -> bool
+pub(crate) fn is_reserved(name: &str) -> bool
     ensures { result ≡ list_any (bytes_eq name.now) reserved_names }
 {
     matches!(

@@ -50,4 +50,8 @@ pub enum Detail<'t> {
     Lacking {
         name: &'t str,
     },
+    /// Of E16: the name that has no meaning in its stanza.
+    Misplaced {
+        name: &'t str,
+    },
 }

@@ -1,5 +1,5 @@
 //! What follows from the definitions alone. Each law is the contract of a function without effect.
-ghost use Rattle.cudf_document.specs.Promises.Laws.{LeastIsFirst, FaultlessIsSound, StrictAddsOneKind};
+ghost use Rattle.cudf_document.specs.Promises.Laws.{LeastIsFirst, FaultlessIsSound, StrictAddsTwoKinds};
 
 /// The fault that a reader answers is one of the document's faults and precedes every other one,
 /// and no other fault does.
@@ -13,9 +13,9 @@ pub fn sound()
     ensures { FaultlessIsSound }
 {}
 
-/// Strictly a problem has the faults that it has leniently and some of kind E14, a solution those and
-/// some of kind E15; leniently no stanza has a fault of these kinds. So a document that has no fault
-/// strictly has none leniently.
+/// Strictly a problem has the faults that it has leniently and some of the kinds E14 and E16, a solution
+/// those and some of the kinds E15 and E16; leniently no stanza has a fault of these kinds. So a document
+/// that has no fault strictly has none leniently.
 pub fn lenient()
-    ensures { StrictAddsOneKind }
+    ensures { StrictAddsTwoKinds }
 {}

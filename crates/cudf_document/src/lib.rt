@@ -7,6 +7,7 @@ mod details;
 mod error;
 mod fault;
 pub mod laws;
+mod misplaced;
 mod names;
 mod package;
 mod postmark;

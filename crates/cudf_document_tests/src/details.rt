@@ -76,7 +76,7 @@ const STANZAS: [DetailRow; 9] = [
     ),
 ];
 
-const PROPERTIES: [DetailRow; 20] = [
+const PROPERTIES: [DetailRow; 24] = [
     (
         "package: a\nversion: 1\nversion: 1\n\nrequest:\n",
         3,
@@ -192,10 +192,34 @@ const PROPERTIES: [DetailRow; 20] = [
         "None",
     ),
     ("preamble:\nproperty: e: enum[a, b\n", 2, Kind::E10, "None"),
+    (
+        "request: r\ninstall: a,\n b\ninstal: c\n",
+        4,
+        Kind::E16,
+        "Some(Misplaced { name: \"instal\" })",
+    ),
+    (
+        "request: r\n\npackage: a\nversion: 1\n\npreamble:\nrequest: s\n",
+        7,
+        Kind::E16,
+        "Some(Misplaced { name: \"request\" })",
+    ),
+    (
+        "package: a\nversion: 1\npackage: b\n",
+        3,
+        Kind::E7,
+        "Some(NameOn { name: \"package\", line: 1 })",
+    ),
+    (
+        "package: a\nversion: 1\npreamble:\n",
+        3,
+        Kind::E8,
+        "Some(Undeclared { name: \"preamble\" })",
+    ),
 ];
 
 /// Kinds of which nothing is told, and faults that the document hasn't.
-const NOTHING: [DetailRow; 13] = [
+const NOTHING: [DetailRow; 14] = [
     (DECLARED, 9, Kind::E14, "None"),
     ("request r\n", 1, Kind::E1, "None"),
     ("request r\n", 1, Kind::E2, "None"),
@@ -219,6 +243,7 @@ const NOTHING: [DetailRow; 13] = [
     ),
     ("package: a\nversion: 1\n", 2, Kind::E11, "None"),
     ("package: a\nversion: 1\n", 2, Kind::E14, "None"),
+    ("request: r\n# x\ninstal: a\n", 2, Kind::E16, "None"),
 ];
 
 /// Whether this is said beside the row's fault.

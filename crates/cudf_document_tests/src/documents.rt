@@ -2,7 +2,8 @@
 //! errors.
 use crate::table::{prints, shows};
 use cudf_document::{
-    Mode, Problem, ReadError, Solution, Unknown, first_fault, initial, read_problem, read_solution,
+    Mode, Problem, Proposed, ReadError, Solution, Unknown, first_fault, initial, proposed_of,
+    read_problem, read_solution,
 };
 use cudf_text::{Fault, Kind, Room, Text, is_fail, read, stanzas};
 use std::alloc::{AllocError, Global};
@@ -87,6 +88,191 @@ const STRICT: [FaultRow; 2] = [
 fn strict_faults(rt: HostRuntime) {
     for row in &STRICT {
         assert!(rt; finds(rt.alloc(), Mode::Strict, row), "{}", row.0);
+    }
+}
+
+/// A line and a kind, where there is a fault.
+type Found = Option<(u64, Kind)>;
+
+/// A source, its first fault where the mode is strict, and where it isn't.
+type ModesRow = (&'static str, Found, Found);
+
+const MISPLACED: [ModesRow; 14] = [
+    // in the request all but its own and its lists
+    (
+        "package: a\nversion: 1\n\nrequest: r\ninstal: a\n",
+        Some((5, Kind::E16)),
+        None,
+    ),
+    (
+        "request: r\npackage: a\nversion: 1\n",
+        Some((2, Kind::E16)),
+        None,
+    ),
+    (
+        "request: r\nrequest: s\n",
+        Some((2, Kind::E7)),
+        Some((2, Kind::E7)),
+    ),
+    ("request: r\ninstall:\nremove:\nupgrade:\n", None, None),
+    // in a preamble the reserved names, but its own
+    (
+        "preamble:\nversion: 1\n\nrequest:\n",
+        Some((2, Kind::E16)),
+        None,
+    ),
+    (
+        "preamble:\npreamble: x\n\nrequest:\n",
+        Some((2, Kind::E7)),
+        Some((2, Kind::E7)),
+    ),
+    (
+        "preamble:\nproperty: a: int = [1]\n\nrequest:\n",
+        None,
+        None,
+    ),
+    ("preamble:\nmaker: x\ninstall: a\n\nrequest:\n", None, None),
+    // beside others
+    (
+        "request: r\nnote: x\nnote: y\n",
+        Some((2, Kind::E16)),
+        Some((3, Kind::E7)),
+    ),
+    (
+        "request: r\ninstall: a b\ninstal: a\n",
+        Some((2, Kind::E9)),
+        Some((2, Kind::E9)),
+    ),
+    (
+        "request: r\ninstal: a\ninstall: a b\n",
+        Some((2, Kind::E16)),
+        Some((3, Kind::E9)),
+    ),
+    (
+        "preamble:\nversion: 1\n",
+        Some((2, Kind::E13)),
+        Some((2, Kind::E13)),
+    ),
+    // in a wrong place, and in a package
+    (
+        "request:\n\nrequest:\ninstal: a\n",
+        Some((3, Kind::E6)),
+        Some((3, Kind::E6)),
+    ),
+    (
+        "package: a\nversion: 1\nrequest: r\n",
+        Some((3, Kind::E8)),
+        Some((3, Kind::E8)),
+    ),
+];
+
+fn on(found: Found) -> Option<Fault> {
+    match found {
+        Some((line, kind)) => Some(Fault { line, kind }),
+        None => None,
+    }
+}
+
+/// Whether this is the first fault in this mode.
+fn finds_in(alloc: Global, mode: Mode, source: &str, want: Found) -> bool {
+    let mut room = Room::new(alloc);
+    match stanzas(alloc, source.as_bytes(), &mut room) {
+        Ok(stanzas) => match first_fault(alloc, stanzas, mode) {
+            Ok(fault) => fault == on(want),
+            Err(_) => false,
+        },
+        Err(_) => false,
+    }
+}
+
+#[test]
+fn misplaced(rt: HostRuntime) {
+    for row in &MISPLACED {
+        assert!(rt;
+            finds_in(rt.alloc(), Mode::Strict, row.0, row.1),
+            "{}",
+            row.0
+        );
+        assert!(rt;
+            finds_in(rt.alloc(), Mode::Lenient, row.0, row.2),
+            "{}",
+            row.0
+        );
+    }
+}
+
+/// The same of solutions.
+const MISPLACED_IN_SOLUTIONS: [ModesRow; 8] = [
+    (
+        "preamble:\nversion: 1\n\npackage: a\nversion: 1\n",
+        Some((2, Kind::E16)),
+        None,
+    ),
+    (
+        "request: r\npackage: a\nversion: 1\n",
+        Some((2, Kind::E16)),
+        None,
+    ),
+    (
+        "request: r\ninstall: a\npreamble: x\n",
+        Some((3, Kind::E16)),
+        None,
+    ),
+    (
+        "preamble:\npreamble: x\n\nrequest: r\nrequest: s\n",
+        None,
+        None,
+    ),
+    (
+        "preamble:\nproperty: ?\nmaker: x\n\nrequest: r\ninstal: a\n",
+        None,
+        None,
+    ),
+    (
+        "package: a\nversion: 1\nrequest: r\npreamble: x\n",
+        None,
+        None,
+    ),
+    (
+        "request: r\nversion: 1\n\npackage: a\nversion: 0\n",
+        Some((2, Kind::E16)),
+        Some((5, Kind::E9)),
+    ),
+    (
+        "maker: x\npackage: a\n",
+        Some((1, Kind::E4)),
+        Some((1, Kind::E4)),
+    ),
+];
+
+fn proposes(alloc: Global, mode: Mode, source: &str, want: Found) -> bool {
+    let mut room = Room::new(alloc);
+    match stanzas(alloc, source.as_bytes(), &mut room) {
+        Ok(stanzas) => fault_in(proposed_of(alloc, stanzas, mode)) == on(want),
+        Err(_) => false,
+    }
+}
+
+fn fault_in(proposed: Result<Proposed<'_>, ReadError>) -> Option<Fault> {
+    match proposed {
+        Err(ReadError::Fault(fault)) => Some(fault),
+        _ => None,
+    }
+}
+
+#[test]
+fn misplaced_in_solutions(rt: HostRuntime) {
+    for row in &MISPLACED_IN_SOLUTIONS {
+        assert!(rt;
+            proposes(rt.alloc(), Mode::Strict, row.0, row.1),
+            "{}",
+            row.0
+        );
+        assert!(rt;
+            proposes(rt.alloc(), Mode::Lenient, row.0, row.2),
+            "{}",
+            row.0
+        );
     }
 }
 

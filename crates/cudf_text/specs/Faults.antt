@@ -1,7 +1,7 @@
 -- The kinds of faults: their numbers and their texts (own).
 use Rattle.std.specs.Prelude.{ℕ, List, codes}
 use Rattle.cudf_text.specs.declared.fault.Kind.{Kind}
-use Rattle.cudf_text.specs.declared.fault.Kind.TheVariants.{E1, E2, E3, E4, E5, E6, E7, E8, E9, E10, E11, E12, E13, E14, E15}
+use Rattle.cudf_text.specs.declared.fault.Kind.TheVariants.{E1, E2, E3, E4, E5, E6, E7, E8, E9, E10, E11, E12, E13, E14, E15, E16}
 
 -- each kind's number, and its text: its name and what is wrong
 abbrev pub described : Kind → ℕ × List ℕ
@@ -20,6 +20,7 @@ described E12 = (12, codes "E12 no version")
 described E13 = (13, codes "E13 no request")
 described E14 = (14, codes "E14 declared property missing")
 described E15 = (15, codes "E15 pair repeated")
+described E16 = (16, codes "E16 property out of place")
 
 abbrev pub fault_text : Kind → List ℕ
 fault_text kind = (described kind).1

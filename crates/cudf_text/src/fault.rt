@@ -36,6 +36,8 @@ pub enum Kind {
     E14,
     /// Strictly, a package of a solution with the name and version of an earlier one.
     E15,
+    /// Strictly, a property whose name has no meaning in its stanza.
+    E16,
 }
 
 impl Kind {
@@ -59,6 +61,7 @@ impl Kind {
             Kind::E13 => "E13 no request",
             Kind::E14 => "E14 declared property missing",
             Kind::E15 => "E15 pair repeated",
+            Kind::E16 => "E16 property out of place",
         }
     }
 }

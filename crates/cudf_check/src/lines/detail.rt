@@ -1,8 +1,9 @@
 //! Prints what a document says beside its first fault.
-ghost use Rattle.std.specs.Prelude.{◌++◌, codes, decimal, option_map};
-ghost use Rattle.cudf_document.specs.Details.{mistyped};
+ghost use Rattle.std.specs.Prelude.{◌≡◌, ◌++◌, codes, decimal, option_map, is_some};
+ghost use Rattle.cudf_document.specs.Details.{name_on, undeclared, mistyped};
+ghost use Rattle.cudf_problem.specs.Documents.{postmark_named};
 ghost use Rattle.cudf_document.specs.Promises.Views.{detail_view};
-ghost use Rattle.cudf_check.specs.Explanations.{detail_added, detail_text};
+ghost use Rattle.cudf_check.specs.Explanations.{unparted_added, misplaced_text, detail_added, detail_text};
 ghost use Rattle.cudf_check.specs.Working.Paper.{Says};
 
 use crate::device::Sink;
@@ -46,6 +47,50 @@ fn print_package<W: Sink>(paper: &mut Paper<'_, W>, name: &str, version: u64, li
     print_numbered(paper, " stands on line ", line);
 }
 
+/// Whether a stanza can begin with a property of this name.
+fn is_postmark(name: &str) -> bool
+    ensures { result ≡ is_some (postmark_named name.now) }
+{
+    matches!(name, "preamble" | "package" | "request")
+}
+
+/// Prints, behind the name of a postmark, that a stanza may begin with it.
+fn print_unparted<W: Sink>(paper: &mut Paper<'_, W>, name: &str)
+    ensures { Says W.state paper.old paper.new (unparted_added name.now) }
+{
+    if is_postmark(name) {
+        paper.text(", a blank line may be missing before it");
+    }
+}
+
+/// Prints where the first property of a name stands.
+fn print_name_on<W: Sink>(paper: &mut Paper<'_, W>, name: &str, line: u64)
+    ensures { Says W.state paper.old paper.new (detail_text (name_on name.now line)) }
+{
+    paper.text(name);
+    print_numbered(paper, " stands on line ", line);
+    print_unparted(paper, name);
+}
+
+/// Prints that nothing declares a name.
+fn print_undeclared<W: Sink>(paper: &mut Paper<'_, W>, name: &str)
+    ensures { Says W.state paper.old paper.new (detail_text (undeclared name.now)) }
+{
+    print_texts(paper, "nothing declares ", name);
+    print_unparted(paper, name);
+}
+
+/// Prints of which name a property has no meaning, or before which one a blank line is missing.
+fn print_misplaced<W: Sink>(paper: &mut Paper<'_, W>, name: &str)
+    ensures { Says W.state paper.old paper.new (misplaced_text name.now) }
+{
+    if is_postmark(name) {
+        print_texts(paper, "a blank line is missing before ", name);
+    } else {
+        print_texts(paper, name, " has no meaning here");
+    }
+}
+
 /// Prints a detail.
 fn print_detail<W: Sink>(paper: &mut Paper<'_, W>, detail: Detail<'_>)
     ensures { Says W.state paper.old paper.new (detail_text (detail_view detail.entry)) }
@@ -53,11 +98,8 @@ fn print_detail<W: Sink>(paper: &mut Paper<'_, W>, detail: Detail<'_>)
     match detail {
         Detail::BeginsWith { name } => print_texts(paper, "it begins with ", name),
         Detail::RequestOn { line } => print_numbered(paper, "the request stands on line ", line),
-        Detail::NameOn { name, line } => {
-            paper.text(name);
-            print_numbered(paper, " stands on line ", line);
-        }
-        Detail::Undeclared { name } => print_texts(paper, "nothing declares ", name),
+        Detail::NameOn { name, line } => print_name_on(paper, name, line),
+        Detail::Undeclared { name } => print_undeclared(paper, name),
         Detail::Mistyped { name, word, entry } => print_mistyped(paper, name, word, entry),
         Detail::Misdeclared { declaration } => print_numbered(paper, "declaration ", declaration),
         Detail::PackageOn {
@@ -66,6 +108,7 @@ fn print_detail<W: Sink>(paper: &mut Paper<'_, W>, detail: Detail<'_>)
             line,
         } => print_package(paper, name, version, line),
         Detail::Lacking { name } => print_texts(paper, "it lacks ", name),
+        Detail::Misplaced { name } => print_misplaced(paper, name),
     }
 }
 

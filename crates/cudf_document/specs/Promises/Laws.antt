@@ -3,7 +3,7 @@ use Rattle.std.specs.Prelude.{◌≡◌, ◌≢◌, ◌⊎◌, Bool, true, false
 use Rattle.std.specs.List.{list_all}
 use Rattle.cudf_text.specs.declared.fault.Fault.{Fault}
 use Rattle.cudf_text.specs.declared.fault.Kind.{Kind}
-use Rattle.cudf_text.specs.declared.fault.Kind.TheVariants.{E14, E15}
+use Rattle.cudf_text.specs.declared.fault.Kind.TheVariants.{E14, E15, E16}
 use Rattle.cudf_text.specs.Stanzas.{PlainText}
 use Rattle.cudf_problem.specs.declared.mode.Mode.{Mode}
 use Rattle.cudf_problem.specs.declared.mode.Mode.TheVariants.{Lenient, Strict}
@@ -35,21 +35,31 @@ FaultlessIsSound = (text : PlainText) (mode : Mode) → problem_faults text mode
 
 -- ---- modes
 
--- the kinds that are told strictly alone
-abbrev pub is_strict : Kind → Bool
-is_strict E14 = true
-is_strict E15 = true
-is_strict _ = false
+-- the kinds that are told strictly alone, of a problem
+abbrev pub is_strict_of_problem : Kind → Bool
+is_strict_of_problem E14 = true
+is_strict_of_problem E16 = true
+is_strict_of_problem _ = false
 
--- a document's faults in both modes: strictly there are the lenient ones and some of one kind. Leniently none is of a
+-- of a solution
+abbrev pub is_strict_of_solution : Kind → Bool
+is_strict_of_solution E15 = true
+is_strict_of_solution E16 = true
+is_strict_of_solution _ = false
+
+-- and of either
+abbrev pub is_strict : Kind → Bool
+is_strict kind = is_strict_of_problem kind || is_strict_of_solution kind
+
+-- a document's faults in both modes: strictly there are the lenient ones and some of these kinds. Leniently none is of a
 -- kind that is told strictly alone, but for the fault of a line, of which the text itself says what it is
-pub record StrictAdds (kind : Kind) (line : Option Fault) (lenient strict : List Fault) : Type 0 where
+pub record StrictAdds (is_added : Kind → Bool) (line : Option Fault) (lenient strict : List Fault) : Type 0 where
   pub kept : (f : Fault) → Contains lenient f → Contains strict f
-  pub added : (f : Fault) → Contains strict f → Contains lenient f ⊎ (f.kind ≡ kind)
+  pub added : (f : Fault) → Contains strict f → Contains lenient f ⊎ IsTrue (is_added f.kind)
   pub lenient_kinds : (f : Fault) → Contains lenient f → (line ≡ Some f) ⊎ (is_strict f.kind ≡ false)
   pub faultless : strict ≡ [] → lenient ≡ []
 
--- strictly a problem has faults of kind E14 besides, and a solution faults of kind E15
-abbrev pub StrictAddsOneKind : Type 0
-StrictAddsOneKind = (text : PlainText) → StrictAdds E14 text.fault (problem_faults text Lenient) (problem_faults text Strict)
-    × StrictAdds E15 text.fault (solution_faults text Lenient) (solution_faults text Strict)
+-- strictly a problem has faults of the kinds E14 and E16 besides, and a solution faults of the kinds E15 and E16
+abbrev pub StrictAddsTwoKinds : Type 0
+StrictAddsTwoKinds = (text : PlainText) → StrictAdds is_strict_of_problem text.fault (problem_faults text Lenient) (problem_faults text Strict)
+    × StrictAdds is_strict_of_solution text.fault (solution_faults text Lenient) (solution_faults text Strict)

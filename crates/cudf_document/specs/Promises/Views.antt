@@ -1,5 +1,5 @@
 -- What contracts see of details.
-use Rattle.cudf_document.specs.Details.{PlainDetail, begins_with, request_on, name_on, undeclared, mistyped, misdeclared, package_on, lacking}
+use Rattle.cudf_document.specs.Details.{PlainDetail, begins_with, request_on, name_on, undeclared, mistyped, misdeclared, package_on, lacking, misplaced}
 use Rattle.cudf_document.specs.declared.details.Detail.{Detail}
 use Rattle.cudf_document.specs.declared.details.Detail.TheVariants as detail
 
@@ -12,3 +12,4 @@ detail_view (detail.Mistyped name word entry) = mistyped name.now word.now entry
 detail_view (detail.Misdeclared number) = misdeclared number
 detail_view (detail.PackageOn name version line) = package_on name.now version line
 detail_view (detail.Lacking name) = lacking name.now
+detail_view (detail.Misplaced name) = misplaced name.now

@@ -4,7 +4,7 @@ use Rattle.std.specs.List.{list_any}
 use Rattle.std.specs.Option.{option_or}
 use Rattle.cudf_text.specs.Chars.{trim}
 use Rattle.cudf_text.specs.declared.fault.Kind.{Kind}
-use Rattle.cudf_text.specs.declared.fault.Kind.TheVariants.{E4, E6, E7, E8, E9, E10, E11, E14, E15}
+use Rattle.cudf_text.specs.declared.fault.Kind.TheVariants.{E4, E6, E7, E8, E9, E10, E11, E14, E15, E16}
 use Rattle.cudf_text.specs.Stanzas.{PlainProperty, PlainStanza}
 use Rattle.cudf_text.specs.Promises.Views.{stanza_view}
 use Rattle.cudf_value.specs.Parts.{look_up}
@@ -18,7 +18,7 @@ use Rattle.cudf_problem.specs.Documents.{is_empty, postmark, is_request, has_nam
 use Rattle.cudf_problem.specs.Ids.{Id, id_of, is_known}
 use Rattle.cudf_problem.specs.Preamble.{added_by, declared}
 use Rattle.cudf_document.specs.ProblemFaults.{required_names}
-use Rattle.cudf_document.specs.Details.{PlainDetail, request_on, undeclared, mistyped, misdeclared, lacking, words, bad_piece, first_detail, repeated_detail}
+use Rattle.cudf_document.specs.Details.{PlainDetail, request_on, undeclared, mistyped, misdeclared, lacking, misplaced, words, bad_piece, first_detail, repeated_detail}
 
 -- ---- what was passed on the way to a stanza
 
@@ -83,6 +83,7 @@ is_of_stanza E8 = true
 is_of_stanza E9 = true
 is_of_stanza E10 = true
 is_of_stanza E14 = true
+is_of_stanza E16 = true
 is_of_stanza kind = false
 
 -- what is told of a stanza, behind what was passed before it
@@ -94,6 +95,7 @@ found_detail E8 line (p, s) = option_map (λ q. undeclared q.name) (property_at 
 found_detail E9 line (p, s) = option_and_then (mistyped_after p.declarations s) (property_at line s)
 found_detail E10 line (p, s) = option_map misdeclared (misdeclared_in [] line s.properties)
 found_detail E14 line (p, s) = lacking_after p.declarations s
+found_detail E16 line (p, s) = option_map (λ q. misplaced q.name) (property_at line s)
 found_detail kind line f = None
 
 -- ---- pairs

@@ -13,7 +13,7 @@ use Rattle.cudf_document.specs.Working.Pairs.{ArePairs}
 
 -- the first fault of these stanzas, their pairs, how many there are, and those that install a pair
 pub record IsRead (mode : Mode) (seen : List PlainStanza) (r : Reader) : Type 0 where
-  pub first_is : r.first ≡ least (flat_map solution_stanza_faults seen)
+  pub first_is : r.first ≡ least (flat_map (solution_stanza_faults mode) seen)
   pub pairs_are : ArePairs mode seen r.pairs
   pub number_is : r.number ≡ length seen
   pub installed_are : map unknown_view r.installed.items ≡ installed_stanzas seen

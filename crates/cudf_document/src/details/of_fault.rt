@@ -55,6 +55,6 @@ fn is_of_stanza(kind: Kind) -> bool
 {
     matches!(
         kind,
-        Kind::E4 | Kind::E6 | Kind::E7 | Kind::E8 | Kind::E9 | Kind::E10 | Kind::E14
+        Kind::E4 | Kind::E6 | Kind::E7 | Kind::E8 | Kind::E9 | Kind::E10 | Kind::E14 | Kind::E16
     )
 }

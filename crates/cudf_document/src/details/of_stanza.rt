@@ -1,7 +1,7 @@
 //! What is told of the stanza that a fault stands in, by the fault's kind.
 ghost use Rattle.std.specs.Prelude.{◌≡◌, ◌==◌, find, option_map, option_and_then, IfOk};
 ghost use Rattle.cudf_text.specs.Promises.Views.{property_view, stanza_view};
-ghost use Rattle.cudf_document.specs.Details.{request_on, name_on, undeclared, first_detail, repeated_detail};
+ghost use Rattle.cudf_document.specs.Details.{request_on, name_on, undeclared, misplaced, first_detail, repeated_detail};
 ghost use Rattle.cudf_problem.specs.Documents.{has_name};
 ghost use Rattle.cudf_document.specs.Promises.Views.{detail_view};
 ghost use Rattle.cudf_document.specs.Working.Details.{property_at, found_detail, found_view};
@@ -33,6 +33,7 @@ pub(crate) fn told<'t>(
         Kind::E9 => Ok(mistyped(alloc, &found.passed.declarations, stanza, fault.line)),
         Kind::E10 => misdeclared(alloc, stanza, fault.line),
         Kind::E14 => lacking(alloc, &found.passed.declarations, stanza),
+        Kind::E16 => Ok(misplaced(stanza, fault.line)),
         _ => Ok(None),
     }
 }
@@ -86,6 +87,19 @@ fn undeclared<'t>(stanza: &StanzaRef<'t>, line: u64) -> Option<Detail<'t>>
 {
     match property_on(stanza, line) {
         Some(property) => Some(Detail::Undeclared {
+            name: property.name,
+        }),
+        None => None,
+    }
+}
+
+/// The same, of a name that has no meaning there.
+fn misplaced<'t>(stanza: &StanzaRef<'t>, line: u64) -> Option<Detail<'t>>
+    ensures { option_map detail_view result
+        ≡ option_map (λ q. misplaced q.name) (property_at line (stanza_view stanza.now)) }
+{
+    match property_on(stanza, line) {
+        Some(property) => Some(Detail::Misplaced {
             name: property.name,
         }),
         None => None,

@@ -19,8 +19,8 @@ use std::alloc::{AllocError, Global};
 ///
 /// # Errors
 ///
-/// The problem's first fault: by line, then by kind; never E1 or E15, and E14 strictly alone. Or `Memory`
-/// where a growth is refused.
+/// The problem's first fault: by line, then by kind; never E1 or E15, and E14 and E16 strictly alone. Or
+/// `Memory` where a growth is refused.
 pub fn read_problem<'t, 'a>(
     alloc: Global,
     text: &'t Text<'a>,
@@ -60,7 +60,7 @@ fn walk_held<'t, 'a>(
     let mut is_first = true;
     for stanza in &text.stanzas {
         lend(stanza, &mut lent)?;
-        walk.take(alloc, &mut parts, is_first, &lent, &required)?;
+        walk.take(alloc, &mut parts, is_first, &lent, &required, mode)?;
         require(alloc, &mut required, is_first, &walk.declarations, mode)?;
         is_first = false;
     }

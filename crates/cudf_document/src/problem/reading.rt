@@ -12,7 +12,7 @@ use cudf_text::{Fault, Stanzas};
 use std::alloc::{AllocError, Global};
 
 /// The first fault of a problem that is read in this mode, if it has one: by line, then by kind. It is
-/// never E1 or E15, and E14 strictly alone.
+/// never E1 or E15, and E14 and E16 strictly alone.
 ///
 /// # Errors
 ///
@@ -32,8 +32,8 @@ pub fn first_fault(
 ///
 /// # Errors
 ///
-/// The problem's first fault: by line, then by kind; never E1 or E15, and E14 strictly alone. Or `Memory`
-/// where a growth is refused.
+/// The problem's first fault: by line, then by kind; never E1 or E15, and E14 and E16 strictly alone. Or
+/// `Memory` where a growth is refused.
 pub fn problem_of<'t>(
     alloc: Global,
     stanzas: Stanzas<'t>,

@@ -17,6 +17,7 @@ use crate::declarations::Declarations;
 use crate::declarations::preamble::read_preamble;
 use crate::declarations::required::{lacks_one, require};
 use crate::fault::{fault_if, keep_lesser, lesser};
+use crate::misplaced::{Document, misplaced_fault};
 use crate::names::SeenNames;
 use crate::package::identity::Identity;
 use crate::postmark::{is_preamble, postmark_of};
@@ -49,7 +50,7 @@ pub(crate) fn walk_all<'t>(
             Next::Stanza { line, last } => {
                 stanza.line = line;
                 stanza.last = last;
-                walk.take(alloc, &mut kept, is_first, &stanza, &required)?;
+                walk.take(alloc, &mut kept, is_first, &stanza, &required, mode)?;
                 require(alloc, &mut required, is_first, &walk.declarations, mode)?;
                 is_first = false;
             }
@@ -87,7 +88,7 @@ impl<'a> Walk<'a> {
     ghost use Rattle.cudf_document.specs.Working.Walks.{texts, IsKnown, IsSoFar, judged_faults, judged_ids};
     ghost use Rattle.cudf_problem.specs.Documents.{is_empty, postmark};
     ghost use Rattle.cudf_problem.specs.Preamble.{declared, declared_after};
-    ghost use Rattle.cudf_document.specs.ProblemFaults.{required_names};
+    ghost use Rattle.cudf_document.specs.ProblemFaults.{required_names, problem_misplaces, misplaced_faults};
     ghost use Rattle.cudf_document.specs.Working.Judging.{properties_faults};
     ghost use Rattle.cudf_problem.specs.declared.postmark.Postmark.TheVariants.{Preamble as PreambleMark, Package as PackageMark};
 
@@ -114,9 +115,9 @@ impl<'a> Walk<'a> {
         is_first: bool,
         stanza: &StanzaRef<'a>,
         required: &[&str],
+        mode: Mode,
     ) -> Result<(), AllocError>
         ensures { (keeps : Bool) →
-            (mode : Mode) →
             (before : List PlainStanza) →
             is_first ≡ is_empty before →
             texts required.now ≡ required_names mode (declared before) →
@@ -124,9 +125,9 @@ impl<'a> Walk<'a> {
             OnOk result (IsSoFar mode (λ ss. AreParts keeps ss kept.new) self.new (before ++ stanza_view stanza.now ∷ [])) }
     {
         if is_first {
-            return self.take_first(alloc, kept, stanza);
+            return self.take_first(alloc, kept, stanza, mode);
         }
-        self.take_other(alloc, kept, false, stanza, required)
+        self.take_other(alloc, kept, false, stanza, required, mode)
     }
 
     /// Takes the first stanza, with what it declares.
@@ -135,9 +136,9 @@ impl<'a> Walk<'a> {
         alloc: Global,
         kept: &mut Parts<'a>,
         stanza: &StanzaRef<'a>,
+        mode: Mode,
     ) -> Result<(), AllocError>
-        ensures known { (mode : Mode) →
-            self.old.declarations ≡ [] →
+        ensures known { self.old.declarations ≡ [] →
             IsKnown mode self.old [] →
             OnOk result (IsKnown mode self.new (stanza_view stanza.now ∷ [])) }
         ensures declared { self.old.declarations ≡ [] →
@@ -151,16 +152,21 @@ impl<'a> Walk<'a> {
     {
         if is_preamble(stanza) {
             kept.pass(stanza);
-            self.take_preamble(alloc, stanza)
+            self.take_preamble(alloc, stanza, mode)
         } else {
-            self.take_other(alloc, kept, true, stanza, &[])
+            self.take_other(alloc, kept, true, stanza, &[], mode)
         }
     }
 
     /// Takes a preamble that is first, with what it declares.
-    fn take_preamble(&mut self, alloc: Global, head: &StanzaRef<'a>) -> Result<(), AllocError>
+    fn take_preamble(
+        &mut self,
+        alloc: Global,
+        head: &StanzaRef<'a>,
+        mode: Mode,
+    ) -> Result<(), AllocError>
         ensures first { OnOk result (self.new.first
-            ≡ lesser self.old.first (least (properties_faults [] (Some PreambleMark) (stanza_view head.now).properties))) }
+            ≡ lesser self.old.first (lesser (least (properties_faults [] (Some PreambleMark) (stanza_view head.now).properties)) (least (misplaced_faults mode (problem_misplaces (Some PreambleMark)) (stanza_view head.now).properties)))) }
         ensures declarations { OnOk result (self.new.declarations
             ≡ declared_after [] (stanza_view head.now).properties) }
         ensures ids { OnOk result (self.new.ids ≡ self.old.ids) }
@@ -168,7 +174,8 @@ impl<'a> Walk<'a> {
     {
         let mut names = SeenNames::new(alloc);
         let fault = read_preamble(alloc, &mut names, &mut self.declarations, head)?;
-        keep_lesser(&mut self.first, fault);
+        let misplaced = misplaced_fault(Document::Problem, mode, Some(Postmark::Preamble), head);
+        keep_lesser(&mut self.first, lesser(fault, misplaced));
         Ok(())
     }
 
@@ -180,9 +187,9 @@ impl<'a> Walk<'a> {
         is_first: bool,
         stanza: &StanzaRef<'a>,
         required: &[&str],
+        mode: Mode,
     ) -> Result<(), AllocError>
-        ensures known { (mode : Mode) →
-            (before : List PlainStanza) →
+        ensures known { (before : List PlainStanza) →
             is_first ≡ is_empty before →
             self.old.declarations ≡ declared before →
             texts required.now ≡ required_names mode (declared before) →
@@ -200,7 +207,8 @@ impl<'a> Walk<'a> {
         let mark = postmark_of(stanza);
         let place = place_fault(is_first, self.requested, mark, stanza.line);
         let inside = self.judge(alloc, kept, mark, stanza, required)?;
-        keep_lesser(&mut self.first, place.or(inside));
+        let misplaced = misplaced_fault(Document::Problem, mode, mark, stanza);
+        keep_lesser(&mut self.first, place.or(lesser(inside, misplaced)));
         self.requested = either(is_request(mark), self.requested);
         Ok(())
     }

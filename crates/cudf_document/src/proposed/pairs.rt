@@ -15,7 +15,7 @@ use std::alloc::{AllocError, Global};
 /// What is known of the pairs after some stanzas: strictly all of them, leniently none.
 #[derive(Drop)]
 pub(crate) struct Pairs<'a> {
-    mode: Mode,
+    pub(crate) mode: Mode,
     ids: Ids<'a>,
     /// The first fault of a stanza whose pair stood before it.
     pub(crate) first: Option<Fault>,

@@ -26,8 +26,8 @@ use std::alloc::{AllocError, Global};
 ///
 /// # Errors
 ///
-/// The solution's first fault, of kind E2, E3, E4, E7, E9 or E12, or strictly E15, or `Memory` where
-/// a growth is refused.
+/// The solution's first fault, of kind E2, E3, E4, E7, E9 or E12, or strictly E15 or E16, or `Memory`
+/// where a growth is refused.
 pub fn proposed_of<'t>(
     alloc: Global,
     stanzas: Stanzas<'t>,
@@ -125,7 +125,7 @@ impl<'a> Reader<'a> {
             IsRead mode seen self.old →
             OnOk result (IsRead mode (seen ++ stanza_view stanza.now ∷ []) self.new) }
     {
-        let said = read_stanza(stanza);
+        let said = read_stanza(stanza, self.pairs.mode);
         self.first = lesser(self.first, said.fault);
         self.pairs.take(said.id, stanza)?;
         self.number += 1;

@@ -7,9 +7,10 @@ ghost use Rattle.cudf_document.specs.SolutionFaults.{solution_stanza_faults};
 ghost use Rattle.cudf_problem.specs.Statuses.{installed_id};
 
 use crate::fault::{fault_if, lesser};
+use crate::misplaced::{Document, misplaced_fault};
 use crate::postmark::postmark_of;
 use crate::proposed::package::read_solution_package;
-use cudf_problem::Postmark;
+use cudf_problem::{Mode, Postmark};
 use cudf_text::{Fault, Kind, StanzaRef};
 
 /// What a stanza says.
@@ -24,13 +25,14 @@ pub(crate) struct SaidOfStanza<'a> {
 }
 
 /// Reads a stanza for itself.
-pub(crate) fn read_stanza<'a>(stanza: &StanzaRef<'a>) -> SaidOfStanza<'a>
-    ensures fault { result.fault ≡ least (solution_stanza_faults (stanza_view stanza.now)) }
+pub(crate) fn read_stanza<'a>(stanza: &StanzaRef<'a>, mode: Mode) -> SaidOfStanza<'a>
+    ensures fault { result.fault ≡ least (solution_stanza_faults mode (stanza_view stanza.now)) }
     ensures id { option_map (λ id. (id.0.now, id.1)) result.id ≡ id_of (stanza_view stanza.now) }
     ensures installed { option_map (λ id. (id.0.now, id.1)) result.installed
         ≡ installed_id (stanza_view stanza.now) }
 {
-    match postmark_of(stanza) {
+    let mark = postmark_of(stanza);
+    match mark {
         Some(Postmark::Package) => {
             let (fault, entry) = read_solution_package(stanza);
             let unversioned = fault_if(!entry.has_version, stanza.last, Kind::E12);
@@ -41,7 +43,7 @@ pub(crate) fn read_stanza<'a>(stanza: &StanzaRef<'a>) -> SaidOfStanza<'a>
             }
         }
         Some(Postmark::Preamble | Postmark::Request) => SaidOfStanza {
-            fault: None,
+            fault: misplaced_fault(Document::Solution, mode, mark, stanza),
             id: None,
             installed: None,
         },

@@ -24,8 +24,8 @@ use std::alloc::Global;
 ///
 /// # Errors
 ///
-/// The solution's first fault, of kind E2, E3, E4, E7, E9 or E12, or strictly E15, or `Memory` where
-/// a growth is refused.
+/// The solution's first fault, of kind E2, E3, E4, E7, E9 or E12, or strictly E15 or E16, or `Memory`
+/// where a growth is refused.
 pub fn read_solution<'t, 'a, 'p>(
     alloc: Global,
     text: &'t Text<'a>,

@@ -4,4 +4,4 @@ pub returns-in-BeginsWith : goal.returns-in-BeginsWith
 returns-in-BeginsWith g c = rw c.in-BeginsWith.is c.print_texts.ensures
 
 pub returns-in-Undeclared : goal.returns-in-Undeclared
-returns-in-Undeclared g c = rw c.in-Undeclared.is c.print_texts-in-Undeclared.ensures
+returns-in-Undeclared g c = rw c.in-Undeclared.is c.print_undeclared.ensures

@@ -23,7 +23,7 @@ loop-stanza-preserved c =
     map_next own_stanza_view items c.deref-stanza-items.result.now i c.stanza-item.result (omega arith) c.stanza-item.is c.deref-stanza-items.ensures.value in
     let so_far : IsSoFar c.args.mode (λ ts. AreParts true ts c.take.new.kept) c.take.new.self (before ++ s ∷ []) =
     subst (λ t. IsSoFar c.args.mode (λ ts. AreParts true ts c.take.new.kept) c.take.new.self (before ++ t ∷ [])) c.in_ok-lend.ensures
-    (c.in_ok-take.ensures true c.args.mode before c.loop-stanza.invariant.0 (ap texts c.deref.ensures.value ∙ c.loop-stanza.invariant.1) c.loop-stanza.invariant.2) in (
+    (c.in_ok-take.ensures true before c.loop-stanza.invariant.0 (ap texts c.deref.ensures.value ∙ c.loop-stanza.invariant.1) c.loop-stanza.invariant.2) in (
       sym (ap is_empty more ∙ is_empty-push before s),
       required_next c.args.mode c.loop-stanza.is_first (texts c.loop-stanza.required.items) (texts c.require.new.required.items) c.take.new.self before s c.loop-stanza.invariant.0
           so_far.declared_are c.loop-stanza.invariant.1 c.in_ok-require.ensures.first (λ later. ap (λ v. texts v.items) (c.in_ok-require.ensures.later later))

@@ -19,7 +19,7 @@ stanzas-preserved c =
     (texts c.stanzas.required.items) (texts c.require.new.required.items) c.stanzas.stanzas c.next.new.self c.args.stanzas s
     (c.stanzas.invariant)
     (c.in_ok-line.ensures.read ∙ ap (λ n. with_next n c.next.new.properties.items c.next.new.self) c.in-Stanza.is)
-    (λ now first required so_far. c.in_ok-take-in-Stanza.ensures c.args.keeps c.args.mode now first (ap texts c.deref.ensures.value ∙ required) so_far)
+    (λ now first required so_far. c.in_ok-take-in-Stanza.ensures c.args.keeps now first (ap texts c.deref.ensures.value ∙ required) so_far)
     c.in_ok-require-in-Stanza.ensures.first (λ later. ap (λ v. texts v.items) (c.in_ok-require-in-Stanza.ensures.later later))
 
 pub returns-in-End : goal.returns-in-End
