@@ -148,11 +148,11 @@ one_behind reader bytes was = record { all = (was.all, tt); finished = finished;
 
 -- a job that judges a solution or checks a proof reads it
 pub reads_it : (job : Job) (solutions : List (Change SourceState))
-    → ((after : Option Key) × (limit : Option ℕ) × (explain : Bool) × (job ≡ Check after limit explain)) ⊎ (((aims : Option (Vec Aim Global)) × (job ≡ Score aims)) ⊎ (job ≡ Refute))
+    → ((after : Option Key) × (limit : Option ℕ) × (explain : Bool) × (job ≡ Check after limit explain)) ⊎ (((aims : Option (Vec Aim Global)) × (job ≡ Score aims)) ⊎ ((explain : Bool) × (job ≡ Refute explain)))
     → read_for job solutions ≡ solutions
 reads_it job solutions (inl check) = ap (λ j. read_for j solutions) check.3
 reads_it job solutions (inr (inl score)) = ap (λ j. read_for j solutions) score.1
-reads_it job solutions (inr (inr refute)) = ap (λ j. read_for j solutions) refute
+reads_it job solutions (inr (inr refute)) = ap (λ j. read_for j solutions) refute.1
 
 -- what holds of none of the readers holds of none that the job reads
 pub none_for : (P : Change SourceState → Type 0) (job : Job) (solutions : List (Change SourceState)) → (OfOne P solutions → ⊥) → OfOne P (read_for job solutions) → ⊥

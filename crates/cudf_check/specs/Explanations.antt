@@ -18,11 +18,15 @@ use Rattle.cudf_referee.specs.Proposals.{Proposal}
 abbrev pub stanza_text : PlainPackage → List ℕ
 stanza_text p = p.name ++ codes " " ++ decimal p.version ++ codes " line " ++ decimal p.line
 
--- a package that was installed and alone would help, or else one that would
+-- the first package that alone would do, where there is one
+abbrev pub would_do_text : Option PlainPackage → List ℕ
+would_do_text None = codes "; nothing in the problem would do"
+would_do_text (Some p) = codes "; " ++ stanza_text p ++ codes " would do"
+
+-- the first of those that were installed, or else of all
 abbrev pub help_text : Option PlainPackage → Option PlainPackage → List ℕ
 help_text (Some p) does = codes "; " ++ stanza_text p ++ codes " was installed"
-help_text None (Some p) = codes "; " ++ stanza_text p ++ codes " would do"
-help_text None None = codes "; nothing in the problem would do"
+help_text None does = would_do_text does
 
 -- the instance is of depends, install or upgrade, and lacks a package that satisfies its clause or entry
 abbrev pub lacks_package : PlainWhat → Option Aspect → Bool

@@ -102,7 +102,11 @@ fn check<W: Sink>(
 {
     let alloc = setting.alloc;
     let explain = explains(job);
-    let problem = problem_document(problem, explain);
+    let problem = Document {
+        whose: "problem",
+        bytes: problem,
+        explain,
+    };
     let solution = Document {
         whose: "solution",
         bytes: solution,

@@ -1,8 +1,8 @@
 //! Prints what the problem says beside a violated instance.
-ghost use Rattle.std.specs.Prelude.{◌≡◌, ◌++◌, Some, codes, option_map, true};
+ghost use Rattle.std.specs.Prelude.{◌≡◌, ◌++◌, Some, option_map, true};
 ghost use Rattle.cudf_problem.specs.Promises.Views.{package_view};
 ghost use Rattle.cudf_referee.specs.Promises.Views.{instance_view};
-ghost use Rattle.cudf_check.specs.Explanations.{stanza_text, help_of, help_text, lacks_package, named_text, number_text, numbers_added, unknown_added};
+ghost use Rattle.cudf_check.specs.Explanations.{stanza_text, help_of, help_text, lacks_package, named_text, number_text, numbers_added, status_added, unknown_added, would_do_text};
 ghost use Rattle.cudf_check.specs.Working.Paper.{Says};
 
 use crate::device::Sink;
@@ -22,16 +22,21 @@ fn print_stanza<W: Sink>(paper: &mut Paper<'_, W>, package: &Package<'_>)
     paper.number(package.line);
 }
 
-/// Prints a package, and behind it how it would help.
-fn print_helper<W: Sink>(paper: &mut Paper<'_, W>, package: &Package<'_>, behind: &str)
-    ensures { Says W.state paper.old paper.new (codes "; " ++ stanza_text (package_view «package».now) ++ behind.now) }
+/// Prints the package that alone would do, or that none would.
+fn print_would_do<W: Sink>(paper: &mut Paper<'_, W>, does: Option<&Package<'_>>)
+    ensures { Says W.state paper.old paper.new (would_do_text (option_map (λ p. package_view p.now) does.entry)) }
 {
-    paper.text("; ");
-    print_stanza(paper, package);
-    paper.text(behind);
+    match does {
+        Some(package) => {
+            paper.text("; ");
+            print_stanza(paper, package);
+            paper.text(" would do");
+        }
+        None => paper.text("; nothing in the problem would do"),
+    }
 }
 
-/// Prints the package that was installed, or else the one that would do, or that none would.
+/// Prints the package that was installed, or else the one that would do.
 fn print_either<W: Sink>(
     paper: &mut Paper<'_, W>,
     was: Option<&Package<'_>>,
@@ -40,11 +45,12 @@ fn print_either<W: Sink>(
     ensures { Says W.state paper.old paper.new (help_text (option_map (λ p. package_view p.now) was.entry) (option_map (λ p. package_view p.now) does.entry)) }
 {
     match was {
-        Some(package) => print_helper(paper, package, " was installed"),
-        None => match does {
-            Some(package) => print_helper(paper, package, " would do"),
-            None => paper.text("; nothing in the problem would do"),
-        },
+        Some(package) => {
+            paper.text("; ");
+            print_stanza(paper, package);
+            paper.text(" was installed");
+        }
+        None => print_would_do(paper, does),
     }
 }
 
@@ -100,7 +106,7 @@ fn print_number<W: Sink>(paper: &mut Paper<'_, W>, number: Option<u64>, behind: 
 }
 
 /// Prints the numbers of an entry of `upgrade` that is violated by them.
-pub(crate) fn print_numbers<W: Sink>(
+fn print_numbers<W: Sink>(
     paper: &mut Paper<'_, W>,
     explainer: &Explainer<'_, '_, '_>,
     name: &str,
@@ -124,7 +130,7 @@ pub(crate) fn print_numbers<W: Sink>(
 }
 
 /// Prints what is added to a stanza that isn't in the universe.
-pub(crate) fn print_unknown<W: Sink>(
+fn print_unknown<W: Sink>(
     paper: &mut Paper<'_, W>,
     explainer: &Explainer<'_, '_, '_>,
     subject: Option<(&str, u64)>,
@@ -135,5 +141,28 @@ pub(crate) fn print_unknown<W: Sink>(
         let remedies = explainer.remedies();
         let named = package_at(remedies.packages(), remedies.first_named(name));
         print_named(paper, name, named);
+    }
+}
+
+/// Prints what the statuses say of an instance.
+pub(crate) fn print_status<W: Sink>(
+    paper: &mut Paper<'_, W>,
+    explainer: &Explainer<'_, '_, '_>,
+    instance: &Instance<'_>,
+)
+    ensures { let i = instance_view instance.now in Says W.state paper.old paper.new (status_added explainer.now i.what i.key.aspect i.subject) }
+{
+    match instance.what {
+        What::Upgrade(vpkg) => {
+            print_numbers(paper, explainer, vpkg.name, instance.key.aspect());
+        }
+        What::Unknown => print_unknown(paper, explainer, instance.subject),
+        What::Needs(_)
+        | What::ConflictsWith(_)
+        | What::KeepVersion
+        | What::KeepPackage
+        | What::KeepFeature(_)
+        | What::Install(_)
+        | What::Remove(_) => {}
     }
 }

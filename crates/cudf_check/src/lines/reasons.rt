@@ -5,8 +5,8 @@ ghost use Rattle.cudf_problem.specs.Promises.Views.{package_view};
 ghost use Rattle.cudf_problem.specs.Universe.{package_at};
 ghost use Rattle.cudf_lrat.specs.Kinds.{kind_text};
 ghost use Rattle.cudf_cnf.specs.Cnf.{cnf};
-ghost use Rattle.cudf_reasons.specs.Reasons.{keys_of, never_descend};
-ghost use Rattle.cudf_reasons.specs.Views.{needed_view};
+ghost use Rattle.cudf_reasons.specs.Reasons.{keys_of, never_descend, reasons_of};
+ghost use Rattle.cudf_reasons.specs.Views.{needed_view, told_as};
 ghost use Rattle.cudf_check.specs.declared.outcome.Outcome.TheVariants.{No, Yes};
 ghost use Rattle.cudf_check.specs.Report.{alone, also_text, core_text, met_texts, needed, refute_answer};
 ghost use Rattle.cudf_check.specs.Working.Answering.{Answers};
@@ -85,12 +85,12 @@ impl<'p, 't> Model for ReasonScribe<'p, 't> {
 }
 
 impl<'p, 't> ReasonScribe<'p, 't> {
-    ghost use Rattle.std.specs.Prelude.{◌≡◌, IfOk};
+    ghost use Rattle.std.specs.Prelude.{◌≡◌, ◌++◌, None, IfOk, codes};
     ghost use Rattle.std.specs.List.{flat_map};
     ghost use Rattle.cudf_job.specs.KeyViews.{key_view};
     ghost use Rattle.cudf_referee.specs.Promises.Views.{instance_view};
     ghost use Rattle.cudf_check.specs.Explanations.{reason_added};
-    ghost use Rattle.cudf_check.specs.Report.{reason_line};
+    ghost use Rattle.cudf_check.specs.Report.{line, met_text, met_texts, reason_line};
     ghost use Rattle.cudf_check.specs.Working.Paper.{Says};
 
     /// The scribe of a problem. Memory for what is added to lines is taken here.
@@ -110,6 +110,14 @@ impl<'p, 't> ReasonScribe<'p, 't> {
         })
     }
 
+    /// Prints the lines of the needed instances, and that there is no solution.
+    fn print_core<W: Sink>(&self, paper: &mut Paper<'_, W>, reasons: &Reasons)
+        ensures { Says W.state paper.old paper.new (flat_map (reason_line self.now.explain self.now.problem) reasons.now ++ line (codes "no solution exists")) }
+    {
+        self.print_reasons(paper, reasons);
+        paper.text("no solution exists\n");
+    }
+
     /// Prints the lines of the needed instances.
     fn print_reasons<W: Sink>(&self, paper: &mut Paper<'_, W>, reasons: &Reasons)
         ensures { Says W.state paper.old paper.new (flat_map (reason_line self.now.explain self.now.problem) reasons.now) }
@@ -123,12 +131,21 @@ impl<'p, 't> ReasonScribe<'p, 't> {
     fn print_reason<W: Sink>(&self, paper: &mut Paper<'_, W>, key: Key, met: &[u32])
         ensures { Says W.state paper.old paper.new (reason_line self.now.explain self.now.problem (key_view key, met.now)) }
     {
-        if let Some(instance) = instance_of(self.problem, key) {
-            print_instance(paper, &instance, None);
-            print_met(paper, self.problem, met);
-            self.print_added(paper, &instance);
-            paper.text("\n");
+        match instance_of(self.problem, key) {
+            Some(instance) => self.print_line(paper, &instance, met),
+            None => {}
         }
+    }
+
+    /// Prints the line of an instance that is met by the packages at these places.
+    fn print_line<W: Sink>(&self, paper: &mut Paper<'_, W>, instance: &Instance<'_>, met: &[u32])
+        ensures { let i = instance_view instance.now in
+            Says W.state paper.old paper.new (met_text i None ++ met_texts self.now.problem met.now ++ line (reason_added self.now.explain self.now.problem i)) }
+    {
+        print_instance(paper, instance, None);
+        print_met(paper, self.problem, met);
+        self.print_added(paper, instance);
+        paper.text("\n");
     }
 
     /// Prints what the problem says beside an instance, where lines are explained.
@@ -161,6 +178,16 @@ fn needed_of<'c>(
     Ok(found)
 }
 
+/// The instances whose clauses have these numbers, in the order in which they are printed.
+fn reasons_of(alloc: Global, clauses: &KeyedClauses, numbers: &[u32]) -> Result<Reasons, AllocError>
+    requires within { All (λ n. (0 < n) × (n ≤ length clauses.now.clauses)) numbers.now }
+    requires ordered { IsTrue (never_descend (keys_of (needed clauses.now.clauses numbers.now))) }
+    ensures { IfOk result (λ reasons. reasons ≡ map told_as (reasons_of (needed clauses.now.clauses numbers.now))) }
+{
+    let needed = needed_of(alloc, clauses, numbers)?;
+    reasons(alloc, &needed)
+}
+
 /// Writes the instances whose clauses have these numbers, of which no status keeps all.
 fn answer_core<W: Sink>(
     alloc: Global,
@@ -175,10 +202,7 @@ fn answer_core<W: Sink>(
     requires ordered { IsTrue (never_descend (keys_of (needed clauses.now.clauses numbers.now))) }
     ensures { Answers (W.state out.old) (W.state out.new) (record { text = core_text explain problem.now numbers.now; outcome = Yes }) result }
 {
-    let Ok(needed) = needed_of(alloc, clauses, numbers) else {
-        return Err(RunError::Memory);
-    };
-    let Ok(reasons) = reasons(alloc, &needed) else {
+    let Ok(reasons) = reasons_of(alloc, clauses, numbers) else {
         return Err(RunError::Memory);
     };
     let Ok(scribe) = ReasonScribe::new(alloc, problem, explain) else {
@@ -186,8 +210,7 @@ fn answer_core<W: Sink>(
     };
     let mut waiting = ReportBuffer::new(alloc)?;
     let mut paper = Paper::new(out, &mut waiting);
-    scribe.print_reasons(&mut paper, &reasons);
-    paper.text("no solution exists\n");
+    scribe.print_core(&mut paper, &reasons);
     paper.finish(Outcome::Yes)
 }
 

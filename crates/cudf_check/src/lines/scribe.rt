@@ -1,9 +1,9 @@
 //! Prints the lines of violated instances, each with what is added to it, where lines are explained.
 use crate::device::Sink;
-use crate::lines::explanation::{print_help, print_numbers, print_unknown};
+use crate::lines::explanation::{print_help, print_status};
 use crate::lines::instance::{package_at, print_instance};
 use crate::paper::Paper;
-use cudf_referee::{Explainer, Instance, Referee, What};
+use cudf_referee::{Explainer, Instance, Referee};
 use std::alloc::{AllocError, Global};
 use std::marker::Model;
 
@@ -83,18 +83,6 @@ impl<'r, 'p, 't> Scribe<'r, 'p, 't> {
             return;
         };
         print_help(paper, explainer.remedies(), instance);
-        match instance.what {
-            What::Upgrade(vpkg) => {
-                print_numbers(paper, explainer, vpkg.name, instance.key.aspect());
-            }
-            What::Unknown => print_unknown(paper, explainer, instance.subject),
-            What::Needs(_)
-            | What::ConflictsWith(_)
-            | What::KeepVersion
-            | What::KeepPackage
-            | What::KeepFeature(_)
-            | What::Install(_)
-            | What::Remove(_) => {}
-        }
+        print_status(paper, explainer, instance);
     }
 }
