@@ -1,4 +1,4 @@
-# page.sh TITLE DATE [TABLE] > index.html: totals, TABLE (table) and two plots in one file, without scripts
+# page.sh TITLE DATE [TABLE] > index.html: totals, TABLE (table) and plots in one file, without scripts
 export LC_ALL=C
 case $# in
   2 | 3) ;;
@@ -57,12 +57,10 @@ plots() {
   grep ' 1$' "$folder/runs" | sort -k 1,1n -k 4,4n | awk '
     $1 != before { if (NR > 1) print "\n"; print "solved", $2; before = $1; n = 0 }
     { print ++n, $4 }' > "$folder/cactus"
-  figure cactus "Each solver's n-th fastest solved problem" << END
+  figure cactus "The seconds of each solver's n-th fastest solved problem" << END
 set xlabel "problems solved"; set ylabel "seconds"; set logscale y; set grid; set key outside
-stats "$folder/cactus" using 1:2 nooutput
-set xrange [0:*]
-if (STATS_max_x < 10) set xtics 1
-plot for [i = 0:STATS_blocks - 1] "$folder/cactus" index i using 1:2 with linespoints title columnheader(2)
+set xrange [0:*]; $(grep -q '^10 ' "$folder/cactus" || echo "set xtics 1")
+plot for [i = 0:$(grep -c solved "$folder/cactus") - 1] "$folder/cactus" index i using 1:2 with linespoints title columnheader(2)
 END
   awk '$1 > 2 { next }
     { name[$1] = $2; at[$1, $3] = $5 ? $4 : 0; problem[$3] }
@@ -72,7 +70,7 @@ END
         print at[1, p] ? at[1, p] : most * 2, at[2, p] ? at[2, p] : most * 2 }' "$folder/runs" > "$folder/scatter"
   read -r one two least most < "$folder/scatter"
   if [ "$(wc -l < "$folder/scatter")" -eq 1 ]; then return; fi
-  figure scatter "The first two solvers, a dot for each problem; on the outer edge, what one of them didn't solve" << END
+  figure scatter "The first two solvers, a dot for each problem; on the outer edge if one of them didn't solve it" << END
 set xlabel "$one, seconds"; set ylabel "$two, seconds"; set logscale xy; set grid; set size square; unset key
 set xrange [$least:$most]; set yrange [$least:$most]
 plot x with lines, "$folder/scatter" every ::1 using 1:2 with points pointtype 7
@@ -105,6 +103,7 @@ svg { max-width: 45em; width: 100%; height: auto }
 <body>
 <h1>$(printf '%s' "$1" | html)</h1>
 <p>$(printf '%s' "$2" | html)</p>
+<pre>$(sh judge.sh | html)</pre>
 <h2>Totals</h2>
 <div>
 $(columns "$folder/totals")

@@ -13,7 +13,7 @@ solvers=$(ls $folder)
 state() {
   [ -e ended ] || return 0
   awk -v solver="$1" -v problem="$2" '
-    $1 == solver && $2 == problem { seen = 1; status = $3 }
+    ($1 "") == solver "" && ($2 "") == problem "" { seen = 1; status = $3 }
     END { if (!seen) print "pending"; else if (status >= 124) print "stopped" }' ended
 }
 
