@@ -460,7 +460,7 @@ def pages(trial):
                 plots = 2 * (gnuplot == "gnuplot")
                 name = f"page.sh, {gnuplot}, {shell}"
                 trial.note(f"{name}: status and errors", (status, errors), (0, warned))
-                trial.note(f"{name}: what is odd", seen.odd, [])
+                trial.note(f"{name}: what is odd", (seen.odd, tempfile.gettempdir() in output), ([], False))
                 trial.note(f"{name}: heads", [head for head in seen.heads if head], [title, title])
                 trial.note(f"{name}: date", "<p>&lt;2026&gt;</p>" in output, True)
                 trial.note(f"{name}: cells", seen.cells, cells)

@@ -35,7 +35,7 @@ columns() {
 figure() {
   echo "<figure>"
   { echo "set terminal svg size 720,480 dynamic noenhanced background 'white' font 'sans-serif,14' name '$1'"; cat; } |
-    "$gnuplot" | sed "/^<?xml/d; s/id=['\"]/&$1-/; s/='#/&$1-/"
+    (cd "$folder" && "$gnuplot") | sed "/^<?xml/d; s/id=['\"]/&$1-/; s/='#/&$1-/"
   echo "<figcaption>$2</figcaption></figure>"
 }
 
@@ -60,20 +60,24 @@ plots() {
   figure cactus "The seconds of each solver's n-th fastest solved problem" << END
 set xlabel "problems solved"; set ylabel "seconds"; set logscale y; set grid; set key outside
 set xrange [0:*]; $(grep -q '^10 ' "$folder/cactus" || echo "set xtics 1")
-plot for [i = 0:$(grep -c solved "$folder/cactus") - 1] "$folder/cactus" index i using 1:2 with linespoints title columnheader(2)
+plot for [i = 0:$(grep -c solved "$folder/cactus") - 1] "cactus" index i using 1:2 with linespoints title columnheader(2)
 END
   awk '$1 > 2 { next }
-    { name[$1] = $2; at[$1, $3] = $5 ? $4 : 0; problem[$3] }
+    !seen[$3]++ { problem[++n] = $3 }
+    { name[$1] = $2; at[$1, $3] = $5 ? $4 : 0 }
     $5 { if ($4 > most) most = $4; if (!least || $4 < least) least = $4 }
     END { print name[1], name[2], least / 2, most * 2
-      for (p in problem) if (((1, p) in at) && ((2, p) in at) && at[1, p] + at[2, p])
-        print at[1, p] ? at[1, p] : most * 2, at[2, p] ? at[2, p] : most * 2 }' "$folder/runs" > "$folder/scatter"
+      for (i = 1; i <= n; i++) {
+        p = problem[i]
+        if (((1, p) in at) && ((2, p) in at) && at[1, p] + at[2, p])
+          print at[1, p] ? at[1, p] : most * 2, at[2, p] ? at[2, p] : most * 2
+      } }' "$folder/runs" > "$folder/scatter"
   read -r one two least most < "$folder/scatter"
   if [ "$(wc -l < "$folder/scatter")" -eq 1 ]; then return; fi
   figure scatter "The first two solvers, a dot for each problem; on the outer edge if one of them didn't solve it" << END
 set xlabel "$one, seconds"; set ylabel "$two, seconds"; set logscale xy; set grid; set size square; unset key
 set xrange [$least:$most]; set yrange [$least:$most]
-plot x with lines, "$folder/scatter" every ::1 using 1:2 with points pointtype 7
+plot x with lines title "equal", "scatter" every ::1 using 1:2 with points pointtype 7 title "problems"
 END
 }
 
