@@ -320,7 +320,7 @@ def solved(trial, name, runs, shell, **more):
         ended = [of_run(line, begun) for line in sorted(text_of(folder, "ended").splitlines())]
         trial.note(f"ended, {name}, {shell}", ended, [(f"{solver} cars.cudf {RUNS[solver][1]}", True) for solver in solvers])
         pending(trial, folder, shell, [], {solver: RUNS[solver][2] for solver in solvers})
-        kept = {solver: text_of(folder, f"raw/{solver}/cars.cudf") for solver in ("deaf", "slow", "crashes", "at-last")}
+        kept = {solver: text_of(folder, f"raw/{solver}/cars.cudf") for solver in ("deaf", "slow", "crashes", "at-last", "prints")}
         trial.note(f"kept, {name}, {shell}", kept, {**dict.fromkeys(kept, OLD), "at-last": NEW})
         said = sorted(text_of(folder, "raw/prints/cars.cudf.err").splitlines())
         trial.note(f"said, {name}, {shell}", said, ["on its errors", "on its output"])
@@ -437,6 +437,9 @@ class Seen(html.parser.HTMLParser):
     def handle_endtag(self, tag):
         if tag not in self.ALONE and (not self.open or self.open.pop() != tag):
             self.odd.append("/" + tag)
+
+    def handle_pi(self, data):
+        self.odd.append(data)
 
     def handle_data(self, data):
         last = self.open[-1] if self.open else ""
