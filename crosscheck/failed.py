@@ -1,5 +1,5 @@
 #!/usr/bin/env python3
-"""Asks solvers for the best answers to random problems, and judges each FAIL among them by fail.sh of docs/COMPETITION.md.
+"""Asks solvers for the best answers to random problems, and judges each FAIL among them by fail.sh of examples/competition.
 
 usage: failed.py PROGRAM SEED COUNT [FILE..]
 
@@ -53,7 +53,7 @@ class Judge:
         self.solvers = {name: words for name, words in {**SOLVERS, "packup": packup}.items() if shutil.which(name)}
         self.script = os.path.join(folder, "fail.sh")
         with open(self.script, "w", encoding="ascii") as file:
-            file.write(script("# fail.sh"))
+            file.write(script("fail.sh"))
         os.symlink(self.program, os.path.join(folder, "cudf_check"))
         self.surroundings = dict(os.environ, PATH=folder + os.pathsep + os.environ["PATH"])
 

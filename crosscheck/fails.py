@@ -1,5 +1,5 @@
 #!/usr/bin/env python3
-"""Runs the scripts of docs/COMPETITION.md that judge FAIL.
+"""Runs the scripts of examples/competition that judge FAIL.
 
 usage: fails.py PROGRAM
 
@@ -85,7 +85,7 @@ class Fails:
             surroundings = {**self.trial.surroundings, **more, "TMPDIR": scratch}
             if places:
                 surroundings["PATH"] = places
-            write(folder, "fail.sh", script("# fail.sh"))
+            write(folder, "fail.sh", script("fail.sh"))
             given = [name] if words is None else words
             ran = subprocess.run(
                 [shutil.which(self.shell), "fail.sh", *given], cwd=folder, env=surroundings, stdin=subprocess.DEVNULL,
@@ -161,7 +161,7 @@ def folder_of_answers(trial, shell, places, answers):
     left = {f"answers/{solver}/{name}": "FAIL\n" for solver in ("ash", "elm") for name in problems if name != "quiet"}
     left["answers/elm/two"] = packages(("a", 1), ("b", 2))
     left["answers/ash/quiet"] = packages(("car", 1))
-    with competition(problems, **left, **{"fail.sh": script("# fail.sh"), "fails.sh": script("# fails.sh")}) as folder:
+    with competition(problems, **left) as folder:
         surroundings = {**trial.surroundings, "PATH": places + os.pathsep + os.environ["PATH"], "ANSWERS": answers}
         ran = subprocess.run([shell, "fails.sh"], cwd=folder, env=surroundings, capture_output=True, timeout=120, check=False)
         # the stand-in doesn't know `open`, and FAIL to a faulty problem isn't status 3
@@ -174,8 +174,6 @@ def own_answers(trial, shell, places, answers):
     """The page's own folder: oak says FAIL to `server.cudf`."""
     with tempfile.TemporaryDirectory() as folder:
         shutil.copytree(os.path.join(ROOT, "examples/competition"), folder, dirs_exist_ok=True)
-        for name in ("fail.sh", "fails.sh"):
-            write(folder, name, script(f"# {name}"))
         surroundings = {**trial.surroundings, "PATH": places + os.pathsep + os.environ["PATH"], "ANSWERS": answers}
         ran = subprocess.run([shell, "fails.sh"], cwd=folder, env=surroundings, capture_output=True, timeout=120, check=False)
         given = ran.stdout.decode(), ran.stderr.decode(), read(folder, "judged/server.cudf.witness")

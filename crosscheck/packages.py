@@ -37,6 +37,7 @@ import tempfile
 LIMIT_SECONDS = 60
 WAIT_SECONDS = 10
 ROOT = os.path.dirname(os.path.dirname(os.path.abspath(__file__)))
+SCRIPTS = os.path.join(ROOT, "examples/competition")
 HEADER = "include/cudf_check.h"
 # what the Makefile and its tools would take from the surroundings
 OURS = ("CC", "DESTDIR", "MAKEFLAGS", "MAKELEVEL", "MFLAGS", "PKG_CONFIG_PATH", "PREFIX", "SOURCE_DATE_EPOCH")
@@ -50,6 +51,7 @@ PAGES = ("RULES.md", "FORMAT.md", "DIFFERENCES.md", "COMPETITION.md", "UNINSTALL
 OF_PROGRAM = {
     "bin/cudf_check", "share/man/man1/cudf_check.1", "share/bash-completion/completions/cudf_check",
     "share/zsh/site-functions/_cudf_check", "share/fish/vendor_completions.d/cudf_check.fish",
+    *(f"share/cudf_check/competition/{name}" for name in os.listdir(SCRIPTS) if name.endswith(".sh")),
 }
 OF_LIBRARY = {
     "include/cudf_check.h", "lib/libcudf_check.a", "lib/libcudf_check.so", "lib/libcudf_check.so.1",

@@ -5,22 +5,27 @@ usage: pages.py PROGRAM
 
 - Each command that README.md, examples/README.md and pages of docs/ show behind `$`, and each
   script with a block of output below it, on the repository's own data: it prints what the page says.
-- The scripts of docs/COMPETITION.md in a folder with nastier names and files, and with solvers that end in many ways.
+- docs/COMPETITION.md shows the scripts of examples/competition, each whole and once.
+- These scripts in a folder with nastier names and files, with solvers that end in many ways, with runs that are ended from
+  outside, and the points, totals and page of what came of it.
 - The walk by pages of examples/README.md, on a listing of thirteen lines.
 - The examples in the tables of docs/DIFFERENCES.md, as far as they speak of this program.
 
-Scripts are run by dash and bash where these are installed, else by sh; GNU parallel is tried where it is installed. What
-isn't as wanted is printed, and then how many there were. The status is 1 where one is wrong, and 2 where there is no
+Scripts are run by dash and bash where these are installed, else by sh; GNU parallel, gnuplot and the program time are tried
+where they are installed. What isn't as wanted is printed, and then how many there were. The status is 1 where one is wrong, and 2 where there is no
 program. For Linux; Python's standard library alone.
 """
 import contextlib
 import enum
+import html.parser
 import os
 import re
 import shutil
+import signal
 import subprocess
 import sys
 import tempfile
+import time
 
 LIMIT_SECONDS = 120
 TOO_LONG = 300_000_000
@@ -31,10 +36,8 @@ DOCUMENTS = ("README.md", "examples/README.md", COMPETITION, DIFFERENCES, "docs/
 SHELLS = [name for name in ("dash", "bash") if shutil.which(name)] or ["sh"]
 # the lines of a block, and its end
 BLOCK = r"((?:(?!```).*\n)*)```$"
-# how the scripts begin that let the solvers run
-XARGS, PARALLEL, ARRAY = "# xargs.sh", "# parallel.sh", "#!/bin/sh"
-# where a script goes into the page's own data
-OWN_DATA = "cd examples/competition\n"
+SCRIPTS = os.path.join(ROOT, "examples/competition")
+TIMER = "/usr/bin/time"
 
 
 def stanza(name, version=1):
@@ -95,42 +98,71 @@ TABLE = (
     ("quiet.cudf", "1", "1", "missing", "3", "no", "FAIL"),
     ("rand692b_with_a_name_of_forty-one_letters", "missing", "no", "long", "faulty", "faulty", "1"),
 )
-# The longest names have 41 letters, and each column is one wider.
-WIDTH = 42
+# By the table: 6 solvers, so FAIL has 12 points, stopped and missing 18, and what is no solution 24.
+TOTALS = (
+    ("solver", "points", "solved", "best", "FAIL", "stopped", "no", "faulty", "seconds"),
+    ("mccs", "60", "3", "1", "1", "1", "0", "1", "-"),
+    ("the_solver_whose_name_has_41_letters_in_i", "77", "2", "1", "2", "0", "1", "1", "-"),
+    ("ash-2", "86", "2", "2", "1", "0", "2", "1", "-"),
+    ("ash", "89", "2", "1", "0", "2", "1", "1", "-"),
+    ("ash.1", "116", "1", "0", "0", "1", "1", "3", "-"),
+    ("mccs-lpsolve", "126", "0", "0", "1", "1", "2", "2", "-"),
+)
+# Names that can't stand in a line of words or in raw/.
+BAD_NAMES = ("v l c.cudf", "-x", "a.err", "a&b", "two\nlines", "caf\u00e9", "*")
 # The stanza on line 1 has no version.
 LINTED = "problems/faulty.cudf: problem line 1: E12 no version\n"
 
-# Solvers that end in many ways, with how each ends and its place: two that print or write the answer, one that ends with
-# 10 by habit, one that goes on when it is asked to end, one that crashes behind a whole stanza, one that leaves nothing,
-# one that isn't there, and one that writes more than it may.
+# Solvers that end in many ways, with how each ends and its cell: two that print or write the answer, one that ends with
+# 10 by habit, one that says FAIL, one that goes on when it is asked to end, one that writes its answer then, one that crashes
+# behind a whole stanza, one that leaves nothing, one that leaves a folder, one that isn't there, one that writes more than it
+# may, one whose listing has more than 1,000 lines, and one that reads its input.
 RUNS = {
-    "prints": (f"printf '%s' '{OLD}' > \"$2\"", 0, "1"),
-    "writes": (f"cat > \"$2\" << 'END'\n{NEW}END", 0, "3"),
+    "prints": (f"printf '%s' '{OLD}' > \"$2\"; echo on its output; echo on its errors >&2", 0, "1"),
+    "writes": (f"cat > \"$2\" << 'END'\n{NEW}END", 0, "4"),
     "habit": (f"printf '%s' '{OLD}' > \"$2\"; exit 10", 10, "1"),
-    "deaf": (f"trap '' TERM; printf '%s' '{OLD}' > \"$2\"; sleep 60", 137, "FAIL"),
-    "slow": (f"printf '%s' '{OLD}' > \"$2\"; exec sleep 60", 124, "FAIL"),
-    "crashes": (f"printf '%s' '{OLD}' > \"$2\"; kill -SEGV $$", 139, "FAIL"),
+    "says-no": ("echo FAIL > \"$2\"", 0, "FAIL"),
+    "deaf": (f"trap '' TERM; printf '%s' '{OLD}' > \"$2\"; sleep 60", 137, "stopped"),
+    "slow": (f"printf '%s' '{OLD}' > \"$2\"; exec sleep 60", 124, "stopped"),
+    "at-last": (f"trap 'cat > \"$2\" << END\n{NEW}END\nexit 0' TERM; sleep 60 & wait", 124, "stopped"),
+    "crashes": (f"printf '%s' '{OLD}' > \"$2\"; kill -SEGV $$", 139, "stopped"),
+    # as numbers these two would be one
+    "1.1": ("exit 130", 130, "stopped"),
+    "1.10": (f"printf '%s' '{OLD}' > \"$2\"", 0, "1"),
     "idle": ("exit 0", 0, "missing"),
-    "absent": ("exec ./no-such-solver", 127, "FAIL"),
-    "floods": ("exec truncate -s 2G \"$2\"", 153, "FAIL"),
+    "leaves.a.folder": ("mkdir \"$2\"", 0, "missing"),
+    "absent": ("exec ./no-such-solver", 127, "stopped"),
+    "floods": ("exec truncate -s 2G \"$2\"", 153, "stopped"),
+    "ghosts": ("for n in $(seq 1100); do printf 'package: g\\nversion: %s\\ninstalled: true\\n\\n' $n; done > \"$2\"", 0, "no"),
+    "reads": ("cat > \"$2\"", 0, "no"),
 }
 
 
 class Trial:
-    """Runs scripts with the program at the front of the path, counts what was as wanted, and prints what wasn't."""
+    """Runs scripts with the program at the front of the path, counts what was as wanted, and prints what wasn't.
+
+    What scripts call as sh is the shell that they are tried with.
+    """
 
     def __init__(self, path, folder):
-        self.passed, self.failed = 0, 0
+        self.passed, self.failed, self.folder = 0, 0, folder
         os.symlink(os.path.abspath(path), os.path.join(folder, "cudf_check"))
+        for shell in {*SHELLS, "sh"}:
+            os.mkdir(os.path.join(folder, shell))
+            os.symlink(shutil.which(shell), os.path.join(folder, shell, "sh"))
         places = folder + os.pathsep + os.environ["PATH"]
         self.surroundings = dict(os.environ, PATH=places, LC_ALL="C", grace="1", seconds="2")
 
-    def run(self, text, folder, shell="sh"):
+    def places(self, shell="sh", **more):
+        """The surroundings of a script by this shell."""
+        return {**self.surroundings, "PATH": os.path.join(self.folder, shell) + os.pathsep + self.surroundings["PATH"], **more}
+
+    def run(self, text, folder, shell="sh", **more):
         """The status and the texts on both outputs, of a script in a folder."""
         try:
             ran = subprocess.run(
-                [shell, "-c", text], cwd=folder, env=self.surroundings, stdin=subprocess.DEVNULL, capture_output=True,
-                timeout=LIMIT_SECONDS, check=False,
+                [shell, "-c", text], cwd=folder, env=self.places(shell, **more), stdin=subprocess.DEVNULL,
+                capture_output=True, timeout=LIMIT_SECONDS, check=False,
             )
             return ran.returncode, ran.stdout.decode(), ran.stderr.decode()
         except subprocess.TimeoutExpired:
@@ -149,11 +181,18 @@ def page(name):
         return file.read()
 
 
-def script(start, name=COMPETITION):
-    """The one script of a page that begins so, for another folder than the page's own."""
-    found = re.findall(rf"^```sh\n(?={re.escape(start)}){BLOCK}", page(name), re.MULTILINE)
-    assert len(found) == 1, start
-    return found[0].replace(OWN_DATA, "")
+def script(name):
+    """The text of a script of examples/competition."""
+    return page(f"examples/competition/{name}")
+
+
+def scripts(trial):
+    """docs/COMPETITION.md shows them all, and no others."""
+    blocks = re.findall(rf"^```sh\n{BLOCK}", page(COMPETITION), re.MULTILINE)
+    names = [name for name in os.listdir(SCRIPTS) if name.endswith(".sh")]
+    for name in names:
+        trial.note(f"{COMPETITION}, how often it shows {name}", blocks.count(script(name)), 1)
+    trial.note(f"{COMPETITION}, scripts", len(blocks), len(names))
 
 
 def shown(trial):
@@ -167,13 +206,16 @@ def shown(trial):
             scripts.append((commands, "".join(line for line in lines if not line.startswith("$ "))))
         for commands, wanted in scripts:
             for shell in SHELLS:
-                status, output, errors = trial.run(commands, ROOT, shell)
+                # what a command writes stays out of the repository
+                with tempfile.TemporaryDirectory() as folder:
+                    shutil.copytree(os.path.join(ROOT, "examples"), os.path.join(folder, "examples"))
+                    status, output, errors = trial.run(commands, folder, shell)
                 trial.note(f"{name}, {shell}: {commands}", (output, errors), (wanted, ""))
 
 
 def by_pages(trial):
     """The walk by pages of examples/README.md: the pages without their last lines are the listing."""
-    walk = script("page=", "examples/README.md")
+    (walk,) = re.findall(rf"^```sh\n(?=page=){BLOCK}", page("examples/README.md"), re.MULTILINE)
     with tempfile.TemporaryDirectory() as folder:
         for name, kind in (("P", "problem"), ("S", "answer")):
             os.symlink(os.path.join(ROOT, f"examples/rules.{kind}.cudf"), os.path.join(folder, name))
@@ -202,16 +244,19 @@ def leave(place, answer):
 
 @contextlib.contextmanager
 def competition(problems, **files):
-    """A folder with problems, and other files by their names."""
+    """A folder with problems, the scripts, and other files by their names."""
     with tempfile.TemporaryDirectory() as folder:
+        shutil.copytree(SCRIPTS, folder, ignore=shutil.ignore_patterns("problems", "answers"), dirs_exist_ok=True)
         for place, text in {**{f"problems/{name}": text for name, text in problems.items()}, **files}.items():
             os.makedirs(os.path.join(folder, os.path.dirname(place)), exist_ok=True)
             leave(os.path.join(folder, place), text)
         yield folder
 
 
-def table(rows, width):
-    return "".join("".join(f"{cell:>{width}}" for cell in row) + "\n" for row in rows)
+def table(rows):
+    """Rows in columns as wide as their widest cell, two blanks between them."""
+    wide = [max(map(len, column)) for column in zip(*rows)]
+    return "".join("  ".join(f"{cell:>{width}}" for cell, width in zip(row, wide)) + "\n" for row in rows)
 
 
 def odd_answers(trial):
@@ -219,41 +264,87 @@ def odd_answers(trial):
     left = {f"answers/{solver}/{name}": ANSWERS[name][place] for name in PROBLEMS for place, solver in enumerate(SOLVERS)}
     with competition(PROBLEMS, **left) as folder:
         for shell in SHELLS:
-            told = trial.run(script("# table.sh"), folder, shell)
-            trial.note(f"table.sh, {shell}", told, (0, table(TABLE, WIDTH), ""))
-            trial.note(f"lint.sh, {shell}", trial.run(script("# lint.sh"), folder, shell), (1, LINTED, ""))
-        status, output, errors = trial.run(script("# judge.sh"), folder)
-        is_told = re.fullmatch(r"cudf_check \d\S*\n[0-9a-f]{64}  \S*/cudf_check\n", output) is not None
+            told = trial.run("sh table.sh | tee table", folder, shell)
+            trial.note(f"table.sh, {shell}", told, (0, table(TABLE), ""))
+            trial.note(f"lint.sh, {shell}", trial.run("sh lint.sh", folder, shell), (1, LINTED, ""))
+            trial.note(f"totals.sh, {shell}", trial.run("sh totals.sh", folder, shell), (0, table(TOTALS), ""))
+            csv = "".join(",".join(row) + "\n" for row in TOTALS)
+            trial.note(f"totals.sh --csv, {shell}", trial.run("sh totals.sh --csv", folder, shell), (0, csv, ""))
+            told = trial.run("sh totals.sh none", folder, shell)
+            trial.note(f"totals.sh without a table, {shell}", (told[0], told[1], "none can't be read" in told[2]), (5, "", True))
+            # a list that reads a greater count as the better one: BOTH changes two names
+            told = trial.run("sh table.sh +changed | grep cars", folder, shell)[1].split()
+            trial.note(f"table.sh by another list, {shell}", told, ["cars.cudf", "1", "5", "3", "3", "FAIL", "1"])
+            for words, surroundings in (("table.sh changed", {}), ("table.sh", {"PATH": "/usr/bin:/bin"})):
+                told = trial.run(f"sh {words}", folder, shell, **surroundings)
+                trial.note(f"{words}, {surroundings}, {shell}", (told[0], told[1], bool(told[2])), (4, "", True))
+        status, output, errors = trial.run("sh judge.sh", folder)
+        is_told = re.fullmatch(r"cudf_check \d\S*\n[0-9a-f]{64}  -\n", output) is not None
         trial.note("judge.sh", (status, is_told or output, errors), (0, True, ""))
 
 
-def solved(trial, name, runs, shell):
-    """Solvers that end in many ways: how each ended, what stands in the table, and that what they wrote is kept."""
-    files = {f"solvers/{solver}": text for solver, (text, _, _) in RUNS.items()}
-    scripts = {"run.sh": script("# run.sh"), "task.sh": script(ARRAY)}
-    # `ls` has the solvers in the order of their names
+def bad_names(trial):
+    """Names that would break a line of words are refused, whether a problem, a solver or a folder of answers has one."""
+    for place, name in ((place, name) for place in ("problems", "solvers", "answers") for name in BAD_NAMES):
+        left = {"solvers/ash": "", "answers/ash/p": OLD, f"{place}/{name}" + "/p" * (place == "answers"): CARS}
+        if place == "answers":
+            del left["solvers/ash"]
+        with competition({"p": CARS}, **left) as folder:
+            words = "table.sh" if place == "answers" else "jobs.sh"
+            status, output, errors = trial.run(f"sh {words}", folder)
+            given = status, output, f"{place}/{name}: a name has" in errors, os.path.exists(os.path.join(folder, "jobs"))
+            trial.note(f"{words} with {place}/{name!r}", given, (1, "", True, False))
+
+
+def of_run(line, begun):
+    """The words of a line of `ended` that are known beforehand, and whether the others are as they should be."""
+    solver, name, status, start, elapsed, *used = line.split(" ")
+    is_measured = os.access(TIMER, os.X_OK) and status != "137"
+    forms = [r"\d+\.\d\d", r"\d+\.\d\d", r"[1-9]\d*"] if is_measured else ["-"] * 3
+    least = {"137": 3, "124": 2}.get(status, 0)
+    is_right = begun <= int(start) <= time.time() and float(elapsed) >= least and len(used) == 3
+    return f"{solver} {name} {status}", is_right and all(map(re.fullmatch, forms, used))
+
+
+def solved(trial, name, runs, shell, **more):
+    """Solvers that end in many ways: how each ended, its cell, what it wrote and said, and what is pending before."""
+    # in the order of their names
     solvers = sorted(RUNS)
-    with competition({"cars.cudf": CARS}, **files, **scripts) as folder:
-        trial.run(script("# jobs.sh"), folder, shell)
-        trial.run(runs.replace("sh run.sh", f"{shell} run.sh"), folder, shell)
-        ended = sorted(text_of(folder, "ended").splitlines())
-        trial.note(f"ended, {name}, {shell}", ended, [f"{solver} cars.cudf {RUNS[solver][1]}" for solver in solvers])
-        rows = [("problem", *solvers), ("cars.cudf", *(RUNS[solver][2] for solver in solvers))]
-        trial.note(f"solved, {name}, {shell}", trial.run(script("# table.sh"), folder, shell), (0, table(rows, 13), ""))
-        kept = {solver: text_of(folder, f"raw/{solver}/cars.cudf") for solver in ("deaf", "slow", "crashes")}
-        trial.note(f"kept, {name}, {shell}", kept, dict.fromkeys(kept, OLD))
-        if name == PARALLEL:
+    with competition({"cars.cudf": CARS}, **{f"solvers/{solver}": text for solver, (text, _, _) in RUNS.items()}) as folder:
+        trial.note(f"jobs.sh, {name}, {shell}", trial.run("sh jobs.sh", folder, shell), (0, "", ""))
+        jobs = [f"{solver} cars.cudf" for solver in solvers]
+        pending(trial, folder, shell, jobs, dict.fromkeys(solvers, "pending"))
+        begun = int(time.time())
+        told = trial.run(runs, folder, shell, **more)
+        trial.note(f"runs, {name}, {shell}", (told[0], told[1]), (0, ""))
+        ended = [of_run(line, begun) for line in sorted(text_of(folder, "ended").splitlines())]
+        trial.note(f"ended, {name}, {shell}", ended, [(f"{solver} cars.cudf {RUNS[solver][1]}", True) for solver in solvers])
+        pending(trial, folder, shell, [], {solver: RUNS[solver][2] for solver in solvers})
+        kept = {solver: text_of(folder, f"raw/{solver}/cars.cudf") for solver in ("deaf", "slow", "crashes", "at-last", "prints")}
+        trial.note(f"kept, {name}, {shell}", kept, {**dict.fromkeys(kept, OLD), "at-last": NEW})
+        said = sorted(text_of(folder, "raw/prints/cars.cudf.err").splitlines())
+        trial.note(f"said, {name}, {shell}", said, ["on its errors", "on its output"])
+        if name == "parallel.sh":
             verdicts(trial, folder, shell)
 
 
+def pending(trial, folder, shell, jobs, cells):
+    """What pending.sh prints and table.sh shows."""
+    told = trial.run("sh pending.sh", folder, shell)
+    trial.note(f"pending.sh, {shell}", told, (0, "".join(job + "\n" for job in jobs), ""))
+    rows = [("problem", *cells), ("cars.cudf", *cells.values())]
+    trial.note(f"cells, {shell}", trial.run("sh table.sh", folder, shell), (0, table(rows), ""))
+
+
 def verdicts(trial, folder, shell):
-    """The column Exitval: each cell as a status; a file that isn't there is one that can't be opened."""
-    trial.run(script("# verdicts.sh"), folder, shell)
+    """The column Exitval: each cell as a status; a file that isn't there is one that can't be opened; a long report is cut."""
+    trial.run("sh verdicts.sh", folder, shell)
     rows = [line.split("\t") for line in text_of(folder, "verdicts").splitlines()]
     told = sorted((row[8].split("/")[2], row[6]) for row in rows[1:])
-    statuses = {"FAIL": "3", "missing": "5"}
-    wanted = [(name, statuses.get(RUNS[name][2], "0")) for name in sorted(RUNS)]
-    trial.note(f"verdicts, {shell}", told, wanted)
+    statuses = {"FAIL": "3", "missing": "5", "stopped": "5", "no": "1"}
+    trial.note(f"verdicts, {shell}", told, [(name, statuses.get(RUNS[name][2], "0")) for name in sorted(RUNS)])
+    report = text_of(folder, "reports/1/ghosts/2/cars.cudf/stdout").splitlines()
+    trial.note(f"a long report, {shell}", (len(report), report[-1]), (1002, "solution no"))
 
 
 def text_of(folder, place):
@@ -262,13 +353,128 @@ def text_of(folder, place):
 
 
 def many_runs(trial):
-    """All runs by each of the page's ways; Slurm's tasks are started by hand, all at once."""
+    """All runs by each of the page's ways; Slurm's tasks are started by hand, all at once, five lines a task or six."""
     for shell in SHELLS:
-        solved(trial, XARGS, script(XARGS), shell)
-    tasks = f"for n in $(seq {len(RUNS)}); do SLURM_ARRAY_TASK_ID=$n sh task.sh & done; wait"
-    solved(trial, ARRAY, tasks, "sh")
+        solved(trial, "xargs.sh", "sh xargs.sh", shell)
+    tasks = "for k in 1 2 3; do SLURM_ARRAY_TASK_ID=$k SLURM_ARRAY_TASK_COUNT=3 sh job.sh & done; wait"
+    solved(trial, "job.sh", tasks, "sh")
     if shutil.which("parallel"):
-        solved(trial, PARALLEL, script(PARALLEL), "sh")
+        solved(trial, "parallel.sh", "sh parallel.sh", "sh")
+
+
+def ended_from_outside(trial, folder):
+    """Kills run.sh, as Slurm ends a task, when its solver has written its answer."""
+    words = ["sh", "run.sh", "slow", "cars.cudf"]
+    running = subprocess.Popen(words, cwd=folder, env=trial.places(), start_new_session=True)
+    for _ in range(100):
+        if os.path.exists(os.path.join(folder, "raw/slow/cars.cudf")):
+            break
+        time.sleep(0.1)
+    os.killpg(running.pid, signal.SIGKILL)
+    running.wait()
+
+
+def other_runs(trial):
+    """A run that is ended from outside, its rerun, a solver that may answer when its time is over, and no program time."""
+    files = {f"solvers/{solver}": RUNS[solver][0] for solver in ("at-last", "prints", "slow")}
+    with competition({"cars.cudf": CARS}, **files) as folder:
+        trial.run("sh jobs.sh", folder)
+        trial.run("sh run.sh prints cars.cudf", folder)
+        ended_from_outside(trial, folder)
+        jobs = ["at-last cars.cudf", "slow cars.cudf"]
+        pending(trial, folder, "sh", jobs, {"at-last": "pending", "prints": "1", "slow": "pending"})
+        trial.run("sh pending.sh > rest; sh xargs.sh rest", folder, anytime="yes", timer="/nowhere")
+        # BOTH are answers: the first may be late, and sleep ends by the signal
+        pending(trial, folder, "sh", [], {"at-last": "2", "prints": "1", "slow": "stopped"})
+        ended = {line.split(" ")[0]: line.split(" ")[2:] for line in text_of(folder, "ended").splitlines()}
+        told = {name: (ended[name][0], int(ended[name][2]) >= 2, ended[name][3:]) for name in ("at-last", "slow")}
+        trial.note("without time", told, {"at-last": ("0", True, ["-"] * 3), "slow": ("143", True, ["-"] * 3)})
+        # the last of two lines counts
+        trial.run("sh run.sh slow cars.cudf; echo 'prints cars.cudf 139 0 0 - - -' >> ended", folder)
+        pending(trial, folder, "sh", [], {"at-last": "1", "prints": "stopped", "slow": "stopped"})
+        for words in ("", "ash", "slow none", "none cars.cudf", "'' ''", ". ."):
+            status, _, errors = trial.run(f"sh run.sh {words}", folder)
+            trial.note(f"run.sh {words}", (status, errors.startswith("run.sh: no solvers/")), (4, True))
+
+
+# Names as nobody should have them, and a tie of the first two, which their seconds decide: b has 3 + 4, a 5 + 4.
+ODD_TABLE = (
+    ("problem", "a", "b", "<i>&\"'", "d;`date`"), ("<p>.cudf", "1", "1", "FAIL", "3"), ("two", "1", "1", "3", "stopped"),
+    ("late", "pending", "unranked", "pending", "unranked"),
+)
+ODD_ENDED = (
+    "a <p>.cudf 0 9 99 - - -\na <p>.cudf 0 9 5.00 - - -\na two 0 9 4.00 - - -\nb <p>.cudf 0 9 3.00 - - -\nb two 0 9 4.00 - - -\n"
+    "<i>&\"' <p>.cudf 0 9 0.00 1 1 1\n<i>&\"' two 0 9 0.00 1 1 1\nd;`date` <p>.cudf 0 9 7 - - -\nb late 0 9 50 - - -\n"
+)
+ODD_TOTALS = (
+    TOTALS[0], ("b", "2", "2", "2", "0", "0", "0", "0", "7.00"), ("a", "2", "2", "2", "0", "0", "0", "0", "9.00"),
+    ("<i>&\"'", "11", "1", "0", "1", "0", "0", "0", "0.00"), ("d;`date`", "15", "1", "0", "0", "1", "0", "0", "7.00"),
+)
+
+
+class Seen(html.parser.HTMLParser):
+    """The elements of a page that end as they should, its cells, and what could run on it or be loaded by it."""
+
+    ALONE = ("meta", "path", "circle", "rect", "use", "feflood", "fecomposite", "polygon", "ellipse")
+
+    def __init__(self, text):
+        super().__init__()
+        self.open, self.odd, self.cells, self.heads, self.counts = [], [], [], [], {}
+        self.feed(text)
+        self.odd += self.open
+
+    def handle_starttag(self, tag, attrs):
+        self.counts[tag] = self.counts.get(tag, 0) + 1
+        names = [name for name, value in attrs if name.startswith("on") or name in ("src", "href") or "://" in (value or "") and not name.startswith("xmlns")]
+        self.odd += names + [tag] * (tag in ("script", "link", "iframe", "img", "i", "p.cudf"))
+        if tag not in self.ALONE:
+            self.open.append(tag)
+        if tag in ("th", "td"):
+            self.cells.append("")
+        if tag in ("h1", "title"):
+            self.heads.append("")
+
+    def handle_endtag(self, tag):
+        if tag not in self.ALONE and (not self.open or self.open.pop() != tag):
+            self.odd.append("/" + tag)
+
+    def handle_pi(self, data):
+        self.odd.append(data)
+
+    def handle_data(self, data):
+        last = self.open[-1] if self.open else ""
+        if last in ("th", "td"):
+            self.cells[-1] += data
+        if last in ("h1", "title") and "svg" not in self.open:
+            self.heads[-1] += data
+
+
+def pages(trial):
+    """The page of a table with odd names, with and without plots; and the order of totals by time."""
+    title = "A & <script>alert(1)</script> \"\u00e9\""
+    cells = [cell for rows in (ODD_TOTALS, ODD_TABLE) for row in rows for cell in row]
+    with competition({}, table=table(ODD_TABLE), ended=ODD_ENDED) as folder:
+        for shell in SHELLS:
+            warned = "totals.sh: 2 runs are pending\n"
+            trial.note(f"a tie, {shell}", trial.run("sh totals.sh", folder, shell), (0, table(ODD_TOTALS), warned))
+            for gnuplot in ("/nowhere", *["gnuplot"] * bool(shutil.which("gnuplot"))):
+                status, output, errors = trial.run(f"sh page.sh '{title}' '<2026>'", folder, shell, gnuplot=gnuplot)
+                seen = Seen(output)
+                plots = 2 * (gnuplot == "gnuplot")
+                name = f"page.sh, {gnuplot}, {shell}"
+                trial.note(f"{name}: status and errors", (status, errors), (0, warned))
+                trial.note(f"{name}: what is odd", (seen.odd, tempfile.gettempdir() in output), ([], False))
+                trial.note(f"{name}: heads", [head for head in seen.heads if head], [title, title])
+                trial.note(f"{name}: date", "<p>&lt;2026&gt;</p>" in output, True)
+                trial.note(f"{name}: cells", seen.cells, cells)
+                trial.note(f"{name}: plots", (seen.counts.get("svg", 0), "No plots: gnuplot" in output), (plots, not plots))
+                ids = re.findall(r"id=[\"']([^\"']*)", output)
+                trial.note(f"{name}: names twice", len(ids) - len(set(ids)), 0)
+            trial.note(f"page.sh without a date, {shell}", trial.run("sh page.sh T", folder, shell)[:2], (4, ""))
+            told = trial.run("sh page.sh T D none", folder, shell)
+            trial.note(f"page.sh without a table, {shell}", told[:2], (5, ""))
+            told = trial.run("mv ended e; sh page.sh T D; mv e ended", folder, shell)
+            trial.note(f"page.sh without times, {shell}", (told[0], "times are unknown" in told[1]), (0, True))
 
 
 def rows_of(text):
@@ -319,7 +525,7 @@ def differences(trial):
 def main(path):
     with tempfile.TemporaryDirectory() as folder:
         trial = Trial(path, folder)
-        for part in (shown, by_pages, odd_answers, many_runs, differences):
+        for part in (scripts, shown, by_pages, odd_answers, bad_names, many_runs, other_runs, pages, differences):
             part(trial)
     print(f"{trial.passed} passed, {trial.failed} failed")
     return 1 if trial.failed else 0

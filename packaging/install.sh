@@ -10,6 +10,7 @@
 set -eu
 to=$DESTDIR$PREFIX
 doc=share/doc/cudf_check
+competition=share/cudf_check/competition
 case $1 in
     install) place() { install -D -m "$1" "$2" "$to/$3"; } ;;
     uninstall) place() { rm -f "$to/$3"; } ;;
@@ -22,6 +23,9 @@ place_program() {
     place 644 completions/cudf_check.bash share/bash-completion/completions/cudf_check
     place 644 completions/_cudf_check share/zsh/site-functions/_cudf_check
     place 644 completions/cudf_check.fish share/fish/vendor_completions.d/cudf_check.fish
+    for script in examples/competition/*.sh; do
+        place 644 "$script" "$competition/${script##*/}"
+    done
 }
 
 place_library() {
@@ -40,7 +44,8 @@ place_pages() {
 if [ "$1" = uninstall ]; then
     place_program
     place_library
-    rm -rf "${to:?}/$doc"
+    rm -rf "${to:?}/$doc" "${to:?}/$competition"
+    rmdir "$to/${competition%/*}" 2> /dev/null || true
     exit
 fi
 if [ ! -x "$PROGRAM" ] && [ ! -f "$LIBRARY/libcudf_check.a" ]; then

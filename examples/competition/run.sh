@@ -1,0 +1,28 @@
+# run.sh SOLVER PROBLEM: lets solvers/SOLVER answer problems/PROBLEM, and adds a line to `ended`:
+# SOLVER PROBLEM STATUS START ELAPSED USER SYSTEM MEMORY
+solver=$1 problem=$2 raw=raw/$1/$2
+if [ ! -f "solvers/$solver" ] || [ ! -f "problems/$problem" ]; then
+  echo "run.sh: no solvers/$solver or no problems/$problem" >&2
+  exit 4
+fi
+mkdir -p "raw/$solver" "answers/$solver"
+rm -rf "$raw" "$raw.err" "answers/$solver/$problem"
+measured=$(mktemp) || exit 5
+set -- timeout ${anytime:+--preserve-status} -k "${grace:-10}" "${seconds:-300}" \
+  sh "solvers/$solver" "problems/$problem" "$raw"
+if [ -x "${timer:=/usr/bin/time}" ]; then
+  set -- "$timer" -q -o "$measured" -f '%e %U %S %M' "$@"
+fi
+start=$(date +%s)
+(
+  ulimit -f 524288
+  exec "$@" < /dev/null > "$raw.err" 2>&1
+)
+status=$?
+used=$(cat "$measured")
+rm "$measured"
+# without the program time, or of a solver that had to be killed, there is no more than this
+if [ -z "$used" ]; then used="$(($(date +%s) - start)) - - -"; fi
+if [ $status -eq 137 ]; then used="${used%% *} - - -"; fi
+if [ $status -lt 124 ] && [ -f "$raw" ]; then cp "$raw" "answers/$solver/$problem" || exit 5; fi
+echo "$solver $problem $status $start $used" >> ended
