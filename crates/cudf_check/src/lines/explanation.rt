@@ -145,7 +145,7 @@ fn print_unknown<W: Sink>(
 }
 
 /// Prints what the statuses say of an instance.
-pub(crate) fn print_status<W: Sink>(
+fn print_status<W: Sink>(
     paper: &mut Paper<'_, W>,
     explainer: &Explainer<'_, '_, '_>,
     instance: &Instance<'_>,
@@ -165,4 +165,17 @@ pub(crate) fn print_status<W: Sink>(
         | What::Install(_)
         | What::Remove(_) => {}
     }
+}
+
+/// Prints what the problem and the statuses say of an instance.
+pub(crate) fn print_explained<W: Sink>(
+    paper: &mut Paper<'_, W>,
+    explainer: &Explainer<'_, '_, '_>,
+    instance: &Instance<'_>,
+)
+    ensures { let i = instance_view instance.now in
+        Says W.state paper.old paper.new (help_of explainer.now.problem i ++ status_added explainer.now i.what i.key.aspect i.subject) }
+{
+    print_help(paper, explainer.remedies(), instance);
+    print_status(paper, explainer, instance);
 }

@@ -1,6 +1,6 @@
 //! Prints the lines of violated instances, each with what is added to it, where lines are explained.
 use crate::device::Sink;
-use crate::lines::explanation::{print_help, print_status};
+use crate::lines::explanation::print_explained;
 use crate::lines::instance::{package_at, print_instance};
 use crate::paper::Paper;
 use cudf_referee::{Explainer, Instance, Referee};
@@ -79,10 +79,8 @@ impl<'r, 'p, 't> Scribe<'r, 'p, 't> {
     fn print_added<W: Sink>(&self, paper: &mut Paper<'_, W>, instance: &Instance<'_>)
         ensures { Says W.state paper.old paper.new (instance_added self.now.explain self.now.judged (instance_view instance.now)) }
     {
-        let Some(explainer) = &self.explainer else {
-            return;
-        };
-        print_help(paper, explainer.remedies(), instance);
-        print_status(paper, explainer, instance);
+        if let Some(explainer) = &self.explainer {
+            print_explained(paper, explainer, instance);
+        }
     }
 }
