@@ -69,9 +69,13 @@ status_added s (upgrade v) aspect subject = numbers_added s v.name aspect
 status_added s unknown aspect subject = unknown_added s subject
 status_added s what aspect subject = []
 
--- what is added to the line of a violated instance, where lines are explained
+-- what the problem and the statuses say of a violated instance
+unfoldable pub explained : Proposal → PlainInstance → List ℕ
+explained s i = help_of s.problem i ++ status_added s i.what i.key.aspect i.subject
+
+-- what is added to its line, where lines are explained
 abbrev pub instance_added : Bool → Proposal → PlainInstance → List ℕ
-instance_added explain s i = if explain then help_of s.problem i ++ status_added s i.what i.key.aspect i.subject else []
+instance_added explain s i = if explain then explained s i else []
 
 -- and to that of an instance of a problem, whatever the status
 abbrev pub reason_added : Bool → PlainProblem → PlainInstance → List ℕ

@@ -2,7 +2,7 @@
 ghost use Rattle.std.specs.Prelude.{◌≡◌, ◌++◌, Some, option_map, true};
 ghost use Rattle.cudf_problem.specs.Promises.Views.{package_view};
 ghost use Rattle.cudf_referee.specs.Promises.Views.{instance_view};
-ghost use Rattle.cudf_check.specs.Explanations.{stanza_text, help_of, help_text, lacks_package, named_text, number_text, numbers_added, status_added, unknown_added, would_do_text};
+ghost use Rattle.cudf_check.specs.Explanations.{stanza_text, explained, help_of, help_text, lacks_package, named_text, number_text, numbers_added, status_added, unknown_added, would_do_text};
 ghost use Rattle.cudf_check.specs.Working.Paper.{Says};
 
 use crate::device::Sink;
@@ -173,8 +173,7 @@ pub(crate) fn print_explained<W: Sink>(
     explainer: &Explainer<'_, '_, '_>,
     instance: &Instance<'_>,
 )
-    ensures { let i = instance_view instance.now in
-        Says W.state paper.old paper.new (help_of explainer.now.problem i ++ status_added explainer.now i.what i.key.aspect i.subject) }
+    ensures { Says W.state paper.old paper.new (explained explainer.now (instance_view instance.now)) }
 {
     print_help(paper, explainer.remedies(), instance);
     print_status(paper, explainer, instance);

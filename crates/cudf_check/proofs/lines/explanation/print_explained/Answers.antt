@@ -1,10 +1,11 @@
 use Rattle.std.proofs.Common.{◌++◌, ap}
 use Rattle.cudf_referee.specs.Promises.Views.{instance_view}
-use Rattle.cudf_check.specs.Explanations.{help_of, status_added}
+use Rattle.cudf_check.specs.Explanations.{explained, help_of, status_added}
 use Rattle.cudf_check.proofs.PaperLemmas.{Says-as, ◌▸◌}
 use Rattle.cudf_check.proofs.lines.explanation.print_explained.Goals as goal
 
 pub returns : goal.returns
+unfolding explained
 returns g c =
     let i = instance_view c.args.instance.now in
     let s = c.args.explainer.now in
