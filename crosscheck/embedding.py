@@ -474,12 +474,11 @@ def refused(call, *words, **more):
 
 
 def refusal(trial, request):
-    """What Python says of a key or a list that the program refuses: the program's text, with the names of Python's words."""
+    """What Python says of a key or a list that the program refuses: its text, with the word and its name as Python has them."""
     path = programs.write(trial.folder, "problem", request.texts[0])
-    errors = run([trial.program.path, *request.words([path] * len(request.texts))], trial.folder)[2]
-    text = re.sub(r"'--(\w+).*?>'", r"'\1'", errors.decode().partition("\n\n")[0].removeprefix("error: "))
-    word = request.said.decode()
-    return ValueError, text.replace(f"'{word}'", repr(word))
+    errors = run([trial.program.path, *request.words([path] * len(request.texts))], trial.folder)[2].decode()
+    found = re.search(r"' for '--(\w+)[^']*'(: .*?)\n\n", errors)
+    return ValueError, f"invalid value {request.said.decode()!r} for '{found[1]}'{found[2]}" if found else errors
 
 
 def misuses(trial, module):

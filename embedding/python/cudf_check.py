@@ -327,7 +327,7 @@ def _opened(name: str) -> ctypes.CDLL:
 _library = _opened(os.environ.get("CUDF_CHECK_LIBRARY", "libcudf_check.so.1"))
 
 
-def _sized(document: Document):
+def _sized(document: Document) -> Tuple[Union[bytes, ctypes.Array], int]:
     """A text, as `bytes` or as an array over the buffer, and its length. ctypes gives a pointer to it that isn't null."""
     if isinstance(document, os.PathLike):
         with open(os.fspath(document), "rb") as file:
@@ -344,7 +344,7 @@ def _sized(document: Document):
     return text, view.nbytes
 
 
-def _call(function, *arguments):
+def _call(function, *arguments) -> Tuple[int, str]:
     """Makes a call with a buffer for its report, and again with a larger one where that was too small."""
     room, length = _ROOM, ctypes.c_size_t()
     while True:
@@ -355,7 +355,7 @@ def _call(function, *arguments):
         room = length.value
 
 
-def _call_rank(strict, problem, solutions, criteria):
+def _call_rank(strict: bool, problem: Document, solutions: Iterable[Document], criteria: Text) -> Tuple[int, str]:
     held = [_sized(solution) for solution in solutions]
     texts = (_Text * len(held))()
     for entry, (text, length) in zip(texts, held):
