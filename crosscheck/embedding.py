@@ -64,7 +64,7 @@ GREATEST = 2**64 - 1
 GUARD, PATTERN, REFUSED = 64, b"\xa5", 70
 
 PROBLEM = b"package: car\nversion: 1\ndepends: wheel > 2\ninstalled: true\n\npackage: wheel\nversion: 2\n\nrequest:\n"
-# of which the CNF is longer than what a small program holds
+# its CNF is longer than all static memory of the driver
 MANY = b"".join(b"package: %s\nversion: %d\n\n" % (b"a" * 90, number) for number in range(1, 10_001)) + b"request:\n"
 GOOD = b"package: wheel\nversion: 2\ninstalled: true\n"
 BAD = b"package: car\nversion: 1\ninstalled: true\n"
@@ -686,7 +686,7 @@ def nulls(trial):
         Request("cnf", (SHOP,), room=none), Request("refute", (some, some)), Request("refute", (SHOP, some), room=0),
         Request("refute", (SHOP, SHOP_PROOF), room=some), Request("lint", (PROBLEM,), room=some),
         Request("check", (PROBLEM, BAD), room=some), Request("score", (PROBLEM, BAD), room=some),
-        # what is written to no buffer lies behind whatever has its place
+        # a report of this length, written where there is no buffer, would end the driver
         Request("cnf", (MANY,), room=Nothing(GREATEST_INPUT)),
     ):
         filled = dataclasses.replace(request, texts=tuple(map(bytes_of, request.texts)), said=bytes_of(request.said))
