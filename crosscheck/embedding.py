@@ -752,7 +752,7 @@ def lengths():
     for long in (GREATEST_INPUT + 1, Claimed(GREATEST_INPUT + 1), Claimed(GREATEST)):
         for request in (
             Request("lint", (long,)), Request("check", (PROBLEM, long)), Request("score", (long, b"FAIL")),
-            Request("rank", (b"?", GOOD, b"FAIL", long), b"-new"), Request("rank", (long,), b"-new"), Request("cnf", (long,)),
+            Request("rank", (b"?", GOOD, long, b"FAIL"), b"-new"), Request("rank", (long,), b"-new"), Request("cnf", (long,)),
             Request("refute", (b"?", long)), Request("refute", (long, SHOP_PROOF)),
         ):
             yield f"too long: {request}", request, request.left(UNREAD, b"")
