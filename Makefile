@@ -1,8 +1,8 @@
 # make run: proves and builds the program, and checks the example of the README.
 # make library: proves and builds the library for C, in lib/. make linked ARCHIVE=..: the same from what rt lib built before.
 # make test: the gate. make statement: the files on which the headline rests, compared with docs/PROOFS.md.
-# make install PREFIX=..: copies the program and the library, whichever was built, with the man page, the completions and
-# the pages for users; make uninstall takes all of it away.
+# make install PREFIX=..: copies the program and the library, whichever was built, with the man page, the completions, the
+# pages for users, and the library's callers in other languages; make uninstall takes all of it away.
 # make dist, make deb: packages of program and library, in dist/. What was built from one commit makes the same bytes.
 
 PREFIX ?= /usr/local

@@ -3,13 +3,13 @@
 usage: embedding FILE [THREADS CALLS STACK]
 
 FILE has requests, one behind the other, in numbers of 64 bits as the machine has them: which call it is (0 lint, 1 check,
-2 score, 3 rank, 4 cnf, 5 refute), whether it is strict, whether lines are explained, the limit, the room, how many texts
-there are, and then the texts, each a length and bytes. The problem comes first, then the solutions or the proof, and last
-the key or the list, where the call has one. A length NONE stands for a null pointer, and with ZEROES for that many bytes 0,
-which don't stand in the file; a room NONE stands for a null buffer.
+2 score, 3 rank, 4 cnf, 5 refute), whether it is strict, whether lines are explained, the limit, whether the buffer is null,
+the room, how many texts there are, and then the texts, each a kind, a length and, where it is WRITTEN, bytes. The problem
+comes first, then the solutions or the proof, and last the key or the list, where the call has one. A text of ZEROES has that
+many bytes 0; of one that is NOTHING the pointer is null, and of one that is CLAIMED there is one byte, whatever its length.
 
 For each request its answer is written in the same way: the status, the length that was told, and the buffer with GUARD
-bytes behind its room. All its bytes were PATTERN before the call.
+bytes behind its room, or nothing of one that is null. All its bytes were PATTERN before the call.
 
 With THREADS the requests are answered once, and then so often as CALLS says by so many threads at once, whose stacks have
 STACK bytes, or the usual ones where that is 0. What is written is how many of these answers were others. The status is 70
@@ -21,8 +21,7 @@ where FILE can't be opened, or memory for a request is refused before its call. 
 #include <stdlib.h>
 #include <string.h>
 
-#define NONE UINT64_MAX
-#define ZEROES (UINT64_C(1) << 63)
+enum { WRITTEN, ZEROES, NOTHING, CLAIMED };
 enum { LINT, CHECK, SCORE, RANK, CNF, REFUTE };
 enum { GUARD = 64, PATTERN = 0xa5, REFUSED = 70 };
 
@@ -32,7 +31,7 @@ struct text {
 };
 
 struct request {
-    uint64_t call, strict, explain, limit, room, count;
+    uint64_t call, strict, explain, limit, is_null, room, count;
     struct text *texts;
     cudf_check_text *solutions;
 };
@@ -60,12 +59,12 @@ static bool read_number(FILE *file, uint64_t *number)
 /* Each text has a block of its own, so that a sanitizer knows where it ends. */
 static void read_text(FILE *file, struct text *text)
 {
-    uint64_t length;
-    if (!read_number(file, &length))
+    uint64_t kind, length;
+    if (!read_number(file, &kind) || !read_number(file, &length))
         abort();
-    text->length = length == NONE ? 0 : (size_t)(length & ~ZEROES);
-    text->bytes = length == NONE ? NULL : taken(text->length);
-    if (!(length & ZEROES) && fread(text->bytes, 1, text->length, file) != text->length)
+    text->length = (size_t)length;
+    text->bytes = kind == NOTHING ? NULL : taken(kind == CLAIMED ? 1 : text->length);
+    if (kind == WRITTEN && fread(text->bytes, 1, text->length, file) != text->length)
         abort();
 }
 
@@ -74,7 +73,8 @@ static bool read_request(FILE *file, struct request *request)
     if (!read_number(file, &request->call))
         return false;
     if (!read_number(file, &request->strict) || !read_number(file, &request->explain) || !read_number(file, &request->limit)
-        || !read_number(file, &request->room) || !read_number(file, &request->count))
+        || !read_number(file, &request->is_null) || !read_number(file, &request->room)
+        || !read_number(file, &request->count))
         abort();
     request->texts = taken(request->count * sizeof *request->texts);
     for (uint64_t at = 0; at < request->count; at++)
@@ -100,12 +100,11 @@ static void call(const struct request *request, struct answer *answer)
 {
     const struct text *problem = request->texts, *solution = problem + 1, *words = problem + request->count - 1;
     bool strict = request->strict, explain = request->explain;
-    bool is_null = request->room == NONE;
-    size_t room = is_null ? 0 : request->room;
-    answer->size = is_null ? 0 : room + GUARD;
-    answer->buffer = is_null ? NULL : taken(answer->size);
+    size_t room = request->room;
+    answer->size = request->is_null ? 0 : room + GUARD;
+    answer->buffer = request->is_null ? NULL : taken(answer->size);
     answer->length = SIZE_MAX;
-    if (!is_null)
+    if (answer->buffer)
         memset(answer->buffer, PATTERN, answer->size);
     switch (request->call) {
     case LINT:
@@ -122,8 +121,10 @@ static void call(const struct request *request, struct answer *answer)
                                           words->bytes, words->length, answer->buffer, room, &answer->length);
         break;
     case RANK:
-        answer->status = cudf_check_rank(strict, problem->bytes, problem->length, request->solutions, request->count - 2,
-                                         words->bytes, words->length, answer->buffer, room, &answer->length);
+        /* where there are no solutions the array is null, and is said to have three */
+        answer->status = cudf_check_rank(strict, problem->bytes, problem->length, request->solutions,
+                                         request->solutions ? request->count - 2 : 3, words->bytes, words->length,
+                                         answer->buffer, room, &answer->length);
         break;
     case CNF:
         answer->status = cudf_check_cnf(strict, problem->bytes, problem->length, answer->buffer, room, &answer->length);

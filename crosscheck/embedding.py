@@ -6,11 +6,12 @@ usage: embedding.py PROGRAM LIBRARY_FOLDER
 LIBRARY_FOLDER has libcudf_check.a and libcudf_check.so.1.
 
 - The examples in C, C++, Python and OCaml, linked to each of the two files, print embedding/expected.txt. What
-  docs/EMBEDDING.md shows of them stands in them.
+  docs/EMBEDDING.md shows of them stands in them. Each caller answers wrong words and documents that are too long.
 - 500 random problems with their solutions and proofs, in both modes, by all six calls, those that explain with and without it, with pages and
   lists, right ones and wrong ones: through C and through Python the status and the bytes of the report are the program's,
-  and the values that Python gives say the same.
-- Reports that are cut at every length; null pointers; keys, lists and rankings that a command line can't ask for.
+  and the values that Python gives say the same; where the program refuses a key or a list, Python raises with its text.
+- Reports that are cut at every length; null pointers, also with a length or a room; keys, lists and rankings that a command
+  line can't ask for; lengths of which there are no bytes. Python with buffers of all kinds, and with files.
 - Each growth of memory in a call refused in turn; documents that are too long, and one that just isn't.
 - 10,000 calls by eight threads at once: with stacks of 128 KB, under a sanitizer for addresses and leaks, and under one for
   threads. Of the library these see what it asks of the C library; so its data is looked at too, of which none is writable.
@@ -22,7 +23,9 @@ and 2 where there is no program or no library. For Linux and glibc; Python's sta
 import ast
 import dataclasses
 import importlib
+import mmap
 import os
+import pathlib
 import random
 import re
 import shutil
@@ -58,9 +61,11 @@ YES, NO, FAULTY, FAIL, USAGE, UNREAD, MEMORY = range(7)
 GREATEST_INPUT = 268_435_456
 GREATEST = 2**64 - 1
 # as the driver has them
-NONE, ZEROES, GUARD, PATTERN, REFUSED = 2**64 - 1, 1 << 63, 64, b"\xa5", 70
+GUARD, PATTERN, REFUSED = 64, b"\xa5", 70
 
 PROBLEM = b"package: car\nversion: 1\ndepends: wheel > 2\ninstalled: true\n\npackage: wheel\nversion: 2\n\nrequest:\n"
+# its CNF is longer than all static memory of the driver
+MANY = b"".join(b"package: %s\nversion: %d\n\n" % (b"a" * 90, number) for number in range(1, 10_001)) + b"request:\n"
 GOOD = b"package: wheel\nversion: 2\ninstalled: true\n"
 BAD = b"package: car\nversion: 1\ninstalled: true\n"
 UNMET = b"p1.depends.1 car 1 line 1: needs wheel > 2\nsolution no\n"
@@ -108,6 +113,33 @@ GONE_EXPLAINED = (
     b"r.remove.1 line 5: must remove car, met by car 1\n"
     b"no solution exists\n"
 )
+
+# wrong words, and documents that are too long, of which there is one byte where the language lets a caller say so
+MISUSES = {
+    "cpp": """#include "cudf_check.hpp"
+#include <iostream>
+int main()
+{
+    const std::string_view problem = "request:\\n", none, long_one(problem.data(), SIZE_MAX);
+    for (const auto &answer : {cudf_check::check(problem, none, "x"), cudf_check::score(problem, none, "new"),
+                               cudf_check::rank(problem, {none, long_one}, "new"), cudf_check::lint(long_one),
+                               cudf_check::rank(problem, {none, long_one}, "-new"), cudf_check::refute(none, long_one)})
+        std::cout << static_cast<int>(answer.status) << answer.report;
+}
+""",
+    "ocaml": """let () =
+  let problem = "request:\\n" and long = String.make 268435457 ' ' in
+  List.iter
+    (fun ({ status; report } : Cudf_check.answer) ->
+      print_string ((match status with Usage -> "4" | Unread -> "5" | _ -> "other") ^ report))
+    Cudf_check.
+      [
+        check ~after:"x" problem ""; score ~criteria:"new" problem ""; rank ~criteria:"new" problem [ ""; long ];
+        lint long; rank ~criteria:"-new" problem [ ""; long ]; refute "" long;
+      ]
+""",
+}
+MISUSED = b"444555"
 
 # programs that are wrong, to see whether a sanitizer tells
 LEAK = """#include <stdlib.h>
@@ -211,6 +243,11 @@ def callers(trial):
                     trial.note(name, run([trial.file(name)], trial.folder), wanted)
         if not compilers(*names):
             left_out(f"the example in {language}", f"none of {', '.join(names)} is there")
+    for compiler in compilers("g++", "clang++")[:1]:
+        source = programs.write(trial.folder, "misuse.cpp", MISUSES["cpp"].encode())
+        headers = [INCLUDE, "-I" + os.path.join(EMBEDDING, "cpp")]
+        if trial.built("misuse", [compiler, "-std=c++17", *WARNINGS, *headers, source, trial.static()]):
+            trial.note("misuse in C++", run([trial.file("misuse")], trial.folder), (0, MISUSED, b""))
     python(trial, wanted)
     ocaml(trial, wanted)
 
@@ -238,12 +275,14 @@ def ocaml(trial, wanted):
             folder = shutil.copytree(os.path.join(EMBEDDING, "ocaml"), trial.file(name + "-sources"))
             linked = [word for file in library for word in ("-cclib", file)]
             warned = [word for flag in ("-Wall", "-Wextra", "-Werror", INCLUDE) for word in ("-ccopt", flag)]
-            sources = ["cudf_check_stubs.c", "cudf_check.mli", "cudf_check.ml", "example.ml"]
-            words = [compiler, "-w", "+a-4-9-40..42-70", "-warn-error", "+a", *mode, *warned, *sources, *linked]
-            ran = run(words + ["-o", trial.file(name)], folder)
-            trial.note(f"{name}: built", ran, (0, b"", b""))
-            if ran[0] == 0:
-                trial.note(name, run([trial.file(name)], trial.folder), wanted)
+            sources = ["cudf_check_stubs.c", "cudf_check.mli", "cudf_check.ml"]
+            words = [compiler, "-w", "+a-4-9-40..42-70", "-warn-error", "+a", *mode, *warned, *sources]
+            programs.write(folder, "misuse.ml", MISUSES["ocaml"].encode())
+            for main, printed in (("example.ml", wanted), ("misuse.ml", (0, MISUSED, b""))):
+                ran = run([*words, main, *linked, "-o", trial.file(name)], folder)
+                trial.note(f"{main}, {name}: built", ran, (0, b"", b""))
+                if ran[0] == 0:
+                    trial.note(f"{main}, {name}", run([trial.file(name)], trial.folder), printed)
 
 
 def shown_blocks(trial):
@@ -260,11 +299,19 @@ def shown_blocks(trial):
 # ---- requests and their answers
 
 
+class Nothing(int):
+    """A null pointer, which is said to have so many bytes."""
+
+
+class Claimed(int):
+    """One byte, which is said to be so many."""
+
+
 @dataclasses.dataclass(frozen=True)
 class Request:
     """A call: the texts are the problem and the solutions or the proof, `said` the key or the list.
 
-    A number is so many bytes 0.
+    A number is so many bytes 0. A room that is Nothing is that of a null buffer.
     """
 
     call: str
@@ -284,22 +331,20 @@ class Request:
     def written(self):
         """The request as the driver reads it."""
         texts = self.texts if self.call in WORDLESS else (*self.texts, self.said)
-        room = NONE if self.room is None else self.room
-        head = struct.pack("6Q", CALLS.index(self.call), self.is_strict, self.is_explained, self.limit, room, len(texts))
+        numbers = self.limit, isinstance(self.room, Nothing), self.room, len(texts)
+        head = struct.pack("7Q", CALLS.index(self.call), self.is_strict, self.is_explained, *numbers)
         return head + b"".join(map(written, texts))
 
     def left(self, status, report):
         """What the call leaves of a report: the status, its length, and the buffer with the guard behind it."""
-        size = 0 if self.room is None else self.room + GUARD
-        return status, len(report), (report[: self.room or 0]).ljust(size, PATTERN)
+        is_null = isinstance(self.room, Nothing)
+        return status, len(report), b"" if is_null else report[: self.room].ljust(self.room + GUARD, PATTERN)
 
 
 def written(text):
-    if text is None:
-        return struct.pack("Q", NONE)
-    if isinstance(text, int):
-        return struct.pack("Q", ZEROES | text)
-    return struct.pack("Q", len(text)) + text
+    if isinstance(text, bytes):
+        return struct.pack("2Q", 0, len(text)) + text
+    return struct.pack("2Q", (int, Nothing, Claimed).index(type(text)) + 1, text)
 
 
 def answers(output):
@@ -377,14 +422,18 @@ def beside(trial, driver):
     """Random requests: what the program says, and the two callers beside it. Returns the requests with what they leave."""
     named = []
     python_of = python_module(trial)
-    values(trial, python_of)
+    for part in (values, misuses, buffers):
+        part(trial, python_of)
     for number in range(1, PAIRS + 1):
         for request in random_requests(number):
             status, report = asked(trial, request)
             name = f"pair {number}: {request}"
-            answer = python_call(python_of, request)
-            trial.note(f"Python, {name}", (answer.status, answer.report.encode()), (status, report))
-            trial.note(f"Python's values, {name}", told_again(request, answer), report.decode())
+            kind, answer = refused(python_call, python_of, request)
+            if kind:
+                trial.note(f"Python, {name}", (kind, answer), refusal(trial, request))
+            else:
+                trial.note(f"Python, {name}", (answer.status, answer.report.encode()), (status, report))
+                trial.note(f"Python's values, {name}", told_again(request, answer), report.decode())
             request = with_room(request, report, len(named))
             named.append((f"C, {name}", request, request.left(status, report)))
     kinds = {status: sum(row[2][0] == status for row in named) for status in (YES, NO, FAULTY, FAIL, USAGE)}
@@ -416,8 +465,83 @@ def python_call(module, request):
     return module.refute(problem, *solutions, request.is_strict, request.is_explained)
 
 
+def refused(call, *words, **more):
+    """The exception of a call and its text, or None and what it gives."""
+    try:
+        return None, call(*words, **more)
+    except (ValueError, TypeError, OSError, MemoryError, BufferError) as error:
+        return type(error), str(error)
+
+
+def refusal(trial, request):
+    """What Python says of a key or a list that the program refuses: its text, with the word and its name as Python has them."""
+    path = programs.write(trial.folder, "problem", request.texts[0])
+    errors = run([trial.program.path, *request.words([path] * len(request.texts))], trial.folder)[2].decode()
+    found = re.search(r"' for '--(\w+)[^']*'(: .*?)\n\n", errors)
+    return ValueError, f"invalid value {request.said.decode()!r} for '{found[1]}'{found[2]}" if found else errors
+
+
+def misuses(trial, module):
+    """What Python raises. An mmap can be closed where an exception passes."""
+    key, list_of = "invalid value 'x' for 'after': a key is written as in a report, as p1.depends.2", "for 'criteria': a list"
+    trial.note("Python's wrong key", refused(module.check, PROBLEM, BAD, after="x"), (ValueError, key))
+    for call, words in ((module.score, (PROBLEM, BAD, b"n\xff")), (module.rank, (PROBLEM, [BAD], "new"))):
+        kind, text = refused(call, *words)
+        trial.note(f"Python's wrong list, {words}", (kind, list_of in text), (ValueError, True))
+    for limit in (0, -1, 2**64):
+        text = f"invalid value '{limit}' for 'limit': it is no number from 1 to 18446744073709551615"
+        trial.note(f"Python, limit {limit}", refused(module.check, PROBLEM, BAD, limit=limit), (ValueError, text))
+    # what is too long is told by the library here, and by the header in C
+    long = bytearray(GREATEST_INPUT + 1)
+    for call, words in (
+        (module.lint, (long,)), (module.check, (PROBLEM, long)), (module.score, (long, b"FAIL")),
+        (module.rank, (PROBLEM, [GOOD, long], "-new")), (module.cnf, (long,)), (module.refute, (SHOP, long)),
+        (module.lint, (pathlib.Path("/dev/zero"),)),
+    ):
+        trial.note(f"Python, {call.__name__} of what is too long", refused(call, *words)[0], module.TooLong)
+    for words, kind in (
+        ((PROBLEM, pathlib.Path(trial.file("none"))), FileNotFoundError), ((PROBLEM, 5), TypeError), ((None, BAD), TypeError),
+        ((PROBLEM, "\ud800"), UnicodeEncodeError),
+    ):
+        trial.note(f"Python, no document: {words}", refused(module.check, *words)[0], kind)
+
+    def with_map():
+        with mmap.mmap(-1, len(PROBLEM)) as mapped:
+            mapped[:] = PROBLEM
+            module.check(mapped, BAD, after="x")
+
+    trial.note("Python's wrong key, beside an mmap", refused(with_map), (ValueError, key))
+    program = (
+        "import cudf_check, resource\n"
+        "problem = bytes(100 << 20)\n"
+        "used = int(open('/proc/self/statm').read().split()[0]) * resource.getpagesize()\n"
+        "resource.setrlimit(resource.RLIMIT_AS, (used + (20 << 20),) * 2)\n"
+        "try:\n    cudf_check.lint(problem)\nexcept MemoryError as error:\n    print(error)\n"
+    )
+    surroundings = {"CUDF_CHECK_LIBRARY": trial.shared(), "PYTHONPATH": os.path.join(EMBEDDING, "python")}
+    told = run([sys.executable, "-c", program], trial.folder, **surroundings)
+    trial.note("Python without memory", told, (0, b"there is not enough memory\n", b""))
+
+
+def buffers(trial, module):
+    """A document in each form that Python takes, and what of them is copied."""
+    file = pathlib.Path(programs.write(trial.folder, "document", PROBLEM))
+    with open(file, "r+b") as opened:
+        mapped = [mmap.mmap(opened.fileno(), 0, access=access) for access in (mmap.ACCESS_READ, mmap.ACCESS_WRITE)]
+    twice = bytes(byte for byte in PROBLEM for _ in "ab")
+    forms = PROBLEM.decode(), bytearray(PROBLEM), memoryview(PROBLEM), memoryview(twice)[::2], *mapped, file
+    for number, form in enumerate(forms):
+        told = module.check(form, BAD), module.check(PROBLEM, form), module.rank(form, [form, BAD], "-new")
+        wanted = module.check(PROBLEM, BAD), module.check(PROBLEM, PROBLEM), module.rank(PROBLEM, [PROBLEM, BAD], "-new")
+        trial.note(f"Python, form {number}", told, wanted)
+    for form in ("", bytearray(), memoryview(b""), pathlib.Path(os.devnull)):
+        trial.note(f"Python, empty {type(form)}", module.check(PROBLEM, form), module.check(PROBLEM, b""))
+    copied = [isinstance(module._sized(form)[0], bytes) for form in (bytearray(PROBLEM), memoryview(PROBLEM), *mapped)]
+    trial.note("what Python copies", copied, [False, True, True, False])
+
+
 def values(trial, module):
-    """Values of Python's by hand, of each kind of line, and what it refuses to ask."""
+    """Values of Python's by hand, of each kind of line."""
     rules = example("rules.problem.cudf").decode(), example("rules.answer.cudf").decode()
     checked = module.check(*rules, after="r.upgrade.1.many", limit=2)
     trial.note("Python's page", (checked.status, checked.more_after, checked.verdict, checked.fault), (
@@ -473,11 +597,6 @@ def values(trial, module):
     refuted = module.refute("package: a", SHOP_PROOF)
     told = refuted.status, refuted.fault, refuted.proof_fault, refuted.reasons
     trial.note("Python's fault beside a proof", told, (FAULTY, module.Fault("problem", *fault), None, []))
-    for limit in (0, -1, 2**64):
-        try:
-            trial.note(f"Python, limit {limit}", module.check(PROBLEM, BAD, limit=limit), ValueError)
-        except ValueError:
-            trial.note(f"Python, limit {limit}", ValueError, ValueError)
 
 
 def told_again(request, answer):
@@ -551,23 +670,31 @@ def cuts(trial):
     """A report in buffers of each length up to one more than its own, and in none."""
     for request in usual_requests():
         status, report = asked(trial, request)
-        for room in (*range(len(report) + 2), None):
+        for room in (*range(len(report) + 2), Nothing(0)):
             cut = dataclasses.replace(request, room=room)
             yield f"{request.call}, explained {request.is_explained}, cut at {room}", cut, cut.left(status, report)
 
 
 def nulls(trial):
-    """A null pointer is an empty text; the program is given empty files."""
+    """A null pointer is an empty text and no buffer, whatever length it is said to have; the program is given empty files."""
+    none, some = Nothing(0), Nothing(9)
     for request in (
-        Request("lint", (None,)), Request("check", (PROBLEM, None), None), Request("check", (None, BAD), b"", 1),
-        Request("check", (PROBLEM, BAD), None, room=0), Request("score", (PROBLEM, None), None),
-        Request("score", (None, None), b"-new"), Request("rank", (PROBLEM, None), b"-new"),
-        Request("rank", (PROBLEM, BAD, None, GOOD), b"-new", room=None), Request("cnf", (None,)),
-        Request("cnf", (SHOP,), room=None), Request("refute", (None, None)), Request("refute", (SHOP, None), room=0),
-        Request("refute", (SHOP, SHOP_PROOF), room=None),
+        Request("lint", (some,)), Request("check", (PROBLEM, some), none), Request("check", (none, BAD), b"", 1),
+        Request("check", (PROBLEM, BAD), some, room=0), Request("score", (PROBLEM, none), some),
+        Request("score", (some, some), b"-new"), Request("rank", (PROBLEM, some), b"-new"),
+        Request("rank", (PROBLEM, BAD, some, GOOD), b"-new", room=some), Request("cnf", (some,)),
+        Request("cnf", (SHOP,), room=none), Request("refute", (some, some)), Request("refute", (SHOP, some), room=0),
+        Request("refute", (SHOP, SHOP_PROOF), room=some), Request("lint", (PROBLEM,), room=some),
+        Request("check", (PROBLEM, BAD), room=some), Request("score", (PROBLEM, BAD), room=some),
+        # a report of this length, written where there is no buffer, would end the driver
+        Request("cnf", (MANY,), room=Nothing(GREATEST_INPUT)),
     ):
-        filled = dataclasses.replace(request, texts=tuple(text or b"" for text in request.texts), said=request.said or b"")
-        yield f"null pointers: {request}", request, request.left(*asked(trial, filled))
+        filled = dataclasses.replace(request, texts=tuple(map(bytes_of, request.texts)), said=bytes_of(request.said))
+        yield f"null pointers: {str(request)[:400]}", request, request.left(*asked(trial, filled))
+
+
+def bytes_of(text):
+    return b"" if isinstance(text, Nothing) else text
 
 
 def by_hand():
@@ -575,7 +702,7 @@ def by_hand():
     faulty = b"problem line 1: E2 not a property, continuation, comment or blank line\n"
     ranked = b"1 solution 2 yes\n2 solution 4 yes\n3 solution 1 no\n4 solution 3 FAIL\n"
     rows = [
-        (Request("rank", (PROBLEM,)), FAIL, b""), (Request("rank", (PROBLEM,), None, room=None), FAIL, b""),
+        (Request("rank", (PROBLEM,)), FAIL, b""), (Request("rank", (PROBLEM,), Nothing(0), room=Nothing(0)), FAIL, b""),
         (Request("rank", (PROBLEM,), b"-new"), FAIL, b""), (Request("rank", (b"?",), b"-new"), FAULTY, faulty),
         (Request("rank", (PROBLEM, BAD, GOOD, b"FAIL", GOOD)), YES, ranked),
         (Request("check", (PROBLEM, BAD), b"p1.conflicts.1"), NO, b"solution no\n"),
@@ -620,15 +747,19 @@ def refutations_by_hand(faulty):
 
 
 def lengths():
-    """Documents that are longer than may be, whatever the others are, and one that is as long as may be."""
-    long = GREATEST_INPUT + 1
-    rows = [
-        Request("lint", (long,)), Request("check", (PROBLEM, long)), Request("score", (long, b"FAIL")),
-        Request("rank", (b"?", GOOD, b"FAIL", long), b"-new"), Request("cnf", (long,)),
-        Request("refute", (b"?", long)), Request("refute", (long, SHOP_PROOF)),
-    ]
-    for request in rows:
-        yield f"too long: {request}", request, request.left(UNREAD, b"")
+    """Documents that are longer than may be, whatever the others are, also where no byte of them can be read, and one that is
+    as long as may be. A wrong key and a wrong list are told before."""
+    for long in (GREATEST_INPUT + 1, Claimed(GREATEST_INPUT + 1), Claimed(GREATEST)):
+        for request in (
+            Request("lint", (long,)), Request("check", (PROBLEM, long)), Request("score", (long, b"FAIL")),
+            Request("rank", (b"?", GOOD, long, b"FAIL"), b"-new"), Request("rank", (long,), b"-new"), Request("cnf", (long,)),
+            Request("refute", (b"?", long)), Request("refute", (long, SHOP_PROOF)),
+        ):
+            yield f"too long: {request}", request, request.left(UNREAD, b"")
+        for request in (
+            Request("check", (long, BAD), b"x"), Request("score", (PROBLEM, long), b"new"), Request("rank", (long,), b"new"),
+        ):
+            yield f"too long, and wrong words: {request}", request, request.left(USAGE, b"")
     request = Request("lint", (GREATEST_INPUT,))
     faulty = b"problem line 1: E2 not a property, continuation, comment or blank line\n"
     yield "as long as may be", request, request.left(FAULTY, faulty)

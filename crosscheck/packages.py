@@ -14,7 +14,8 @@ Makefile gets both by its variables.
 - The tarball and the package for Debian have what they should. They are the same bytes when they are made in another
   folder, with another mask of modes, time zone and language. No path of this machine stands in them.
 - The tarball's program and library run in a root with the C library alone, and its description for pkg-config is right.
-- The package and `make install` put into a root what they should, it works there, and is gone when it is removed.
+- The package and `make install` put into a root what they should, it works there, and is gone when it is removed. The
+  callers in C++, Python and OCaml work where they are installed, by a compiler, by pip and by dune.
 
 What isn't as wanted is printed, then what couldn't be tried here, and then how many there were. The status is 1 where one
 is wrong, and 2 where there is no program or archive. For Linux; Python's standard library alone.
@@ -58,8 +59,8 @@ OF_LIBRARY = {
     "lib/pkgconfig/cudf_check.pc",
 }
 READ = {f"share/doc/cudf_check/{page}" for page in PAGES}
-# what is packed beside what make install installs
-PACKED = ("README.md", "examples", "embedding")
+# what is packed beside what make install installs, and a link to the callers
+PACKED, LINK = ("README.md", "examples"), "embedding"
 # a path that no file of the system's own has
 OF_A_BUILD = re.compile(rb"/(?:home|root|work|tmp|build|opt|mnt|srv)/[\w.-]+")
 
@@ -152,6 +153,7 @@ def versions(trial):
     for name, pattern in (
         (HEADER, number), ("crates/cudf_c/src/lib.rt", number), ("crates/cudf_command_line/src/grammar.rt", number),
         ("crosscheck/outermost.py", rf"cudf_check ({number})"), ("cudf_check.1", number),
+        ("embedding/python/pyproject.toml", number),
     ):
         trial.note(f"version in {name}", set(re.findall(pattern, text_of(name))), {trial.version})
     trial.note("version in CHANGELOG.md", re.search(r"^## (.*)", text_of("CHANGELOG.md"), re.M).group(1), trial.version)
@@ -377,10 +379,15 @@ def sources(*places):
     }
 
 
+def of_library():
+    """What make install installs with the library: all callers of the source too."""
+    return OF_LIBRARY | {f"share/cudf_check/{name}" for name in sources("embedding")}
+
+
 def copied(trial):
     """What packages are made of, at another place, where git knows nothing of it."""
     copy = trial.place("a copy")
-    for name in sources(*PACKED, "CHANGELOG.md", "Makefile", "completions", "cudf_check.1", "docs", "include", "packaging"):
+    for name in sources(*PACKED, "embedding", "CHANGELOG.md", "Makefile", "completions", "cudf_check.1", "docs", "include", "packaging"):
         os.makedirs(os.path.dirname(os.path.join(copy, name)), exist_ok=True)
         shutil.copy2(os.path.join(ROOT, name), os.path.join(copy, name), follow_symlinks=False)
     return copy
@@ -440,7 +447,7 @@ def tarball(trial, path, time):
         names = [name.split("/") for name in tar.getnames()]
     trial.note("the tarball's order, name and time", (names, bytes_of(path)[3:8]), (sorted(names), bytes(5)))
     read = {name.replace("share/doc/cudf_check", "docs") for name in READ} | sources(*PACKED)
-    trial.note("the tarball's files", files, OF_PROGRAM | OF_LIBRARY | read)
+    trial.note("the tarball's files", files, OF_PROGRAM | of_library() | read | {LINK})
     root = trial.place("root")
     os.mkdir(root)
     trial.note("unpacking", run(["tar", "-xmzf", path, "-C", root]), (0, "", ""))
@@ -509,8 +516,8 @@ def package(trial, path, time):
         "share/zsh/site-functions": "share/zsh/vendor-completions", "share/doc/cudf_check": f"share/doc/{name}",
     }
     doc = f"share/doc/{name}/"
-    wanted = {doc + place for place in sources(*PACKED) | {"copyright", "changelog.gz"}}
-    for place in OF_PROGRAM | OF_LIBRARY | READ:
+    wanted = {doc + place for place in sources(*PACKED) | {LINK, "copyright", "changelog.gz"}}
+    for place in OF_PROGRAM | of_library() | READ:
         (old,) = [it for it in moved if place.startswith(it)] or [""]
         wanted.add(moved.get(old, "") + place.removeprefix(old))
     trial.note("the package's files", files, wanted)
@@ -561,8 +568,8 @@ def puts(trial):
     to, prefix = trial.place("a b"), "/x y"
     masked = {"preexec_fn": lambda: os.umask(0o077)}
     for name, kept, wanted in (
-        ("both", {}, OF_PROGRAM | OF_LIBRARY), ("the program", {"LIBRARY": "/nowhere"}, OF_PROGRAM),
-        ("the library", {"PROGRAM": "/nowhere"}, OF_LIBRARY),
+        ("both", {}, OF_PROGRAM | of_library()), ("the program", {"LIBRARY": "/nowhere"}, OF_PROGRAM),
+        ("the library", {"PROGRAM": "/nowhere"}, of_library()),
     ):
         trial.note(f"installing {name}", trial.make("install", DESTDIR=to, PREFIX=prefix, **kept), (0, ""))
         trial.note(f"{name}, installed", files_below(to + prefix), wanted | READ)
@@ -577,6 +584,7 @@ def puts(trial):
         flags = shlex.split(output("pkg-config", "--cflags", "--libs", "cudf_check", env=finding))
         trial.note("flags", flags, [f"-I{prefix}/include", f"-L{prefix}/lib", "-lcudf_check"])
     trial.note("the program as it was", bytes_of(f"{to}{prefix}/bin/cudf_check"), bytes_of(trial.program))
+    callers(trial, to + prefix)
     with open(f"{to}{prefix}/share/doc/other", "w", encoding="ascii"):
         pass
     trial.make("uninstall", DESTDIR=to, PREFIX=prefix)
@@ -585,6 +593,30 @@ def puts(trial):
         status, errors = trial.make(target, DESTDIR=trial.place("never"), PROGRAM="/nowhere/p", LIBRARY="/nowhere/l")
         told = (status != 0, "/nowhere/p" in errors, os.path.exists(trial.place("never")))
         trial.note(f"make {target} where nothing was built", told, (True, True, False))
+
+
+def callers(trial, top):
+    """The callers that were installed, used as docs/EMBEDDING.md says, print what they should."""
+    copy, wanted = trial.place("callers"), (0, text_of("embedding/expected.txt"), "")
+    shutil.copytree(f"{top}/share/cudf_check/embedding", copy)
+    found = {**SURROUNDINGS, "CPATH": f"{top}/include", "LIBRARY_PATH": f"{top}/lib", "LD_LIBRARY_PATH": f"{top}/lib"}
+    made = []
+    if trial.has("c++"):
+        made.append((["c++", "-std=c++17", "cpp/example.cpp", "-lcudf_check", "-o", "example"], ["./example"]))
+    if trial.has("dune"):
+        made.append((["dune", "build", "--root", "ocaml", "./example.exe"], ["ocaml/_build/default/example.exe"]))
+    pythons = [it for it in (sys.executable, "/usr/bin/python3") if os.path.exists(it)]
+    pythons = [it for it in pythons if run([it, "-c", "import setuptools, wheel, pip"])[0] == 0]
+    if pythons:
+        # the example is moved away from the module beside it
+        os.rename(f"{copy}/python/example.py", f"{copy}/example.py")
+        words = ["-m", "pip", "install", "--no-index", "--no-build-isolation", "--target", "site", "./python"]
+        made.append(([pythons[0], *words], ["PYTHONPATH=site", pythons[0], "example.py"]))
+    else:
+        trial.untried.append("pip with setuptools and wheel")
+    for making, words in made:
+        trial.note(f"{making[0]}: the caller is built", run(making, cwd=copy, env=found)[0], 0)
+        trial.note(f"{making[0]}: the caller prints", run(["env", *words], cwd=copy, env=found), wanted)
 
 
 ROWS = (versions, completions, library, packages, puts)

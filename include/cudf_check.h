@@ -12,16 +12,20 @@
  *     5  a document is longer than 256 MiB (268435456 bytes); cnf and refute: the CNF has more than 4294967295 clauses
  *     6  out of memory
  *
+ * Status 4 is told before 5. A document is too long by its length alone: no byte of it is read.
+ *
  * The report goes to the front of the caller's buffer, `report`, as far as it has room, and `*length` is the length of the
  * whole report. Where that is more than `room`, the report was cut at the buffer's end: the same call with a larger buffer
  * gives all of it. No byte of the buffer behind the report is written. With status 4, 5 and 6 no byte is written, and
  * `*length` is 0. A report is UTF-8 text in lines that end with LF, without a NUL behind it.
  *
- * Texts are bytes with a length, in no need of a NUL. A null pointer with a length of 0 is an empty text, and a null buffer
- * with a room of 0 may be given to ask for the length alone; any other null pointer is the caller's error. The buffer and
- * `*length` lie apart from each other and from all texts. Nothing is kept between calls: any number of threads may call at
- * once. Memory is taken by malloc and given back before a call returns. No call may be made from a signal handler, or in a
- * child that was forked from a process with several threads.
+ * Texts are bytes with a length, in no need of a NUL. A null text is empty, a null buffer has no room, and a null array has
+ * no solutions, whatever number is given with it. `length` may not be null. With a room of 0 a call tells its status and the
+ * report's length alone. The buffer and `*length` lie apart from each other and from all texts.
+ *
+ * Nothing is kept between calls: any number of threads may call at once. Memory is taken by malloc and given back before a
+ * call returns. A call holds its whole report, whatever the room: `limit` bounds that of check. No call may be made from a
+ * signal handler, or in a child that was forked from a process with several threads.
  *
  * docs/FORMAT.md and docs/RULES.md of cudf_check say what a report says.
  */
@@ -43,6 +47,9 @@
 #define CUDF_CHECK_USAGE 4
 #define CUDF_CHECK_UNREAD 5
 #define CUDF_CHECK_MEMORY 6
+
+/* How many bytes a document has at most. */
+#define CUDF_CHECK_LONGEST 268435456
 
 #ifdef __cplusplus
 extern "C" {
@@ -108,13 +115,17 @@ uint8_t cudf_check_refute(bool strict, bool explain, const uint8_t *problem, siz
 void cudf_check_version(uint8_t *text, size_t room, size_t *length);
 
 /*
- * The library takes no null pointers. These functions give it a byte's address in place of one, and the macros below them
- * call the functions above so. Whoever calls by other ways, as from another language, gives no null pointers.
+ * What a C compiler calls by the names above. The library takes no null pointers, and reads a document as far as one may be
+ * long before it says that it is longer; these functions see to both. Whoever calls by other ways, as from another language,
+ * gives no null pointers and true lengths.
  */
-static inline const uint8_t *cudf_check_bytes(const void *bytes)
+static inline cudf_check_text cudf_check_text_of(const void *bytes, size_t length)
 {
     static const uint8_t none = 0;
-    return bytes ? (const uint8_t *)bytes : &none;
+    cudf_check_text text;
+    text.bytes = bytes ? (const uint8_t *)bytes : &none;
+    text.length = bytes ? length : 0;
+    return text;
 }
 
 static inline uint8_t *cudf_check_room(void *report)
@@ -123,39 +134,117 @@ static inline uint8_t *cudf_check_room(void *report)
     return report ? (uint8_t *)report : &none;
 }
 
-static inline cudf_check_text cudf_check_text_of(const void *bytes, size_t length)
-{
-    cudf_check_text text;
-    text.bytes = cudf_check_bytes(bytes);
-    text.length = length;
-    return text;
-}
-
 static inline const cudf_check_text *cudf_check_texts(const cudf_check_text *texts)
 {
     static const cudf_check_text none = {0, 0};
     return texts ? texts : &none;
 }
 
-#define cudf_check_lint(strict, explain, problem, problem_length, report, room, length) \
-    cudf_check_lint(strict, explain, cudf_check_bytes(problem), problem_length, cudf_check_room(report), room, length)
-#define cudf_check_check(strict, explain, problem, problem_length, solution, solution_length, after, after_length, limit, \
-                         report, room, length) \
-    cudf_check_check(strict, explain, cudf_check_bytes(problem), problem_length, cudf_check_bytes(solution), \
-                     solution_length, cudf_check_bytes(after), after_length, limit, cudf_check_room(report), room, length)
-#define cudf_check_score(strict, problem, problem_length, solution, solution_length, criteria, criteria_length, report, \
-                         room, length) \
-    cudf_check_score(strict, cudf_check_bytes(problem), problem_length, cudf_check_bytes(solution), solution_length, \
-                     cudf_check_bytes(criteria), criteria_length, cudf_check_room(report), room, length)
-#define cudf_check_rank(strict, problem, problem_length, solutions, count, criteria, criteria_length, report, room, length) \
-    cudf_check_rank(strict, cudf_check_bytes(problem), problem_length, cudf_check_texts(solutions), count, \
-                    cudf_check_bytes(criteria), criteria_length, cudf_check_room(report), room, length)
-#define cudf_check_cnf(strict, problem, problem_length, report, room, length) \
-    cudf_check_cnf(strict, cudf_check_bytes(problem), problem_length, cudf_check_room(report), room, length)
-#define cudf_check_refute(strict, explain, problem, problem_length, proof, proof_length, report, room, length) \
-    cudf_check_refute(strict, explain, cudf_check_bytes(problem), problem_length, cudf_check_bytes(proof), proof_length, \
-                      cudf_check_room(report), room, length)
-#define cudf_check_version(text, room, length) cudf_check_version(cudf_check_room(text), room, length)
+/* Whether one of two documents is too long. Then nothing of them is given to the library, which judges a key or a list alone. */
+static inline bool cudf_check_are_long(cudf_check_text *one, cudf_check_text *other)
+{
+    const bool are_long = one->length > CUDF_CHECK_LONGEST || other->length > CUDF_CHECK_LONGEST;
+    if (are_long)
+        one->length = other->length = 0;
+    return are_long;
+}
+
+/* The status of a call that was given its documents, or nothing of them, since one is too long. */
+static inline uint8_t cudf_check_status(uint8_t status, bool is_long, size_t *length)
+{
+    if (!is_long)
+        return status;
+    *length = 0;
+    return status < CUDF_CHECK_USAGE ? CUDF_CHECK_UNREAD : status;
+}
+
+static inline uint8_t cudf_check_call_lint(bool strict, bool explain, const void *problem, size_t problem_length,
+                                           void *report, size_t room, size_t *length)
+{
+    cudf_check_text text = cudf_check_text_of(problem, problem_length);
+    const bool is_long = cudf_check_are_long(&text, &text);
+    const uint8_t status = cudf_check_lint(strict, explain, text.bytes, text.length, cudf_check_room(report),
+                                           report && !is_long ? room : 0, length);
+    return cudf_check_status(status, is_long, length);
+}
+
+static inline uint8_t cudf_check_call_check(bool strict, bool explain, const void *problem, size_t problem_length,
+                                            const void *solution, size_t solution_length, const void *after,
+                                            size_t after_length, uint64_t limit, void *report, size_t room, size_t *length)
+{
+    cudf_check_text text = cudf_check_text_of(problem, problem_length);
+    cudf_check_text answer = cudf_check_text_of(solution, solution_length);
+    const cudf_check_text key = cudf_check_text_of(after, after_length);
+    const bool is_long = cudf_check_are_long(&text, &answer);
+    const uint8_t status = cudf_check_check(strict, explain, text.bytes, text.length, answer.bytes, answer.length, key.bytes,
+                                            key.length, limit, cudf_check_room(report), report && !is_long ? room : 0,
+                                            length);
+    return cudf_check_status(status, is_long, length);
+}
+
+static inline uint8_t cudf_check_call_score(bool strict, const void *problem, size_t problem_length, const void *solution,
+                                            size_t solution_length, const void *criteria, size_t criteria_length,
+                                            void *report, size_t room, size_t *length)
+{
+    cudf_check_text text = cudf_check_text_of(problem, problem_length);
+    cudf_check_text answer = cudf_check_text_of(solution, solution_length);
+    const cudf_check_text list = cudf_check_text_of(criteria, criteria_length);
+    const bool is_long = cudf_check_are_long(&text, &answer);
+    const uint8_t status = cudf_check_score(strict, text.bytes, text.length, answer.bytes, answer.length, list.bytes,
+                                            list.length, cudf_check_room(report), report && !is_long ? room : 0, length);
+    return cudf_check_status(status, is_long, length);
+}
+
+static inline uint8_t cudf_check_call_rank(bool strict, const void *problem, size_t problem_length,
+                                           const cudf_check_text *solutions, size_t count, const void *criteria,
+                                           size_t criteria_length, void *report, size_t room, size_t *length)
+{
+    cudf_check_text text = cudf_check_text_of(problem, problem_length);
+    const cudf_check_text list = cudf_check_text_of(criteria, criteria_length);
+    bool is_long = cudf_check_are_long(&text, &text);
+    uint8_t status;
+    for (size_t at = 0; solutions && at < count; at++) {
+        cudf_check_text answer = solutions[at];
+        is_long = cudf_check_are_long(&text, &answer) || is_long;
+    }
+    status = cudf_check_rank(strict, text.bytes, text.length, cudf_check_texts(solutions), solutions && !is_long ? count : 0,
+                             list.bytes, list.length, cudf_check_room(report), report && !is_long ? room : 0, length);
+    return cudf_check_status(status, is_long, length);
+}
+
+static inline uint8_t cudf_check_call_cnf(bool strict, const void *problem, size_t problem_length, void *report,
+                                          size_t room, size_t *length)
+{
+    cudf_check_text text = cudf_check_text_of(problem, problem_length);
+    const bool is_long = cudf_check_are_long(&text, &text);
+    const uint8_t status = cudf_check_cnf(strict, text.bytes, text.length, cudf_check_room(report),
+                                          report && !is_long ? room : 0, length);
+    return cudf_check_status(status, is_long, length);
+}
+
+static inline uint8_t cudf_check_call_refute(bool strict, bool explain, const void *problem, size_t problem_length,
+                                             const void *proof, size_t proof_length, void *report, size_t room,
+                                             size_t *length)
+{
+    cudf_check_text text = cudf_check_text_of(problem, problem_length), steps = cudf_check_text_of(proof, proof_length);
+    const bool is_long = cudf_check_are_long(&text, &steps);
+    const uint8_t status = cudf_check_refute(strict, explain, text.bytes, text.length, steps.bytes, steps.length,
+                                             cudf_check_room(report), report && !is_long ? room : 0, length);
+    return cudf_check_status(status, is_long, length);
+}
+
+static inline void cudf_check_call_version(void *text, size_t room, size_t *length)
+{
+    cudf_check_version(cudf_check_room(text), text ? room : 0, length);
+}
+
+#define cudf_check_lint cudf_check_call_lint
+#define cudf_check_check cudf_check_call_check
+#define cudf_check_score cudf_check_call_score
+#define cudf_check_rank cudf_check_call_rank
+#define cudf_check_cnf cudf_check_call_cnf
+#define cudf_check_refute cudf_check_call_refute
+#define cudf_check_version cudf_check_call_version
 
 #ifdef __cplusplus
 }

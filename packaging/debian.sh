@@ -13,7 +13,8 @@ mv "$root/usr/share/zsh/site-functions" "$root/usr/share/zsh/vendor-completions"
 gzip -9n "$root/usr/share/man/man1/cudf_check.1"
 gzip -9nc CHANGELOG.md > "$doc/changelog.gz"
 install -m 644 packaging/copyright "$doc/copyright"
-copy_sources "$doc" README.md examples embedding
+copy_sources "$doc" README.md examples
+ln -s ../../cudf_check/embedding "$doc/embedding"
 
 # the least version of the C library that has all that is called
 libc=$(objdump -T "$PROGRAM" "$LIBRARY/libcudf_check.so.1" | sed -n 's/.*GLIBC_\([0-9.]*\).*/\1/p' | sort -Vu | tail -n 1)

@@ -11,6 +11,7 @@ set -eu
 to=$DESTDIR$PREFIX
 doc=share/doc/cudf_check
 competition=share/cudf_check/competition
+callers=share/cudf_check/embedding
 case $1 in
     install) place() { install -D -m "$1" "$2" "$to/$3"; } ;;
     uninstall) place() { rm -f "$to/$3"; } ;;
@@ -33,6 +34,11 @@ place_library() {
     for name in libcudf_check.a libcudf_check.so.1 libcudf_check.so pkgconfig/cudf_check.pc; do
         place 644 "$LIBRARY/$name" "$LIBDIR/$name"
     done
+    for name in expected.txt c/example.c cpp/cudf_check.hpp cpp/example.cpp ocaml/cudf_check.ml ocaml/cudf_check.mli \
+        ocaml/cudf_check_stubs.c ocaml/dune ocaml/dune-project ocaml/example.ml python/cudf_check.py python/example.py \
+        python/pyproject.toml; do
+        place 644 "embedding/$name" "$callers/$name"
+    done
 }
 
 place_pages() {
@@ -44,7 +50,7 @@ place_pages() {
 if [ "$1" = uninstall ]; then
     place_program
     place_library
-    rm -rf "${to:?}/$doc" "${to:?}/$competition"
+    rm -rf "${to:?}/$doc" "${to:?}/$competition" "${to:?}/$callers"
     rmdir "$to/${competition%/*}" 2> /dev/null || true
     exit
 fi

@@ -1,7 +1,8 @@
 // cudf_check for C++17: the calls of cudf_check.h, which says what each gives, with texts as std::string_view and reports
 // as std::string.
 //
-// The six calls don't throw: where a report gets no memory the status is Status::memory, as where the library gets none.
+// The six calls don't throw: where a report gets no memory the status is Status::memory, as where the library gets none. A
+// view without data is an empty text.
 #ifndef CUDF_CHECK_HPP
 #define CUDF_CHECK_HPP
 

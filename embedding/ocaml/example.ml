@@ -1,8 +1,9 @@
 (* cudf_check from OCaml: judges an answer and reads a fault, both explained; counts, ranks, makes a CNF and checks a proof
    that it has no model, and goes through a report by pages. Prints what stands in embedding/expected.txt.
 
-   In embedding/ocaml, or a copy of it:
+   In embedding/ocaml, or a copy of it, by dune, where header and library are installed, or by the compiler alone:
 
+       dune exec ./example.exe
        ocamlopt -ccopt -I../../include cudf_check_stubs.c cudf_check.mli cudf_check.ml example.ml \
            ../../lib/libcudf_check.a -o example *)
 

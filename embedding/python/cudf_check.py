@@ -2,8 +2,18 @@
 
 Each of `lint`, `check`, `score`, `rank`, `cnf` and `refute` makes the report of the program's command of that name, and
 gives it with its status and with what it says as values; docs/FORMAT.md and docs/RULES.md of cudf_check say what that
-means. Documents are `bytes`, or `str`, which is taken as UTF-8. No document and no list raises an exception: a fault, a key
-that is none, a document or a CNF that is too large and want of memory in the library are statuses.
+means.
+
+A document is a text or a file. Texts are `str`, taken as UTF-8, or buffers: `bytes`, `bytearray`, `memoryview`, `mmap`. A
+buffer is read where it lies, or copied if it is read-only and not `bytes`; it must not change during the call. An
+`os.PathLike`, such as `pathlib.Path`, is a file, which is opened and read.
+
+Faults of documents are reported. Exceptions tell that there is no report:
+
+- `ValueError`: the key, the limit or the list of criteria is invalid. The text is the program's.
+- `TooLong`, a `ValueError`: a document is longer than 256 MiB, or the CNF has more than 4294967295 clauses.
+- `MemoryError`: there is not enough memory.
+- `UnicodeEncodeError`, a `ValueError`: a `str` can't be UTF-8. `OSError`: a file can't be read. `TypeError`: no document.
 
 The library is the file that the environment's CUDF_CHECK_LIBRARY names, or else what the system finds as
 `libcudf_check.so.1`. Python 3.8 and later; the standard library alone.
@@ -12,24 +22,27 @@ from __future__ import annotations
 
 import ctypes
 import enum
+import mmap
 import os
 import re
 from dataclasses import dataclass
-from typing import Dict, List, Optional, Sequence, Tuple, Union
+from typing import Dict, Iterable, List, Optional, Tuple, Union
 
-Text = Union[bytes, str]
+Text = Union[str, bytes]
+Document = Union[Text, bytearray, memoryview, mmap.mmap, "os.PathLike[str]", "os.PathLike[bytes]"]
+
+
+class TooLong(ValueError):
+    """A document is longer than 256 MiB, or a CNF has more than 4294967295 clauses."""
 
 
 class Status(enum.IntEnum):
-    """The exit statuses of the program."""
+    """The exit statuses of the program with a report."""
 
     YES = 0
     NO = 1
     FAULTY = 2
     FAIL = 3
-    USAGE = 4
-    UNREAD = 5
-    MEMORY = 6
 
 
 @dataclass(frozen=True)
@@ -162,63 +175,62 @@ class Refuted:
 # ---- the calls
 
 
-def lint(problem: Text, strict: bool = False, explain: bool = False) -> Linted:
+def lint(problem: Document, strict: bool = False, explain: bool = False) -> Linted:
     """Whether a problem is without fault, or its first one."""
-    status, report = _call(_library.cudf_check_lint, strict, explain, *_sized(problem))
-    return Linted(status, report, _fault(report))
+    code, report = _call(_library.cudf_check_lint, strict, explain, *_sized(problem))
+    return Linted(_status(code), report, _fault(report))
 
 
 def check(
-    problem: Text, solution: Text, after: Optional[Text] = None, limit: Optional[int] = None, strict: bool = False,
+    problem: Document, solution: Document, after: Optional[Text] = None, limit: Optional[int] = None, strict: bool = False,
     explain: bool = False,
 ) -> Checked:
     """What is wrong with a solution: the violations behind the key `after`, at most `limit` of them, and the verdict."""
     if limit is not None and not 1 <= limit < 2**64:
-        raise ValueError(f"a limit is a number from 1 to 18446744073709551615, and not {limit}")
-    texts = _sized(problem) + _sized(solution) + _sized(after or b"")
-    status, report = _call(_library.cudf_check_check, strict, explain, *texts, limit or 0)
-    fault, lines = _fault(report), _lines(report)
+        raise _invalid("limit", str(limit))
+    call = _library.cudf_check_check
+    code, report = _call(call, strict, explain, *_sized(problem), *_sized(solution), *_sized(after or b""), limit or 0)
+    status, fault, lines = _status(code, "after", after), _fault(report), _lines(report)
     more = [line[len(_MORE):] for line in lines if line.startswith(_MORE)]
     violations = [] if fault else [_violation(line) for line in lines if not line.startswith((_MORE, _VERDICT))]
     return Checked(status, report, fault, violations, more[0] if more else None, _verdict(status))
 
 
-def score(problem: Text, solution: Text, criteria: Optional[Text] = None, strict: bool = False) -> Scored:
+def score(problem: Document, solution: Document, criteria: Optional[Text] = None, strict: bool = False) -> Scored:
     """What a solution changes and lacks: the counts of a list as `-removed,-changed`, or those of the MISC competition."""
-    texts = _sized(problem) + _sized(solution) + _sized(criteria or b"")
-    status, report = _call(_library.cudf_check_score, strict, *texts)
-    fault = _fault(report)
-    told = [] if fault else [line.split(" ") for line in _lines(report) if not line.startswith(_VERDICT)]
-    vectors = {name: tuple(map(int, numbers)) for name, *numbers in told if name in _TRACKS}
-    counts = {name.lstrip("-+"): int(numbers[0]) for name, *numbers in told if name not in _TRACKS}
+    call = _library.cudf_check_score
+    code, report = _call(call, strict, *_sized(problem), *_sized(solution), *_sized(criteria or b""))
+    status, fault = _status(code, "criteria", criteria), _fault(report)
+    lines = [] if fault else [line.split(" ") for line in _lines(report) if not line.startswith(_VERDICT)]
+    vectors = {name: tuple(map(int, numbers)) for name, *numbers in lines if name in _TRACKS}
+    counts = {name.lstrip("-+"): int(numbers[0]) for name, *numbers in lines if name not in _TRACKS}
     return Scored(status, report, fault, counts, vectors, _verdict(status))
 
 
-def rank(problem: Text, solutions: Sequence[Text], criteria: Text, strict: bool = False) -> Ranked:
+def rank(problem: Document, solutions: Iterable[Document], criteria: Text, strict: bool = False) -> Ranked:
     """Ranks solutions by a list, the best first. With an empty list their places alone decide between two solutions."""
-    held = [_bytes(solution) for solution in solutions]
-    texts = (_Text * len(held))(*((solution, len(solution)) for solution in held))
-    status, report = _call(_library.cudf_check_rank, strict, *_sized(problem), texts, len(held), *_sized(criteria))
-    fault = _fault(report)
+    code, report = _call_rank(strict, problem, solutions, criteria)
+    status, fault = _status(code, "criteria", criteria), _fault(report)
     return Ranked(status, report, fault, [] if fault else [_rank(line) for line in _lines(report)])
 
 
-def cnf(problem: Text, strict: bool = False) -> Encoded:
+def cnf(problem: Document, strict: bool = False) -> Encoded:
     """The rules of a problem as a CNF, for a SAT solver."""
-    status, report = _call(_library.cudf_check_cnf, strict, *_sized(problem))
-    return Encoded(status, report, _fault(report))
+    code, report = _call(_library.cudf_check_cnf, strict, *_sized(problem))
+    return Encoded(_status(code), report, _fault(report))
 
 
-def refute(problem: Text, proof: Text, strict: bool = False, explain: bool = False) -> Refuted:
+def refute(problem: Document, proof: Document, strict: bool = False, explain: bool = False) -> Refuted:
     """Whether a proof, in LRAT's text form, shows that a problem has no solution, and why it has none."""
-    status, report = _call(_library.cudf_check_refute, strict, explain, *_sized(problem), *_sized(proof))
-    told = [_violation(line) for line in _lines(report)[:-1]] if status == Status.YES else []
-    return Refuted(status, report, _fault(report), _proof_fault(report), told)
+    code, report = _call(_library.cudf_check_refute, strict, explain, *_sized(problem), *_sized(proof))
+    status = _status(code)
+    reasons = [_violation(line) for line in _lines(report)[:-1]] if status == Status.YES else []
+    return Refuted(status, report, _fault(report), _proof_fault(report), reasons)
 
 
 def version() -> str:
     """The library's version."""
-    return _whole(_library.cudf_check_version)[1]
+    return _call(_library.cudf_check_version)[1]
 
 
 # ---- the lines of a report, as docs/FORMAT.md tells them
@@ -286,7 +298,14 @@ class _Text(ctypes.Structure):
 
 _SIZED = [ctypes.c_char_p, ctypes.c_size_t]
 _REPORT = [ctypes.c_void_p, ctypes.c_size_t, ctypes.POINTER(ctypes.c_size_t)]
-_ROOM = 4096
+_ROOM, _LONGEST = 4096, 268435456
+_USAGE, _UNREAD, _MEMORY = 4, 5, 6
+_FORMS = {
+    "after": "a key is written as in a report, as p1.depends.2",
+    "limit": "it is no number from 1 to 18446744073709551615",
+    "criteria": "a list is written without blanks, as -removed,+new, of removed, new, changed, notuptodate, "
+    "unsat_recommends and touched, each behind - or +",
+}
 
 
 def _opened(name: str) -> ctypes.CDLL:
@@ -308,22 +327,24 @@ def _opened(name: str) -> ctypes.CDLL:
 _library = _opened(os.environ.get("CUDF_CHECK_LIBRARY", "libcudf_check.so.1"))
 
 
-def _bytes(text: Text) -> bytes:
-    return text.encode() if isinstance(text, str) else text
+def _sized(document: Document) -> Tuple[Union[bytes, ctypes.Array], int]:
+    """A text, as `bytes` or as an array over the buffer, and its length. ctypes gives a pointer to it that isn't null."""
+    if isinstance(document, os.PathLike):
+        with open(os.fspath(document), "rb") as file:
+            document = file.read(_LONGEST + 1)
+    if isinstance(document, str):
+        document = document.encode()
+    if isinstance(document, bytes):
+        return document, len(document)
+    view = memoryview(document)
+    try:
+        text = (ctypes.c_char * view.nbytes).from_buffer(view) if view.nbytes else b""
+    except TypeError:  # it is read-only, or lies in pieces
+        text = view.tobytes()
+    return text, view.nbytes
 
 
-def _sized(text: Text) -> Tuple[bytes, int]:
-    """A text and its length. The pointer to it that ctypes gives isn't null, also where it is empty."""
-    data = _bytes(text)
-    return data, len(data)
-
-
-def _call(function, *arguments) -> Tuple[Status, str]:
-    status, report = _whole(function, *arguments)
-    return Status(status), report
-
-
-def _whole(function, *arguments):
+def _call(function, *arguments) -> Tuple[int, str]:
     """Makes a call with a buffer for its report, and again with a larger one where that was too small."""
     room, length = _ROOM, ctypes.c_size_t()
     while True:
@@ -332,3 +353,29 @@ def _whole(function, *arguments):
         if length.value <= room:
             return status, ctypes.string_at(report, length.value).decode()
         room = length.value
+
+
+def _call_rank(strict: bool, problem: Document, solutions: Iterable[Document], criteria: Text) -> Tuple[int, str]:
+    held = [_sized(solution) for solution in solutions]
+    texts = (_Text * len(held))()
+    for entry, (text, length) in zip(texts, held):
+        entry.bytes, entry.length = text if isinstance(text, bytes) else ctypes.addressof(text), length
+    return _call(_library.cudf_check_rank, strict, *_sized(problem), texts, len(held), *_sized(criteria))
+
+
+def _status(code: int, argument: str = "", word: Optional[Text] = None) -> Status:
+    """The status of a call that had a report. The argument, with its word, is the one that may be invalid.
+
+    This is asked where no array over a buffer is left: an exception would keep it, and an `mmap` couldn't be closed.
+    """
+    if code == _USAGE:
+        raise _invalid(argument, word if isinstance(word, str) else bytes(word).decode(errors="replace"))
+    if code == _UNREAD:
+        raise TooLong(f"a document is longer than {_LONGEST} bytes, or a CNF has more than 4294967295 clauses")
+    if code == _MEMORY:
+        raise MemoryError("there is not enough memory")
+    return Status(code)
+
+
+def _invalid(argument: str, word: str) -> ValueError:
+    return ValueError(f"invalid value {word!r} for '{argument}': {_FORMS[argument]}")
