@@ -473,7 +473,8 @@ def pages(trial):
             trial.note(f"page.sh without a date, {shell}", trial.run("sh page.sh T", folder, shell)[:2], (4, ""))
             told = trial.run("sh page.sh T D none", folder, shell)
             trial.note(f"page.sh without a table, {shell}", told[:2], (5, ""))
-            told = trial.run("mv ended e; sh page.sh T D; mv e ended", folder, shell)
+            # it ends before it plots, so any program stands in for gnuplot
+            told = trial.run("mv ended e; sh page.sh T D; mv e ended", folder, shell, gnuplot="sh")
             trial.note(f"page.sh without times, {shell}", (told[0], "times are unknown" in told[1]), (0, True))
 
 
