@@ -12,7 +12,7 @@
  *     5  a document is longer than 256 MiB (268435456 bytes); cnf and refute: the CNF has more than 4294967295 clauses
  *     6  out of memory
  *
- * Status 4 is told before 5. A document is too long by its length alone: no byte of it is read.
+ * Status 4 comes before 5. A document is too long by its length alone: no byte of it is read.
  *
  * The report goes to the front of the caller's buffer, `report`, as far as it has room, and `*length` is the length of the
  * whole report. Where that is more than `room`, the report was cut at the buffer's end: the same call with a larger buffer
