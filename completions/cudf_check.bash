@@ -27,9 +27,10 @@ _cudf_check()
             done
             ;;
         *:--*=*) ;;
-        lint:-* | refute:-*) offered=(--strict --explain -h --help) ;;
-        check:-*) offered=(--after --limit --strict --explain -h --help) ;;
-        score:-* | rank:-*) offered=(--criteria= --strict -h --help) ;;
+        lint:-*) offered=(--strict --explain -H --with-filename -h --help) ;;
+        refute:-*) offered=(--strict --explain -h --help) ;;
+        check:-*) offered=(--after --limit --strict --explain -H --with-filename -h --help) ;;
+        score:-* | rank:-*) offered=(--criteria= --strict -H --with-filename -h --help) ;;
         cnf:-*) offered=(--strict -h --help) ;;
         *) return ;;
     esac

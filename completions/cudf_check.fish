@@ -24,6 +24,7 @@ complete -c cudf_check -n '__fish_seen_subcommand_from help' -f
 complete -c cudf_check -n '__fish_seen_subcommand_from help; and test (count (commandline -opc)) -eq 2' -a 'lint check score rank cnf refute help'
 complete -c cudf_check -n '__fish_seen_subcommand_from lint check score rank cnf refute' -l strict -d 'Take three things more for faults'
 complete -c cudf_check -n '__fish_seen_subcommand_from lint check refute' -l explain -d 'Add to each line what the documents say beside it'
+complete -c cudf_check -n '__fish_seen_subcommand_from lint check score rank' -s H -l with-filename -d 'Begin lines with FILE:LINE:'
 complete -c cudf_check -n '__fish_seen_subcommand_from check' -x -l after -d 'Print only the violations with greater keys'
 complete -c cudf_check -n '__fish_seen_subcommand_from check' -x -l limit -d 'Print at most so many violations'
 # no option that requires a value: fish would offer it without the =

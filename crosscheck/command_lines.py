@@ -40,7 +40,8 @@ LINES = {
         lint p --explain; lint --explain sized; lint --strict --explain p; check --explain p; check p good --explain;
         check p --explain good --strict; check --explain p - --limit 1; check p --explain twice; check --explain -- p
         --criteria; lint --explain --help; check --explain -h; cnf p; cnf p --strict; cnf -- p; cnf --help; cnf -h; help
-        cnf; refute --help; refute p -h; help refute; refute --explain -h
+        cnf; refute --help; refute p -h; help refute; refute --explain -h; lint -H p; lint p --with-filename --strict; check p
+        -H good; score --with-filename p good; rank -H --criteria=-new p good
     """,
     1: """
         check p bad; check both; check -- p bad; check p -- bad; check --strict p bad; check p --strict bad; check p
@@ -50,7 +51,8 @@ LINES = {
         --criteria=-new p bad; rank p fail bad --criteria=-new; check --explain p bad; check p bad --explain; check p
         --explain bad; check both --explain; check p --limit 1 --explain bad --after=p1.depends.1; check --strict
         --explain -- p bad; refute p empty; refute p p; refute --strict p bad; refute p -; refute -- p --criteria; refute
-        --explain p bad; refute p empty --explain; refute p --explain bad --strict; refute --explain -- p --criteria
+        --explain p bad; refute p empty --explain; refute p --explain bad --strict; refute --explain -- p --criteria; check -H
+        p bad --explain; score p bad -H; rank p --criteria=-new bad --with-filename
     """,
     2: """
         lint faulty; lint empty; lint -; lint both; lint sized --strict; lint --strict sized; check faulty; check
@@ -59,7 +61,8 @@ LINES = {
         rank --criteria=-new - good; rank --criteria=-new p good twice --strict; lint --explain faulty; lint empty
         --explain; lint - --explain; lint --explain sized --strict; check p --explain twice --strict; check --explain
         p cut; check cut --explain bad; cnf faulty; cnf -; cnf --strict sized; refute faulty bad; refute sized bad
-        --strict; refute --explain faulty bad; refute sized --strict bad --explain
+        --strict; refute --explain faulty bad; refute sized --strict bad --explain; lint -H faulty; rank -H --criteria=-new p
+        faulty
     """,
     3: """
         check p fail; score p fail; score p fail --criteria=-new; rank --criteria=-new p fail; rank p fail fail
@@ -88,7 +91,9 @@ LINES = {
         --explain; lint p good --explain; check p --explain bad --limit 0; check --explain p bad --after p1.depends;
         rank --explain; cnf; refute; refute p; cnf p good; refute p good bad; cnf --explain p; refute p good --limit 1;
         refute - -; cnf p --criteria=-new; refute --after p1.depends.1 p good; cnf p --strict --strict; refute --explain;
-        refute p --explain; refute --explain p bad --explain; refute p bad --explain=true; refute - - --explain
+        refute p --explain; refute --explain p bad --explain; refute p bad --explain=true; refute - - --explain; lint -H -H p;
+        check p bad -H --with-filename; cnf -H p; refute p bad --with-filename; lint -HH p; check p bad -H=true; -H lint p;
+        lint p --with-filename=1
     """,
     5: """
         lint none; check none; check none bad; check p none; check faulty none; check -- -p; check p -- --strict;
@@ -132,6 +137,8 @@ FAULTS = (
     ("lint p --explain --explain", "error: the argument '--explain' cannot be used multiple times"),
     ("check --explain p bad --explain", "error: the argument '--explain' cannot be used multiple times"),
     ("refute --explain p bad --explain", "error: the argument '--explain' cannot be used multiple times"),
+    ("cnf p -H", "error: unexpected argument '-H' found" + AS_A_VALUE.format("-H")),
+    ("lint -H p -H", "error: the argument '--with-filename' cannot be used multiple times"),
     ("cnf p --explain", "error: unexpected argument '--explain' found" + AS_A_VALUE.format("--explain")),
     # behind `--` it is a file
     ("rank p -- --criteria -new", "error: the following required arguments were not provided:\n  --criteria <LIST>"),
@@ -182,6 +189,7 @@ def pages(trial):
         ("check user installed --explain --limit 1", FIRST_PAGE.replace("a\n", "a" + NOTHING, 1)),
         ("check --after=p1.depends.1 user --explain installed", LAST_PAGE.replace("a\n", "a" + NOTHING, 1)),
         ("check --explain user installed", TWO.replace("a\n", "a" + NOTHING)),
+        ("check -H user installed --limit 1", "user:1: p1.depends.1 user 1: needs a\nmore after p1.depends.1\nsolution no\n"),
     ):
         trial.expect(words, 1, output)
 

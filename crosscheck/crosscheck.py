@@ -10,8 +10,8 @@ and of both in one input; `score` of both forms, also with a random list of crit
 another list; the whole listing in pages of 1, 2 and 3, each continued from the key that the page before printed (of a
 faulty document one page); two pages behind random keys, which may name no instance; and two behind random words, many of
 which are no keys or no limits. Every second input is asked about with `--strict`. `lint` and `check` are asked for once more
-with `--explain`, and every second page has it. Options stand before, between or behind the files. What a program doesn't
-know (`score`, pages, `--strict`, `--explain`, `--criteria`, `rank`) is left out, and the last line says so.
+with `--explain`, and every second page has it; and with `--with-filename` or `-H`, as `score` and `rank` are. Options stand before, between or behind the files. What a program doesn't
+know (`score`, pages, `--strict`, `--explain`, `--with-filename`, `--criteria`, `rank`) is left out, and the last line says so.
 
 More than half of the inputs have a fault. Many are put in on purpose, so that each kind comes about with each thing that
 `--explain` says of it.
@@ -28,7 +28,9 @@ import re
 import sys
 import tempfile
 
+import documents
 import explained
+import named
 import programs
 import reports
 from inputs import Inputs
@@ -73,6 +75,8 @@ class Comparison:
         self.both("check", self.second.check(), joined.check())
         if self.program.has_explain:
             self.ask_explained(joined)
+        if self.program.has_names:
+            self.ask_named(joined)
         if self.program.has_score:
             self.both("score", self.second.score(), joined.score())
         if self.program.has_lists:
@@ -88,6 +92,19 @@ class Comparison:
         self.compare(self.words("lint", self.files[:1], EXPLAIN), b"", wanted)
         self.both("check", self.second.check(explains=True), joined.check(explains=True), EXPLAIN)
         self.told[FAULTY] += self.second.check()[1] == reports.FAULTY
+
+    def ask_named(self, joined):
+        explains = self.may_explain()
+        options = [[self.inputs.pick(("-H", "--with-filename"))], *[EXPLAIN] * explains]
+        problem, solution = self.files
+        lint = named.named(reports.lint(self.problem, self.is_strict, explains), problem, "")
+        self.compare(self.words("lint", self.files[:1], *options), b"", lint)
+        wanted = named.named(self.second.check(explains=explains), problem, solution)
+        self.compare(self.words("check", self.files, *options), b"", wanted)
+        for job, answer in (("check", joined.check(explains=explains)), ("score", joined.score())):
+            before = named.lines_before(documents.cut_joined(self.joined)[0])
+            wanted = named.named(answer, named.STANDARD, named.STANDARD, before)
+            self.compare(self.words(job, ["-"], *options[: 1 if job == "score" else None]), self.joined, wanted)
 
     def words(self, job, files, *options):
         """The words of a job; options stand before, between or behind the files."""
@@ -112,6 +129,9 @@ class Comparison:
         wanted = reports.rank(aims, self.problem, self.solutions, self.is_strict)
         texts = (self.problem, *self.solutions)
         self.files_of("rank", [self.files[0]] + files, texts, wanted, [f"--criteria={aims}"])
+        if self.program.has_names:
+            words = self.words("rank", [self.files[0]] + files, ["-H"], [f"--criteria={aims}"])
+            self.compare(words, b"", named.ranked(wanted, self.files[0], files))
 
     def pages(self):
         for size in SIZES if self.second.judged else SIZES[:1]:
@@ -155,6 +175,8 @@ def kind_of(line):
     fault = re.search(r": (E\d+)", line)
     if fault:
         return fault.group(1) + (" in rank" if re.match(r"solution \d+ line", line) else "")
+    if re.match(r"(/|\(standard input\):)", line):
+        return "of a named file"
     ranked = re.match(r"\d+ solution \d+ (yes|no|FAIL)", line)
     if ranked:
         return "ranked " + ranked.group(1)

@@ -38,6 +38,7 @@ class Program:
         self.has_lists = self.run(["score", "-", "--criteria=-new"], EMPTY)[1] == 0
         self.has_rank = self.run(["rank", "--criteria=-new", "-", os.devnull], EMPTY)[1] == 0
         self.has_explain = self.run(["lint", "-", "--explain"], EMPTY)[1] == 0
+        self.has_names = self.run(["lint", "-", "-H"], EMPTY)[1] == 0
         version, status = self.run(["--version"])
         self.has_version = status != 4
         is_line = len(version) == 1 and re.fullmatch(r"cudf_check [0-9]\S*", version[0]) is not None
@@ -47,7 +48,7 @@ class Program:
         """What isn't compared, and the version's form."""
         known = {
             "score": self.has_score, "pages": self.has_pages, "--strict": self.has_strict, "--criteria": self.has_lists,
-            "rank": self.has_rank, "--explain": self.has_explain,
+            "rank": self.has_rank, "--explain": self.has_explain, "--with-filename": self.has_names,
         }
         left = [name for name, has in known.items() if not has]
         version = "of the right form" if self.is_version_fine else "WRONG" if self.has_version else "not known"
@@ -75,8 +76,18 @@ class Program:
     def judge(self, job, problem, *solutions):
         """The answer to a job on a problem and solutions; where there are none they stand behind the problem."""
         with tempfile.TemporaryDirectory() as folder:
-            files = [write(folder, f"solution{place}", data) for place, data in enumerate(solutions, 1)]
-            return self.run(job[:1] + ["-"] + files + job[1:], problem)
+            files = [write(folder, f"S{place}", data) for place, data in enumerate(solutions, 1)]
+            if "--with-filename" not in job:
+                return self.run(job[:1] + ["-"] + files + job[1:], problem)
+            before, path = os.getcwd(), self.path
+            self.path = os.path.abspath(path)
+            write(folder, "P", problem)
+            os.chdir(folder)
+            try:
+                return self.run(job[:1] + ["P"] + [os.path.basename(file) for file in files] + job[1:])
+            finally:
+                os.chdir(before)
+                self.path = path
 
 
 def has(program, job):
@@ -84,7 +95,7 @@ def has(program, job):
     asked = {
         "score": program.has_score, "--after": program.has_pages, "--limit": program.has_pages,
         "--strict": program.has_strict, "--criteria": program.has_lists, "rank": program.has_rank,
-        "--explain": program.has_explain,
+        "--explain": program.has_explain, "--with-filename": program.has_names, "-H": program.has_names,
     }
     return all(is_known for word, is_known in asked.items() if word in job)
 

@@ -13,7 +13,9 @@ import sys
 import tempfile
 
 import criteria
+import documents
 import keys
+import named
 import programs
 import reports
 import rows
@@ -54,6 +56,14 @@ ASKS_FOR_HELP = ("--help", "-h", "help")
 
 
 def second_answer(job, problem, solutions):
+    if named.OPTION in job:
+        answer = second_answer(job.replace(" " + named.OPTION, ""), problem, solutions)
+        names = [f"S{place}" for place in range(1, len(solutions) + 1)]
+        if job.startswith("rank"):
+            return named.ranked(answer, "P", names)
+        if names:
+            return named.named(answer, "P", names[0])
+        return named.named(answer, "P", "P", named.lines_before(documents.cut_joined(problem)[0]))
     command, *words = job.split()
     is_strict, explains = "--strict" in words, "--explain" in words
     options = dict(re.findall(r"--(after|limit|criteria)=(\S+)", job))

@@ -1,12 +1,13 @@
 -- One more solution is judged.
-use Rattle.std.proofs.Common.{◌≡◌, ℕ, zero, suc, ◌+◌, ◌<◌, ◌≤◌, List, [], ◌∷◌, ◌++◌, length, map, drop, get_or, codes, decimal, Some, None, option_map, slice_get, refl, sym, ap, ◌∙◌, append_assoc, append-nil, arith}
+use Rattle.std.proofs.Common.{◌≡◌, ℕ, zero, suc, ◌+◌, ◌<◌, ◌≤◌, List, [], ◌∷◌, ◌++◌, length, map, drop, get_or, Option, Some, None, option_map, slice_get, refl, sym, ap, ◌∙◌, append_assoc, append-nil, arith}
 use Rattle.std.specs.List.{filter_map, cons_option, enumerate_from}
 use Rattle.cudf_problem.specs.declared.mode.Mode.{Mode}
 use Rattle.cudf_text.specs.declared.fault.Fault.{Fault}
 use Rattle.cudf_document.specs.declared.error.ReadError.{ReadError}
 use Rattle.cudf_document.specs.declared.error.ReadError.TheVariants as read_error
 use Rattle.cudf_problem.specs.Universe.{PlainProblem}
-use Rattle.cudf_check.specs.RankReport.{placed_fault, placed_faults, entrant_of, entrants, first_faulty_or}
+use Rattle.cudf_check.specs.Naming.{name_at, own_file}
+use Rattle.cudf_check.specs.RankReport.{placed_fault, placed_faults, entrant_of, entrant_word, entrants, first_faulty_or}
 use Rattle.cudf_check.specs.Report.{Report, faulty, solution_fault}
 use Rattle.cudf_check.specs.Working.Judged.{IsJudged, AreJudged, IsFaultAt}
 use Rattle.cudf_check.specs.Working.Unjudged.{IsFaultOf}
@@ -68,10 +69,11 @@ all_judged mode problem view xs n ss end m = record {
     none_left (x ∷ xs) (suc n) end = none_left xs n (omega arith)
 
 -- the report where the first faulty one was found
-pub first_is : (faults : List (ℕ × Fault)) (report : Report) (place : ℕ) (f : Fault) → slice_get faults 0 ≡ Some (place, f)
-    → faulty (codes "solution " ++ decimal place) f None ≡ first_faulty_or faults report
-first_is [] report place f is = absurd (cc is)
-first_is (first ∷ others) report place f is = let same : first ≡ (place, f) = cc in ap (λ x. faulty (codes "solution " ++ decimal x.0) x.1 None) (sym same)
+pub first_is : (names : List (Option (List ℕ))) (faults : List (ℕ × Fault)) (report : Report) (place : ℕ) (f : Fault) → slice_get faults 0 ≡ Some (place, f)
+    → faulty (own_file (name_at names place)) (entrant_word (name_at names place) place) f None ≡ first_faulty_or names faults report
+first_is names [] report place f is = absurd (cc is)
+first_is names (first ∷ others) report place f is =
+    let same : first ≡ (place, f) = cc in ap (λ x. faulty (own_file (name_at names x.0)) (entrant_word (name_at names x.0) x.0) x.1 None) (sym same)
 
 -- ---- the first that is faulty
 

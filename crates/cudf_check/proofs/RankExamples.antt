@@ -25,6 +25,7 @@ use Rattle.cudf_job.specs.declared.aims.Sign.TheVariants.{Least, Most}
 use Rattle.cudf_check.specs.declared.outcome.Outcome.{Outcome}
 use Rattle.cudf_check.specs.declared.outcome.Outcome.TheVariants.{Yes, No, Faulty, Fail}
 use Rattle.cudf_check.specs.Ranking.{ranking}
+use Rattle.cudf_check.specs.Naming.{unnamed}
 use Rattle.cudf_check.specs.RankReport.{rank_report}
 use Rattle.cudf_check.specs.Report.{Report}
 
@@ -50,7 +51,7 @@ car1 = chosen (codes "car") (codes "1")
 abbrev five : List (List ℕ)
 five = codes "FAIL" ∷ (chosen (codes "car") (codes "2") ++ chosen (codes "bus") (codes "1")) ∷ chosen (codes "ghost") (codes "1") ∷ car1 ∷ [] ∷ []
 
-pub best_first : rank_report (least_of count.Changed ∷ least_of count.Touched ∷ []) Lenient fleet five ≡ says Yes (
+pub best_first : rank_report (least_of count.Changed ∷ least_of count.Touched ∷ []) Lenient unnamed fleet five ≡ says Yes (
     codes "1 solution 4 yes -changed 0 -touched 0"
     ∷ codes "2 solution 5 yes -changed 1 -touched 1"
     ∷ codes "3 solution 2 yes -changed 2 -touched 3"
@@ -59,7 +60,7 @@ pub best_first : rank_report (least_of count.Changed ∷ least_of count.Touched 
 unfolding rank_report ranking criteria listing is_solution plain_text is_ident is_fail problem_faults plain_problem solution_faults vpkg veqpkg formula vpkglist veqpkglist positive natural truth is_pkgname is_utf8 chars encode digits
 best_first = refl
 
-pub most_new_first : rank_report (record { sign = Most; count = count.New } ∷ []) Lenient fleet five ≡ says Yes (
+pub most_new_first : rank_report (record { sign = Most; count = count.New } ∷ []) Lenient unnamed fleet five ≡ says Yes (
     codes "1 solution 2 yes +new 1"
     ∷ codes "2 solution 4 yes +new 0"
     ∷ codes "3 solution 5 yes +new 0"
@@ -68,15 +69,15 @@ pub most_new_first : rank_report (record { sign = Most; count = count.New } ∷ 
 unfolding rank_report ranking criteria listing is_solution plain_text is_ident is_fail problem_faults plain_problem solution_faults vpkg veqpkg formula vpkglist veqpkglist positive natural truth is_pkgname is_utf8 chars encode digits
 most_new_first = refl
 
-pub second_is_faulty : rank_report (least_of count.Changed ∷ []) Lenient fleet (car1 ∷ text_of (codes "package: a" ∷ []) ∷ []) ≡ says Faulty (codes "solution 2 line 1: E12 no version" ∷ [])
+pub second_is_faulty : rank_report (least_of count.Changed ∷ []) Lenient unnamed fleet (car1 ∷ text_of (codes "package: a" ∷ []) ∷ []) ≡ says Faulty (codes "solution 2 line 1: E12 no version" ∷ [])
 unfolding rank_report ranking criteria listing is_solution plain_text is_ident is_fail problem_faults plain_problem solution_faults vpkg veqpkg formula vpkglist veqpkglist positive natural truth is_pkgname is_utf8 chars encode digits
 second_is_faulty = refl
 
-pub none_solves : rank_report (least_of count.Changed ∷ []) Lenient fleet (codes "FAIL" ∷ chosen (codes "ghost") (codes "1") ∷ []) ≡ says No (codes "1 solution 2 no" ∷ codes "2 solution 1 FAIL" ∷ [])
+pub none_solves : rank_report (least_of count.Changed ∷ []) Lenient unnamed fleet (codes "FAIL" ∷ chosen (codes "ghost") (codes "1") ∷ []) ≡ says No (codes "1 solution 2 no" ∷ codes "2 solution 1 FAIL" ∷ [])
 unfolding rank_report ranking criteria listing is_solution plain_text is_ident is_fail problem_faults plain_problem solution_faults vpkg veqpkg formula vpkglist veqpkglist positive natural truth is_pkgname is_utf8 chars encode digits
 none_solves = refl
 
-pub all_fail : rank_report (least_of count.Changed ∷ []) Lenient fleet (codes "FAIL" ∷ []) ≡ says Fail (codes "1 solution 1 FAIL" ∷ [])
+pub all_fail : rank_report (least_of count.Changed ∷ []) Lenient unnamed fleet (codes "FAIL" ∷ []) ≡ says Fail (codes "1 solution 1 FAIL" ∷ [])
 unfolding rank_report ranking criteria listing is_solution plain_text is_ident is_fail problem_faults plain_problem solution_faults vpkg veqpkg formula vpkglist veqpkglist positive natural truth is_pkgname is_utf8 chars encode digits
 all_fail = refl
 

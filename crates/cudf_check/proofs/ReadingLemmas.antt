@@ -21,6 +21,7 @@ use Rattle.cudf_problem.specs.Universe.{PlainProblem, plain_problem}
 use Rattle.cudf_referee.specs.Proposals.{Proposal, proposal}
 use Rattle.cudf_job.specs.declared.job.Job.{Job}
 use Rattle.cudf_check.specs.declared.outcome.Outcome.TheVariants.{Fail}
+use Rattle.cudf_check.specs.Naming.{PlainOrigins}
 use Rattle.cudf_check.specs.Report.{alone, faulty_or, problem_fault, solution_fault, proposal_of, judged_report, pair_report, told}
 use Rattle.cudf_check.specs.Working.Found.{found_text}
 use Rattle.cudf_check.specs.Working.Unjudged.{IsFaultOf, IsTextOr}
@@ -117,11 +118,11 @@ pub put_forward : (problem : PlainProblem) (text : PlainText) (contains : ℕ �
 put_forward problem text contains unknown status others = λ k. proposal problem (is_initial problem) (λ place. status place k) (others k)
 
 -- neither document has a fault, and the solution doesn't say FAIL
-pub pair_judged : (explain : Bool) (mode : Mode) (job : Job) (problem solution : List ℕ) (judged : PlainProblem) (s : Proposal)
+pub pair_judged : (explain : Bool) (mode : Mode) (job : Job) (origins : PlainOrigins) (problem solution : List ℕ) (judged : PlainProblem) (s : Proposal)
     → problem_fault mode problem ≡ None → solution_fault mode solution ≡ None → is_fail solution ≡ false
     → judged ≡ plain_problem (plain_text problem) → s ≡ proposal_of judged (plain_text solution)
-    → judged_report (found_text job) s ≡ pair_report explain mode (found_text job) problem solution
-pair_judged explain mode job problem solution judged s none sound goes_on read is =
-    ap (judged_report (found_text job)) (is ∙ ap (λ p. proposal_of p (plain_text solution)) read)
-    ∙ (λ k. faulty_or (codes "problem") (told explain problem) (sym none k) (faulty_or (codes "solution") (told explain solution) (sym sound k)
-    (if sym goes_on k then alone (codes "solution FAIL") Fail else judged_report (found_text job) (proposal_of (plain_problem (plain_text problem)) (plain_text solution)))))
+    → judged_report (found_text job origins) s ≡ pair_report explain mode (found_text job) origins problem solution
+pair_judged explain mode job origins problem solution judged s none sound goes_on read is =
+    ap (judged_report (found_text job origins)) (is ∙ ap (λ p. proposal_of p (plain_text solution)) read)
+    ∙ (λ k. faulty_or origins.problem (codes "problem") (told explain problem) (sym none k) (faulty_or origins.solution (codes "solution") (told explain solution) (sym sound k)
+    (if sym goes_on k then alone (codes "solution FAIL") Fail else judged_report (found_text job origins) (proposal_of (plain_problem (plain_text problem)) (plain_text solution)))))

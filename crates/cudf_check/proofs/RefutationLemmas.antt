@@ -24,6 +24,7 @@ use Rattle.cudf_reasons.proofs.LawLemmas.{each_told_once}
 use Rattle.cudf_check.specs.Device.{SinkState, SourceState}
 use Rattle.cudf_check.specs.Readers.{Change, ReadsAll}
 use Rattle.cudf_check.specs.Refutations.{HasRefutedIfYes, Refutes, ViolatesOneOf}
+use Rattle.cudf_check.specs.Naming.{Names}
 use Rattle.cudf_check.specs.Report.{Report, faulty_or, instance_of, is_too_large, needed, problem_fault, problem_report, proof_report, refute_answer, report, told}
 use Rattle.cudf_check.specs.Working.Answering.{Answers}
 use Rattle.cudf_check.specs.declared.outcome.Outcome.{Outcome}
@@ -127,7 +128,7 @@ refutes law explain mode bytes proof is = by_fault (problem_fault mode bytes) is
     by_size true h = absurd (cc h)
     by_size false h = by_answer (checked (length problem.packages) (clauses_of (cnf problem)) proof) refl h
 
-    by_fault : (fault : Option Fault) → let r = faulty_or (codes "problem") (told explain bytes) fault (refute_answer explain proof problem) in r.outcome ≡ Yes → Refutes explain problem r.text
+    by_fault : (fault : Option Fault) → let r = faulty_or None (codes "problem") (told explain bytes) fault (refute_answer explain proof problem) in r.outcome ≡ Yes → Refutes explain problem r.text
     by_fault (Some f) h = absurd (cc h)
     by_fault None h = by_size (is_too_large problem) h
 
@@ -149,15 +150,15 @@ run_refutes law explain mode first out bytes proof (Ok Fail) read answers = tt
 run_refutes law explain mode first out bytes proof (Ok TooLarge) read answers = tt
 
 -- any other job promises nothing here
-pub job_refutes : RefutedIsCore → (job : Job) (mode : Mode) (first : Change SourceState) (out : Change SinkState) (bytes : List ℕ) (second : Option (List ℕ)) (result : Result Outcome RunError) → ReadsAll first bytes
-    → Answers out.before out.after (report job mode bytes second) result → IfOk result (λ outcome. HasRefutedIfYes job outcome first out)
+pub job_refutes : RefutedIsCore → (job : Job) (mode : Mode) (names : Names) (first : Change SourceState) (out : Change SinkState) (bytes : List ℕ) (second : Option (List ℕ)) (result : Result Outcome RunError) → ReadsAll first bytes
+    → Answers out.before out.after (report job mode names bytes second) result → IfOk result (λ outcome. HasRefutedIfYes job outcome first out)
 unfolding report
-job_refutes law (Refute explain) mode first out bytes second result read answers = run_refutes law explain mode first out bytes (unwrap_or second []) result read answers
-job_refutes law (Lint explain) mode first out bytes second (Ok outcome) read answers = tt
-job_refutes law (Lint explain) mode first out bytes second (Err e) read answers = tt
-job_refutes law (Check after limit explain) mode first out bytes second (Ok outcome) read answers = tt
-job_refutes law (Check after limit explain) mode first out bytes second (Err e) read answers = tt
-job_refutes law (Score aims) mode first out bytes second (Ok outcome) read answers = tt
-job_refutes law (Score aims) mode first out bytes second (Err e) read answers = tt
-job_refutes law Cnf mode first out bytes second (Ok outcome) read answers = tt
-job_refutes law Cnf mode first out bytes second (Err e) read answers = tt
+job_refutes law (Refute explain) mode names first out bytes second result read answers = run_refutes law explain mode first out bytes (unwrap_or second []) result read answers
+job_refutes law (Lint explain) mode names first out bytes second (Ok outcome) read answers = tt
+job_refutes law (Lint explain) mode names first out bytes second (Err e) read answers = tt
+job_refutes law (Check after limit explain) mode names first out bytes second (Ok outcome) read answers = tt
+job_refutes law (Check after limit explain) mode names first out bytes second (Err e) read answers = tt
+job_refutes law (Score aims) mode names first out bytes second (Ok outcome) read answers = tt
+job_refutes law (Score aims) mode names first out bytes second (Err e) read answers = tt
+job_refutes law Cnf mode names first out bytes second (Ok outcome) read answers = tt
+job_refutes law Cnf mode names first out bytes second (Err e) read answers = tt

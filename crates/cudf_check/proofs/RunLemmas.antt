@@ -11,6 +11,7 @@ use Rattle.cudf_check.specs.declared.outcome.RunError.{RunError}
 use Rattle.cudf_check.specs.declared.outcome.RunError.TheVariants.{Read, TooLong, Write, Memory}
 use Rattle.cudf_check.specs.Device.{SourceState, SinkState}
 use Rattle.cudf_check.specs.Readers.{Change, ReadsAll, IsUnfinished, IsTooLong, IsWithinTurns, OfOne}
+use Rattle.cudf_check.specs.Naming.{Names, names_of}
 use Rattle.cudf_check.specs.Report.{Report}
 use Rattle.cudf_check.specs.Runs.{OfReport, Runs, read_for}
 use Rattle.cudf_check.specs.Working.Answering.{Answers}
@@ -22,7 +23,7 @@ abbrev still : SinkState → Change SinkState
 still out = record { before = out; after = out }
 
 -- the reading of the first input ended in an error, and so did the run
-pub first_stopped : {T : Type 0} (answer : List ℕ → List (List ℕ) → Report) (first : Change SourceState) (others : List (Change SourceState)) (out : SinkState)
+pub first_stopped : {T : Type 0} (answer : Names → List ℕ → List (List ℕ) → Report) (first : Change SourceState) (others : List (Change SourceState)) (out : SinkState)
     (reading : Result T RunError) (e : RunError) (result : Result Outcome RunError) → (OfOne IsTooLong others → ⊥) → (OfOne IsUnfinished others → ⊥) → reading ≡ Err e
     → (IsErrOf reading TooLong ↔ IsTooLong first) → (IsErrOf reading Read ↔ IsUnfinished first) → (reading ≡ Err Write → ⊥)
     → IsErr result × IsErrAnd result (λ y. y ≡ e) → Runs answer first others (still out) result
@@ -47,7 +48,7 @@ first_stopped answer first others out reading e (Err y) none_long none_unfinishe
     long_back error (inr h) = absurd (none_long h)
 
 -- the reading of a second input ended in an error, and so did the run
-pub second_stopped : {T : Type 0} (answer : List ℕ → List (List ℕ) → Report) (first : Change SourceState) (text : List ℕ) (second : Change SourceState) (out : SinkState)
+pub second_stopped : {T : Type 0} (answer : Names → List ℕ → List (List ℕ) → Report) (first : Change SourceState) (text : List ℕ) (second : Change SourceState) (out : SinkState)
     (reading : Result T RunError) (e : RunError) (result : Result Outcome RunError) → WasRead first text → reading ≡ Err e
     → (IsErrOf reading TooLong ↔ IsTooLong second) → (IsErrOf reading Read ↔ IsUnfinished second) → (reading ≡ Err Write → ⊥)
     → IsErr result × IsErrAnd result (λ y. y ≡ e) → Runs answer first (second ∷ []) (still out) result
@@ -80,7 +81,7 @@ pub record WereRead (others : List (Change SourceState)) (texts : List (List ℕ
   pub short : OfOne IsTooLong others → ⊥
 
 -- all was read, and answered
-module _ (answer : List ℕ → List (List ℕ) → Report) (first : Change SourceState) (text : List ℕ) (others : List (Change SourceState)) (texts : List (List ℕ))
+module _ (answer : Names → List ℕ → List (List ℕ) → Report) (first : Change SourceState) (text : List ℕ) (others : List (Change SourceState)) (texts : List (List ℕ))
     (was : WasRead first text) (were : WereRead others texts) where
   none_unfinished : IsUnfinished first ⊎ OfOne IsUnfinished others → ⊥
   none_unfinished (inl h) = was.finished h
@@ -90,10 +91,10 @@ module _ (answer : List ℕ → List (List ℕ) → Report) (first : Change Sour
   none_too_long (inl h) = was.short h
   none_too_long (inr h) = were.short h
 
-  of_report : (P : Report → Type 0) → P (answer text texts) → OfReport answer first others P
+  of_report : (P : Report → Type 0) → P (answer (names_of first others) text texts) → OfReport answer first others P
   of_report P holds = record { text = text; texts = texts; first_read = was.all; others_read = were.all; holds = holds }
 
-  pub all_answered : (before after : SinkState) (result : Result Outcome RunError) → Answers before after (answer text texts) result
+  pub all_answered : (before after : SinkState) (result : Result Outcome RunError) → Answers before after (answer (names_of first others) text texts) result
       → Runs answer first others (record { before = before; after = after }) result
   all_answered before after (Ok outcome) m = record {
     done = of_report _ (m.ok.written, m.ok.answered);

@@ -3,9 +3,10 @@ use Rattle.std.specs.Prelude.{ℕ, zero, suc, List, Option, Result, Ok, Err}
 use Rattle.cudf_check.specs.declared.device.Trouble.{Trouble}
 use Rattle.cudf_check.specs.declared.device.Trouble.TheVariants.{Failed}
 
--- a source: the bytes that it will still give, where it tells them; how many calls of `read` it has had, how many of
--- them answered `Failed`, and how many answered 0 bytes; how many bytes it has given
+-- a source: its name, where lines name it; the bytes that it will still give, where it tells them; how many calls of
+-- `read` it has had, how many of them answered `Failed`, and how many answered 0 bytes; how many bytes it has given
 pub record SourceState : Type 0 where
+  pub name : Option (List ℕ)
   pub remaining : Option (List ℕ)
   pub calls : ℕ
   pub failures : ℕ

@@ -1,5 +1,5 @@
 -- What a device is made of, and what it tells of the reader or writer under it.
-use Rattle.std.specs.Prelude.{◌≡◌, ℕ, List, Option, Result, Ok, Err}
+use Rattle.std.specs.Prelude.{◌≡◌, ℕ, List, Option, None, Result, Ok, Err}
 use Rattle.std.specs.declared.io.Error.{Error}
 use Rattle.std.specs.declared.io.ErrorKind.{ErrorKind}
 use Rattle.std.specs.declared.io.ErrorKind.TheVariants as error_kinds
@@ -20,9 +20,10 @@ pub record IsUnused {T : Type 0} (d : Device T) : Type 0 where
   pub ends : d.ends ≡ 0
   pub given : d.given ≡ 0
 
--- what contracts see of a device over a reader that will still give these bytes
+-- what contracts see of a device over a reader that will still give these bytes; it has no name
 abbrev pub source_state : {T : Type 0} → (T → Option (List ℕ)) → Device T → SourceState
 source_state remaining d = record {
+  name = None;
   remaining = remaining d.inner;
   calls = d.calls;
   failures = d.failures;

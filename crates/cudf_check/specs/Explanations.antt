@@ -11,6 +11,7 @@ use Rattle.cudf_referee.specs.Criteria.{universe}
 use Rattle.cudf_referee.specs.Explanations.{was_installed, would_do, least_of, greatest_of}
 use Rattle.cudf_referee.specs.Instances.{PlainWhat, needs, install, upgrade, unknown, PlainInstance}
 use Rattle.cudf_referee.specs.Proposals.{Proposal}
+use Rattle.cudf_check.specs.Naming.{PlainOrigin, line_in}
 
 -- ---- instances
 
@@ -91,19 +92,20 @@ unparted_added name = if is_some (postmark_named name) then codes ", a blank lin
 abbrev pub misplaced_text : List ℕ → List ℕ
 misplaced_text name = if is_some (postmark_named name) then codes "a blank line is missing before " ++ name else name ++ codes " has no meaning here"
 
-abbrev pub detail_text : PlainDetail → List ℕ
-detail_text (begins_with name) = codes "it begins with " ++ name
-detail_text (request_on n) = codes "the request stands on line " ++ decimal n
-detail_text (name_on name n) = name ++ codes " stands on line " ++ decimal n ++ unparted_added name
-detail_text (undeclared name) = codes "nothing declares " ++ name ++ unparted_added name
-detail_text (mistyped name word None) = name ++ codes " is no " ++ word
-detail_text (mistyped name word (Some n)) = name ++ codes " is no " ++ word ++ codes ", entry " ++ decimal n
-detail_text (misdeclared n) = codes "declaration " ++ decimal n
-detail_text (package_on name version n) = name ++ codes " " ++ decimal version ++ codes " stands on line " ++ decimal n
-detail_text (lacking name) = codes "it lacks " ++ name
-detail_text (misplaced name) = misplaced_text name
+-- lines are counted as that of the fault is
+abbrev pub detail_text : Option PlainOrigin → PlainDetail → List ℕ
+detail_text origin (begins_with name) = codes "it begins with " ++ name
+detail_text origin (request_on n) = codes "the request stands on line " ++ decimal (line_in origin n)
+detail_text origin (name_on name n) = name ++ codes " stands on line " ++ decimal (line_in origin n) ++ unparted_added name
+detail_text origin (undeclared name) = codes "nothing declares " ++ name ++ unparted_added name
+detail_text origin (mistyped name word None) = name ++ codes " is no " ++ word
+detail_text origin (mistyped name word (Some n)) = name ++ codes " is no " ++ word ++ codes ", entry " ++ decimal n
+detail_text origin (misdeclared n) = codes "declaration " ++ decimal n
+detail_text origin (package_on name version n) = name ++ codes " " ++ decimal version ++ codes " stands on line " ++ decimal (line_in origin n)
+detail_text origin (lacking name) = codes "it lacks " ++ name
+detail_text origin (misplaced name) = misplaced_text name
 
 -- `; nothing declares size`, where there is a detail
-abbrev pub detail_added : Option PlainDetail → List ℕ
-detail_added None = []
-detail_added (Some detail) = codes "; " ++ detail_text detail
+abbrev pub detail_added : Option PlainOrigin → Option PlainDetail → List ℕ
+detail_added origin None = []
+detail_added origin (Some detail) = codes "; " ++ detail_text origin detail

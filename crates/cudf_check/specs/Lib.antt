@@ -2,6 +2,8 @@ pub mod Device
 pub mod DeviceInside
 pub mod Explanations
 pub mod ManyRuns
+pub mod NamedInside
+pub mod Naming
 pub mod Promises
 pub mod RankReport
 pub mod Ranking
@@ -9,4 +11,5 @@ pub mod Readers
 pub mod Refutations
 pub mod Report
 pub mod Runs
+pub mod Shown
 pub mod Working

@@ -1,5 +1,5 @@
 -- The report of a ranking: a function of the aims, the problem and its solutions to a text and an outcome. Own.
-use Rattle.std.specs.Prelude.{ℕ, Bool, ◌==◌, List, [], ◌∷◌, ◌++◌, map, codes, decimal, Option, None, option_map, IsTrue, if◌then◌else◌}
+use Rattle.std.specs.Prelude.{ℕ, Bool, ◌==◌, List, [], ◌∷◌, ◌++◌, map, codes, decimal, Option, None, Some, option_map, IsTrue, if◌then◌else◌}
 use Rattle.std.specs.List.{flat_map, filter_map, list_any, enumerate_from}
 use Rattle.cudf_problem.specs.declared.mode.Mode.{Mode}
 use Rattle.cudf_text.specs.declared.fault.Fault.{Fault}
@@ -13,6 +13,8 @@ use Rattle.cudf_referee.specs.Solutions.{is_solution}
 use Rattle.cudf_job.specs.declared.aims.Aim.{Aim}
 use Rattle.cudf_job.specs.declared.criteria.Criteria.{Criteria}
 use Rattle.cudf_check.specs.Ranking.{class, have_own_places, ranking}
+use Rattle.cudf_check.specs.Naming.{Names, name_at, own_file}
+use Rattle.cudf_check.specs.Shown.{shown}
 use Rattle.cudf_check.specs.Report.{Report, line, faulty, faulty_or, problem_fault, solution_fault, proposal_of}
 use Rattle.cudf_check.specs.declared.outcome.Outcome.{Outcome}
 use Rattle.cudf_check.specs.declared.outcome.Outcome.TheVariants.{Yes, No, Fail}
@@ -60,13 +62,19 @@ judgement_text aims (Solution c) = codes "yes" ++ flat_map (aim_count c) aims
 judgement_text aims NoSolution = codes "no"
 judgement_text aims SaysFail = codes "FAIL"
 
--- `2 solution 5 yes -changed 1 -touched 1`
-abbrev pub rank_line : List Aim → ℕ × Entrant → List ℕ
-rank_line aims (rank, entrant) = line (decimal rank ++ codes " solution " ++ decimal entrant.place ++ codes " " ++ judgement_text aims entrant.judgement)
+-- the solution's place, or the name of its file, where it has one
+abbrev pub entrant_name : Option (List ℕ) → ℕ → List ℕ
+entrant_name None place = decimal place
+entrant_name (Some file) place = shown file
+
+-- `2 solution 5 yes -changed 1 -touched 1`, or `2 solution S5 yes ..`
+abbrev pub rank_line : List Aim → List (Option (List ℕ)) → ℕ × Entrant → List ℕ
+rank_line aims names (rank, entrant) =
+    line (decimal rank ++ codes " solution " ++ entrant_name (name_at names entrant.place) entrant.place ++ codes " " ++ judgement_text aims entrant.judgement)
 
 -- a line for each of the ranked entrants, with its rank from 1
-abbrev pub ranking_text : List Aim → List Entrant → List ℕ
-ranking_text aims ranked = flat_map (rank_line aims) (enumerate_from 1 ranked)
+abbrev pub ranking_text : List Aim → List (Option (List ℕ)) → List Entrant → List ℕ
+ranking_text aims names ranked = flat_map (rank_line aims names) (enumerate_from 1 ranked)
 
 -- ---- the outcome
 
@@ -85,19 +93,24 @@ best_outcome entrants = if list_any is_a_solution entrants then Yes else (if lis
 -- ---- the report
 
 -- the lines of the ranking, and the best outcome
-abbrev pub ranked_report : List Aim → List Entrant → Report
-ranked_report aims entrants = record { text = ranking_text aims (ranking aims entrants); outcome = best_outcome entrants }
+abbrev pub ranked_report : List Aim → List (Option (List ℕ)) → List Entrant → Report
+ranked_report aims names entrants = record { text = ranking_text aims names (ranking aims entrants); outcome = best_outcome entrants }
 
--- `solution 2 line 1: E12 no version`, of the first faulty solution; or else, where none is, the report
-abbrev pub first_faulty_or : List (ℕ × Fault) → Report → Report
-first_faulty_or [] report = report
-first_faulty_or ((place, f) ∷ others) report = faulty (codes "solution " ++ decimal place) f None
+-- the place of a faulty solution, where no file is named
+abbrev pub entrant_word : Option (List ℕ) → ℕ → List ℕ
+entrant_word None place = codes "solution " ++ decimal place
+entrant_word (Some file) place = codes "solution"
+
+-- `solution 2 line 1: E12 no version`, or `S2:1: solution: E12 no version`, of the first faulty solution; or else, where none is, the report
+abbrev pub first_faulty_or : List (Option (List ℕ)) → List (ℕ × Fault) → Report → Report
+first_faulty_or names [] report = report
+first_faulty_or names ((place, f) ∷ others) report = let name = name_at names place in faulty (own_file name) (entrant_word name place) f None
 
 -- a problem and solutions: the problem's fault, or else that of the first faulty solution, or else the ranking
-unfoldable pub rank_report : List Aim → Mode → List ℕ → List (List ℕ) → Report
-rank_report aims mode problem solutions =
-    faulty_or (codes "problem") (λ f. None) (problem_fault mode problem)
-    (first_faulty_or (placed_faults mode solutions) (ranked_report aims (entrants (plain_problem (plain_text problem)) solutions)))
+unfoldable pub rank_report : List Aim → Mode → Names → List ℕ → List (List ℕ) → Report
+rank_report aims mode names problem solutions =
+    faulty_or (own_file names.first) (codes "problem") (λ f. None) (problem_fault mode problem)
+    (first_faulty_or names.others (placed_faults mode solutions) (ranked_report aims names.others (entrants (plain_problem (plain_text problem)) solutions)))
 
 -- ---- what makes the laws over rankings hold of it
 

@@ -48,6 +48,7 @@ use Rattle.cudf_cnf.specs.Cnf.{Keyed, cnf, clauses_of}
 use Rattle.cudf_reasons.specs.Reasons.{reasons_of}
 use Rattle.cudf_reasons.specs.Views.{Told, told_as}
 use Rattle.cudf_check.specs.Explanations.{instance_added, reason_added, detail_added}
+use Rattle.cudf_check.specs.Naming.{Names, PlainOrigin, PlainOrigins, named_before, numbered, one_file, origin_of, own_file, own_files}
 use Rattle.cudf_job.specs.declared.job.Job.{Job}
 use Rattle.cudf_job.specs.declared.job.Job.TheVariants.{Lint, Check, Score, Cnf, Refute}
 use Rattle.cudf_check.specs.declared.outcome.Outcome.{Outcome}
@@ -68,10 +69,10 @@ alone text outcome = record { text = line text; outcome = outcome }
 
 -- ---- faulty documents
 
--- `problem line 3: E9 value is not of its type`, and what the document says beside it, if that is told
-abbrev pub faulty : List ℕ → Fault → Option PlainDetail → Report
-faulty whose f detail = record {
-  text = whose ++ codes " line " ++ decimal f.line ++ codes ": " ++ fault_text f.kind ++ line (detail_added detail);
+-- `problem line 3: E9 value is not of its type`, or `P:3: problem: E9 ..`, and what the document says beside it, if that is told
+abbrev pub faulty : Option PlainOrigin → List ℕ → Fault → Option PlainDetail → Report
+faulty origin whose f detail = record {
+  text = named_before origin f.line ++ whose ++ numbered origin f.line ++ codes ": " ++ fault_text f.kind ++ line (detail_added origin detail);
   outcome = Faulty;
 }
 
@@ -80,9 +81,9 @@ abbrev pub told : Bool → List ℕ → Fault → Option PlainDetail
 told explain bytes f = if explain then fault_detail (plain_text bytes) f else None
 
 -- the fault, if there is one, with what is told of it, or else the report
-abbrev pub faulty_or : List ℕ → (Fault → Option PlainDetail) → Option Fault → Report → Report
-faulty_or whose tell None report = report
-faulty_or whose tell (Some f) report = faulty whose f (tell f)
+abbrev pub faulty_or : Option PlainOrigin → List ℕ → (Fault → Option PlainDetail) → Option Fault → Report → Report
+faulty_or origin whose tell None report = report
+faulty_or origin whose tell (Some f) report = faulty origin whose f (tell f)
 
 -- the first fault of a problem: E1 where its bytes aren't UTF-8
 abbrev pub problem_fault : Mode → List ℕ → Option Fault
@@ -123,13 +124,15 @@ what_text (remove v) aspect met = codes "must remove " ++ vpkg_text v ++ meeting
 what_text (upgrade v) aspect met = upgrade_text v aspect
 what_text unknown aspect met = codes "not in the universe"
 
--- `p1.depends.1 car 1 line 1: needs wheel > 2`
-abbrev pub met_text : PlainInstance → Option PlainPackage → List ℕ
-met_text i met = key_text i.key ++ subject_text i.subject ++ codes " line " ++ decimal i.line ++ codes ": " ++ what_text i.what i.key.aspect met
+-- `p1.depends.1 car 1 line 1: needs wheel > 2`, or `P:1: p1.depends.1 car 1: needs wheel > 2`
+abbrev pub met_text : Option PlainOrigin → PlainInstance → Option PlainPackage → List ℕ
+met_text origin i met =
+    named_before origin i.line ++ key_text i.key ++ subject_text i.subject ++ numbered origin i.line ++ codes ": " ++ what_text i.what i.key.aspect met
 
 -- its line, with what is added where lines are explained
-abbrev pub instance_line : Bool → Proposal → PlainInstance → List ℕ
-instance_line explain s i = met_text i (option_and_then (package_at s.problem) (met_by s.proposed i)) ++ line (instance_added explain s i)
+abbrev pub instance_line : Bool → PlainOrigins → Proposal → PlainInstance → List ℕ
+instance_line explain origins s i =
+    met_text (origin_of origins i.key.part) i (option_and_then (package_at s.problem) (met_by s.proposed i)) ++ line (instance_added explain s i)
 
 -- ---- pages of the listing
 
@@ -149,8 +152,8 @@ more_text s None = []
 more_text s (Some last) = if is_empty (rest last.key s) then [] else line (codes "more after " ++ key_text last.key)
 
 -- a line for each violated instance of the page, and where the next page begins
-abbrev pub check_text : Bool → Option PlainKey → Option ℕ → Proposal → List ℕ
-check_text explain after limit s = let page = limited limit (listed after s) in flat_map (instance_line explain s) page ++ more_text s (last_or None page)
+abbrev pub check_text : Bool → Option PlainKey → Option ℕ → PlainOrigins → Proposal → List ℕ
+check_text explain after limit origins s = let page = limited limit (listed after s) in flat_map (instance_line explain origins s) page ++ more_text s (last_or None page)
 
 -- ---- scores
 
@@ -199,18 +202,18 @@ proposal_of problem text = proposal problem (is_initial problem) (is_proposed pr
 -- ---- documents
 
 -- a problem and a solution: the problem's fault, or else the solution's, or else FAIL, or else what is found of the proposed status
-abbrev pub pair_report : Bool → Mode → (Proposal → List ℕ) → List ℕ → List ℕ → Report
-pair_report explain mode found problem solution =
-    faulty_or (codes "problem") (told explain problem) (problem_fault mode problem)
-    (faulty_or (codes "solution") (told explain solution) (solution_fault mode solution)
+abbrev pub pair_report : Bool → Mode → (PlainOrigins → Proposal → List ℕ) → PlainOrigins → List ℕ → List ℕ → Report
+pair_report explain mode found origins problem solution =
+    faulty_or origins.problem (codes "problem") (told explain problem) (problem_fault mode problem)
+    (faulty_or origins.solution (codes "solution") (told explain solution) (solution_fault mode solution)
     (if is_fail solution then alone (codes "solution FAIL") Fail
-    else judged_report found (proposal_of (plain_problem (plain_text problem)) (plain_text solution))))
+    else judged_report (found origins) (proposal_of (plain_problem (plain_text problem)) (plain_text solution))))
 
 -- ---- CNFs
 
 -- a problem's report, where it has no fault
 abbrev pub problem_report : Bool → Mode → List ℕ → (PlainProblem → Report) → Report
-problem_report explain mode bytes answer = faulty_or (codes "problem") (told explain bytes) (problem_fault mode bytes) (answer (plain_problem (plain_text bytes)))
+problem_report explain mode bytes answer = faulty_or None (codes "problem") (told explain bytes) (problem_fault mode bytes) (answer (plain_problem (plain_text bytes)))
 
 -- more packages or clauses than a CNF may have here
 abbrev pub is_too_large : PlainProblem → Bool
@@ -294,7 +297,7 @@ met_texts problem (place ∷ places) = meeting_text (package_at problem place) +
 -- the line of a needed instance, with all packages by which its clauses are needed, and what is added where lines are explained
 abbrev pub reason_line : Bool → PlainProblem → Told → List ℕ
 reason_line explain problem (key, places) =
-    option_map_or (λ i. met_text i None ++ met_texts problem places ++ line (reason_added explain problem i)) (instance_of problem key) []
+    option_map_or (λ i. met_text None i None ++ met_texts problem places ++ line (reason_added explain problem i)) (instance_of problem key) []
 
 -- the clauses of these numbers from 1
 abbrev pub needed : List Keyed → List ℕ → List Keyed
@@ -315,13 +318,14 @@ refute_answer explain proof problem = unless_too_large problem (proof_report exp
 -- ---- the report
 
 -- the second input is the solution; where there is none, the first one is cut
-abbrev pub inputs_report : Bool → Mode → (Proposal → List ℕ) → List ℕ → Option (List ℕ) → Report
-inputs_report explain mode found input None = pair_report explain mode found (problem_part input) (solution_part input)
-inputs_report explain mode found input (Some solution) = pair_report explain mode found input solution
+abbrev pub inputs_report : Bool → Mode → (PlainOrigins → Proposal → List ℕ) → Names → List ℕ → Option (List ℕ) → Report
+inputs_report explain mode found names input None = pair_report explain mode found (one_file (problem_part input) names) (problem_part input) (solution_part input)
+inputs_report explain mode found names input (Some solution) = pair_report explain mode found (own_files names) input solution
 
-unfoldable pub report : Job → Mode → List ℕ → Option (List ℕ) → Report
-report (Lint explain) mode input solution = faulty_or (codes "problem") (told explain input) (problem_fault mode input) (alone (codes "problem ok") Yes)
-report (Check after limit explain) mode input solution = inputs_report explain mode (check_text explain (option_map key_view after) limit) input solution
-report (Score aims) mode input solution = inputs_report false mode (scored_text (option_map (λ list. list.items) aims)) input solution
-report Cnf mode input solution = problem_report false mode input cnf_answer
-report (Refute explain) mode input proof = problem_report explain mode input (refute_answer explain (unwrap_or proof []))
+-- of CNFs and refutations no line names a file
+unfoldable pub report : Job → Mode → Names → List ℕ → Option (List ℕ) → Report
+report (Lint explain) mode names input solution = faulty_or (own_file names.first) (codes "problem") (told explain input) (problem_fault mode input) (alone (codes "problem ok") Yes)
+report (Check after limit explain) mode names input solution = inputs_report explain mode (check_text explain (option_map key_view after) limit) names input solution
+report (Score aims) mode names input solution = inputs_report false mode (λ origins. scored_text (option_map (λ list. list.items) aims)) names input solution
+report Cnf mode names input solution = problem_report false mode input cnf_answer
+report (Refute explain) mode names input proof = problem_report explain mode input (refute_answer explain (unwrap_or proof []))

@@ -7,6 +7,7 @@ use Rattle.std.specs.Io.KnownBytes.{Appends, Keeps}
 use Rattle.cudf_problem.specs.declared.mode.Mode.{Mode}
 use Rattle.cudf_check.specs.Device.{SourceState, SinkState}
 use Rattle.cudf_check.specs.Readers.{Change, ReadsAll, IsUnfinished, IsTooLong, IsStopped, OfOne}
+use Rattle.cudf_check.specs.Naming.{Names, names_of}
 use Rattle.cudf_check.specs.Report.{Report, report}
 use Rattle.cudf_job.specs.declared.job.Job.{Job}
 use Rattle.cudf_job.specs.declared.job.Job.TheVariants.{Lint, Cnf}
@@ -24,16 +25,16 @@ pub record AppendsPrefix (old new : Option (List ℕ)) (text : List ℕ) : Type 
   pub whole : taken ++ left ≡ text
   pub appended : Appends old new taken
 
--- the first input, and those behind it, were read whole, and this holds of the answer to their texts
-pub record OfReport (answer : List ℕ → List (List ℕ) → Report) (first : Change SourceState) (others : List (Change SourceState)) (P : Report → Type 0) : Type 0 where
+-- the first input, and those behind it, were read whole, and this holds of the answer to their names and texts
+pub record OfReport (answer : Names → List ℕ → List (List ℕ) → Report) (first : Change SourceState) (others : List (Change SourceState)) (P : Report → Type 0) : Type 0 where
   pub text : List ℕ
   pub texts : List (List ℕ)
   pub first_read : ReadsAll first text
   pub others_read : AllZip ReadsAll others texts
-  pub holds : P (answer text texts)
+  pub holds : P (answer (names_of first others) text texts)
 
--- a run on a first input and those behind it, whose report is the answer to their texts
-pub record Runs (answer : List ℕ → List (List ℕ) → Report) (first : Change SourceState) (others : List (Change SourceState)) (out : Change SinkState) (result : Result Outcome RunError) : Type 0 where
+-- a run on a first input and those behind it, whose report is the answer to their names and texts
+pub record Runs (answer : Names → List ℕ → List (List ℕ) → Report) (first : Change SourceState) (others : List (Change SourceState)) (out : Change SinkState) (result : Result Outcome RunError) : Type 0 where
   -- an outcome: the whole report was written, and the outcome is the report's
   pub done : IfOk result (λ outcome. OfReport answer first others (λ r. Appends out.before.contents out.after.contents r.text × (outcome ≡ r.outcome)))
   -- `Write`: a prefix of the report was written
@@ -50,8 +51,8 @@ pub record Runs (answer : List ℕ → List (List ℕ) → Report) (first : Chan
 -- ---- a job's run
 
 -- the report of a job on an input, and on the solution behind it, where there is one
-abbrev pub job_report : Job → Mode → List ℕ → List (List ℕ) → Report
-job_report job mode input solutions = report job mode input (slice_get solutions 0)
+abbrev pub job_report : Job → Mode → Names → List ℕ → List (List ℕ) → Report
+job_report job mode names input solutions = report job mode names input (slice_get solutions 0)
 
 -- the reader of a solution or a proof, where there is one and the job reads it
 abbrev pub read_for : Job → List (Change SourceState) → List (Change SourceState)

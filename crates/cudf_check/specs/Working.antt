@@ -3,6 +3,7 @@ pub mod Encoded
 pub mod Found
 pub mod InTurn
 pub mod Judged
+pub mod Named
 pub mod Pages
 pub mod Paper
 pub mod Scribes

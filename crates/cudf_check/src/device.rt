@@ -1,6 +1,6 @@
 //! What a run reads from and writes to. Contracts see of each device one state: its bytes, where it tells them, and
 //! always the counts of its calls.
-ghost use Rattle.std.specs.Prelude.{◌≡◌, ℕ, List, Option, Result, ◌+◌, ◌<◌, ◌≤◌, length, IfOk};
+ghost use Rattle.std.specs.Prelude.{◌≡◌, ℕ, List, Option, Result, option_map, ◌+◌, ◌<◌, ◌≤◌, length, IfOk};
 ghost use Rattle.std.specs.Io.{ReadsAtMost, WritesAtMost};
 ghost use Rattle.std.specs.Io.KnownBytes.{ReadConsumes, WriteAppends};
 ghost use Rattle.std.specs.declared.io.Error.{Error};
@@ -21,8 +21,13 @@ pub enum Trouble {
 
 /// Something that gives bytes.
 pub trait Source {
-    /// The bytes that it will still give, where it tells them, and the counts of its calls and bytes.
+    /// Its name, where it has one, the bytes that it will still give, where it tells them, and the counts of its calls and
+    /// bytes.
     ghost state: { Self → SourceState };
+
+    /// The name of the file that it reads, where lines of reports name it.
+    fn name(&self) -> Option<&str>
+        ensures { option_map (λ n. n.now) result ≡ (state self.now).name };
 
     /// Writes the next bytes to the front of `buffer`, which has room for one at least, and answers how many: at most
     /// as many as the buffer has room for. 0 bytes are the end of the input. After a `Trouble` no byte was given.
@@ -32,7 +37,8 @@ pub trait Source {
         ensures bound { IfOk result (λ n. n ≤ length buffer.new) }
         ensures bytes { ReadConsumes (state self.old).remaining (state self.new).remaining result buffer.new }
 
-        // Each count grows by what the answer says.
+        // The name stays, and each count grows by what the answer says.
+        ensures named { (state self.new).name ≡ (state self.old).name }
         ensures called { (state self.new).calls ≡ (state self.old).calls + 1 }
         ensures failed { (state self.new).failures ≡ (state self.old).failures + failed_reads result }
         ensures ended { (state self.new).ends ≡ (state self.old).ends + ended_reads result }
@@ -148,6 +154,10 @@ impl<R: Reader> Source for Device<R> {
     ghost use Rattle.cudf_check.specs.DeviceInside.{device_inner, source_state, IsTold};
 
     ghost state = { source_state R.remaining };
+
+    fn name(&self) -> Option<&str> {
+        None
+    }
 
     fn read(&mut self, buffer: &mut [u8]) -> Result<usize, Trouble>
         // What the reader answered is told, and nothing else.

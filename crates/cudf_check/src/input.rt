@@ -25,6 +25,7 @@ pub(crate) fn read_all<R: Source>(alloc: Global, source: &mut R) -> Result<Vec<u
     ensures read { IsErrOf result RunError.Read ↔ IsUnfinished (change R.state source.old source.new) }
 
     ensures turns { IsWithinTurns (change R.state source.old source.new) }
+    ensures named { (R.state source.new).name ≡ (R.state source.old).name }
     ensures no_write { result ≢ Err RunError.Write }
 {
     let mut bytes = Vec::new(alloc);

@@ -1,11 +1,12 @@
 //! Reads several inputs to their ends, one after another.
-ghost use Rattle.std.specs.Prelude.{map};
+ghost use Rattle.std.specs.Prelude.{◌≡◌, IfOk, map};
 ghost use Rattle.cudf_check.specs.Working.InTurn.{ReadsInTurn};
+ghost use Rattle.cudf_check.specs.Working.Named.{plain_names};
 
 use crate::device::Source;
 use crate::input::read_all;
 use crate::outcome::RunError;
-use std::alloc::Global;
+use std::alloc::{AllocError, Global};
 
 /// The bytes of each source up to its end. The sources behind one whose reading ended in an error aren't read.
 pub(crate) fn read_each<S: Source>(
@@ -22,4 +23,18 @@ pub(crate) fn read_each<S: Source>(
         }
     }
     Ok(texts)
+}
+
+/// The name of each source, where it has one.
+pub(crate) fn names_of<S: Source>(
+    alloc: Global,
+    sources: &[S],
+) -> Result<Vec<Option<&str>>, AllocError>
+    ensures { IfOk result (λ v. plain_names v.items ≡ map (λ s. (S.state s).name) sources.entry.now) }
+{
+    let mut names = Vec::new(alloc);
+    for source in sources {
+        names.push(source.name())?;
+    }
+    Ok(names)
 }

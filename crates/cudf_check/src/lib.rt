@@ -2,7 +2,7 @@
 //! `run` reports each rule that a solution breaks, `rank` compares several solutions of one problem.
 #![tactic(auto)]
 
-ghost use Rattle.std.specs.Prelude.{◌≡◌, IfOk};
+ghost use Rattle.std.specs.Prelude.{◌≡◌, IfOk, option_map};
 ghost use Rattle.std.specs.List.{All};
 ghost use Rattle.cudf_check.specs.ManyRuns.{LeavesBehind};
 ghost use Rattle.cudf_check.specs.RankReport.{rank_report};
@@ -20,6 +20,8 @@ mod job;
 mod judging;
 pub mod laws;
 mod lines;
+mod named;
+mod naming;
 mod outcome;
 mod output;
 mod paper;
@@ -35,9 +37,11 @@ use cudf_lrat::laws::refuted;
 pub use cudf_referee::{Aim, Count, Criteria, Key, Sign, compare, read_criterion};
 pub use device::{Device, Sink, Source, Trouble};
 use input::read_all;
-use inputs::read_each;
+use inputs::{names_of, read_each};
+pub use named::Named;
+use naming::Given;
 pub use outcome::{Outcome, RunError};
-use rank_report::answer_ranking;
+use rank_report::{Ranked, answer_ranking};
 use report::answer_job;
 use setting::Setting;
 use std::alloc::Global;
@@ -87,14 +91,15 @@ pub fn run<R: Source, S: Source, W: Sink>(
     let setting = Setting { alloc, mode };
     let Some(solution) = solution else {
         let first = read_all(alloc, input)?;
-        return answer_job(setting, job, &first, None, out);
+        return answer_job(setting, job, given(&first, input), None, out);
     };
     let first = read_all(alloc, input)?;
+    let first = given(&first, input);
     match job {
-        Job::Lint { .. } | Job::Cnf => answer_job(setting, job, &first, None, out),
+        Job::Lint { .. } | Job::Cnf => answer_job(setting, job, first, None, out),
         Job::Check { .. } | Job::Score { .. } | Job::Refute { .. } => {
             let second = read_all(alloc, solution)?;
-            answer_job(setting, job, &first, Some(&second), out)
+            answer_job(setting, job, first, Some(given(&second, solution)), out)
         }
     }
 }
@@ -146,5 +151,29 @@ pub fn rank<R: Source, S: Source, W: Sink>(
 {
     let first = read_all(alloc, problem)?;
     let others = read_each(alloc, solutions)?;
-    answer_ranking(Setting { alloc, mode }, aims, &first, &others, out)
+    let Ok(names) = names_of(alloc, solutions) else {
+        return Err(RunError::Memory);
+    };
+    let ranked = Ranked {
+        solutions: &others,
+        names: &names,
+    };
+    answer_ranking(
+        Setting { alloc, mode },
+        aims,
+        given(&first, problem),
+        ranked,
+        out,
+    )
+}
+
+/// What a source gave, with its name.
+fn given<'t, S: Source>(bytes: &'t [u8], source: &'t S) -> Given<'t>
+    ensures bytes { result.bytes.now ≡ bytes.entry.now }
+    ensures name { option_map (λ n. n.now) result.name ≡ (S.state source.entry.now).name }
+{
+    Given {
+        bytes,
+        name: source.name(),
+    }
 }

@@ -6,11 +6,13 @@ mod dimacs;
 mod explanation;
 mod instance;
 mod judged;
+mod naming;
 mod page;
 mod ranks;
 mod reasons;
 mod score;
 mod scribe;
+mod shown;
 
 pub(crate) use alone::{answer, answer_fault};
 pub(crate) use dimacs::answer_cnf;

@@ -1,16 +1,18 @@
 //! Decides which report a problem and its solutions have.
-ghost use Rattle.std.specs.Prelude.{map};
+ghost use Rattle.std.specs.Prelude.{map, option_map};
 ghost use Rattle.cudf_problem.specs.declared.mode.Mode.{Mode};
 ghost use Rattle.cudf_check.specs.RankReport.{rank_report, placed_faults, first_faulty_or};
 ghost use Rattle.cudf_check.specs.Report.{Report};
 ghost use Rattle.cudf_check.specs.Working.Answering.{Answers};
 ghost use Rattle.cudf_check.specs.Working.Judged.{IsUnranked};
+ghost use Rattle.cudf_check.specs.Working.Named.{plain_names};
 
 use crate::device::Sink;
 use crate::judging::{Unranked, judge_each};
 use crate::lines::{answer_faulty_solution, answer_ranked};
+use crate::naming::{Given, name_at, own_file};
 use crate::outcome::{Outcome, RunError};
-use crate::ranking::{best_outcome, ranked};
+use crate::ranking::{best_outcome, ranked as in_order};
 use crate::readings::problem_in;
 use crate::report::{Document, answer_unread};
 use crate::setting::Setting;
@@ -23,15 +25,26 @@ use std::alloc::Global;
 fn answer_unranked<W: Sink>(
     alloc: Global,
     out: &mut W,
+    names: &[Option<&str>],
     unranked: Unranked,
 ) -> Result<Outcome, RunError>
     ensures { (mode : Mode) → (solutions : _) → (report : Report) → IsUnranked mode solutions unranked
-        → Answers (W.state out.old) (W.state out.new) (first_faulty_or (placed_faults mode solutions) report) result }
+        → Answers (W.state out.old) (W.state out.new) (first_faulty_or (plain_names names.now) (placed_faults mode solutions) report) result }
 {
+    let place = unranked.place;
     match unranked.error {
-        ReadError::Fault(fault) => answer_faulty_solution(alloc, out, unranked.place, fault),
+        ReadError::Fault(fault) => {
+            answer_faulty_solution(alloc, out, name_at(names, place), place, fault)
+        }
         ReadError::Memory(_) => Err(RunError::Memory),
     }
+}
+
+/// What is ranked: the bytes of the solutions, and their names.
+#[derive(Clone, Copy)]
+pub(crate) struct Ranked<'t> {
+    pub(crate) solutions: &'t [Vec<u8>],
+    pub(crate) names: &'t [Option<&'t str>],
 }
 
 /// Ranks the solutions of a problem.
@@ -39,30 +52,33 @@ fn answer_unranked<W: Sink>(
 pub(crate) fn answer_ranking<W: Sink>(
     setting: Setting,
     aims: &[Aim],
-    problem: &[u8],
-    solutions: &[Vec<u8>],
+    problem: Given<'_>,
+    ranked: Ranked<'_>,
     out: &mut W,
 ) -> Result<Outcome, RunError>
-    ensures { Answers (W.state out.old) (W.state out.new) (rank_report aims.now setting.mode problem.now (map (λ b. b.items) solutions.now)) result }
+    ensures { Answers (W.state out.old) (W.state out.new)
+        (rank_report aims.now setting.mode (record { first = option_map (λ n. n.now) problem.entry.name; others = plain_names ranked.entry.names.now }) problem.entry.bytes.now (map (λ b. b.items) ranked.entry.solutions.now)) result }
 {
     let alloc = setting.alloc;
+    let Ranked { solutions, names } = ranked;
     let unexplained = Document {
         whose: "problem",
-        bytes: problem,
+        origin: own_file(problem.name),
+        bytes: problem.bytes,
         explain: false,
     };
     let mut room = Room::new(alloc);
-    let problem = match problem_in(setting, problem, &mut room) {
+    let problem = match problem_in(setting, problem.bytes, &mut room) {
         Ok(problem) => problem,
         Err(error) => return answer_unread(alloc, out, unexplained, error),
     };
     let entrants = match judge_each(setting, &problem, solutions) {
         Ok(entrants) => entrants,
-        Err(unranked) => return answer_unranked(alloc, out, unranked),
+        Err(unranked) => return answer_unranked(alloc, out, names, unranked),
     };
     let outcome = best_outcome(&entrants);
-    match ranked(aims, entrants) {
-        Ok(ranked) => answer_ranked(alloc, out, aims, &ranked, outcome),
+    match in_order(aims, entrants) {
+        Ok(ranked) => answer_ranked(alloc, out, aims, names, &ranked, outcome),
         Err(_) => Err(RunError::Memory),
     }
 }

@@ -1,19 +1,22 @@
 //! Decides which report the inputs have.
-ghost use Rattle.std.specs.Prelude.{◌≡◌, ℕ, Bool, false, IfOk, IfSome, List, Option, codes, option_copied, option_map, if◌then◌else◌};
-ghost use Rattle.cudf_text.specs.Joined.{is_fail};
+ghost use Rattle.std.specs.Prelude.{◌≡◌, ℕ, Bool, false, IfOk, IfSome, List, [], None, Option, codes, option_map, unwrap_or, if◌then◌else◌};
+ghost use Rattle.cudf_text.specs.Joined.{is_fail, problem_part, solution_part};
 ghost use Rattle.cudf_text.specs.declared.fault.Fault.{Fault};
 ghost use Rattle.cudf_problem.specs.declared.mode.Mode.{Mode};
 ghost use Rattle.cudf_document.specs.Promises.Views.{detail_view};
 ghost use Rattle.cudf_referee.specs.Proposals.{Proposal};
 ghost use Rattle.cudf_check.specs.declared.outcome.Outcome.TheVariants.{Fail, Yes};
+ghost use Rattle.cudf_check.specs.Naming.{PlainOrigins, one_file, own_file};
 ghost use Rattle.cudf_check.specs.Report.{Report, alone, faulty_or, cnf_answer, problem_fault, problem_report, refute_answer, solution_fault, pair_report, inputs_report, report, told};
 ghost use Rattle.cudf_check.specs.Working.Answering.{Answers};
 ghost use Rattle.cudf_check.specs.Working.Found.{explains, found_text};
+ghost use Rattle.cudf_check.specs.Working.Named.{given_names, origin_view, origins_view};
 ghost use Rattle.cudf_check.specs.Working.Unjudged.{IsFaultOf, IsTextOr, IsUnjudged};
 
 use crate::device::Sink;
 use crate::job::explains;
 use crate::lines::{answer, answer_cnf, answer_fault, answer_judged, answer_proof};
+use crate::naming::{Given, Origin, Origins, file_behind, own_file};
 use crate::outcome::{Outcome, RunError};
 use crate::readings::{Unjudged, problem_in, proposed_in, sound_in};
 use crate::setting::Setting;
@@ -27,6 +30,8 @@ use std::alloc::{AllocError, Global};
 pub(crate) struct Document<'t> {
     /// Whose a fault of it is, in reports.
     pub(crate) whose: &'static str,
+    /// Its file, where lines name it.
+    pub(crate) origin: Option<Origin<'t>>,
     pub(crate) bytes: &'t [u8],
     /// Whether it is told what the document says beside the fault.
     pub(crate) explain: bool,
@@ -59,13 +64,13 @@ pub(crate) fn answer_unread<W: Sink>(
     error: ReadError,
 ) -> Result<Outcome, RunError>
     ensures { (fault : Option Fault) → (report : Report) → IfSome fault (IsTextOr document.entry.bytes.now) → IsFaultOf fault error
-        → Answers (W.state out.old) (W.state out.new) (faulty_or document.entry.whose.now (told document.entry.explain document.entry.bytes.now) fault report) result }
+        → Answers (W.state out.old) (W.state out.new) (faulty_or (option_map origin_view document.entry.origin) document.entry.whose.now (told document.entry.explain document.entry.bytes.now) fault report) result }
 {
     match error {
         ReadError::Fault(fault) => {
             let mut room = Room::new(alloc);
             match told(alloc, document, &mut room, fault) {
-                Ok(detail) => answer_fault(alloc, out, document.whose, fault, detail),
+                Ok(detail) => answer_fault(alloc, out, document, fault, detail),
                 Err(_) => Err(RunError::Memory),
             }
         }
@@ -81,7 +86,7 @@ fn answer_unjudged<W: Sink>(
     reason: Unjudged,
 ) -> Result<Outcome, RunError>
     ensures { (report : Report) → IsUnjudged setting.mode solution.entry.bytes.now reason
-        → Answers (W.state out.old) (W.state out.new) (faulty_or solution.entry.whose.now (told solution.entry.explain solution.entry.bytes.now) (solution_fault setting.mode solution.entry.bytes.now)
+        → Answers (W.state out.old) (W.state out.new) (faulty_or (option_map origin_view solution.entry.origin) solution.entry.whose.now (told solution.entry.explain solution.entry.bytes.now) (solution_fault setting.mode solution.entry.bytes.now)
         (if is_fail solution.entry.bytes.now then alone (codes "solution FAIL") Fail else report)) result }
 {
     match reason {
@@ -95,21 +100,24 @@ fn check<W: Sink>(
     setting: Setting,
     out: &mut W,
     job: &Job,
-    problem: &[u8],
-    solution: &[u8],
+    inputs: Inputs<'_>,
 ) -> Result<Outcome, RunError>
-    ensures { Answers (W.state out.old) (W.state out.new) (pair_report (explains job.now) setting.mode (found_text job.now) problem.now solution.now) result }
+    ensures { Answers (W.state out.old) (W.state out.new)
+        (pair_report (explains job.now) setting.mode (found_text job.now) (origins_view inputs.entry.origins) inputs.entry.problem.now inputs.entry.solution.now) result }
 {
     let alloc = setting.alloc;
     let explain = explains(job);
+    let origins = inputs.origins;
     let problem = Document {
         whose: "problem",
-        bytes: problem,
+        origin: origins.problem,
+        bytes: inputs.problem,
         explain,
     };
     let solution = Document {
         whose: "solution",
-        bytes: solution,
+        origin: origins.solution,
+        bytes: inputs.solution,
         explain,
     };
     let mut problem_room = Room::new(alloc);
@@ -123,14 +131,14 @@ fn check<W: Sink>(
         Err(reason) => return answer_unjudged(setting, out, solution, reason),
     };
     match solution_of(alloc, proposed, &judged) {
-        Ok(placed) => answer_judged(alloc, out, job, &judged, &placed),
+        Ok(placed) => answer_judged(alloc, out, job, origins, &judged, &placed),
         Err(_) => Err(RunError::Memory),
     }
 }
 
 /// Says that a problem has no fault, or which one is its first.
 fn lint<W: Sink>(setting: Setting, out: &mut W, problem: Document<'_>) -> Result<Outcome, RunError>
-    ensures { Answers (W.state out.old) (W.state out.new) (faulty_or problem.entry.whose.now (told problem.entry.explain problem.entry.bytes.now)
+    ensures { Answers (W.state out.old) (W.state out.new) (faulty_or (option_map origin_view problem.entry.origin) problem.entry.whose.now (told problem.entry.explain problem.entry.bytes.now)
         (problem_fault setting.mode problem.entry.bytes.now) (alone (codes "problem ok") Yes)) result }
 {
     match sound_in(setting, problem.bytes) {
@@ -147,7 +155,7 @@ fn print_cnf<W: Sink>(setting: Setting, out: &mut W, bytes: &[u8]) -> Result<Out
     let mut room = Room::new(alloc);
     match problem_in(setting, bytes, &mut room) {
         Ok(problem) => answer_cnf(alloc, out, &problem),
-        Err(error) => answer_unread(alloc, out, problem_document(bytes, false), error),
+        Err(error) => answer_unread(alloc, out, problem_document(unnamed(bytes), false), error),
     }
 }
 
@@ -165,31 +173,74 @@ fn refute<W: Sink>(
     let mut room = Room::new(alloc);
     match problem_in(setting, bytes, &mut room) {
         Ok(problem) => answer_proof(alloc, out, &problem, proof, explain),
-        Err(error) => answer_unread(alloc, out, problem_document(bytes, explain), error),
+        Err(error) => answer_unread(alloc, out, problem_document(unnamed(bytes), explain), error),
     }
 }
 
-/// The problem, as a document whose faults are reported.
-fn problem_document(bytes: &[u8], explain: bool) -> Document<'_>
-    ensures whose { result.whose.now ≡ codes "problem" }
+/// An input whose lines name no file.
+fn unnamed(bytes: &[u8]) -> Given<'_>
     ensures bytes { result.bytes.now ≡ bytes.entry.now }
+    ensures name { result.name ≡ None }
+{
+    Given { bytes, name: None }
+}
+
+/// The problem, as a document whose faults are reported.
+fn problem_document(problem: Given<'_>, explain: bool) -> Document<'_>
+    ensures whose { result.whose.now ≡ codes "problem" }
+    ensures origin { option_map origin_view result.origin ≡ own_file (option_map (λ n. n.now) problem.entry.name) }
+    ensures bytes { result.bytes.now ≡ problem.entry.bytes.now }
     ensures explain { result.explain ≡ explain }
 {
     Document {
         whose: "problem",
-        bytes,
+        origin: own_file(problem.name),
+        bytes: problem.bytes,
         explain,
     }
 }
 
+/// A problem and a solution, with their files.
+#[derive(Clone, Copy)]
+struct Inputs<'t> {
+    problem: &'t [u8],
+    solution: &'t [u8],
+    origins: Origins<'t>,
+}
+
 /// The problem and its solution: the second input is the solution; where there is none, the first is cut.
-fn parted<'t>(input: &'t [u8], solution: Option<&'t [u8]>) -> (&'t [u8], &'t [u8])
-    ensures { (explain : Bool) → (mode : Mode) → (found : Proposal → List ℕ) → pair_report explain mode found result.0.now result.1.now
-        ≡ inputs_report explain mode found input.now (option_copied solution.entry) }
+fn parted<'t>(first: Given<'t>, second: Option<Given<'t>>) -> Inputs<'t>
+    ensures { (explain : Bool) → (mode : Mode) → (found : PlainOrigins → Proposal → List ℕ)
+        → pair_report explain mode found (origins_view result.origins) result.problem.now result.solution.now
+        ≡ inputs_report explain mode found (given_names first.entry second.entry) first.entry.bytes.now (option_map (λ g. g.bytes.now) second.entry) }
 {
-    match solution {
-        Some(solution) => (input, solution),
-        None => cut_joined(input),
+    match second {
+        Some(second) => Inputs {
+            problem: first.bytes,
+            solution: second.bytes,
+            origins: Origins {
+                problem: own_file(first.name),
+                solution: own_file(second.name),
+            },
+        },
+        None => cut(first),
+    }
+}
+
+/// The problem and the solution of one input.
+fn cut(input: Given<'_>) -> Inputs<'_>
+    ensures problem { result.problem.now ≡ problem_part input.entry.bytes.now }
+    ensures solution { result.solution.now ≡ solution_part input.entry.bytes.now }
+    ensures origins { origins_view result.origins ≡ one_file (problem_part input.entry.bytes.now) (given_names input.entry None) }
+{
+    let (problem, solution) = cut_joined(input.bytes);
+    Inputs {
+        problem,
+        solution,
+        origins: Origins {
+            problem: own_file(input.name),
+            solution: file_behind(problem, input.name),
+        },
     }
 }
 
@@ -198,21 +249,27 @@ fn parted<'t>(input: &'t [u8], solution: Option<&'t [u8]>) -> (&'t [u8], &'t [u8
 pub(crate) fn answer_job<W: Sink>(
     setting: Setting,
     job: &Job,
-    input: &[u8],
-    solution: Option<&[u8]>,
+    first: Given<'_>,
+    second: Option<Given<'_>>,
     out: &mut W,
 ) -> Result<Outcome, RunError>
-    ensures { Answers (W.state out.old) (W.state out.new) (report job.now setting.mode input.now (option_copied solution.entry)) result }
+    ensures { Answers (W.state out.old) (W.state out.new)
+        (report job.now setting.mode (given_names first.entry second.entry) first.entry.bytes.now (option_map (λ g. g.bytes.now) second.entry)) result }
 {
     match job {
-        Job::Lint { explain } => lint(setting, out, problem_document(input, *explain)),
-        Job::Check { .. } | Job::Score { .. } => {
-            let (problem, solution) = parted(input, solution);
-            check(setting, out, job, problem, solution)
-        }
-        Job::Cnf => print_cnf(setting, out, input),
-        Job::Refute { explain } => {
-            refute(setting, out, input, solution.unwrap_or(&[]), *explain)
-        }
+        Job::Lint { explain } => lint(setting, out, problem_document(first, *explain)),
+        Job::Check { .. } | Job::Score { .. } => { check(setting, out, job, parted(first, second)) }
+        Job::Cnf => print_cnf(setting, out, first.bytes),
+        Job::Refute { explain } => { refute(setting, out, first.bytes, proof_of(second), *explain) }
+    }
+}
+
+/// The bytes of a proof, which are none where there is no second input.
+fn proof_of(second: Option<Given<'_>>) -> &[u8]
+    ensures { result.now ≡ unwrap_or (option_map (λ g. g.bytes.now) second.entry) [] }
+{
+    match second {
+        Some(proof) => proof.bytes,
+        None => &[],
     }
 }

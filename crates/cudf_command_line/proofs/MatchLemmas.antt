@@ -8,8 +8,8 @@ use Rattle.cudf_command_line.specs.declared.command.Order.{Order}
 use Rattle.cudf_command_line.specs.declared.refusal.Refusal.{Refusal}
 use Rattle.cudf_command_line.specs.Command.{Words, words_of, words_in, Asks, AsksOf, IsAskedBy, IsRefusedBy, arguments, has_list_apart}
 
-abbrev all_words : (problem : Option (List ℕ)) (solution solutions proof : Option (List (List ℕ))) (after limit criteria strict explain : Option (List ℕ)) → Words
-all_words problem solution solutions proof after limit criteria strict explain = record {
+abbrev all_words : (problem : Option (List ℕ)) (solution solutions proof : Option (List (List ℕ))) (after limit criteria strict explain filename : Option (List ℕ)) → Words
+all_words problem solution solutions proof after limit criteria strict explain filename = record {
   problem = problem;
   solution = solution;
   solutions = solutions;
@@ -19,6 +19,7 @@ all_words problem solution solutions proof after limit criteria strict explain =
   criteria = criteria;
   strict = strict;
   explain = explain;
+  filename = filename;
 }
 
 words-rows : (found : Found) → words_of found ≡ words_in (rows_of found)
@@ -32,15 +33,16 @@ words-rows found =
     let several : Option (List (List ℕ)) = all_of (codes "solutions") (rows_of found) in
     let proof_before : Option (List (List ℕ)) = option_map raw_values (matched_of found (codes "proof")) in
     let proof : Option (List (List ℕ)) = all_of (codes "proof") (rows_of found) in
-    ap (λ (ws : Option (List (List ℕ))). all_words (old (codes "problem")) before ws proof_before (old (codes "after")) (old (codes "limit")) (old (codes "criteria")) (old (codes "strict")) (old (codes "explain"))) (each (codes "solutions"))
-    ∙ (ap (λ (w : Option (List ℕ)). all_words w before several proof_before (old (codes "after")) (old (codes "limit")) (old (codes "criteria")) (old (codes "strict")) (old (codes "explain"))) (same (codes "problem"))
-    ∙ (ap (λ (ws : Option (List (List ℕ))). all_words (new (codes "problem")) ws several proof_before (old (codes "after")) (old (codes "limit")) (old (codes "criteria")) (old (codes "strict")) (old (codes "explain"))) (each (codes "solution"))
-    ∙ (ap (λ (ws : Option (List (List ℕ))). all_words (new (codes "problem")) one several ws (old (codes "after")) (old (codes "limit")) (old (codes "criteria")) (old (codes "strict")) (old (codes "explain"))) (each (codes "proof"))
-    ∙ (ap (λ (w : Option (List ℕ)). all_words (new (codes "problem")) one several proof w (old (codes "limit")) (old (codes "criteria")) (old (codes "strict")) (old (codes "explain"))) (same (codes "after"))
-    ∙ (ap (λ (w : Option (List ℕ)). all_words (new (codes "problem")) one several proof (new (codes "after")) w (old (codes "criteria")) (old (codes "strict")) (old (codes "explain"))) (same (codes "limit"))
-    ∙ (ap (λ (w : Option (List ℕ)). all_words (new (codes "problem")) one several proof (new (codes "after")) (new (codes "limit")) w (old (codes "strict")) (old (codes "explain"))) (same (codes "criteria"))
-    ∙ (ap (λ (w : Option (List ℕ)). all_words (new (codes "problem")) one several proof (new (codes "after")) (new (codes "limit")) (new (codes "criteria")) w (old (codes "explain"))) (same (codes "strict"))
-    ∙ ap (λ (w : Option (List ℕ)). all_words (new (codes "problem")) one several proof (new (codes "after")) (new (codes "limit")) (new (codes "criteria")) (new (codes "strict")) w) (same (codes "explain")))))))))
+    ap (λ (ws : Option (List (List ℕ))). all_words (old (codes "problem")) before ws proof_before (old (codes "after")) (old (codes "limit")) (old (codes "criteria")) (old (codes "strict")) (old (codes "explain")) (old (codes "with-filename"))) (each (codes "solutions"))
+    ∙ (ap (λ (w : Option (List ℕ)). all_words w before several proof_before (old (codes "after")) (old (codes "limit")) (old (codes "criteria")) (old (codes "strict")) (old (codes "explain")) (old (codes "with-filename"))) (same (codes "problem"))
+    ∙ (ap (λ (ws : Option (List (List ℕ))). all_words (new (codes "problem")) ws several proof_before (old (codes "after")) (old (codes "limit")) (old (codes "criteria")) (old (codes "strict")) (old (codes "explain")) (old (codes "with-filename"))) (each (codes "solution"))
+    ∙ (ap (λ (ws : Option (List (List ℕ))). all_words (new (codes "problem")) one several ws (old (codes "after")) (old (codes "limit")) (old (codes "criteria")) (old (codes "strict")) (old (codes "explain")) (old (codes "with-filename"))) (each (codes "proof"))
+    ∙ (ap (λ (w : Option (List ℕ)). all_words (new (codes "problem")) one several proof w (old (codes "limit")) (old (codes "criteria")) (old (codes "strict")) (old (codes "explain")) (old (codes "with-filename"))) (same (codes "after"))
+    ∙ (ap (λ (w : Option (List ℕ)). all_words (new (codes "problem")) one several proof (new (codes "after")) w (old (codes "criteria")) (old (codes "strict")) (old (codes "explain")) (old (codes "with-filename"))) (same (codes "limit"))
+    ∙ (ap (λ (w : Option (List ℕ)). all_words (new (codes "problem")) one several proof (new (codes "after")) (new (codes "limit")) w (old (codes "strict")) (old (codes "explain")) (old (codes "with-filename"))) (same (codes "criteria"))
+    ∙ (ap (λ (w : Option (List ℕ)). all_words (new (codes "problem")) one several proof (new (codes "after")) (new (codes "limit")) (new (codes "criteria")) w (old (codes "explain")) (old (codes "with-filename"))) (same (codes "strict"))
+    ∙ (ap (λ (w : Option (List ℕ)). all_words (new (codes "problem")) one several proof (new (codes "after")) (new (codes "limit")) (new (codes "criteria")) (new (codes "strict")) w (old (codes "with-filename"))) (same (codes "explain"))
+    ∙ ap (λ (w : Option (List ℕ)). all_words (new (codes "problem")) one several proof (new (codes "after")) (new (codes "limit")) (new (codes "criteria")) (new (codes "strict")) (new (codes "explain")) w) (same (codes "with-filename"))))))))))
 
 -- what is asked of the entries is asked of the name and the rows
 pub asked : {B : Type 0} (f : B → List ℕ × List Row) (sub : Option B) (name : List ℕ) (found : Found) (result : Result Order Refusal)

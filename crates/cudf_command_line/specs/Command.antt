@@ -154,6 +154,7 @@ pub record Words : Type 0 where
   pub criteria : Option (List ℕ)
   pub strict : Option (List ℕ)
   pub explain : Option (List ℕ)
+  pub filename : Option (List ℕ)
 
 abbrev pub words_of : Found → Words
 words_of found = record {
@@ -166,6 +167,7 @@ words_of found = record {
   criteria = first_value found (codes "criteria");
   strict = first_value found (codes "strict");
   explain = first_value found (codes "explain");
+  filename = first_value found (codes "with-filename");
 }
 
 -- what a command takes of its words: its options, its files, and whether all that it needs is there
@@ -174,26 +176,28 @@ pub record Taken : Type 0 where
   pub limit : Option (List ℕ)
   pub criteria : Option (List ℕ)
   pub explain : Option (List ℕ)
+  pub filename : Option (List ℕ)
   pub problem : Option (List ℕ)
   pub solutions : Option (List (List ℕ))
   pub is_whole : Bool
 
 -- the files alone
 abbrev pub files_alone : Option (List ℕ) → Option (List (List ℕ)) → Taken
-files_alone problem solutions = record { after = None; limit = None; criteria = None; explain = None; problem = problem; solutions = solutions; is_whole = is_some problem }
+files_alone problem solutions = record { after = None; limit = None; criteria = None; explain = None; filename = None; problem = problem; solutions = solutions; is_whole = is_some problem }
 
 abbrev pub lint_words : Words → Taken
-lint_words words = record (files_alone words.problem None) { explain = words.explain }
+lint_words words = record (files_alone words.problem None) { explain = words.explain; filename = words.filename }
 
 abbrev pub check_words : Words → Taken
-check_words words = record (files_alone words.problem words.solution) { after = words.after; limit = words.limit; explain = words.explain }
+check_words words = record (files_alone words.problem words.solution) { after = words.after; limit = words.limit; explain = words.explain; filename = words.filename }
 
 abbrev pub score_words : Words → Taken
-score_words words = record (files_alone words.problem words.solution) { criteria = words.criteria }
+score_words words = record (files_alone words.problem words.solution) { criteria = words.criteria; filename = words.filename }
 
 abbrev pub rank_words : Words → Taken
 rank_words words = record (files_alone words.problem words.solutions) {
   criteria = words.criteria;
+  filename = words.filename;
   is_whole = is_some words.criteria && (is_some words.solutions && is_some words.problem);
 }
 
@@ -230,10 +234,11 @@ Refuses taken Memory = is_some taken.criteria || is_some taken.solutions ≡ tru
 
 -- ---- what is asked for
 
--- some work in a mode, with the files that these words name
-pub record IsOrder (work : Work) (mode : Mode) (problem : Option (List ℕ)) (solutions : Option (List (List ℕ))) (order : Order) : Type 0 where
+-- some work in a mode, with the files that these words name, and whether lines name them
+pub record IsOrder (work : Work) (mode : Mode) (names_files : Bool) (problem : Option (List ℕ)) (solutions : Option (List (List ℕ))) (order : Order) : Type 0 where
   pub work_is : order.work ≡ work
   pub mode_is : order.mode ≡ mode
+  pub names_files_is : order.names_files ≡ names_files
   pub problem_is : IsGivenBy problem order.problem
   pub solutions_are : AreGivenBy solutions order.solutions.items
   pub standard_once : takes_standard_twice order ≡ false
@@ -271,7 +276,7 @@ ChecksProof taken work = work ≡ Run (Refute (is_given taken.explain))
 -- the order does this, in a mode and with the files that the words name
 pub record IsOrderOf (Does : Taken → Work → Type 0) (mode : Mode) (taken : Taken) (order : Order) : Type 0 where
   pub does : Does taken order.work
-  pub files_are : IsOrder order.work mode taken.problem taken.solutions order
+  pub files_are : IsOrder order.work mode (is_given taken.filename) taken.problem taken.solutions order
 
 -- what a command that does this answers, of the words that it takes
 abbrev pub AnswersBy : (Taken → Work → Type 0) → Mode → Taken → Result Order Refusal → Type 0
@@ -298,6 +303,7 @@ words_in rows = record {
   criteria = first_of (codes "criteria") rows;
   strict = first_of (codes "strict") rows;
   explain = first_of (codes "explain") rows;
+  filename = first_of (codes "with-filename") rows;
 }
 
 -- what the command that a parse met asks for, by its name and its rows; without one a word is missing

@@ -51,17 +51,23 @@ strict_flag = record (new_rule (codes "strict")) { long = Some (codes "strict");
 abbrev pub explain_flag : Rule
 explain_flag = record (new_rule (codes "explain")) { long = Some (codes "explain"); action = Some SetTrue }
 
+-- `--with-filename`, `-H`
+abbrev pub filename_flag : Rule
+filename_flag = record (new_rule (codes "with-filename")) { short = Some 72; long = Some (codes "with-filename"); action = Some SetTrue }
+
 abbrev pub lint_grammar : App
-lint_grammar = with_rule (with_rule (with_rule (new_app (codes "lint")) problem_word) strict_flag) explain_flag
+lint_grammar = with_rule (with_rule (with_rule (with_rule (new_app (codes "lint")) problem_word) strict_flag) explain_flag) filename_flag
 
 abbrev pub check_grammar : App
-check_grammar = with_rule (with_rule (with_rule (with_rule (with_rule (with_rule (new_app (codes "check")) problem_word) solution_word) after_option) limit_option) strict_flag) explain_flag
+check_grammar =
+    with_rule (with_rule (with_rule (with_rule (with_rule (with_rule (with_rule (new_app (codes "check")) problem_word) solution_word) after_option) limit_option) strict_flag) explain_flag)
+    filename_flag
 
 abbrev pub score_grammar : App
-score_grammar = with_rule (with_rule (with_rule (with_rule (new_app (codes "score")) problem_word) solution_word) criteria_option) strict_flag
+score_grammar = with_rule (with_rule (with_rule (with_rule (with_rule (new_app (codes "score")) problem_word) solution_word) criteria_option) strict_flag) filename_flag
 
 abbrev pub rank_grammar : App
-rank_grammar = with_rule (with_rule (with_rule (with_rule (new_app (codes "rank")) problem_word) solutions_word) needed_criteria) strict_flag
+rank_grammar = with_rule (with_rule (with_rule (with_rule (with_rule (new_app (codes "rank")) problem_word) solutions_word) needed_criteria) strict_flag) filename_flag
 
 abbrev pub cnf_grammar : App
 cnf_grammar = with_rule (with_rule (new_app (codes "cnf")) problem_word) strict_flag

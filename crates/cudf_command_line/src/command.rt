@@ -8,7 +8,7 @@ ghost use Rattle.cudf_command_line.specs.Orders.{IsAskedFor, IsUnasked};
 
 use crate::grammar::{
     AFTER, CHECK, CNF, CRITERIA, EXPLAIN, LIMIT, LINT, PROBLEM, PROOF, RANK, REFUTE, SCORE,
-    SOLUTION, SOLUTIONS, STRICT, program,
+    SOLUTION, SOLUTIONS, STRICT, WITH_FILENAME, program,
 };
 use crate::refusal::Refusal;
 use crate::topic::Topic;
@@ -56,6 +56,8 @@ pub struct Order<'w> {
     pub work: Work,
     /// How strictly to read the files.
     pub mode: Mode,
+    /// Whether lines of the report name the files.
+    pub names_files: bool,
     /// The file of the problem, or of the problem and the solution behind it.
     pub problem: FileName<'w>,
     /// The files of the solutions, where they have some of their own: one of a run at most.
@@ -169,7 +171,8 @@ fn lint_order<'w>(alloc: Global, found: &ArgMatches<'w>) -> Result<Order<'w>, Re
     let explain = is_given(found.get_str(EXPLAIN));
     let work = Work::Run(Job::Lint { explain });
     let mode = mode(found.get_str(STRICT));
-    Order::new(alloc, work, mode, found.get_str(PROBLEM), None)
+    let names_files = is_given(found.get_str(WITH_FILENAME));
+    Order::new(alloc, work, mode, names_files, found.get_str(PROBLEM), None)
 }
 
 fn check_order<'w>(alloc: Global, found: &ArgMatches<'w>) -> Result<Order<'w>, Refusal<'w>>
@@ -184,10 +187,12 @@ fn check_order<'w>(alloc: Global, found: &ArgMatches<'w>) -> Result<Order<'w>, R
         explain,
     });
     let mode = mode(found.get_str(STRICT));
+    let names_files = is_given(found.get_str(WITH_FILENAME));
     Order::new(
         alloc,
         work,
         mode,
+        names_files,
         found.get_str(PROBLEM),
         found.get_strs(SOLUTION),
     )
@@ -199,10 +204,12 @@ fn score_order<'w>(alloc: Global, found: &ArgMatches<'w>) -> Result<Order<'w>, R
     let aims = read_list(alloc, found.get_str(CRITERIA))?;
     let work = Work::Run(Job::Score { aims });
     let mode = mode(found.get_str(STRICT));
+    let names_files = is_given(found.get_str(WITH_FILENAME));
     Order::new(
         alloc,
         work,
         mode,
+        names_files,
         found.get_str(PROBLEM),
         found.get_strs(SOLUTION),
     )
@@ -214,10 +221,12 @@ fn rank_order<'w>(alloc: Global, found: &ArgMatches<'w>) -> Result<Order<'w>, Re
     let aims = read_list(alloc, found.get_str(CRITERIA))?.ok_or(Refusal::Missing)?;
     let solutions = found.get_strs(SOLUTIONS).ok_or(Refusal::Missing)?;
     let mode = mode(found.get_str(STRICT));
+    let names_files = is_given(found.get_str(WITH_FILENAME));
     Order::new(
         alloc,
         Work::Rank(aims),
         mode,
+        names_files,
         found.get_str(PROBLEM),
         Some(solutions),
     )
@@ -231,6 +240,7 @@ fn cnf_order<'w>(alloc: Global, found: &ArgMatches<'w>) -> Result<Order<'w>, Ref
         alloc,
         Work::Run(Job::Cnf),
         mode,
+        false,
         found.get_str(PROBLEM),
         None,
     )
@@ -243,7 +253,14 @@ fn refute_order<'w>(alloc: Global, found: &ArgMatches<'w>) -> Result<Order<'w>, 
     let explain = is_given(found.get_str(EXPLAIN));
     let work = Work::Run(Job::Refute { explain });
     let mode = mode(found.get_str(STRICT));
-    Order::new(alloc, work, mode, found.get_str(PROBLEM), Some(proof))
+    Order::new(
+        alloc,
+        work,
+        mode,
+        false,
+        found.get_str(PROBLEM),
+        Some(proof),
+    )
 }
 
 /// How strictly to read, by the value of `--strict`.
@@ -326,16 +343,18 @@ impl<'w> Order<'w> {
         alloc: Global,
         work: Work,
         mode: Mode,
+        names_files: bool,
         problem: Option<&'w str>,
         solutions: Option<&[&'w str]>,
     ) -> Result<Order<'w>, Refusal<'w>>
         ensures { MatchResult result
-            (IsOrder work mode (option_map (λ w. w.now) problem.entry) (option_map (λ ws. map (λ w. w.now) ws.now) solutions.entry))
+            (IsOrder work mode names_files (option_map (λ w. w.now) problem.entry) (option_map (λ ws. map (λ w. w.now) ws.now) solutions.entry))
             (Refuses (files_alone (option_map (λ w. w.now) problem.entry) (option_map (λ ws. map (λ w. w.now) ws.now) solutions.entry))) }
     {
         let order = Order {
             work,
             mode,
+            names_files,
             problem: file_name(problem.ok_or(Refusal::Missing)?),
             solutions: solution_files(alloc, solutions)?,
         };

@@ -1,7 +1,7 @@
 //! The commands, their options and the texts of help.
 ghost use Rattle.std.specs.Prelude.{◌≡◌, IfOk, false};
 ghost use Rattle.clap.specs.Words.{rule_of};
-ghost use Rattle.cudf_command_line.specs.Grammar.{problem_word, solution_word, after_option, limit_option, solutions_word, proof_word, criteria_option, needed_criteria, strict_flag, explain_flag, lint_grammar, check_grammar, score_grammar, rank_grammar, cnf_grammar, refute_grammar, grammar, IsOf};
+ghost use Rattle.cudf_command_line.specs.Grammar.{problem_word, solution_word, after_option, limit_option, solutions_word, proof_word, criteria_option, needed_criteria, strict_flag, explain_flag, filename_flag, lint_grammar, check_grammar, score_grammar, rank_grammar, cnf_grammar, refute_grammar, grammar, IsOf};
 
 use clap::{Arg, ArgAction, Command};
 use std::alloc::{AllocError, Global};
@@ -38,6 +38,8 @@ pub(crate) const CRITERIA: &str = "criteria";
 pub(crate) const STRICT: &str = "strict";
 
 pub(crate) const EXPLAIN: &str = "explain";
+
+pub(crate) const WITH_FILENAME: &str = "with-filename";
 
 const ABOUT_SCORE: &str =
     "Counts what a solution changes and lacks, by the criteria of the MISC competition";
@@ -118,7 +120,8 @@ fn lint_command<'w>(alloc: Global) -> Result<Command<'w>, AllocError>
         .after_help(STATUSES)
         .arg(problem(alloc))?
         .arg(strict_problem(alloc))?
-        .arg(explain_fault(alloc))
+        .arg(explain_fault(alloc))?
+        .arg(with_filename(alloc))
 }
 
 fn check_command<'w>(alloc: Global) -> Result<Command<'w>, AllocError>
@@ -132,7 +135,8 @@ fn check_command<'w>(alloc: Global) -> Result<Command<'w>, AllocError>
         .arg(after(alloc))?
         .arg(limit(alloc))?
         .arg(strict(alloc))?
-        .arg(explain(alloc))
+        .arg(explain(alloc))?
+        .arg(with_filename(alloc))
 }
 
 fn score_command<'w>(alloc: Global) -> Result<Command<'w>, AllocError>
@@ -145,7 +149,8 @@ fn score_command<'w>(alloc: Global) -> Result<Command<'w>, AllocError>
         .arg(problem(alloc))?
         .arg(solution(alloc))?
         .arg(criteria(alloc))?
-        .arg(strict(alloc))
+        .arg(strict(alloc))?
+        .arg(with_filename(alloc))
 }
 
 fn rank_command<'w>(alloc: Global) -> Result<Command<'w>, AllocError>
@@ -158,7 +163,8 @@ fn rank_command<'w>(alloc: Global) -> Result<Command<'w>, AllocError>
         .arg(problem(alloc))?
         .arg(solutions(alloc))?
         .arg(needed_criteria(alloc))?
-        .arg(strict(alloc))
+        .arg(strict(alloc))?
+        .arg(with_filename(alloc))
 }
 
 fn cnf_command<'w>(alloc: Global) -> Result<Command<'w>, AllocError>
@@ -301,5 +307,18 @@ fn explain_fault<'w>(alloc: Global) -> Arg<'w>
         .action(ArgAction::SetTrue)
         .help(
             "Adds to the line of a fault what the problem says beside it, as the name that nothing declares",
+        )
+}
+
+fn with_filename<'w>(alloc: Global) -> Arg<'w>
+    ensures rule { rule_of result ≡ filename_flag }
+    ensures local { result.global ≡ false }
+{
+    Arg::new(alloc, WITH_FILENAME)
+        .short('H')
+        .long(WITH_FILENAME)
+        .action(ArgAction::SetTrue)
+        .help(
+            "Begins each line about a line of a file with FILE:LINE:, as editors and CI read it; rank names files in place of their numbers",
         )
 }

@@ -1,7 +1,7 @@
 //! What runs on the documents of a row write, and how they end.
 use crate::asked::{Asked, Task};
 use crate::document::Documents;
-use cudf_check::{Device, rank, run};
+use cudf_check::{Device, Named, rank, run};
 use std::alloc::{AllocError, Global};
 
 /// The bytes of a long comment, more than eight times those of each solution.
@@ -45,8 +45,9 @@ fn answer(
     problem: &[u8],
     solutions: &[Vec<u8>],
 ) -> Result<Answer, AllocError> {
-    let mut input = Device::new(problem);
-    let mut proposed = devices(alloc, solutions)?;
+    let names = names(alloc, solutions.len())?;
+    let mut input = Named::new(Device::new(problem), asked.names_files.then_some("P"));
+    let mut proposed = sources(alloc, asked, solutions, &names)?;
     let mut out = Device::new(Vec::new(alloc));
     let ended = match &asked.task {
         Task::Run(job) => run(
@@ -66,10 +67,26 @@ fn answer(
     Ok((status, out.into_inner()))
 }
 
-fn devices(alloc: Global, solutions: &[Vec<u8>]) -> Result<Vec<Device<&[u8]>>, AllocError> {
-    let mut devices = Vec::new(alloc);
-    for solution in solutions {
-        devices.push(Device::new(solution.as_slice()))?;
+/// The names of so many solutions.
+fn names(alloc: Global, count: usize) -> Result<Vec<String>, AllocError> {
+    let mut names = Vec::new(alloc);
+    for place in 1..count.saturating_add(1) {
+        names.push(format!(in alloc; "S{place}")?)?;
     }
-    Ok(devices)
+    Ok(names)
+}
+
+/// The solutions with their names, where lines name the files.
+fn sources<'t>(
+    alloc: Global,
+    asked: &Asked,
+    solutions: &'t [Vec<u8>],
+    names: &'t [String],
+) -> Result<Vec<Named<'t, Device<&'t [u8]>>>, AllocError> {
+    let mut sources = Vec::new(alloc);
+    for (solution, name) in solutions.iter().zip(names) {
+        let name = asked.names_files.then_some(name.as_str());
+        sources.push(Named::new(Device::new(solution.as_slice()), name))?;
+    }
+    Ok(sources)
 }

@@ -16,6 +16,8 @@ pub(crate) enum Task {
 pub(crate) struct Asked {
     pub(crate) task: Task,
     pub(crate) mode: Mode,
+    /// Whether lines name the files: `P`, and `S1` and so on.
+    pub(crate) names_files: bool,
     /// A row's own: a second run has a long comment behind the problem's last line.
     pub(crate) is_also_long: bool,
 }
@@ -25,6 +27,7 @@ pub(crate) struct Asked {
 struct Options {
     mode: Mode,
     explain: bool,
+    names_files: bool,
     after: Option<Key>,
     limit: Option<u64>,
     aims: Option<Vec<Aim>>,
@@ -37,6 +40,7 @@ pub(crate) fn read(alloc: Global, words: &str) -> Result<Option<Asked>, AllocErr
     let mut options = Options {
         mode: Mode::Lenient,
         explain: false,
+        names_files: false,
         after: None,
         limit: None,
         aims: None,
@@ -57,6 +61,7 @@ impl Options {
         match name {
             "--strict" => self.mode = Mode::Strict,
             "--explain" => self.explain = true,
+            "--with-filename" => self.names_files = true,
             "--also-long" => self.is_also_long = true,
             "--after" => {
                 self.after = Key::parse(value);
@@ -80,6 +85,7 @@ impl Options {
         let Options {
             mode,
             explain,
+            names_files,
             after,
             limit,
             aims,
@@ -99,6 +105,7 @@ impl Options {
         Some(Asked {
             task,
             mode,
+            names_files,
             is_also_long,
         })
     }

@@ -64,12 +64,17 @@ fn fill(buffer: &mut [u8], bytes: &[u8], position: usize) {
 
 impl Source for Giver<'_> {
     ghost state = { λ g. record {
+      name = None;
       remaining = None;
       calls = g.calls;
       failures = g.failures;
       ends = g.ends;
       given = g.given;
     } };
+
+    fn name(&self) -> Option<&str> {
+        None
+    }
 
     fn read(&mut self, buffer: &mut [u8]) -> Result<usize, Trouble> {
         self.calls.tick();

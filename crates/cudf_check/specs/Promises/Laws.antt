@@ -4,6 +4,7 @@ use Rattle.cudf_text.specs.declared.fault.Fault.{Fault}
 use Rattle.cudf_document.specs.Details.{PlainDetail}
 use Rattle.cudf_referee.specs.Instances.{PlainInstance}
 use Rattle.cudf_referee.specs.Proposals.{Proposal}
+use Rattle.cudf_check.specs.Naming.{PlainOrigin, PlainOrigins}
 use Rattle.cudf_check.specs.Report.{line, faulty, instance_line}
 
 -- the explained line is the plain one with something added behind its text
@@ -15,8 +16,9 @@ pub record AddsBehind (plain explained : List ℕ) : Type 0 where
 
 -- so are the lines of instances
 abbrev pub AddsToInstances : Type 0
-AddsToInstances = (s : Proposal) (i : PlainInstance) → AddsBehind (instance_line false s i) (instance_line true s i)
+AddsToInstances = (origins : PlainOrigins) (s : Proposal) (i : PlainInstance) → AddsBehind (instance_line false origins s i) (instance_line true origins s i)
 
 -- and those of faults
 abbrev pub AddsToFaults : Type 0
-AddsToFaults = (whose : List ℕ) (f : Fault) (detail : Option PlainDetail) → AddsBehind (faulty whose f None).text (faulty whose f detail).text
+AddsToFaults = (origin : Option PlainOrigin) (whose : List ℕ) (f : Fault) (detail : Option PlainDetail)
+    → AddsBehind (faulty origin whose f None).text (faulty origin whose f detail).text

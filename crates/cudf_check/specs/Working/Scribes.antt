@@ -2,11 +2,13 @@
 use Rattle.std.specs.Prelude.{Bool}
 use Rattle.cudf_problem.specs.Universe.{PlainProblem}
 use Rattle.cudf_referee.specs.Proposals.{Proposal}
+use Rattle.cudf_check.specs.Naming.{PlainOrigins}
 
--- what is judged, and whether lines are explained
+-- what is judged, whether lines are explained, and the files that they name
 pub record Wording : Type 0 where
   pub judged : Proposal
   pub explain : Bool
+  pub origins : PlainOrigins
 
 -- the problem whose instances are printed, and whether lines are explained
 pub record ReasonWording : Type 0 where

@@ -3,15 +3,20 @@ ghost use Rattle.std.specs.Prelude.{◌++◌, codes, decimal, option_map};
 ghost use Rattle.cudf_text.specs.Faults.{fault_text};
 ghost use Rattle.cudf_document.specs.Promises.Views.{detail_view};
 ghost use Rattle.cudf_check.specs.Explanations.{detail_added};
+ghost use Rattle.cudf_check.specs.Naming.{numbered};
 ghost use Rattle.cudf_check.specs.Report.{line, alone, faulty};
 ghost use Rattle.cudf_check.specs.Working.Answering.{Answers};
+ghost use Rattle.cudf_check.specs.Working.Named.{origin_view};
 ghost use Rattle.cudf_check.specs.Working.Paper.{Says};
 
 use crate::buffer::ReportBuffer;
 use crate::device::Sink;
 use crate::lines::detail::print_added;
+use crate::lines::naming::{print_before, print_numbered};
+use crate::naming::Origin;
 use crate::outcome::{Outcome, RunError};
 use crate::paper::Paper;
+use crate::report::Document;
 use cudf_document::Detail;
 use cudf_text::Fault;
 use std::alloc::Global;
@@ -32,19 +37,20 @@ pub(crate) fn answer<W: Sink>(
     paper.finish(outcome)
 }
 
-/// Prints where a fault stands and which it is, behind whose it is, and ends the line behind the detail.
+/// Prints, behind whose it is, which fault it is, and ends the line behind the detail.
 pub(crate) fn print_fault<W: Sink>(
     paper: &mut Paper<'_, W>,
+    origin: Option<Origin<'_>>,
     fault: Fault,
     detail: Option<Detail<'_>>,
 )
-    ensures { Says W.state paper.old paper.new (codes " line " ++ decimal fault.line ++ codes ": " ++ fault_text fault.kind ++ line (detail_added (option_map detail_view detail.entry))) }
+    ensures { let o = option_map origin_view origin.entry in
+        Says W.state paper.old paper.new (numbered o fault.line ++ codes ": " ++ fault_text fault.kind ++ line (detail_added o (option_map detail_view detail.entry))) }
 {
-    paper.text(" line ");
-    paper.number(fault.line);
+    print_numbered(paper, origin, fault.line);
     paper.text(": ");
     paper.text(fault.kind.text());
-    print_added(paper, detail);
+    print_added(paper, origin, detail);
     paper.text("\n");
 }
 
@@ -52,15 +58,17 @@ pub(crate) fn print_fault<W: Sink>(
 pub(crate) fn answer_fault<W: Sink>(
     alloc: Global,
     out: &mut W,
-    whose: &'static str,
+    document: Document<'_>,
     fault: Fault,
     detail: Option<Detail<'_>>,
 ) -> Result<Outcome, RunError>
-    ensures { Answers (W.state out.old) (W.state out.new) (faulty whose.now fault (option_map detail_view detail.entry)) result }
+    ensures { Answers (W.state out.old) (W.state out.new)
+        (faulty (option_map origin_view document.entry.origin) document.entry.whose.now fault (option_map detail_view detail.entry)) result }
 {
     let mut waiting = ReportBuffer::new(alloc)?;
     let mut paper = Paper::new(out, &mut waiting);
-    paper.text(whose);
-    print_fault(&mut paper, fault, detail);
+    print_before(&mut paper, document.origin, fault.line);
+    paper.text(document.whose);
+    print_fault(&mut paper, document.origin, fault, detail);
     paper.finish(Outcome::Faulty)
 }

@@ -3,10 +3,13 @@ ghost use Rattle.std.specs.Prelude.{◌≡◌, ◌++◌, codes, decimal, option_
 ghost use Rattle.cudf_document.specs.Details.{name_on, undeclared, mistyped};
 ghost use Rattle.cudf_problem.specs.Documents.{postmark_named};
 ghost use Rattle.cudf_document.specs.Promises.Views.{detail_view};
+ghost use Rattle.cudf_check.specs.Naming.{line_in};
 ghost use Rattle.cudf_check.specs.Explanations.{unparted_added, misplaced_text, detail_added, detail_text};
+ghost use Rattle.cudf_check.specs.Working.Named.{origin_view};
 ghost use Rattle.cudf_check.specs.Working.Paper.{Says};
 
 use crate::device::Sink;
+use crate::naming::{Origin, line_in};
 use crate::paper::Paper;
 use cudf_document::Detail;
 
@@ -28,7 +31,7 @@ fn print_numbered<W: Sink>(paper: &mut Paper<'_, W>, text: &str, number: u64)
 
 /// Prints that the value of a property isn't of its type, and which entry of a list isn't.
 fn print_mistyped<W: Sink>(paper: &mut Paper<'_, W>, name: &str, word: &str, entry: Option<u64>)
-    ensures { Says W.state paper.old paper.new (detail_text (mistyped name.now word.now entry)) }
+    ensures { Says W.state paper.old paper.new (detail_text None (mistyped name.now word.now entry)) }
 {
     paper.text(name);
     paper.text(" is no ");
@@ -65,7 +68,7 @@ fn print_unparted<W: Sink>(paper: &mut Paper<'_, W>, name: &str)
 
 /// Prints where the first property of a name stands.
 fn print_name_on<W: Sink>(paper: &mut Paper<'_, W>, name: &str, line: u64)
-    ensures { Says W.state paper.old paper.new (detail_text (name_on name.now line)) }
+    ensures { Says W.state paper.old paper.new (detail_text None (name_on name.now line)) }
 {
     paper.text(name);
     print_numbered(paper, " stands on line ", line);
@@ -74,7 +77,7 @@ fn print_name_on<W: Sink>(paper: &mut Paper<'_, W>, name: &str, line: u64)
 
 /// Prints that nothing declares a name.
 fn print_undeclared<W: Sink>(paper: &mut Paper<'_, W>, name: &str)
-    ensures { Says W.state paper.old paper.new (detail_text (undeclared name.now)) }
+    ensures { Says W.state paper.old paper.new (detail_text None (undeclared name.now)) }
 {
     print_texts(paper, "nothing declares ", name);
     print_unparted(paper, name);
@@ -91,14 +94,16 @@ fn print_misplaced<W: Sink>(paper: &mut Paper<'_, W>, name: &str)
     }
 }
 
-/// Prints a detail.
-fn print_detail<W: Sink>(paper: &mut Paper<'_, W>, detail: Detail<'_>)
-    ensures { Says W.state paper.old paper.new (detail_text (detail_view detail.entry)) }
+/// Prints a detail. Lines are counted in the file.
+fn print_detail<W: Sink>(paper: &mut Paper<'_, W>, origin: Option<Origin<'_>>, detail: Detail<'_>)
+    ensures { Says W.state paper.old paper.new (detail_text (option_map origin_view origin.entry) (detail_view detail.entry)) }
 {
     match detail {
         Detail::BeginsWith { name } => print_texts(paper, "it begins with ", name),
-        Detail::RequestOn { line } => print_numbered(paper, "the request stands on line ", line),
-        Detail::NameOn { name, line } => print_name_on(paper, name, line),
+        Detail::RequestOn { line } => {
+            print_numbered(paper, "the request stands on line ", line_in(origin, line));
+        }
+        Detail::NameOn { name, line } => print_name_on(paper, name, line_in(origin, line)),
         Detail::Undeclared { name } => print_undeclared(paper, name),
         Detail::Mistyped { name, word, entry } => print_mistyped(paper, name, word, entry),
         Detail::Misdeclared { declaration } => print_numbered(paper, "declaration ", declaration),
@@ -106,18 +111,22 @@ fn print_detail<W: Sink>(paper: &mut Paper<'_, W>, detail: Detail<'_>)
             name,
             version,
             line,
-        } => print_package(paper, name, version, line),
+        } => print_package(paper, name, version, line_in(origin, line)),
         Detail::Lacking { name } => print_texts(paper, "it lacks ", name),
         Detail::Misplaced { name } => print_misplaced(paper, name),
     }
 }
 
 /// Prints what is added to the line of a fault.
-pub(crate) fn print_added<W: Sink>(paper: &mut Paper<'_, W>, detail: Option<Detail<'_>>)
-    ensures { Says W.state paper.old paper.new (detail_added (option_map detail_view detail.entry)) }
+pub(crate) fn print_added<W: Sink>(
+    paper: &mut Paper<'_, W>,
+    origin: Option<Origin<'_>>,
+    detail: Option<Detail<'_>>,
+)
+    ensures { Says W.state paper.old paper.new (detail_added (option_map origin_view origin.entry) (option_map detail_view detail.entry)) }
 {
     if let Some(detail) = detail {
         paper.text("; ");
-        print_detail(paper, detail);
+        print_detail(paper, origin, detail);
     }
 }

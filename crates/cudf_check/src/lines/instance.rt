@@ -8,9 +8,12 @@ ghost use Rattle.cudf_job.specs.Keys.{key_text, part_text, aspect_text};
 ghost use Rattle.cudf_job.specs.KeyViews.{key_view};
 ghost use Rattle.cudf_referee.specs.Promises.Views.{instance_view, what_view};
 ghost use Rattle.cudf_check.specs.Report.{meeting_text, met_text, upgrade_text, what_text, subject_text};
+ghost use Rattle.cudf_check.specs.Working.Named.{origin_view};
 ghost use Rattle.cudf_check.specs.Working.Paper.{Says};
 
 use crate::device::Sink;
+use crate::lines::naming::{print_before, print_numbered};
+use crate::naming::Origin;
 use crate::paper::Paper;
 use cudf_document::Package;
 use cudf_referee::{Aspect, Instance, Key, Part, What};
@@ -193,15 +196,16 @@ fn print_subject<W: Sink>(paper: &mut Paper<'_, W>, subject: Option<(&str, u64)>
 /// Prints an instance's line up to what is added to it, with the package that meets its entry.
 pub(crate) fn print_instance<W: Sink>(
     paper: &mut Paper<'_, W>,
+    origin: Option<Origin<'_>>,
     instance: &Instance<'_>,
     met: Option<&Package<'_>>,
 )
-    ensures { Says W.state paper.old paper.new (met_text (instance_view instance.now) (option_map (λ p. package_view p.now) met.entry)) }
+    ensures { Says W.state paper.old paper.new (met_text (option_map origin_view origin.entry) (instance_view instance.now) (option_map (λ p. package_view p.now) met.entry)) }
 {
+    print_before(paper, origin, instance.line);
     print_key(paper, instance.key);
     print_subject(paper, instance.subject);
-    paper.text(" line ");
-    paper.number(instance.line);
+    print_numbered(paper, origin, instance.line);
     paper.text(": ");
     print_what(paper, &instance.what, instance.key.aspect(), met);
 }

@@ -8,6 +8,7 @@ ghost use Rattle.cudf_referee.specs.Solutions.{is_solution};
 ghost use Rattle.cudf_check.specs.Report.{verdict, judged_report, scored_text};
 ghost use Rattle.cudf_check.specs.Working.Answering.{Answers};
 ghost use Rattle.cudf_check.specs.Working.Found.{explains, found_text};
+ghost use Rattle.cudf_check.specs.Working.Named.{origins_view};
 ghost use Rattle.cudf_check.specs.Working.Pages.{Ascends};
 ghost use Rattle.cudf_check.specs.Working.Paper.{Says};
 
@@ -18,6 +19,7 @@ use crate::lines::aims::print_aim_lines;
 use crate::lines::page::print_page;
 use crate::lines::score::print_score;
 use crate::lines::scribe::Scribe;
+use crate::naming::Origins;
 use crate::outcome::{Outcome, RunError};
 use crate::paper::Paper;
 use cudf_document::{Problem, Solution};
@@ -58,7 +60,7 @@ fn print_counted<W: Sink>(
 fn print_found<W: Sink>(paper: &mut Paper<'_, W>, scribe: &Scribe<'_, '_, '_>, job: &Job)
     requires ascending { Ascends scribe.now.judged }
     requires explained { is_solution scribe.now.judged ≡ false → scribe.now.explain ≡ explains job.now }
-    ensures { Says W.state paper.old paper.new (found_text job.now scribe.entry.now.judged) }
+    ensures { Says W.state paper.old paper.new (found_text job.now scribe.entry.now.origins scribe.entry.now.judged) }
 {
     let referee = scribe.referee();
     match job {
@@ -77,11 +79,12 @@ pub(crate) fn answer_judged<W: Sink>(
     alloc: Global,
     out: &mut W,
     job: &Job,
+    origins: Origins<'_>,
     problem: &Problem<'_>,
     solution: &Solution<'_>,
 ) -> Result<Outcome, RunError>
     requires { IsTrue (ascend_above 0 (map unknown_view solution.now.unknown.items)) }
-    ensures { Answers (W.state out.old) (W.state out.new) (judged_report (found_text job.now) (proposal problem.now (is_initial problem.now) (set.contains solution.now.status)
+    ensures { Answers (W.state out.old) (W.state out.new) (judged_report (found_text job.now (origins_view origins.entry)) (proposal problem.now (is_initial problem.now) (set.contains solution.now.status)
         (map unknown_view solution.now.unknown.items))) result }
 {
     ascending();
@@ -92,7 +95,7 @@ pub(crate) fn answer_judged<W: Sink>(
     let mut waiting = ReportBuffer::new(alloc)?;
     // Where the status is a solution, there is no line to explain.
     let explain = explains(job) && !referee.is_solution();
-    let scribe = match Scribe::new(alloc, &referee, explain) {
+    let scribe = match Scribe::new(alloc, &referee, explain, origins) {
         Ok(scribe) => scribe,
         Err(_) => return Err(RunError::Memory),
     };

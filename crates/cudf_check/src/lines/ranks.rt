@@ -1,14 +1,19 @@
 //! The report of a ranking: a line for each solution, the best first; or the fault of one.
-ghost use Rattle.std.specs.Prelude.{◌++◌, None, codes, decimal};
+ghost use Rattle.std.specs.Prelude.{◌++◌, None, codes, decimal, option_map};
 ghost use Rattle.std.specs.List.{flat_map};
-ghost use Rattle.cudf_check.specs.RankReport.{aim_count, judgement_text, rank_line, ranking_text};
+ghost use Rattle.cudf_check.specs.Naming.{own_file};
+ghost use Rattle.cudf_check.specs.RankReport.{aim_count, entrant_name, entrant_word, judgement_text, rank_line, ranking_text};
 ghost use Rattle.cudf_check.specs.Report.{faulty};
 ghost use Rattle.cudf_check.specs.Working.Answering.{Answers};
+ghost use Rattle.cudf_check.specs.Working.Named.{plain_names};
 ghost use Rattle.cudf_check.specs.Working.Paper.{Says};
 
 use crate::buffer::ReportBuffer;
 use crate::device::Sink;
 use crate::lines::alone::print_fault;
+use crate::lines::naming::print_before;
+use crate::lines::shown::print_shown;
+use crate::naming::{name_at, own_file};
 use crate::outcome::{Outcome, RunError};
 use crate::paper::Paper;
 use crate::ranking::{Entrant, Judgement};
@@ -50,31 +55,52 @@ fn print_judgement<W: Sink>(paper: &mut Paper<'_, W>, aims: &[Aim], judgement: J
     }
 }
 
-/// Prints the rank, and the solution's place.
-fn print_rank<W: Sink>(paper: &mut Paper<'_, W>, rank: u64, place: u64)
-    ensures { Says W.state paper.old paper.new (decimal rank ++ codes " solution " ++ decimal place ++ codes " ") }
+/// Prints the name of a solution's file, or else its place.
+fn print_name<W: Sink>(paper: &mut Paper<'_, W>, name: Option<&str>, place: u64)
+    ensures { Says W.state paper.old paper.new (entrant_name (option_map (λ n. n.now) name.entry) place) }
+{
+    match name {
+        Some(file) => print_shown(paper, file),
+        None => paper.number(place),
+    }
+}
+
+/// Prints the rank, and which solution it is.
+fn print_rank<W: Sink>(paper: &mut Paper<'_, W>, rank: u64, name: Option<&str>, place: u64)
+    ensures { Says W.state paper.old paper.new (decimal rank ++ codes " solution " ++ entrant_name (option_map (λ n. n.now) name.entry) place ++ codes " ") }
 {
     paper.number(rank);
     paper.text(" solution ");
-    paper.number(place);
+    print_name(paper, name, place);
     paper.text(" ");
 }
 
 /// Prints the line of a solution.
-fn print_entrant<W: Sink>(paper: &mut Paper<'_, W>, aims: &[Aim], rank: u64, entrant: &Entrant)
-    ensures { Says W.state paper.old paper.new (rank_line aims.now (rank, entrant.now)) }
+fn print_entrant<W: Sink>(
+    paper: &mut Paper<'_, W>,
+    aims: &[Aim],
+    names: &[Option<&str>],
+    rank: u64,
+    entrant: &Entrant,
+)
+    ensures { Says W.state paper.old paper.new (rank_line aims.now (plain_names names.now) (rank, entrant.now)) }
 {
-    print_rank(paper, rank, entrant.place);
+    print_rank(paper, rank, name_at(names, entrant.place), entrant.place);
     print_judgement(paper, aims, entrant.judgement);
     paper.text("\n");
 }
 
 /// Prints the lines of the ranked solutions.
-fn print_ranking<W: Sink>(paper: &mut Paper<'_, W>, aims: &[Aim], ranked: &[Entrant])
-    ensures { Says W.state paper.old paper.new (ranking_text aims.now ranked.now) }
+fn print_ranking<W: Sink>(
+    paper: &mut Paper<'_, W>,
+    aims: &[Aim],
+    names: &[Option<&str>],
+    ranked: &[Entrant],
+)
+    ensures { Says W.state paper.old paper.new (ranking_text aims.now (plain_names names.now) ranked.now) }
 {
     for (index, entrant) in ranked.iter().enumerate() {
-        print_entrant(paper, aims, index as u64 + 1, entrant);
+        print_entrant(paper, aims, names, index as u64 + 1, entrant);
     }
 }
 
@@ -83,30 +109,47 @@ pub(crate) fn answer_ranked<W: Sink>(
     alloc: Global,
     out: &mut W,
     aims: &[Aim],
+    names: &[Option<&str>],
     ranked: &[Entrant],
     outcome: Outcome,
 ) -> Result<Outcome, RunError>
-    ensures { Answers (W.state out.old) (W.state out.new) (record { text = ranking_text aims.now ranked.now; outcome = outcome }) result }
+    ensures { Answers (W.state out.old) (W.state out.new) (record { text = ranking_text aims.now (plain_names names.now) ranked.now; outcome = outcome }) result }
 {
     let mut waiting = ReportBuffer::new(alloc)?;
     let mut paper = Paper::new(out, &mut waiting);
-    print_ranking(&mut paper, aims, ranked);
+    print_ranking(&mut paper, aims, names, ranked);
     paper.finish(outcome)
 }
 
-/// Writes the report of a faulty solution, which stands at this place.
+/// Prints whose a fault of a solution is: with its place, where no file is named.
+fn print_whose<W: Sink>(paper: &mut Paper<'_, W>, name: Option<&str>, place: u64)
+    ensures { Says W.state paper.old paper.new (entrant_word (option_map (λ n. n.now) name.entry) place) }
+{
+    match name {
+        Some(_) => paper.text("solution"),
+        None => {
+            paper.text("solution ");
+            paper.number(place);
+        }
+    }
+}
+
+/// Writes the report of a faulty solution, the one at this place.
 pub(crate) fn answer_faulty_solution<W: Sink>(
     alloc: Global,
     out: &mut W,
+    name: Option<&str>,
     place: u64,
     fault: Fault,
 ) -> Result<Outcome, RunError>
-    ensures { Answers (W.state out.old) (W.state out.new) (faulty (codes "solution " ++ decimal place) fault None) result }
+    ensures { let plain = option_map (λ n. n.now) name.entry in
+        Answers (W.state out.old) (W.state out.new) (faulty (own_file plain) (entrant_word plain place) fault None) result }
 {
     let mut waiting = ReportBuffer::new(alloc)?;
     let mut paper = Paper::new(out, &mut waiting);
-    paper.text("solution ");
-    paper.number(place);
-    print_fault(&mut paper, fault, None);
+    let origin = own_file(name);
+    print_before(&mut paper, origin, fault.line);
+    print_whose(&mut paper, name, place);
+    print_fault(&mut paper, origin, fault, None);
     paper.finish(Outcome::Faulty)
 }

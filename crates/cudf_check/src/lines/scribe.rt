@@ -2,25 +2,28 @@
 use crate::device::Sink;
 use crate::lines::explanation::print_explained;
 use crate::lines::instance::{package_at, print_instance};
+use crate::naming::Origins;
 use crate::paper::Paper;
 use cudf_referee::{Explainer, Instance, Referee};
 use std::alloc::{AllocError, Global};
 use std::marker::Model;
 
-/// Prints what a referee finds. Contracts see what is judged, and whether lines are explained.
+/// Prints what a referee finds. Contracts see what is judged, whether lines are explained, and the files that they name.
 #[derive(Drop)]
 pub(crate) struct Scribe<'r, 'p, 't> {
     referee: &'r Referee<'p, 't>,
     explainer: Option<Explainer<'r, 'p, 't>>,
+    origins: Origins<'r>,
 }
 
 impl<'r, 'p, 't> Model for Scribe<'r, 'p, 't> {
     ghost use Rattle.std.specs.Prelude.{◌≡◌, is_some, IfSome};
+    ghost use Rattle.cudf_check.specs.Working.Named.{origins_view};
     ghost use Rattle.cudf_check.specs.Working.Scribes.{Wording};
 
     ghost Value = { Wording };
 
-    ghost view = { λ s. record { judged = s.referee.now; explain = is_some s.explainer } };
+    ghost view = { λ s. record { judged = s.referee.now; explain = is_some s.explainer; origins = origins_view s.origins } };
 
     ghost invariant = { λ s. IfSome s.explainer (λ e. e ≡ s.referee.now) };
 }
@@ -30,6 +33,7 @@ impl<'r, 'p, 't> Scribe<'r, 'p, 't> {
     ghost use Rattle.cudf_referee.specs.Promises.Views.{instance_view};
     ghost use Rattle.cudf_check.specs.Explanations.{instance_added};
     ghost use Rattle.cudf_check.specs.Report.{instance_line};
+    ghost use Rattle.cudf_check.specs.Working.Named.{origins_view};
     ghost use Rattle.cudf_check.specs.Working.Paper.{Says};
 
     /// The scribe of a referee. Memory for what is added to lines is taken here.
@@ -41,19 +45,22 @@ impl<'r, 'p, 't> Scribe<'r, 'p, 't> {
         alloc: Global,
         referee: &'r Referee<'p, 't>,
         explain: bool,
+        origins: Origins<'r>,
     ) -> Result<Self, AllocError>
-        ensures { IfOk result (λ s. s ≡ record { judged = referee.entry.now; explain = explain }) }
+        ensures { IfOk result (λ s. s ≡ record { judged = referee.entry.now; explain = explain; origins = origins_view origins.entry }) }
     {
         if !explain {
             return Ok(Scribe {
                 referee,
                 explainer: None,
+                origins,
             });
         }
         let explainer = Explainer::new(alloc, referee)?;
         Ok(Scribe {
             referee,
             explainer: Some(explainer),
+            origins,
         })
     }
 
@@ -66,11 +73,12 @@ impl<'r, 'p, 't> Scribe<'r, 'p, 't> {
 
     /// Prints the line of an instance.
     pub(crate) fn print_line<W: Sink>(&self, paper: &mut Paper<'_, W>, instance: &Instance<'_>)
-        ensures { Says W.state paper.old paper.new (instance_line self.now.explain self.now.judged (instance_view instance.now)) }
+        ensures { Says W.state paper.old paper.new (instance_line self.now.explain self.now.origins self.now.judged (instance_view instance.now)) }
     {
         let referee = self.referee;
         let met = package_at(referee.packages(), referee.met_by(instance));
-        print_instance(paper, instance, met);
+        let origin = self.origins.of(instance.key.part());
+        print_instance(paper, origin, instance, met);
         self.print_added(paper, instance);
         paper.text("\n");
     }

@@ -1,7 +1,7 @@
 use Rattle.std.proofs.Common.{codes}
 use Rattle.std.proofs.lemmas.Result.{IfOk-weaker}
 use Rattle.clap.specs.Simple.{App, new_app, with_rule}
-use Rattle.cudf_command_line.specs.Grammar.{IsOf, after_option, explain_flag, limit_option, problem_word, solution_word, strict_flag}
+use Rattle.cudf_command_line.specs.Grammar.{IsOf, filename_flag, after_option, explain_flag, limit_option, problem_word, solution_word, strict_flag}
 use Rattle.cudf_command_line.proofs.GrammarLemmas.{described, followed, with_word}
 use Rattle.cudf_command_line.proofs.grammar.check_command.Goals as goal
 
@@ -20,6 +20,9 @@ four = with_rule three limit_option
 abbrev five : App
 five = with_rule four strict_flag
 
+abbrev six : App
+six = with_rule five explain_flag
+
 pub returns : goal.returns
 returns c =
     let short : IsOf (new_app (codes "check")) c.about.result =
@@ -36,4 +39,6 @@ returns c =
     with_word three limit_option c.in_ok-arg-3.field-0 c.limit.result of_three c.limit.ensures.rule c.limit.ensures.local c.in_ok-arg-4.field-0 c.in_ok-arg-4.ensures in
     let of_five : IsOf five c.in_ok-arg-5.field-0 =
     with_word four strict_flag c.in_ok-arg-4.field-0 c.strict.result of_four c.strict.ensures.rule c.strict.ensures.local c.in_ok-arg-5.field-0 c.in_ok-arg-5.ensures in
-    IfOk-weaker c.arg-6.result _ _ (with_word five explain_flag c.in_ok-arg-5.field-0 c.explain.result of_five c.explain.ensures.rule c.explain.ensures.local) c.arg-6.ensures
+    let of_six : IsOf six c.in_ok-arg-6.field-0 =
+    with_word five explain_flag c.in_ok-arg-5.field-0 c.explain.result of_five c.explain.ensures.rule c.explain.ensures.local c.in_ok-arg-6.field-0 c.in_ok-arg-6.ensures in
+    IfOk-weaker c.arg-7.result _ _ (with_word six filename_flag c.in_ok-arg-6.field-0 c.with_filename.result of_six c.with_filename.ensures.rule c.with_filename.ensures.local) c.arg-7.ensures

@@ -1,7 +1,7 @@
 use Rattle.std.proofs.Common.{codes}
 use Rattle.std.proofs.lemmas.Result.{IfOk-weaker}
 use Rattle.clap.specs.Simple.{App, new_app, with_rule}
-use Rattle.cudf_command_line.specs.Grammar.{IsOf, explain_flag, problem_word, strict_flag}
+use Rattle.cudf_command_line.specs.Grammar.{IsOf, filename_flag, explain_flag, problem_word, strict_flag}
 use Rattle.cudf_command_line.proofs.GrammarLemmas.{described, followed, with_word}
 use Rattle.cudf_command_line.proofs.grammar.lint_command.Goals as goal
 
@@ -10,6 +10,9 @@ one = with_rule (new_app (codes "lint")) problem_word
 
 abbrev two : App
 two = with_rule one strict_flag
+
+abbrev three : App
+three = with_rule two explain_flag
 
 pub returns : goal.returns
 returns c =
@@ -21,4 +24,6 @@ returns c =
     with_word (new_app (codes "lint")) problem_word c.after_help.result c.problem.result plain c.problem.ensures.rule c.problem.ensures.local c.in_ok-arg.field-0 c.in_ok-arg.ensures in
     let of_two : IsOf two c.in_ok-arg-2.field-0 =
     with_word one strict_flag c.in_ok-arg.field-0 c.strict_problem.result of_one c.strict_problem.ensures.rule c.strict_problem.ensures.local c.in_ok-arg-2.field-0 c.in_ok-arg-2.ensures in
-    IfOk-weaker c.arg-3.result _ _ (with_word two explain_flag c.in_ok-arg-2.field-0 c.explain_fault.result of_two c.explain_fault.ensures.rule c.explain_fault.ensures.local) c.arg-3.ensures
+    let of_three : IsOf three c.in_ok-arg-3.field-0 =
+    with_word two explain_flag c.in_ok-arg-2.field-0 c.explain_fault.result of_two c.explain_fault.ensures.rule c.explain_fault.ensures.local c.in_ok-arg-3.field-0 c.in_ok-arg-3.ensures in
+    IfOk-weaker c.arg-4.result _ _ (with_word three filename_flag c.in_ok-arg-3.field-0 c.with_filename.result of_three c.with_filename.ensures.rule c.with_filename.ensures.local) c.arg-4.ensures

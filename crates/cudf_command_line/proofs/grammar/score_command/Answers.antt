@@ -1,7 +1,7 @@
 use Rattle.std.proofs.Common.{codes}
 use Rattle.std.proofs.lemmas.Result.{IfOk-weaker}
 use Rattle.clap.specs.Simple.{App, new_app, with_rule}
-use Rattle.cudf_command_line.specs.Grammar.{IsOf, problem_word, solution_word, criteria_option, strict_flag}
+use Rattle.cudf_command_line.specs.Grammar.{IsOf, filename_flag, problem_word, solution_word, criteria_option, strict_flag}
 use Rattle.cudf_command_line.proofs.GrammarLemmas.{described, followed, long_described, with_word}
 use Rattle.cudf_command_line.proofs.grammar.score_command.Goals as goal
 
@@ -13,6 +13,9 @@ two = with_rule one solution_word
 
 abbrev three : App
 three = with_rule two criteria_option
+
+abbrev four : App
+four = with_rule three strict_flag
 
 pub returns : goal.returns
 returns c =
@@ -28,4 +31,6 @@ returns c =
     with_word one solution_word c.in_ok-arg.field-0 c.solution.result of_one c.solution.ensures.rule c.solution.ensures.local c.in_ok-arg-2.field-0 c.in_ok-arg-2.ensures in
     let of_three : IsOf three c.in_ok-arg-3.field-0 =
     with_word two criteria_option c.in_ok-arg-2.field-0 c.criteria.result of_two c.criteria.ensures.rule c.criteria.ensures.local c.in_ok-arg-3.field-0 c.in_ok-arg-3.ensures in
-    IfOk-weaker c.arg-4.result _ _ (with_word three strict_flag c.in_ok-arg-3.field-0 c.strict.result of_three c.strict.ensures.rule c.strict.ensures.local) c.arg-4.ensures
+    let of_four : IsOf four c.in_ok-arg-4.field-0 =
+    with_word three strict_flag c.in_ok-arg-3.field-0 c.strict.result of_three c.strict.ensures.rule c.strict.ensures.local c.in_ok-arg-4.field-0 c.in_ok-arg-4.ensures in
+    IfOk-weaker c.arg-5.result _ _ (with_word four filename_flag c.in_ok-arg-4.field-0 c.with_filename.result of_four c.with_filename.ensures.rule c.with_filename.ensures.local) c.arg-5.ensures

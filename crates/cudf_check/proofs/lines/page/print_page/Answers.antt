@@ -13,11 +13,12 @@ pub returns-in_default-clause-printed : goal.returns-in_default-clause-printed
 returns-in_default-clause-printed g c =
     let s = c.args.scribe.now.judged in
     let explain = c.args.scribe.now.explain in
+    let origins = c.args.scribe.now.origins in
     let after = option_map key_view c.args.after in
     let walk = c.walk_after-instances in
     let is = left_listed s after walk.result walk.ensures.judged walk.ensures.position in
-    let lines = flat_map (instance_line explain s) in
-    rw c.in_default.is (Says-as _ _ _ _ (check_text explain after None s)
+    let lines = flat_map (instance_line explain origins s) in
+    rw c.in_default.is (Says-as _ _ _ _ (check_text explain after None origins s)
     (ap lines is ∙ sym (append-nil (lines (listed after s))) ∙ ap (λ text. lines (listed after s) ++ text) (sym (more-none s after c.requires.ascending)))
     c.print_rest.ensures.printed)
 
@@ -25,16 +26,17 @@ pub returns-in-Some-print_first-clause-printed : goal.returns-in-Some-print_firs
 returns-in-Some-print_first-clause-printed g c =
     let s = c.args.scribe.now.judged in
     let explain = c.args.scribe.now.explain in
+    let origins = c.args.scribe.now.origins in
     let after = option_map key_view c.args.after in
     let walk = c.walk_after-instances in
     let is = left_listed s after walk.result walk.ensures.judged walk.ensures.position in
-    let lines = flat_map (instance_line explain s) in
+    let lines = flat_map (instance_line explain origins s) in
     let limit = c.in-Some.limit in
     let new = left c.print_first.new.instances in
     let last = c.in-Some-print_first.last in
     let whole : IsPageEnd limit (listed after s) new (Some last) = subst (λ xs. IsPageEnd limit xs new (Some last)) is c.in-Some-print_first.ensures.end in
     let more : more_text s (last_or None (take limit (listed after s))) ≡ more_behind new (key_view last) = more-line s after limit new (Some last) c.requires.ascending whole ∙ more-key new last in
-    rw c.in-Some.is (Says-as _ _ _ _ (check_text explain after (Some limit) s)
+    rw c.in-Some.is (Says-as _ _ _ _ (check_text explain after (Some limit) origins s)
     (ap (λ xs. lines (take limit xs) ++ more_behind new (key_view last)) is ∙ ap (λ text. lines (take limit (listed after s)) ++ text) (sym more))
     (c.print_first.ensures.printed ▸ c.print_next.ensures.printed))
 
@@ -52,13 +54,14 @@ pub returns-in-None-clause-printed : goal.returns-in-None-clause-printed
 returns-in-None-clause-printed g c =
     let s = c.args.scribe.now.judged in
     let explain = c.args.scribe.now.explain in
+    let origins = c.args.scribe.now.origins in
     let after = option_map key_view c.args.after in
     let walk = c.walk_after-instances in
     let is = left_listed s after walk.result walk.ensures.judged walk.ensures.position in
     let limit = c.in-Some.limit in
     let new = left c.print_first.new.instances in
     let page = take limit (listed after s) in
-    rw c.in-Some.is (Says-end _ _ _ (flat_map (instance_line explain s) page) (more_text s (last_or None page)) c.print_first.new.paper.has_failed refl
+    rw c.in-Some.is (Says-end _ _ _ (flat_map (instance_line explain origins s) page) (more_text s (last_or None page)) c.print_first.new.paper.has_failed refl
     (λ calm. more-line s after limit new None c.requires.ascending
     (subst (λ xs. IsPageEnd limit xs new None) is (subst (IsEnded limit (left walk.result) new None) calm c.in-None.ensures.end)) ∙ more-no-key new)
-    (Says-as _ _ _ _ _ (ap (λ xs. flat_map (instance_line explain s) (take limit xs)) is) c.print_first.ensures.printed))
+    (Says-as _ _ _ _ _ (ap (λ xs. flat_map (instance_line explain origins s) (take limit xs)) is) c.print_first.ensures.printed))

@@ -2,4 +2,4 @@ use Rattle.cudf_check.proofs.PaperLemmas.{◌▸◌}
 use Rattle.cudf_check.proofs.lines.ranks.print_rank.Goals as goal
 
 pub returns : goal.returns
-returns g c = c.number.ensures ▸ c.text.ensures ▸ c.number-2.ensures ▸ c.text-2.ensures
+returns g c = c.number.ensures ▸ c.text.ensures ▸ c.print_name.ensures ▸ c.text-2.ensures

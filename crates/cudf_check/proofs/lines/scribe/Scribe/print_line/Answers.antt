@@ -2,7 +2,9 @@ use Rattle.std.proofs.Common.{option_and_then, ap, ◌∙◌}
 use Rattle.cudf_problem.specs.Universe.{package_at}
 use Rattle.cudf_referee.specs.Promises.Views.{instance_view}
 use Rattle.cudf_referee.specs.Violations.{met_by}
+use Rattle.cudf_check.specs.Naming.{origin_of}
 use Rattle.cudf_check.specs.Report.{met_text}
+use Rattle.cudf_check.specs.Working.Named.{origins_view}
 use Rattle.cudf_check.proofs.PaperLemmas.{Says-as, ◌▸◌}
 use Rattle.cudf_check.proofs.lines.scribe.Scribe.print_line.Goals as goal
 
@@ -12,4 +14,5 @@ returns g c =
     let s = c.self.inside.referee.now in
     let met = c.package_at-met.ensures s.problem c.packages.ensures ∙ ap (option_and_then (package_at s.problem)) c.met_by.ensures
     ∙ ap (λ w. option_and_then (package_at w.judged.problem) (met_by w.judged.proposed i)) c.self.view_is in
-    Says-as _ _ _ _ _ (ap (met_text i) met) c.print_instance.ensures ▸ (c.print_added.ensures ▸ c.text.ensures)
+    let origin = c.of-origin.ensures ∙ ap (origin_of (origins_view c.self.inside.origins)) c.part.ensures.value ∙ ap (λ w. origin_of w.origins i.key.part) c.self.view_is in
+    Says-as _ _ _ _ _ (λ k. met_text (origin k) i (met k)) c.print_instance.ensures ▸ (c.print_added.ensures ▸ c.text.ensures)
