@@ -11,5 +11,4 @@ pub mod Readers
 pub mod Refutations
 pub mod Report
 pub mod Runs
-pub mod Shown
 pub mod Working
