@@ -9,4 +9,5 @@ pub mod Readers
 pub mod Refutations
 pub mod Report
 pub mod Runs
+pub mod Shown
 pub mod Working
