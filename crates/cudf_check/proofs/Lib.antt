@@ -15,3 +15,5 @@ pub mod RankingLawLemmas
 pub mod ReadingLemmas
 pub mod RefutationLemmas
 pub mod RunLemmas
+mod ShownExamples
+pub mod ShownLemmas

@@ -11,4 +11,5 @@ pub mod Readers
 pub mod Refutations
 pub mod Report
 pub mod Runs
+pub mod Shown
 pub mod Working

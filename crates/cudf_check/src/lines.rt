@@ -12,6 +12,7 @@ mod ranks;
 mod reasons;
 mod score;
 mod scribe;
+mod shown;
 
 pub(crate) use alone::{answer, answer_fault};
 pub(crate) use dimacs::answer_cnf;
