@@ -51,6 +51,11 @@ abbrev pub is_standard : FileName → Bool
 is_standard (Path path) = false
 is_standard Standard = true
 
+-- how lines of a report name the file
+abbrev pub file_label : FileName → List ℕ
+file_label (Path path) = path.now
+file_label Standard = codes "(standard input)"
+
 -- one of the files is standard input
 abbrev pub takes_standard : Order → Bool
 takes_standard order = is_standard order.problem || nat_lt 0 (count_by is_standard order.solutions.items)

@@ -40,6 +40,21 @@ impl FileName<'_> {
     }
 }
 
+impl<'w> FileName<'w> {
+    ghost use Rattle.std.specs.Prelude.{◌≡◌};
+    ghost use Rattle.cudf_command_line.specs.Command.{file_label};
+
+    /// How lines of a report name it: the word of the command line, or `(standard input)`.
+    pub fn label(self) -> &'w str
+        ensures { result.now ≡ file_label self }
+    {
+        match self {
+            FileName::Path(path) => path,
+            FileName::Standard => "(standard input)",
+        }
+    }
+}
+
 impl fmt::Display for FileName<'_> {
     fn fmt<W: fmt::Write>(&self, f: &mut fmt::Formatter<W>) -> fmt::Result {
         match self {
