@@ -1,5 +1,5 @@
 -- Readers in a row, read one after another.
-use Rattle.std.proofs.Common.{◌≡◌, ◌↔◌, inl, inr, ℕ, zero, suc, ◌+◌, ◌<◌, ◌≤◌, List, [], ◌∷◌, ◌++◌, length, get_or, set, take, drop, Result, Ok, Err, IsErr, IsErrAnd, IsErrOf, refl, sym, ap, ◌∙◌, subst, arith}
+use Rattle.std.proofs.Common.{◌≡◌, ◌↔◌, inl, inr, ℕ, zero, suc, ◌+◌, ◌<◌, ◌≤◌, List, [], ◌∷◌, ◌++◌, length, map, get_or, set, take, drop, Result, Ok, Err, IsErr, IsErrAnd, IsErrOf, refl, sym, ap, ◌∙◌, subst, arith}
 use Rattle.std.specs.List.{All, AllZip}
 use Rattle.cudf_check.specs.declared.outcome.RunError.{RunError}
 use Rattle.cudf_check.specs.declared.outcome.RunError.TheVariants.{Read, TooLong, Write, Memory}
@@ -7,6 +7,7 @@ use Rattle.cudf_check.specs.Device.{SourceState}
 use Rattle.cudf_check.specs.ManyRuns.{LeavesBehind}
 use Rattle.cudf_check.specs.Readers.{Change, change, ReadsAll, IsUnfinished, IsTooLong, IsStopped, IsWithinTurns, OfOne, changes}
 use Rattle.cudf_check.specs.Working.InTurn.{ReadsInTurn}
+use Rattle.cudf_check.specs.Working.Named.{names_in}
 use Rattle.cudf_check.proofs.CommonLemmas.{same_error}
 
 -- the reading was ended, and went well
@@ -260,3 +261,20 @@ stopped state n olds news read x d texts reading e (Err y) below m is too_long u
       behind = left_behind state n olds news read x below_old m.same_length m.texts_are m.rest;
       no_write = λ h. no_write (is ∙ ap Err (sym error ∙ same_error h));
     }
+
+-- ---- names
+
+-- a source in place of another of its name
+pub names-set : {D : Type 0} (state : D → SourceState) (ds : List D) (i : ℕ) (x d : D) → i < length ds → (state x).name ≡ (state (get_or ds i d)).name
+    → names_in state (set ds i x) ≡ names_in state ds
+names-set state [] i x d below same = refl
+names-set state (y ∷ ds) zero x d below same = ap (λ name. name ∷ names_in state ds) same
+names-set state (y ∷ ds) (suc i) x d below same = ap (λ names. (state y).name ∷ names) (names-set state ds i x d (omega arith) same)
+
+-- the names that sources had before, of as many as there are now
+pub names-before : {D : Type 0} (state : D → SourceState) (olds news : List D) (P : Change SourceState → List ℕ → Type 0) (texts : List (List ℕ))
+    → AllZip P (changes state olds news) texts → length news ≡ length olds → map (λ r. r.before.name) (changes state olds news) ≡ names_in state olds
+names-before state [] news P texts all same = refl
+names-before state (old ∷ olds) [] P texts all same = absurd (omega arith)
+names-before state (old ∷ olds) (new ∷ news) P [] all same = absurd all
+names-before state (old ∷ olds) (new ∷ news) P (t ∷ texts) all same = ap (λ names. (state old).name ∷ names) (names-before state olds news P texts all.1 (omega arith))

@@ -1,19 +1,20 @@
 //! Reads several inputs to their ends, one after another.
 ghost use Rattle.std.specs.Prelude.{◌≡◌, IfOk, map};
 ghost use Rattle.cudf_check.specs.Working.InTurn.{ReadsInTurn};
-ghost use Rattle.cudf_check.specs.Working.Named.{plain_names};
+ghost use Rattle.cudf_check.specs.Working.Named.{names_in};
 
 use crate::device::Source;
 use crate::input::read_all;
 use crate::outcome::RunError;
-use std::alloc::{AllocError, Global};
+use std::alloc::Global;
 
 /// The bytes of each source up to its end. The sources behind one whose reading ended in an error aren't read.
 pub(crate) fn read_each<S: Source>(
     alloc: Global,
     sources: &mut [S],
 ) -> Result<Vec<Vec<u8>>, RunError>
-    ensures { ReadsInTurn S.state sources.old sources.new (λ v. map (λ b. b.items) v.items) result }
+    ensures reads { ReadsInTurn S.state sources.old sources.new (λ v. map (λ b. b.items) v.items) result }
+    ensures named { IfOk result (λ _. names_in S.state sources.new ≡ names_in S.state sources.old) }
 {
     let mut texts = Vec::new(alloc);
     for source in sources.iter_mut() {
@@ -23,18 +24,4 @@ pub(crate) fn read_each<S: Source>(
         }
     }
     Ok(texts)
-}
-
-/// The name of each source, where it has one.
-pub(crate) fn names_of<S: Source>(
-    alloc: Global,
-    sources: &[S],
-) -> Result<Vec<Option<&str>>, AllocError>
-    ensures { IfOk result (λ v. plain_names v.items ≡ map (λ s. (S.state s).name) sources.entry.now) }
-{
-    let mut names = Vec::new(alloc);
-    for source in sources {
-        names.push(source.name())?;
-    }
-    Ok(names)
 }

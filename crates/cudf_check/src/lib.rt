@@ -37,7 +37,7 @@ use cudf_lrat::laws::refuted;
 pub use cudf_referee::{Aim, Count, Criteria, Key, Sign, compare, read_criterion};
 pub use device::{Device, Sink, Source, Trouble};
 use input::read_all;
-use inputs::{names_of, read_each};
+use inputs::read_each;
 pub use named::Named;
 use naming::Given;
 pub use outcome::{Outcome, RunError};
@@ -94,12 +94,12 @@ pub fn run<R: Source, S: Source, W: Sink>(
         return answer_job(setting, job, given(&first, input), None, out);
     };
     let first = read_all(alloc, input)?;
-    let first = given(&first, input);
     match job {
-        Job::Lint { .. } | Job::Cnf => answer_job(setting, job, first, None, out),
+        Job::Lint { .. } | Job::Cnf => answer_job(setting, job, given(&first, input), None, out),
         Job::Check { .. } | Job::Score { .. } | Job::Refute { .. } => {
             let second = read_all(alloc, solution)?;
-            answer_job(setting, job, first, Some(given(&second, solution)), out)
+            let second = Some(given(&second, solution));
+            answer_job(setting, job, given(&first, input), second, out)
         }
     }
 }
@@ -151,24 +151,16 @@ pub fn rank<R: Source, S: Source, W: Sink>(
 {
     let first = read_all(alloc, problem)?;
     let others = read_each(alloc, solutions)?;
-    let Ok(names) = names_of(alloc, solutions) else {
-        return Err(RunError::Memory);
-    };
+    let setting = Setting { alloc, mode };
     let ranked = Ranked {
-        solutions: &others,
-        names: &names,
+        texts: &others,
+        sources: solutions,
     };
-    answer_ranking(
-        Setting { alloc, mode },
-        aims,
-        given(&first, problem),
-        ranked,
-        out,
-    )
+    answer_ranking(setting, aims, given(&first, problem), ranked, out)
 }
 
 /// What a source gave, with its name.
-fn given<'t, S: Source>(bytes: &'t [u8], source: &'t S) -> Given<'t>
+fn given<'t, 'n, S: Source>(bytes: &'t [u8], source: &'n S) -> Given<'t, 'n>
     ensures bytes { result.bytes.now ≡ bytes.entry.now }
     ensures name { option_map (λ n. n.now) result.name ≡ (S.state source.entry.now).name }
 {

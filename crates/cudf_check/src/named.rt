@@ -16,14 +16,14 @@ impl<'n, S> Named<'n, S> {
     /// The source with this name, or without one.
     pub fn new(source: S, name: Option<&'n str>) -> Named<'n, S>
         ensures source { named_source result ≡ source }
-        ensures name { name_of result ≡ option_map (λ n. n.now) name }
+        ensures name { name_of result ≡ option_map (λ n. n.now) name.entry }
     {
         Named { source, name }
     }
 
     /// The source itself.
     pub fn into_inner(self) -> S
-        ensures { result ≡ named_source self }
+        ensures { result ≡ named_source self.entry }
     {
         self.source
     }

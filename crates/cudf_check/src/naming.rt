@@ -1,15 +1,16 @@
 //! Which file a document is in, for the lines that name it.
 ghost use Rattle.std.specs.Prelude.{◌≡◌, option_map};
 ghost use Rattle.cudf_check.specs.Naming.{ended_lines, line_in, name_at, origin_of, own_file};
-ghost use Rattle.cudf_check.specs.Working.Named.{origin_view, origins_view, plain_names};
+ghost use Rattle.cudf_check.specs.Working.Named.{names_in, origin_view, origins_view};
 
+use crate::device::Source;
 use cudf_job::Part;
 
 /// The bytes of an input, and its name, where lines name it.
 #[derive(Clone, Copy)]
-pub(crate) struct Given<'t> {
+pub(crate) struct Given<'t, 'n> {
     pub(crate) bytes: &'t [u8],
-    pub(crate) name: Option<&'t str>,
+    pub(crate) name: Option<&'n str>,
 }
 
 /// The file of a document, for lines that name it.
@@ -31,7 +32,7 @@ pub(crate) struct Origins<'n> {
 impl<'n> Origins<'n> {
     /// The file of the document that an instance of this part is about.
     pub(crate) fn of(self, part: Part) -> Option<Origin<'n>>
-        ensures { option_map origin_view result ≡ origin_of (origins_view self) part }
+        ensures { option_map origin_view result ≡ origin_of (origins_view self.entry) part }
     {
         match part {
             Part::Solution => self.solution,
@@ -63,12 +64,12 @@ pub(crate) fn file_behind<'n>(problem: &[u8], name: Option<&'n str>) -> Option<O
     }
 }
 
-/// The name at a place among these, from 1.
-pub(crate) fn name_at<'n>(names: &[Option<&'n str>], place: u64) -> Option<&'n str>
-    ensures { option_map (λ n. n.now) result ≡ name_at (plain_names names.now) place }
+/// The name of the source at a place among these, from 1.
+pub(crate) fn name_at<S: Source>(sources: &[S], place: u64) -> Option<&str>
+    ensures { option_map (λ n. n.now) result ≡ name_at (names_in S.state sources.entry.now) place }
 {
-    match names.get((place as usize).saturating_sub(1)) {
-        Some(name) => *name,
+    match sources.get((place as usize).saturating_sub(1)) {
+        Some(source) => source.name(),
         None => None,
     }
 }

@@ -27,11 +27,11 @@ use std::alloc::{AllocError, Global};
 
 /// A document whose faults are told.
 #[derive(Clone, Copy)]
-pub(crate) struct Document<'t> {
+pub(crate) struct Document<'t, 'n> {
     /// Whose a fault of it is, in reports.
     pub(crate) whose: &'static str,
     /// Its file, where lines name it.
-    pub(crate) origin: Option<Origin<'t>>,
+    pub(crate) origin: Option<Origin<'n>>,
     pub(crate) bytes: &'t [u8],
     /// Whether it is told what the document says beside the fault.
     pub(crate) explain: bool,
@@ -40,7 +40,7 @@ pub(crate) struct Document<'t> {
 /// What a document says beside its fault, where that is told. Bytes that are no text have a fault of which nothing is told.
 fn told<'t>(
     alloc: Global,
-    document: Document<'t>,
+    document: Document<'t, '_>,
     room: &'t mut Room,
     fault: Fault,
 ) -> Result<Option<Detail<'t>>, AllocError>
@@ -60,7 +60,7 @@ fn told<'t>(
 pub(crate) fn answer_unread<W: Sink>(
     alloc: Global,
     out: &mut W,
-    document: Document<'_>,
+    document: Document<'_, '_>,
     error: ReadError,
 ) -> Result<Outcome, RunError>
     ensures { (fault : Option Fault) → (report : Report) → IfSome fault (IsTextOr document.entry.bytes.now) → IsFaultOf fault error
@@ -82,7 +82,7 @@ pub(crate) fn answer_unread<W: Sink>(
 fn answer_unjudged<W: Sink>(
     setting: Setting,
     out: &mut W,
-    solution: Document<'_>,
+    solution: Document<'_, '_>,
     reason: Unjudged,
 ) -> Result<Outcome, RunError>
     ensures { (report : Report) → IsUnjudged setting.mode solution.entry.bytes.now reason
@@ -137,7 +137,11 @@ fn check<W: Sink>(
 }
 
 /// Says that a problem has no fault, or which one is its first.
-fn lint<W: Sink>(setting: Setting, out: &mut W, problem: Document<'_>) -> Result<Outcome, RunError>
+fn lint<W: Sink>(
+    setting: Setting,
+    out: &mut W,
+    problem: Document<'_, '_>,
+) -> Result<Outcome, RunError>
     ensures { Answers (W.state out.old) (W.state out.new) (faulty_or (option_map origin_view problem.entry.origin) problem.entry.whose.now (told problem.entry.explain problem.entry.bytes.now)
         (problem_fault setting.mode problem.entry.bytes.now) (alone (codes "problem ok") Yes)) result }
 {
@@ -178,7 +182,7 @@ fn refute<W: Sink>(
 }
 
 /// An input whose lines name no file.
-fn unnamed(bytes: &[u8]) -> Given<'_>
+fn unnamed<'t>(bytes: &'t [u8]) -> Given<'t, 't>
     ensures bytes { result.bytes.now ≡ bytes.entry.now }
     ensures name { result.name ≡ None }
 {
@@ -186,7 +190,7 @@ fn unnamed(bytes: &[u8]) -> Given<'_>
 }
 
 /// The problem, as a document whose faults are reported.
-fn problem_document(problem: Given<'_>, explain: bool) -> Document<'_>
+fn problem_document<'t, 'n>(problem: Given<'t, 'n>, explain: bool) -> Document<'t, 'n>
     ensures whose { result.whose.now ≡ codes "problem" }
     ensures origin { option_map origin_view result.origin ≡ own_file (option_map (λ n. n.now) problem.entry.name) }
     ensures bytes { result.bytes.now ≡ problem.entry.bytes.now }
@@ -209,7 +213,7 @@ struct Inputs<'t> {
 }
 
 /// The problem and its solution: the second input is the solution; where there is none, the first is cut.
-fn parted<'t>(first: Given<'t>, second: Option<Given<'t>>) -> Inputs<'t>
+fn parted<'t>(first: Given<'t, 't>, second: Option<Given<'t, 't>>) -> Inputs<'t>
     ensures { (explain : Bool) → (mode : Mode) → (found : PlainOrigins → Proposal → List ℕ)
         → pair_report explain mode found (origins_view result.origins) result.problem.now result.solution.now
         ≡ inputs_report explain mode found (given_names first.entry second.entry) first.entry.bytes.now (option_map (λ g. g.bytes.now) second.entry) }
@@ -228,7 +232,7 @@ fn parted<'t>(first: Given<'t>, second: Option<Given<'t>>) -> Inputs<'t>
 }
 
 /// The problem and the solution of one input.
-fn cut(input: Given<'_>) -> Inputs<'_>
+fn cut<'t>(input: Given<'t, 't>) -> Inputs<'t>
     ensures problem { result.problem.now ≡ problem_part input.entry.bytes.now }
     ensures solution { result.solution.now ≡ solution_part input.entry.bytes.now }
     ensures origins { origins_view result.origins ≡ one_file (problem_part input.entry.bytes.now) (given_names input.entry None) }
@@ -249,8 +253,8 @@ fn cut(input: Given<'_>) -> Inputs<'_>
 pub(crate) fn answer_job<W: Sink>(
     setting: Setting,
     job: &Job,
-    first: Given<'_>,
-    second: Option<Given<'_>>,
+    first: Given<'_, '_>,
+    second: Option<Given<'_, '_>>,
     out: &mut W,
 ) -> Result<Outcome, RunError>
     ensures { Answers (W.state out.old) (W.state out.new)
@@ -265,7 +269,7 @@ pub(crate) fn answer_job<W: Sink>(
 }
 
 /// The bytes of a proof, which are none where there is no second input.
-fn proof_of(second: Option<Given<'_>>) -> &[u8]
+fn proof_of<'t>(second: Option<Given<'t, '_>>) -> &'t [u8]
     ensures { result.now ≡ unwrap_or (option_map (λ g. g.bytes.now) second.entry) [] }
 {
     match second {

@@ -1,6 +1,6 @@
 -- Contracts' view of the files that lines name.
 use Rattle.std.specs.Prelude.{ℕ, List, [], ◌∷◌, Option, None, Some, map, option_map}
-use Rattle.std.specs.Borrow.{Bor}
+use Rattle.cudf_check.specs.Device.{SourceState}
 use Rattle.cudf_check.specs.Naming.{Names, PlainOrigin, PlainOrigins}
 use Rattle.cudf_check.specs.declared.naming.Given.{Given}
 use Rattle.cudf_check.specs.declared.naming.Origin.{Origin}
@@ -21,6 +21,6 @@ other_names (Some given) = option_map (λ n. n.now) given.name ∷ []
 abbrev pub given_names : Given → Option Given → Names
 given_names first second = record { first = option_map (λ n. n.now) first.name; others = other_names second }
 
--- the names of ranked solutions
-abbrev pub plain_names : List (Option (Bor (List ℕ))) → List (Option (List ℕ))
-plain_names names = map (λ name. option_map (λ n. n.now) name) names
+-- the names of sources
+abbrev pub names_in : {D : Type 0} → (D → SourceState) → List D → List (Option (List ℕ))
+names_in state sources = map (λ s. (state s).name) sources

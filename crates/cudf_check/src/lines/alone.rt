@@ -58,7 +58,7 @@ pub(crate) fn print_fault<W: Sink>(
 pub(crate) fn answer_fault<W: Sink>(
     alloc: Global,
     out: &mut W,
-    document: Document<'_>,
+    document: Document<'_, '_>,
     fault: Fault,
     detail: Option<Detail<'_>>,
 ) -> Result<Outcome, RunError>

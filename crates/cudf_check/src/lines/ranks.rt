@@ -5,11 +5,11 @@ ghost use Rattle.cudf_check.specs.Naming.{own_file};
 ghost use Rattle.cudf_check.specs.RankReport.{aim_count, entrant_name, entrant_word, judgement_text, rank_line, ranking_text};
 ghost use Rattle.cudf_check.specs.Report.{faulty};
 ghost use Rattle.cudf_check.specs.Working.Answering.{Answers};
-ghost use Rattle.cudf_check.specs.Working.Named.{plain_names};
+ghost use Rattle.cudf_check.specs.Working.Named.{names_in};
 ghost use Rattle.cudf_check.specs.Working.Paper.{Says};
 
 use crate::buffer::ReportBuffer;
-use crate::device::Sink;
+use crate::device::{Sink, Source};
 use crate::lines::alone::print_fault;
 use crate::lines::naming::print_before;
 use crate::lines::shown::print_shown;
@@ -76,48 +76,48 @@ fn print_rank<W: Sink>(paper: &mut Paper<'_, W>, rank: u64, name: Option<&str>, 
 }
 
 /// Prints the line of a solution.
-fn print_entrant<W: Sink>(
+fn print_entrant<S: Source, W: Sink>(
     paper: &mut Paper<'_, W>,
     aims: &[Aim],
-    names: &[Option<&str>],
+    sources: &[S],
     rank: u64,
     entrant: &Entrant,
 )
-    ensures { Says W.state paper.old paper.new (rank_line aims.now (plain_names names.now) (rank, entrant.now)) }
+    ensures { Says W.state paper.old paper.new (rank_line aims.now (names_in S.state sources.now) (rank, entrant.now)) }
 {
-    print_rank(paper, rank, name_at(names, entrant.place), entrant.place);
+    print_rank(paper, rank, name_at(sources, entrant.place), entrant.place);
     print_judgement(paper, aims, entrant.judgement);
     paper.text("\n");
 }
 
 /// Prints the lines of the ranked solutions.
-fn print_ranking<W: Sink>(
+fn print_ranking<S: Source, W: Sink>(
     paper: &mut Paper<'_, W>,
     aims: &[Aim],
-    names: &[Option<&str>],
+    sources: &[S],
     ranked: &[Entrant],
 )
-    ensures { Says W.state paper.old paper.new (ranking_text aims.now (plain_names names.now) ranked.now) }
+    ensures { Says W.state paper.old paper.new (ranking_text aims.now (names_in S.state sources.now) ranked.now) }
 {
     for (index, entrant) in ranked.iter().enumerate() {
-        print_entrant(paper, aims, names, index as u64 + 1, entrant);
+        print_entrant(paper, aims, sources, index as u64 + 1, entrant);
     }
 }
 
 /// Writes the report of the ranked solutions.
-pub(crate) fn answer_ranked<W: Sink>(
+pub(crate) fn answer_ranked<S: Source, W: Sink>(
     alloc: Global,
     out: &mut W,
     aims: &[Aim],
-    names: &[Option<&str>],
+    sources: &[S],
     ranked: &[Entrant],
     outcome: Outcome,
 ) -> Result<Outcome, RunError>
-    ensures { Answers (W.state out.old) (W.state out.new) (record { text = ranking_text aims.now (plain_names names.now) ranked.now; outcome = outcome }) result }
+    ensures { Answers (W.state out.old) (W.state out.new) (record { text = ranking_text aims.now (names_in S.state sources.now) ranked.now; outcome = outcome }) result }
 {
     let mut waiting = ReportBuffer::new(alloc)?;
     let mut paper = Paper::new(out, &mut waiting);
-    print_ranking(&mut paper, aims, names, ranked);
+    print_ranking(&mut paper, aims, sources, ranked);
     paper.finish(outcome)
 }
 

@@ -11,4 +11,5 @@ invariant-loop-turn g l = let now = g.R.Source.state l.source in let before = g.
   called : now.calls ≡ before.calls + l.turn;
   calm : now.failures ≡ before.failures;
   open_yet : now.ends ≡ before.ends;
+  named : now.name ≡ before.name;
 }

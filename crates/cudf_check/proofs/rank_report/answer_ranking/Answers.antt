@@ -4,7 +4,7 @@ use Rattle.cudf_problem.specs.Universe.{plain_problem}
 use Rattle.cudf_check.specs.Ranking.{have_own_places}
 use Rattle.cudf_check.specs.RankReport.{rank_report, ranked_report, placed_faults, first_faulty_or, entrants}
 use Rattle.cudf_check.specs.Report.{problem_fault}
-use Rattle.cudf_check.specs.Working.Named.{plain_names}
+use Rattle.cudf_check.specs.Working.Named.{names_in}
 use Rattle.cudf_check.proofs.AnswerLemmas.{memory_first}
 use Rattle.cudf_check.proofs.RankingLawLemmas.{entrants_own}
 use Rattle.cudf_check.proofs.ReadingLemmas.{problem_is_text}
@@ -14,13 +14,13 @@ pub returns-in-Err : goal.returns-in-Err
 unfolding rank_report
 returns-in-Err g c =
     let mode = c.args.setting.mode in
-    let solutions = map (λ b. b.items) c.args.ranked.solutions.now in
+    let solutions = map (λ b. b.items) c.args.ranked.texts.now in
     c.answer_unread.ensures (problem_fault mode c.args.problem.bytes.now)
-    (first_faulty_or (plain_names c.args.ranked.names.now) (placed_faults mode solutions) (ranked_report c.args.aims.now (plain_names c.args.ranked.names.now) (entrants (plain_problem (plain_text c.args.problem.bytes.now)) solutions)))
+    (first_faulty_or (names_in g.S.Source.state c.args.ranked.sources.now) (placed_faults mode solutions) (ranked_report c.args.aims.now (names_in g.S.Source.state c.args.ranked.sources.now) (entrants (plain_problem (plain_text c.args.problem.bytes.now)) solutions)))
     (problem_is_text mode c.args.problem.bytes.now) c.in-Err.ensures.fault
 
 pub returns : goal.returns
 returns g c = memory_first _ _
 
 pub ranked-requires : goal.ranked-requires
-ranked-requires g c = subst (λ es. IsTrue (have_own_places es)) (sym c.in-Ok-judge_each.ensures.judged.found) (entrants_own c.in-Ok.problem 1 (map (λ b. b.items) c.args.ranked.solutions.now))
+ranked-requires g c = subst (λ es. IsTrue (have_own_places es)) (sym c.in-Ok-judge_each.ensures.judged.found) (entrants_own c.in-Ok.problem 1 (map (λ b. b.items) c.args.ranked.texts.now))

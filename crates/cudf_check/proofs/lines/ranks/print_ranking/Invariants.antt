@@ -2,9 +2,9 @@
 use Rattle.std.proofs.Common.{take}
 use Rattle.std.specs.List.{flat_map, enumerate_from}
 use Rattle.cudf_check.specs.RankReport.{rank_line}
-use Rattle.cudf_check.specs.Working.Named.{plain_names}
+use Rattle.cudf_check.specs.Working.Named.{names_in}
 use Rattle.cudf_check.specs.Working.Paper.{Says}
 use Rattle.cudf_check.proofs.lines.ranks.print_ranking.Given as goal
 
 abbrev pub invariant-loop-index : goal.invariant-loop-index
-invariant-loop-index g l = Says g.W.Sink.state l.fn.paper l.paper (flat_map (rank_line l.aims (plain_names l.names)) (take l.index (enumerate_from 1 l.ranked)))
+invariant-loop-index g l = Says g.W.Sink.state l.fn.paper l.paper (flat_map (rank_line l.aims (names_in g.S.Source.state l.sources)) (take l.index (enumerate_from 1 l.ranked)))
