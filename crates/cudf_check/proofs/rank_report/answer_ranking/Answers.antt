@@ -6,7 +6,6 @@ use Rattle.cudf_check.specs.RankReport.{rank_report, ranked_report, placed_fault
 use Rattle.cudf_check.specs.Report.{problem_fault}
 use Rattle.cudf_check.proofs.AnswerLemmas.{memory_first}
 use Rattle.cudf_check.proofs.RankingLawLemmas.{entrants_own}
-use Rattle.cudf_check.proofs.ReadingLemmas.{problem_is_text}
 use Rattle.cudf_check.proofs.rank_report.answer_ranking.Goals as goal
 
 pub returns-in-Err : goal.returns-in-Err
@@ -16,7 +15,7 @@ returns-in-Err g c =
     let solutions = map (λ b. b.items) c.args.solutions.now in
     c.answer_unread.ensures (problem_fault mode c.args.problem.now)
     (first_faulty_or (placed_faults mode solutions) (ranked_report c.args.aims.now (entrants (plain_problem (plain_text c.args.problem.now)) solutions)))
-    (problem_is_text mode c.args.problem.now) c.in-Err.ensures.fault
+    c.in-Err.ensures.fault
 
 pub returns : goal.returns
 returns g c = memory_first _ _
