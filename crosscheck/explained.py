@@ -5,7 +5,7 @@ import re
 
 from documents import POSTMARKS, declared_by, package_id, read_stanzas
 from universe import satisfies, satisfies_clause
-from values import ENTRIES, WORDS, read_declarations, wrong_declaration, wrong_entry
+from values import BLANKS, ENTRIES, WORDS, read_declarations, wrong_declaration, wrong_entry
 
 
 def behind(line, added):
@@ -58,7 +58,45 @@ def lower(now, before):
     return f"{min(now)} now, {max(before)} before"
 
 
+# ---- faults of what isn't read as stanzas
+
+# how files of some formats begin
+FORMATS = {
+    b"\x1f\x8b": "a gzip file", b"BZh": "a bzip2 file", b"\xfd7zXZ\x00": "an xz file", b"\x28\xb5\x2f\xfd": "a Zstandard file",
+    b"\xff\xfe": "a UTF-16 file", b"\xfe\xff": "a UTF-16 file",
+}
+
+
+def not_utf8(data):
+    """The format of a file that isn't UTF-8, or else the first byte that isn't, by its place in its line."""
+    found = next((name for start, name in FORMATS.items() if data.startswith(start)), None)
+    if found:
+        return f"it is {found}"
+    try:
+        data.decode()
+    except UnicodeDecodeError as error:
+        place = error.start - data.rfind(b"\n", 0, error.start)
+        return f"byte {place} of the line is {data[error.start]:02X}"
+    raise ValueError("the document is UTF-8")
+
+
+def no_property(data, line):
+    return "it begins with a byte order mark" if line == 1 and data.startswith(b"\xef\xbb\xbf") else ""
+
+
 # ---- faults: of a line, the stanza in which it stands, and all stanzas
+
+SHOWN_LENGTH = 60
+
+
+def shown_character(character):
+    is_control = character < " " or "\x7f" <= character <= "\x9f"
+    return f"\\u{{{ord(character):X}}}" if is_control else character
+
+
+def shown(text):
+    """The first characters of a value, and whether there are more."""
+    return "".join(map(shown_character, text[:SHOWN_LENGTH])) + (".." if len(text) > SHOWN_LENGTH else "")
 
 
 def property_on(line, stanza):
@@ -104,9 +142,11 @@ def type_word(name, stanza, stanzas):
 
 def wrong_value(line, stanza, stanzas):
     name, value = property_on(line, stanza)
-    word = type_word(name, stanza, stanzas)
-    entry = f", entry {wrong_entry(word, value)}" if word in ENTRIES else ""
-    return f"{name} is no {word}{entry}"
+    word, entry, text = type_word(name, stanza, stanzas), "", value.strip(BLANKS)
+    if word in ENTRIES:
+        place = wrong_entry(word, value)
+        entry, text = f", entry {place}", value.split(",")[place - 1].strip(BLANKS)
+    return f"{name} is no {word}{entry}" + (f": {shown(text)}" if text else "")
 
 
 def bad_declaration(line, stanza, _stanzas):
@@ -139,6 +179,10 @@ ADDED = {
 def fault_detail(data, fault):
     """What is added to the first fault of a document; nothing where its kind has nothing."""
     line, kind = fault
+    if kind == 1:
+        return not_utf8(data)
+    if kind == 2:
+        return no_property(data, line)
     if kind not in ADDED:
         return ""
     stanzas = read_stanzas(data.decode())[0]

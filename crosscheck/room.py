@@ -304,7 +304,7 @@ def unknown_versions(count):
 def wrong_entry(count):
     fault = "problem line 3: E9 value is not of its type\n"
     problem = f"package: a\nversion: 1\ndepends: {entries(count)}, a b\n\nrequest:\n"
-    return with_added(Task("lint", [problem], fault, 2), f"depends is no vpkgformula, entry {count + 1}")
+    return with_added(Task("lint", [problem], fault, 2), f"depends is no vpkgformula, entry {count + 1}: a b")
 
 
 def declared_again(count):

@@ -1,17 +1,14 @@
 -- The first fault of a document, by its bytes and by its text, and the report where none is left.
-use Rattle.std.proofs.Common.{◌≡◌, ℕ, Bool, true, false, List, Option, Some, None, Result, Ok, Err, IfOk, IfErr, IfSome, option_and_then, if◌then◌else◌, refl, sym, ap, ◌∙◌, codes}
+use Rattle.std.proofs.Common.{◌≡◌, ℕ, Bool, true, false, List, Option, Some, None, Result, Ok, Err, IfOk, IfErr, if◌then◌else◌, refl, sym, ap, ◌∙◌, codes}
 use Rattle.std.specs.Str.{IsUtf8, is_utf8}
-use Rattle.std.proofs.lemmas.Bool.{true≢false}
 use Rattle.std.proofs.lemmas.Str.{IsUtf8-from_is_utf8, is_utf8-from_IsUtf8}
 use Rattle.cudf_text.specs.declared.fault.Fault.{Fault}
-use Rattle.cudf_text.specs.declared.fault.Kind.TheVariants.{E1}
 use Rattle.cudf_text.specs.Joined.{is_fail}
 use Rattle.cudf_text.specs.LineFaults.{utf8_fault}
-use Rattle.cudf_text.specs.Stanzas.{PlainProperty, PlainStanza, PlainText, plain_text}
+use Rattle.cudf_text.specs.Stanzas.{PlainText, plain_text}
 use Rattle.cudf_document.specs.declared.error.ReadError.{ReadError}
 use Rattle.cudf_document.specs.declared.error.ReadError.TheVariants as read_error
 use Rattle.cudf_problem.specs.declared.mode.Mode.{Mode}
-use Rattle.cudf_document.specs.Details.{fault_detail, property_detail, property_on, stanza_detail, stanza_on}
 use Rattle.cudf_document.specs.Faults.{least}
 use Rattle.cudf_document.specs.ProblemFaults.{problem_faults}
 use Rattle.cudf_document.specs.SolutionFaults.{solution_faults}
@@ -24,7 +21,7 @@ use Rattle.cudf_check.specs.declared.outcome.Outcome.TheVariants.{Fail}
 use Rattle.cudf_check.specs.Naming.{PlainOrigins}
 use Rattle.cudf_check.specs.Report.{alone, faulty_or, problem_fault, solution_fault, proposal_of, judged_report, pair_report, told}
 use Rattle.cudf_check.specs.Working.Found.{found_text}
-use Rattle.cudf_check.specs.Working.Unjudged.{IsFaultOf, IsTextOr}
+use Rattle.cudf_check.specs.Working.Unjudged.{IsFaultOf}
 
 -- ---- what a result says
 
@@ -76,38 +73,6 @@ module _ (mode : Mode) (bytes : List ℕ) where
   pub solution_unread : (f : Fault) → (IsUtf8 bytes → ⊥) → f ≡ utf8_fault bytes → solution_fault mode bytes ≡ Some f
   unfolding solution_by
   solution_unread f other is = ap (λ a. solution_by a (is_fail bytes)) (not_utf8 bytes other) ∙ ap Some (sym is)
-
--- ---- what is told of a fault
-
--- nothing of one that isn't of a text
-of_kind : (f : Fault) (stanzas : List PlainStanza) → f.kind ≡ E1 → option_and_then (stanza_detail f.kind f.line) (stanza_on f.line stanzas) ≡ None
-of_kind f stanzas is = ap (λ kind. option_and_then (stanza_detail kind f.line) (stanza_on f.line stanzas)) is ∙ none (stanza_on f.line stanzas)
-  where
-    property_none : (q : List PlainStanza × PlainStanza) (o : Option (List PlainProperty × PlainProperty)) → option_and_then (property_detail E1 q) o ≡ None
-    property_none q None = refl
-    property_none q (Some p) = refl
-
-    none : (o : Option (List PlainStanza × PlainStanza)) → option_and_then (stanza_detail E1 f.line) o ≡ None
-    none None = refl
-    none (Some q) = property_none q (property_on f.line q.1)
-
-pub untold : (explain : Bool) (bytes : List ℕ) (f : Fault) → f ≡ utf8_fault bytes → None ≡ told explain bytes f
-unfolding fault_detail
-untold true bytes f is = sym (of_kind f (plain_text bytes).stanzas (ap (λ g. g.kind) is))
-untold false bytes f is = refl
-
-module _ (mode : Mode) (bytes : List ℕ) where
-  -- the first fault of bytes that are no text is that they are none
-  first_text : (faults : Option Fault) (b : Bool) → is_utf8 bytes ≡ b → IfSome (if b then faults else Some (utf8_fault bytes)) (IsTextOr bytes)
-  first_text None true is = tt
-  first_text (Some f) true is = λ other. absurd (true≢false (sym is ∙ other))
-  first_text faults false is = λ other. refl
-
-  pub problem_is_text : IfSome (problem_fault mode bytes) (IsTextOr bytes)
-  problem_is_text = first_text (least (problem_faults (plain_text bytes) mode)) (is_utf8 bytes) refl
-
-  pub solution_is_text : IfSome (solution_fault mode bytes) (IsTextOr bytes)
-  solution_is_text = first_text (if is_fail bytes then None else least (solution_faults (plain_text bytes) mode)) (is_utf8 bytes) refl
 
 -- ---- the report
 

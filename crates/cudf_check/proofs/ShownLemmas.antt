@@ -1,14 +1,15 @@
 -- How a text is shown, piece by piece.
-use Rattle.std.proofs.Common.{◌≡◌, ◌<◌, ℕ, true, List, [], ◌∷◌, ◌++◌, length, take, drop, refl, sym, ap, subst, ◌∙◌, append_assoc, take-append-drop, if◌then◌else◌, arith}
+use Rattle.std.proofs.Common.{◌≡◌, ◌+◌, ◌-◌, ◌<◌, ◌≤◌, ℕ, Bool, true, not, nat_lt, ◌==◌, suc, codes, List, [], ◌∷◌, ◌++◌, Option, Some, None, MatchOption, length, take, drop, refl, sym, ap, subst, ◌∙◌, append_assoc, take-append-drop, if◌then◌else◌, arith}
 use Rattle.std.specs.Char.{encode_utf8, is_control}
 use Rattle.std.specs.List.{flat_map}
 use Rattle.std.specs.Str.{IsCharBoundary, IsUtf8, NoCharPasses, NonePass, chars, encode_utf8_all}
 use Rattle.std.specs.Str.Pattern.{HasPassingCharAt}
 use Rattle.std.proofs.lemmas.Grind.{flat_map-append}
-use Rattle.std.proofs.lemmas.List.{length-append}
+use Rattle.std.proofs.lemmas.List.{length-append, length-drop, drop-drop, take_at, nil_from_length}
+use Rattle.std.proofs.lemmas.Bool.{lt-ltb, le-ltb, ne_eqb}
 use Rattle.std.proofs.lemmas.Bool.Decides.{nat_tests}
-use Rattle.std.proofs.lemmas.Str.{chars_from_encodes, chars-append, chars_past_char, encode_same, IsUtf8-take, IsUtf8-drop, len_utf8_bounds, length-encode}
-use Rattle.cudf_check.specs.Shown.{escaped, shown_char, shown}
+use Rattle.std.proofs.lemmas.Str.{chars_from_encodes, chars-append, chars_past_char, chars-nil, encodes-append, encodes-chars, encode_same, IsCharBoundary-at_seam, IsUtf8-past_char, IsUtf8-take, IsUtf8-drop, len_utf8_bounds, length-encode}
+use Rattle.cudf_check.specs.Shown.{escaped, shown_char, shown, clipped}
 
 -- no control character is among them
 as_they_are : (cs : List ℕ) → NonePass is_control cs → flat_map shown_char cs ≡ encode_utf8_all cs
@@ -65,3 +66,73 @@ control_below c control = grind (arith, nat_tests)
 pub shown-next : (printed before escaped after left whole : List ℕ) → left ≡ before ++ escaped ++ after → printed ++ left ≡ whole → (printed ++ before ++ escaped) ++ after ≡ whole
 shown-next printed before escaped after left whole parts so_far =
     append_assoc (printed ++ before) escaped after ∙ append_assoc printed before (escaped ++ after) ∙ ap (λ t. printed ++ t) (sym (append_assoc before escaped after) ∙ sym parts) ∙ so_far
+
+-- ---- the front of a text, and what stands behind as many characters
+
+-- one character more
+pub behind_next : (text rest next : List ℕ) (i c : ℕ) → IsUtf8 rest → chars rest ≡ drop i (chars text) → rest ≡ encode_utf8 c ++ next → chars next ≡ drop (i + 1) (chars text)
+behind_next text rest next i c utf8 is first = ap (drop 1) (sym (chars_past_char rest next c utf8 first) ∙ is) ∙ drop-drop 1 i (chars text)
+
+-- or none more
+pub behind_end : (text rest : List ℕ) (i : ℕ) → chars rest ≡ drop i (chars text) → length rest ≡ 0 → chars rest ≡ drop (i + 1) (chars text)
+behind_end text rest i is none =
+    let empty : chars rest ≡ [] = ap chars (nil_from_length rest none) ∙ chars-nil in
+    empty ∙ ap (drop 1) (sym empty ∙ is) ∙ drop-drop 1 i (chars text)
+
+-- one character more, if there is one
+pub behind_step : {S : Type 0} (left : S → List ℕ) (text : List ℕ) (s t : S) (i : ℕ) (r : Option ℕ) → IsUtf8 (left s) → chars (left s) ≡ drop i (chars text)
+    → MatchOption r ((length (left s) ≡ 0) × (t ≡ s)) (λ c. left s ≡ encode_utf8 c ++ left t) → IsUtf8 (left t) × (chars (left t) ≡ drop (i + 1) (chars text))
+behind_step left text s t i None utf8 is (none, same) = (subst (λ u. IsUtf8 (left u)) (sym same) utf8, ap (λ u. chars (left u)) same ∙ behind_end text (left s) i is none)
+behind_step left text s t i (Some c) utf8 is first = (IsUtf8-past_char (left s) (left t) c utf8 first, behind_next text (left s) (left t) i c utf8 is first)
+
+module _ (text rest : List ℕ) (i n : ℕ) (utf8 : IsUtf8 text) (rest_utf8 : IsUtf8 rest) (is : chars rest ≡ drop i (chars text)) (len : n ≡ length text - length rest) where
+  front : List ℕ
+  front = encode_utf8_all (take i (chars text))
+
+  whole : text ≡ front ++ rest
+  unfolding front
+  whole =
+      sym (encodes-chars text utf8) ∙ ap encode_utf8_all (sym (take-append-drop i (chars text))) ∙ encodes-append (take i (chars text)) (drop i (chars text))
+      ∙ ap (λ t. encode_utf8_all (take i (chars text)) ++ t) (ap encode_utf8_all (sym is) ∙ encodes-chars rest rest_utf8)
+
+  pub left_len : length rest ≤ length text
+  left_len = omega (arith, ap length whole, length-append front rest)
+
+  front_len : length front ≡ n
+  front_len = omega (arith, ap length whole, length-append front rest, len)
+
+  pub front_cut : IsCharBoundary text n
+  front_cut = subst (IsCharBoundary text) front_len (IsCharBoundary-at_seam text front rest whole rest_utf8)
+
+  front_is : take n text ≡ front
+  front_is = ap (take n) whole ∙ take_at front rest n front_len
+
+  pub front_chars : chars (take n text) ≡ take i (chars text)
+  unfolding front
+  front_chars = sym (chars_from_encodes (take i (chars text)) (take n text) (IsUtf8-take text n utf8 front_cut) (sym front_is))
+
+-- ---- a text of which the front is shown
+
+-- text without characters is empty
+no_chars : (bs : List ℕ) → IsUtf8 bs → chars bs ≡ [] → bs ≡ []
+no_chars bs utf8 none = sym (encodes-chars bs utf8) ∙ ap encode_utf8_all none
+
+-- something is left behind 60 characters where there are more
+pub is_left : (text rest : List ℕ) → IsUtf8 rest → chars rest ≡ drop 60 (chars text) → not (length rest == 0) ≡ nat_lt 60 (length (chars text))
+is_left text rest utf8 is = by rest refl (chars rest) refl
+  where
+    len : length (chars rest) ≡ length (chars text) - 60
+    len = ap length is ∙ length-drop 60 (chars text)
+
+    by : (bs : List ℕ) → rest ≡ bs → (cs : List ℕ) → chars rest ≡ cs → not (length bs == 0) ≡ nat_lt 60 (length (chars text))
+    by [] empty cs has =
+        let none : length (chars rest) ≡ 0 = ap length (ap chars empty ∙ chars-nil) in
+        sym (le-ltb 60 (length (chars text)) (omega (arith, len, none)))
+    by (b ∷ bs) some [] has = absurd (cc (sym some ∙ no_chars rest utf8 has))
+    by (b ∷ bs) some (c ∷ cs) has =
+        let more : length (chars rest) ≡ suc (length cs) = ap length has in
+        ap not (ne_eqb (suc (length bs)) 0 (λ e. omega (arith, e))) ∙ sym (lt-ltb 60 (length (chars text)) (omega (arith, len, more)))
+
+pub clipped-is : (text front : List ℕ) (cut : Bool) → chars front ≡ take 60 (chars text) → cut ≡ nat_lt 60 (length (chars text)) → shown front ++ (if cut then codes ".." else []) ≡ clipped text
+unfolding shown clipped
+clipped-is text front cut is more = λ k. flat_map shown_char (is k) ++ (if more k then codes ".." else [])

@@ -1,6 +1,8 @@
 -- What is added to a line, where lines are explained: own.
-use Rattle.std.specs.Prelude.{ℕ, Bool, true, false, List, [], ◌++◌, codes, decimal, Option, Some, None, is_some, unwrap_or, option_and_then, if◌then◌else◌}
-use Rattle.cudf_document.specs.Details.{PlainDetail, begins_with, request_on, name_on, undeclared, mistyped, misdeclared, package_on, lacking, misplaced}
+use Rattle.std.specs.Prelude.{ℕ, ◌==◌, Bool, true, false, List, [], ◌++◌, length, codes, decimal, Option, Some, None, is_some, unwrap_or, option_and_then, if◌then◌else◌}
+use Rattle.cudf_document.specs.declared.details.Format.{Format}
+use Rattle.cudf_document.specs.declared.details.Format.TheVariants.{Gzip, Bzip2, Xz, Zstandard, Utf16}
+use Rattle.cudf_document.specs.Details.{PlainDetail, invalid_byte, of_format, byte_order_mark, begins_with, request_on, name_on, undeclared, mistyped, misdeclared, package_on, lacking, misplaced}
 use Rattle.cudf_problem.specs.Documents.{postmark_named}
 use Rattle.cudf_problem.specs.Ids.{Id}
 use Rattle.cudf_problem.specs.Universe.{PlainPackage, PlainProblem, package_at}
@@ -12,6 +14,7 @@ use Rattle.cudf_referee.specs.Explanations.{was_installed, would_do, least_of, g
 use Rattle.cudf_referee.specs.Instances.{PlainWhat, needs, install, upgrade, unknown, PlainInstance}
 use Rattle.cudf_referee.specs.Proposals.{Proposal}
 use Rattle.cudf_check.specs.Naming.{PlainOrigin, line_in}
+use Rattle.cudf_check.specs.Shown.{byte_digits, clipped}
 
 -- ---- instances
 
@@ -84,6 +87,23 @@ reason_added explain problem i = if explain then help_of problem i else []
 
 -- ---- faults
 
+-- a file that isn't UTF-8
+abbrev pub format_text : Format → List ℕ
+format_text Gzip = codes "it is a gzip file"
+format_text Bzip2 = codes "it is a bzip2 file"
+format_text Xz = codes "it is an xz file"
+format_text Zstandard = codes "it is a Zstandard file"
+format_text Utf16 = codes "it is a UTF-16 file"
+
+-- `, entry 2`, of a list
+abbrev pub entry_added : Option ℕ → List ℕ
+entry_added None = []
+entry_added (Some n) = codes ", entry " ++ decimal n
+
+-- `: 1.5`, unless the text is empty
+abbrev pub value_added : List ℕ → List ℕ
+value_added text = if length text == 0 then [] else codes ": " ++ clipped text
+
 -- behind the name of a postmark, which may be that of the next stanza
 abbrev pub unparted_added : List ℕ → List ℕ
 unparted_added name = if is_some (postmark_named name) then codes ", a blank line may be missing before it" else []
@@ -94,12 +114,14 @@ misplaced_text name = if is_some (postmark_named name) then codes "a blank line 
 
 -- lines are counted as that of the fault is
 abbrev pub detail_text : Option PlainOrigin → PlainDetail → List ℕ
+detail_text origin (invalid_byte place byte) = codes "byte " ++ decimal place ++ codes " of the line is " ++ byte_digits byte
+detail_text origin (of_format format) = format_text format
+detail_text origin byte_order_mark = codes "it begins with a byte order mark"
 detail_text origin (begins_with name) = codes "it begins with " ++ name
 detail_text origin (request_on n) = codes "the request stands on line " ++ decimal (line_in origin n)
 detail_text origin (name_on name n) = name ++ codes " stands on line " ++ decimal (line_in origin n) ++ unparted_added name
 detail_text origin (undeclared name) = codes "nothing declares " ++ name ++ unparted_added name
-detail_text origin (mistyped name word None) = name ++ codes " is no " ++ word
-detail_text origin (mistyped name word (Some n)) = name ++ codes " is no " ++ word ++ codes ", entry " ++ decimal n
+detail_text origin (mistyped name word entry text) = name ++ codes " is no " ++ word ++ entry_added entry ++ value_added text
 detail_text origin (misdeclared n) = codes "declaration " ++ decimal n
 detail_text origin (package_on name version n) = name ++ codes " " ++ decimal version ++ codes " stands on line " ++ decimal (line_in origin n)
 detail_text origin (lacking name) = codes "it lacks " ++ name

@@ -78,7 +78,7 @@ faulty origin whose f detail = record {
 
 -- what a document says beside a fault of it, where lines are explained
 abbrev pub told : Bool → List ℕ → Fault → Option PlainDetail
-told explain bytes f = if explain then fault_detail (plain_text bytes) f else None
+told explain bytes f = if explain then fault_detail bytes f else None
 
 -- the fault, if there is one, with what is told of it, or else the report
 abbrev pub faulty_or : Option PlainOrigin → List ℕ → (Fault → Option PlainDetail) → Option Fault → Report → Report

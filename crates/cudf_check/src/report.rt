@@ -1,5 +1,5 @@
 //! Decides which report the inputs have.
-ghost use Rattle.std.specs.Prelude.{◌≡◌, ℕ, Bool, false, IfOk, IfSome, List, [], None, Option, codes, option_map, unwrap_or, if◌then◌else◌};
+ghost use Rattle.std.specs.Prelude.{◌≡◌, ℕ, Bool, false, IfOk, List, [], None, Option, codes, option_map, unwrap_or, if◌then◌else◌};
 ghost use Rattle.cudf_text.specs.Joined.{is_fail, problem_part, solution_part};
 ghost use Rattle.cudf_text.specs.declared.fault.Fault.{Fault};
 ghost use Rattle.cudf_problem.specs.declared.mode.Mode.{Mode};
@@ -11,7 +11,7 @@ ghost use Rattle.cudf_check.specs.Report.{Report, alone, faulty_or, cnf_answer, 
 ghost use Rattle.cudf_check.specs.Working.Answering.{Answers};
 ghost use Rattle.cudf_check.specs.Working.Found.{explains, found_text};
 ghost use Rattle.cudf_check.specs.Working.Named.{given_names, origin_view, origins_view};
-ghost use Rattle.cudf_check.specs.Working.Unjudged.{IsFaultOf, IsTextOr, IsUnjudged};
+ghost use Rattle.cudf_check.specs.Working.Unjudged.{IsFaultOf, IsUnjudged};
 
 use crate::device::Sink;
 use crate::job::explains;
@@ -22,7 +22,7 @@ use crate::readings::{Unjudged, problem_in, proposed_in, sound_in};
 use crate::setting::Setting;
 use cudf_document::{Detail, ReadError, detail, solution_of};
 use cudf_job::Job;
-use cudf_text::{Fault, Room, cut_joined, source_of};
+use cudf_text::{Fault, Room, cut_joined};
 use std::alloc::{AllocError, Global};
 
 /// A document whose faults are told.
@@ -37,23 +37,19 @@ pub(crate) struct Document<'t, 'n> {
     pub(crate) explain: bool,
 }
 
-/// What a document says beside its fault, where that is told. Bytes that are no text have a fault of which nothing is told.
+/// What a document says beside its fault, where that is told.
 fn told<'t>(
     alloc: Global,
     document: Document<'t, '_>,
     room: &'t mut Room,
     fault: Fault,
 ) -> Result<Option<Detail<'t>>, AllocError>
-    ensures { IsTextOr document.entry.bytes.now fault
-        → IfOk result (λ detail. option_map detail_view detail ≡ told document.entry.explain document.entry.bytes.now fault) }
+    ensures { IfOk result (λ detail. option_map detail_view detail ≡ told document.entry.explain document.entry.bytes.now fault) }
 {
     if !document.explain {
         return Ok(None);
     }
-    match source_of(document.bytes) {
-        Ok(source) => detail(alloc, source, room, fault),
-        Err(_) => Ok(None),
-    }
+    detail(alloc, document.bytes, room, fault)
 }
 
 /// Answers a document that isn't judged.
@@ -63,7 +59,7 @@ pub(crate) fn answer_unread<W: Sink>(
     document: Document<'_, '_>,
     error: ReadError,
 ) -> Result<Outcome, RunError>
-    ensures { (fault : Option Fault) → (report : Report) → IfSome fault (IsTextOr document.entry.bytes.now) → IsFaultOf fault error
+    ensures { (fault : Option Fault) → (report : Report) → IsFaultOf fault error
         → Answers (W.state out.old) (W.state out.new) (faulty_or (option_map origin_view document.entry.origin) document.entry.whose.now (told document.entry.explain document.entry.bytes.now) fault report) result }
 {
     match error {

@@ -3,6 +3,8 @@ use Rattle.std.proofs.Common.{◌≡◌, ℕ, ◌==◌, nat_le, Bool, true, fals
 use Rattle.std.proofs.lemmas.List.Folds.{find-append}
 use Rattle.std.specs.List.{list_any}
 use Rattle.std.specs.Option.{option_or, option_map_or}
+use Rattle.std.specs.Str.{IsUtf8, is_utf8}
+use Rattle.std.proofs.lemmas.Str.{IsUtf8-from_is_utf8, is_utf8-from_IsUtf8}
 use Rattle.cudf_text.specs.Chars.{trim}
 use Rattle.cudf_text.specs.declared.fault.Fault.{Fault}
 use Rattle.cudf_text.specs.declared.fault.Kind.{Kind}
@@ -16,7 +18,7 @@ use Rattle.cudf_value.specs.Misfits.{type_word}
 use Rattle.cudf_problem.specs.declared.postmark.Postmark.TheVariants.{Package}
 use Rattle.cudf_problem.specs.declared.mode.Mode.TheVariants.{Strict}
 use Rattle.cudf_document.specs.declared.details.found.Passed.{Passed}
-use Rattle.cudf_document.specs.Details.{PlainDetail, request_on, package_on, undeclared, misdeclared, lacking, misplaced, stanza_on, property_on, package_words, words, bad_piece, package_detail, repeated_detail, misdeclared_detail, property_detail, stanza_detail, fault_detail}
+use Rattle.cudf_document.specs.Details.{PlainDetail, request_on, package_on, undeclared, misdeclared, lacking, misplaced, stanza_on, property_on, package_words, words, bad_piece, package_detail, repeated_detail, misdeclared_detail, property_detail, stanza_detail, text_detail, byte_detail, source_detail, fault_detail}
 use Rattle.cudf_problem.specs.Documents.{is_empty, with_earlier, is_request, has_name}
 use Rattle.cudf_problem.specs.Ids.{Id, id_of, is_known}
 use Rattle.cudf_problem.specs.Preamble.{is_declarable, added_by, declared_after, declared}
@@ -159,8 +161,8 @@ of_none kind line before s h k = none (property_on line s)
 
 -- what is said of the stanza that is found
 pub found_fault : (text : PlainText) (f : Fault) → is_of_stanza f.kind ≡ true
-    → option_and_then (found_detail f.kind f.line) (found_in nothing_passed f.line text.stanzas) ≡ fault_detail text f
-unfolding fault_detail
+    → option_and_then (found_detail f.kind f.line) (found_in nothing_passed f.line text.stanzas) ≡ text_detail text f
+unfolding text_detail
 found_fault text f h = ap (option_and_then (found_detail f.kind f.line)) (found_in-is f.line [] text.stanzas) ∙ by (stanza_on f.line text.stanzas)
   where
     by : (x : Option (List PlainStanza × PlainStanza))
@@ -169,13 +171,28 @@ found_fault text f h = ap (option_and_then (found_detail f.kind f.line)) (found_
     by (Some (before, s)) = sym (of_stanza f.kind f.line before s h)
 
 -- of other kinds nothing
-pub no_fault_detail : (text : PlainText) (f : Fault) → is_of_pair f.kind ≡ false → is_of_stanza f.kind ≡ false → None ≡ fault_detail text f
-unfolding fault_detail
-no_fault_detail text f h k = by (stanza_on f.line text.stanzas)
+pub no_text_detail : (text : PlainText) (f : Fault) → is_of_pair f.kind ≡ false → is_of_stanza f.kind ≡ false → None ≡ text_detail text f
+unfolding text_detail
+no_text_detail text f h k = by (stanza_on f.line text.stanzas)
   where
     by : (x : Option (List PlainStanza × PlainStanza)) → None ≡ option_and_then (stanza_detail f.kind f.line) x
     by None = refl
     by (Some (before, s)) = sym (of_none f.kind f.line before s h k)
+
+-- ---- of bytes
+
+pub detail_of-text : (bytes source : List ℕ) (f : Fault) → IsUtf8 bytes → source ≡ bytes → source_detail f.kind source f ≡ fault_detail bytes f
+unfolding fault_detail
+detail_of-text bytes source f utf8 is =
+    ap (λ s. source_detail f.kind s f) is ∙ ap (λ b. if b then source_detail f.kind bytes f else byte_detail f.kind bytes) (sym (is_utf8-from_IsUtf8 bytes utf8))
+
+pub detail_of-bytes : (bytes : List ℕ) (f : Fault) → ¬ (IsUtf8 bytes) → byte_detail f.kind bytes ≡ fault_detail bytes f
+unfolding fault_detail
+detail_of-bytes bytes f other = by (is_utf8 bytes) refl
+  where
+    by : (b : Bool) → is_utf8 bytes ≡ b → byte_detail f.kind bytes ≡ (if b then source_detail f.kind bytes f else byte_detail f.kind bytes)
+    by true is = absurd (other (IsUtf8-from_is_utf8 bytes is))
+    by false is = refl
 
 -- ---- pairs
 
@@ -215,8 +232,8 @@ pair_line-is id line before (s ∷ ss) q none found = by (nat_le line s.last) (i
 
 pub pair_fault : (text : PlainText) (f : Fault) → is_of_pair f.kind ≡ true
     → option_and_then (λ id. option_map (λ n. package_on id.0 id.1 n) (pair_line id f.line text.stanzas)) (option_and_then id_of (find (λ s. nat_le f.line s.last) text.stanzas))
-    ≡ fault_detail text f
-unfolding fault_detail
+    ≡ text_detail text f
+unfolding text_detail
 pair_fault text f h =
     ap (λ x. option_and_then (λ id. option_map (λ n. package_on id.0 id.1 n) (pair_line id f.line text.stanzas)) (option_and_then id_of x))
     (sym (find_later (λ s. nat_le f.line s.last) [] text.stanzas))

@@ -1,13 +1,16 @@
 -- What a document says beside its first fault: own.
-use Rattle.std.specs.Prelude.{ℕ, ◌+◌, ◌==◌, nat_le, not, List, [], ◌∷◌, ◌++◌, map, find, slice_get, Option, Some, None, option_map, option_and_then, codes, if◌then◌else◌}
-use Rattle.std.specs.List.{list_any}
+use Rattle.std.specs.Prelude.{ℕ, ◌+◌, ◌-◌, ◌==◌, ◌&&◌, nat_eq, nat_le, not, List, [], ◌∷◌, ◌++◌, map, find, take, slice_get, slice_index, Option, Some, None, option_map, option_and_then, unwrap_or, codes, if◌then◌else◌}
+use Rattle.std.specs.List.{list_any, starts_with, suffix_len}
 use Rattle.std.specs.Option.{option_map_or}
+use Rattle.std.specs.Str.{byte, is_utf8}
+use Rattle.std.specs.Str.Lossy.{utf8_valid_len}
 use Rattle.cudf_text.specs.Chars.{trim}
+use Rattle.cudf_text.specs.Lines.{is_lf}
 use Rattle.cudf_text.specs.declared.fault.Fault.{Fault}
 use Rattle.cudf_text.specs.declared.fault.Kind.{Kind}
-use Rattle.cudf_text.specs.declared.fault.Kind.TheVariants.{E4, E6, E7, E8, E9, E10, E11, E14, E15, E16}
-use Rattle.cudf_text.specs.Stanzas.{PlainProperty, PlainStanza, PlainText}
-use Rattle.cudf_value.specs.Parts.{look_up}
+use Rattle.cudf_text.specs.declared.fault.Kind.TheVariants.{E1, E2, E4, E6, E7, E8, E9, E10, E11, E14, E15, E16}
+use Rattle.cudf_text.specs.Stanzas.{PlainProperty, PlainStanza, PlainText, plain_text}
+use Rattle.cudf_value.specs.Parts.{look_up, parts}
 use Rattle.cudf_value.specs.Misfits.{type_word, misfit}
 use Rattle.cudf_value.specs.Spots.{pieces}
 use Rattle.cudf_value.specs.Declarations.{PlainDeclaration, declaration}
@@ -18,9 +21,17 @@ use Rattle.cudf_problem.specs.Documents.{with_earlier, postmark, is_request, has
 use Rattle.cudf_problem.specs.Ids.{Id, id_of, is_known}
 use Rattle.cudf_problem.specs.Preamble.{is_declarable, declared_after, declared}
 use Rattle.cudf_document.specs.ProblemFaults.{required_names}
+use Rattle.cudf_document.specs.declared.details.Format.{Format}
+use Rattle.cudf_document.specs.declared.details.Format.TheVariants.{Gzip, Bzip2, Xz, Zstandard, Utf16}
 
 -- what is said, in plain texts
 pub data PlainDetail : Type 0 where
+  -- the place of a byte in its line, from 1, and the byte
+  invalid_byte : ℕ → ℕ → PlainDetail
+  -- the format of a file that is no text
+  of_format : Format → PlainDetail
+  -- a byte order mark before the first line
+  byte_order_mark : PlainDetail
   -- the name of a stanza's first property
   begins_with : List ℕ → PlainDetail
   -- the line of the request
@@ -29,8 +40,8 @@ pub data PlainDetail : Type 0 where
   name_on : List ℕ → ℕ → PlainDetail
   -- a name that nothing declares
   undeclared : List ℕ → PlainDetail
-  -- a property's name, the word of its type, and in a list the number of the first entry that is none
-  mistyped : List ℕ → List ℕ → Option ℕ → PlainDetail
+  -- a property's name, the word of its type, in a list the number of the first entry that is none, and the text of this entry, or else the value
+  mistyped : List ℕ → List ℕ → Option ℕ → List ℕ → PlainDetail
   -- the number of the first declaration that is none, or can't stand there
   misdeclared : ℕ → PlainDetail
   -- a package's name, its version, and the line of the first stanza that has them
@@ -39,6 +50,50 @@ pub data PlainDetail : Type 0 where
   lacking : List ℕ → PlainDetail
   -- a name that has no meaning where it stands
   misplaced : List ℕ → PlainDetail
+
+-- ---- bytes that are no text
+
+-- the bytes with which files of some formats begin
+abbrev pub signatures : List (List ℕ × Format)
+signatures =
+    (0x1F ∷ 0x8B ∷ [], Gzip)
+    ∷ (codes "BZh", Bzip2)
+    ∷ (0xFD ∷ codes "7zXZ" ++ 0 ∷ [], Xz)
+    ∷ (0x28 ∷ 0xB5 ∷ 0x2F ∷ 0xFD ∷ [], Zstandard)
+    ∷ (0xFF ∷ 0xFE ∷ [], Utf16)
+    ∷ (0xFE ∷ 0xFF ∷ [], Utf16)
+    ∷ []
+
+-- the format of a file that begins with these bytes
+abbrev pub format_of : List ℕ → Option Format
+format_of bytes = option_map (λ s. s.1) (find (λ s. starts_with nat_eq bytes s.0) signatures)
+
+-- how many bytes stand behind the last LF
+abbrev pub last_line_len : List ℕ → ℕ
+last_line_len bytes = suffix_len (λ b. not (is_lf b)) bytes
+
+-- the first byte behind the longest part of the document that is UTF-8
+abbrev pub first_invalid : List ℕ → PlainDetail
+first_invalid bytes = let n = utf8_valid_len bytes in invalid_byte (last_line_len (take n bytes) + 1) (slice_index bytes n)
+
+-- E1: the format, or else the byte
+abbrev pub invalid_detail : List ℕ → PlainDetail
+invalid_detail bytes = option_map_or of_format (format_of bytes) (first_invalid bytes)
+
+-- of bytes that are no text, nothing of another kind
+abbrev pub byte_detail : Kind → List ℕ → Option PlainDetail
+byte_detail E1 bytes = Some (invalid_detail bytes)
+byte_detail kind bytes = None
+
+-- ---- byte order marks
+
+-- U+FEFF
+abbrev pub mark_bytes : List ℕ
+mark_bytes = 0xEF ∷ 0xBB ∷ 0xBF ∷ []
+
+-- E2: the byte order mark, where the line is the first and begins with one
+abbrev pub mark_detail : List ℕ → ℕ → Option PlainDetail
+mark_detail text line = if line == 1 && starts_with nat_eq text mark_bytes then Some byte_order_mark else None
 
 -- ---- where the fault is
 
@@ -72,6 +127,15 @@ abbrev pub words : List PlainDeclaration → Option Postmark → List (List ℕ 
 words ds (Some Package) = package_words ++ map (λ d. (d.name, type_word d.kind)) ds
 words ds (Some Request) = request_words
 words ds _ = []
+
+-- the entry of this number from 1, without blanks round it, or else the whole value
+abbrev pub misfit_text : Option ℕ → List ℕ → List ℕ
+misfit_text None value = value
+misfit_text (Some n) value = trim (unwrap_or (slice_get (parts (byte ",") value) (n - 1)) [])
+
+-- a property of this name and value isn't of the type of this word
+abbrev pub mistyped_as : List ℕ → List ℕ → List ℕ → PlainDetail
+mistyped_as name value word = let entry = misfit word (trim value) in mistyped name word entry (misfit_text entry (trim value))
 
 -- ---- declarations
 
@@ -107,7 +171,7 @@ repeated_detail s p = option_map (λ first. name_on p.name first.line) (find (ha
 
 -- E9: its type, and the entry
 abbrev pub mistyped_detail : List PlainStanza → PlainStanza → PlainProperty → Option PlainDetail
-mistyped_detail before s p = option_map (λ word. mistyped p.name word (misfit word (trim p.value))) (look_up p.name (words (declared before) (postmark s)))
+mistyped_detail before s p = option_map (mistyped_as p.name p.value) (look_up p.name (words (declared before) (postmark s)))
 
 -- E10: the declaration; none where quotes or brackets are wrong
 abbrev pub misdeclared_detail : List PlainProperty → PlainProperty → Option PlainDetail
@@ -131,6 +195,17 @@ stanza_detail E14 line (before, s) = lacking_detail before s
 stanza_detail E15 line (before, s) = option_and_then (package_detail before) (id_of s)
 stanza_detail kind line (before, s) = option_and_then (property_detail kind (before, s)) (property_on line s)
 
--- what a text says beside this fault of it, whether it is a problem or a solution; of other kinds nothing
-unfoldable pub fault_detail : PlainText → Fault → Option PlainDetail
-fault_detail text f = option_and_then (stanza_detail f.kind f.line) (stanza_on f.line text.stanzas)
+-- ---- what is said of a document, whether it is a problem or a solution
+
+-- beside a fault in a stanza; of other kinds nothing
+unfoldable pub text_detail : PlainText → Fault → Option PlainDetail
+text_detail text f = option_and_then (stanza_detail f.kind f.line) (stanza_on f.line text.stanzas)
+
+-- beside any fault of a text
+abbrev pub source_detail : Kind → List ℕ → Fault → Option PlainDetail
+source_detail E2 source f = mark_detail source f.line
+source_detail kind source f = text_detail (plain_text source) f
+
+-- beside any fault of it
+unfoldable pub fault_detail : List ℕ → Fault → Option PlainDetail
+fault_detail bytes f = if is_utf8 bytes then source_detail f.kind bytes f else byte_detail f.kind bytes

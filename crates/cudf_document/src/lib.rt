@@ -17,8 +17,8 @@ mod request;
 mod solution;
 
 pub use cudf_problem::{Keep, Mode, Package, Problem, Request, Solution, Status, Unknown, initial};
-pub use details::Detail;
 pub use details::of_fault::detail;
+pub use details::{Detail, Format};
 pub use error::ReadError;
 pub use problem::held::read_problem;
 pub use problem::reading::{first_fault, problem_of};

@@ -99,61 +99,61 @@ const PROPERTIES: [DetailRow; 24] = [
         "package: a\nversion: 0\n\nrequest:\n",
         2,
         Kind::E9,
-        "Some(Mistyped { name: \"version\", word: \"posint\", entry: None })",
+        "Some(Mistyped { name: \"version\", word: \"posint\", entry: None, text: \"0\" })",
     ),
     (
         "package: a b\nversion: 1\n",
         1,
         Kind::E9,
-        "Some(Mistyped { name: \"package\", word: \"pkgname\", entry: None })",
+        "Some(Mistyped { name: \"package\", word: \"pkgname\", entry: None, text: \"a b\" })",
     ),
     (
         "package: a\nversion: 1\ninstalled: yes\n",
         3,
         Kind::E9,
-        "Some(Mistyped { name: \"installed\", word: \"bool\", entry: None })",
+        "Some(Mistyped { name: \"installed\", word: \"bool\", entry: None, text: \"yes\" })",
     ),
     (
         "package: a\nversion: 1\nkeep: never\n",
         3,
         Kind::E9,
-        "Some(Mistyped { name: \"keep\", word: \"enum\", entry: None })",
+        "Some(Mistyped { name: \"keep\", word: \"enum\", entry: None, text: \"never\" })",
     ),
     (
         "package: a\nversion: 1\ndepends: b | c, d\n |, e =\n",
         3,
         Kind::E9,
-        "Some(Mistyped { name: \"depends\", word: \"vpkgformula\", entry: Some(2) })",
+        "Some(Mistyped { name: \"depends\", word: \"vpkgformula\", entry: Some(2), text: \"d |\" })",
     ),
     (
         "package: a\nversion: 1\nconflicts:\n ,b\n",
         3,
         Kind::E9,
-        "Some(Mistyped { name: \"conflicts\", word: \"vpkglist\", entry: Some(1) })",
+        "Some(Mistyped { name: \"conflicts\", word: \"vpkglist\", entry: Some(1), text: \"\" })",
     ),
     (
         "package: a\nversion: 1\nprovides: b = 1, c, d > 1\n",
         3,
         Kind::E9,
-        "Some(Mistyped { name: \"provides\", word: \"veqpkglist\", entry: Some(3) })",
+        "Some(Mistyped { name: \"provides\", word: \"veqpkglist\", entry: Some(3), text: \"d > 1\" })",
     ),
     (
         "package: a\nversion: 1\n\nrequest: r\nremove: b, c, d e\n",
         5,
         Kind::E9,
-        "Some(Mistyped { name: \"remove\", word: \"vpkglist\", entry: Some(3) })",
+        "Some(Mistyped { name: \"remove\", word: \"vpkglist\", entry: Some(3), text: \"d e\" })",
     ),
     (
         DECLARED,
         8,
         Kind::E9,
-        "Some(Mistyped { name: \"c\", word: \"enum\", entry: None })",
+        "Some(Mistyped { name: \"c\", word: \"enum\", entry: None, text: \"blue\" })",
     ),
     (
         DECLARED,
         9,
         Kind::E9,
-        "Some(Mistyped { name: \"d\", word: \"vpkglist\", entry: Some(2) })",
+        "Some(Mistyped { name: \"d\", word: \"vpkglist\", entry: Some(2), text: \"y z\" })",
     ),
     (
         "preamble:\nproperty: version: int\n\nrequest:\n",
@@ -218,6 +218,70 @@ const PROPERTIES: [DetailRow; 24] = [
     ),
 ];
 
+/// The bytes of a document, the line and the kind of a fault, and what is said beside it, as programmers are shown it.
+type ByteRow = (&'static [u8], u64, Kind, &'static str);
+
+/// Bytes that are no text, byte order marks, and what is like them.
+const BYTES: [ByteRow; 17] = [
+    (
+        b"request: r\n\nx\xC3(\n",
+        3,
+        Kind::E1,
+        "Some(InvalidByte { place: 2, byte: 195 })",
+    ),
+    (
+        b"\xFFrequest:\n",
+        1,
+        Kind::E1,
+        "Some(InvalidByte { place: 1, byte: 255 })",
+    ),
+    (
+        b"package: a\r\nversion:\t\xC0\r\n",
+        2,
+        Kind::E1,
+        "Some(InvalidByte { place: 10, byte: 192 })",
+    ),
+    (
+        b"request: \xE2\x82",
+        1,
+        Kind::E1,
+        "Some(InvalidByte { place: 10, byte: 226 })",
+    ),
+    (
+        b"\xFD7zXZ",
+        1,
+        Kind::E1,
+        "Some(InvalidByte { place: 1, byte: 253 })",
+    ),
+    (
+        b"\x1F\x8B\x08\x00",
+        1,
+        Kind::E1,
+        "Some(OfFormat(Gzip))",
+    ),
+    (b"BZh9\n\xFF", 2, Kind::E1, "Some(OfFormat(Bzip2))"),
+    (b"\xFD7zXZ\x00", 1, Kind::E1, "Some(OfFormat(Xz))"),
+    (
+        b"\x28\xB5\x2F\xFD\x04",
+        1,
+        Kind::E1,
+        "Some(OfFormat(Zstandard))",
+    ),
+    (b"\xFF\xFEr\x00", 1, Kind::E1, "Some(OfFormat(Utf16))"),
+    (b"\xFE\xFF\x00r", 1, Kind::E1, "Some(OfFormat(Utf16))"),
+    (b"\xFE\xFF\x00r", 1, Kind::E2, "None"),
+    (b"package: a\nversion: 0\n\xFF", 2, Kind::E9, "None"),
+    (b"BZh9", 1, Kind::E1, "None"),
+    (
+        b"\xEF\xBB\xBFpreamble:\n",
+        1,
+        Kind::E2,
+        "Some(ByteOrderMark)",
+    ),
+    (b"\xEF\xBB\xBFpreamble:\nx\n", 2, Kind::E2, "None"),
+    (b"\xEF\xBB\xBEpreamble:\n", 1, Kind::E2, "None"),
+];
+
 /// Kinds of which nothing is told, and faults that the document hasn't.
 const NOTHING: [DetailRow; 14] = [
     (DECLARED, 9, Kind::E14, "None"),
@@ -246,8 +310,8 @@ const NOTHING: [DetailRow; 14] = [
     ("request: r\n# x\ninstal: a\n", 2, Kind::E16, "None"),
 ];
 
-/// Whether this is said beside the row's fault.
-fn says(alloc: Global, row: &DetailRow) -> bool {
+/// Whether this is said beside a row's fault.
+fn says(alloc: Global, row: &ByteRow) -> bool {
     let mut room = Room::new(alloc);
     let fault = Fault {
         line: row.1,
@@ -259,23 +323,35 @@ fn says(alloc: Global, row: &DetailRow) -> bool {
     }
 }
 
+/// The row of the document's bytes.
+fn in_bytes(row: &DetailRow) -> ByteRow {
+    (row.0.as_bytes(), row.1, row.2, row.3)
+}
+
 #[test]
 fn stanzas(rt: HostRuntime) {
     for row in &STANZAS {
-        assert!(rt; says(rt.alloc(), row), "{}", row.3);
+        assert!(rt; says(rt.alloc(), &in_bytes(row)), "{}", row.3);
     }
 }
 
 #[test]
 fn properties(rt: HostRuntime) {
     for row in &PROPERTIES {
-        assert!(rt; says(rt.alloc(), row), "{}", row.3);
+        assert!(rt; says(rt.alloc(), &in_bytes(row)), "{}", row.3);
     }
 }
 
 #[test]
 fn nothing(rt: HostRuntime) {
     for row in &NOTHING {
-        assert!(rt; says(rt.alloc(), row), "{}", row.0);
+        assert!(rt; says(rt.alloc(), &in_bytes(row)), "{}", row.0);
+    }
+}
+
+#[test]
+fn bytes(rt: HostRuntime) {
+    for row in &BYTES {
+        assert!(rt; says(rt.alloc(), row), "{}", row.3);
     }
 }

@@ -176,7 +176,7 @@ const FAULTS: [(&[u8], &[u8]); 3] = [
     ),
     (
         b"package: g\nversion: 1\ndepends: a,\n b,\n <\n\nrequest: r\n",
-        b"problem line 3: E9 value is not of its type; depends is no vpkgformula, entry 3\n",
+        b"problem line 3: E9 value is not of its type; depends is no vpkgformula, entry 3: <\n",
     ),
 ];
 

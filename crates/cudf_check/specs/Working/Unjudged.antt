@@ -1,19 +1,13 @@
 -- What is answered where a document has a fault.
-use Rattle.std.specs.Prelude.{◌≡◌, ℕ, true, false, List, Option, Some, None}
-use Rattle.std.specs.Str.{is_utf8}
+use Rattle.std.specs.Prelude.{◌≡◌, ℕ, true, List, Option, Some, None}
 use Rattle.cudf_text.specs.declared.fault.Fault.{Fault}
 use Rattle.cudf_text.specs.Joined.{is_fail}
-use Rattle.cudf_text.specs.LineFaults.{utf8_fault}
 use Rattle.cudf_document.specs.declared.error.ReadError.{ReadError}
 use Rattle.cudf_document.specs.declared.error.ReadError.TheVariants as read_error
 use Rattle.cudf_problem.specs.declared.mode.Mode.{Mode}
 use Rattle.cudf_check.specs.Report.{solution_fault}
 use Rattle.cudf_check.specs.declared.readings.Unjudged.{Unjudged}
 use Rattle.cudf_check.specs.declared.readings.Unjudged.TheVariants.{SaysFail, Unread}
-
--- the bytes are a text, or this is their fault since they are none
-abbrev pub IsTextOr : List ℕ → Fault → Type 0
-IsTextOr bytes f = is_utf8 bytes ≡ false → f ≡ utf8_fault bytes
 
 -- this is the fault, or memory was wanting
 abbrev pub IsFaultOf : Option Fault → ReadError → Type 0

@@ -1,17 +1,18 @@
 //! Prints what a document says beside its first fault.
 ghost use Rattle.std.specs.Prelude.{◌≡◌, ◌++◌, codes, decimal, option_map, is_some};
-ghost use Rattle.cudf_document.specs.Details.{name_on, undeclared, mistyped};
+ghost use Rattle.cudf_document.specs.Details.{invalid_byte, name_on, undeclared, mistyped};
 ghost use Rattle.cudf_problem.specs.Documents.{postmark_named};
 ghost use Rattle.cudf_document.specs.Promises.Views.{detail_view};
+ghost use Rattle.cudf_check.specs.Explanations.{entry_added, format_text, value_added, unparted_added, misplaced_text, detail_added, detail_text};
 ghost use Rattle.cudf_check.specs.Naming.{line_in};
-ghost use Rattle.cudf_check.specs.Explanations.{unparted_added, misplaced_text, detail_added, detail_text};
 ghost use Rattle.cudf_check.specs.Working.Named.{origin_view};
 ghost use Rattle.cudf_check.specs.Working.Paper.{Says};
 
 use crate::device::Sink;
+use crate::lines::shown::{print_byte, print_clipped};
 use crate::naming::{Origin, line_in};
 use crate::paper::Paper;
-use cudf_document::Detail;
+use cudf_document::{Detail, Format};
 
 /// Prints two texts.
 fn print_texts<W: Sink>(paper: &mut Paper<'_, W>, first: &str, second: &str)
@@ -29,15 +30,61 @@ fn print_numbered<W: Sink>(paper: &mut Paper<'_, W>, text: &str, number: u64)
     paper.number(number);
 }
 
-/// Prints that the value of a property isn't of its type, and which entry of a list isn't.
-fn print_mistyped<W: Sink>(paper: &mut Paper<'_, W>, name: &str, word: &str, entry: Option<u64>)
-    ensures { Says W.state paper.old paper.new (detail_text None (mistyped name.now word.now entry)) }
+/// Prints the number of an entry of a list.
+fn print_entry<W: Sink>(paper: &mut Paper<'_, W>, entry: Option<u64>)
+    ensures { Says W.state paper.old paper.new (entry_added entry) }
+{
+    if let Some(entry) = entry {
+        print_numbered(paper, ", entry ", entry);
+    }
+}
+
+/// Prints a value, unless it is empty.
+fn print_value<W: Sink>(paper: &mut Paper<'_, W>, text: &str)
+    ensures { Says W.state paper.old paper.new (value_added text.now) }
+{
+    if !text.is_empty() {
+        paper.text(": ");
+        print_clipped(paper, text);
+    }
+}
+
+/// Prints that the value of a property isn't of its type, with the value or the entry that isn't.
+fn print_mistyped<W: Sink>(
+    paper: &mut Paper<'_, W>,
+    name: &str,
+    word: &str,
+    entry: Option<u64>,
+    text: &str,
+)
+    ensures { Says W.state paper.old paper.new (detail_text None (mistyped name.now word.now entry text.now)) }
 {
     paper.text(name);
     paper.text(" is no ");
     paper.text(word);
-    if let Some(entry) = entry {
-        print_numbered(paper, ", entry ", entry);
+    print_entry(paper, entry);
+    print_value(paper, text);
+}
+
+/// Prints which byte of a line isn't UTF-8.
+fn print_invalid<W: Sink>(paper: &mut Paper<'_, W>, place: u64, byte: u8)
+    ensures { Says W.state paper.old paper.new (detail_text None (invalid_byte place byte)) }
+{
+    print_numbered(paper, "byte ", place);
+    paper.text(" of the line is ");
+    print_byte(paper, byte);
+}
+
+/// What is told of a file that isn't UTF-8.
+fn format_text(format: Format) -> &'static str
+    ensures { result.now ≡ format_text format }
+{
+    match format {
+        Format::Gzip => "it is a gzip file",
+        Format::Bzip2 => "it is a bzip2 file",
+        Format::Xz => "it is an xz file",
+        Format::Zstandard => "it is a Zstandard file",
+        Format::Utf16 => "it is a UTF-16 file",
     }
 }
 
@@ -99,13 +146,21 @@ fn print_detail<W: Sink>(paper: &mut Paper<'_, W>, origin: Option<Origin<'_>>, d
     ensures { Says W.state paper.old paper.new (detail_text (option_map origin_view origin.entry) (detail_view detail.entry)) }
 {
     match detail {
+        Detail::InvalidByte { place, byte } => print_invalid(paper, place, byte),
+        Detail::OfFormat(format) => paper.text(format_text(format)),
+        Detail::ByteOrderMark => paper.text("it begins with a byte order mark"),
         Detail::BeginsWith { name } => print_texts(paper, "it begins with ", name),
         Detail::RequestOn { line } => {
             print_numbered(paper, "the request stands on line ", line_in(origin, line));
         }
         Detail::NameOn { name, line } => print_name_on(paper, name, line_in(origin, line)),
         Detail::Undeclared { name } => print_undeclared(paper, name),
-        Detail::Mistyped { name, word, entry } => print_mistyped(paper, name, word, entry),
+        Detail::Mistyped {
+            name,
+            word,
+            entry,
+            text,
+        } => print_mistyped(paper, name, word, entry, text),
         Detail::Misdeclared { declaration } => print_numbered(paper, "declaration ", declaration),
         Detail::PackageOn {
             name,

@@ -1,10 +1,14 @@
 //! Prints a text that an input or a caller wrote, so that a line stays one line.
-ghost use Rattle.std.specs.Prelude.{◌≡◌, ◌<◌, [], ◌∷◌, ◌++◌, length, IfSome, MatchOption};
-ghost use Rattle.cudf_check.specs.Shown.{escaped, hexadecimal, hexadecimal_digit, shown};
+ghost use Rattle.std.specs.Prelude.{◌≡◌, ◌<◌, [], ◌∷◌, ◌++◌, length, nat_lt, take, IfSome, MatchOption};
+ghost use Rattle.std.specs.Str.{chars};
+ghost use Rattle.cudf_check.specs.Shown.{byte_digits, clipped, escaped, hexadecimal, hexadecimal_digit, shown};
 ghost use Rattle.cudf_check.specs.Working.Paper.{Says};
 
 use crate::device::Sink;
 use crate::paper::Paper;
+
+/// How many characters are shown of a value.
+const MOST_SHOWN: usize = 60;
 
 /// Prints a digit of a hexadecimal number in upper case.
 fn print_digit<W: Sink>(paper: &mut Paper<'_, W>, digit: u8)
@@ -18,6 +22,14 @@ fn print_digit<W: Sink>(paper: &mut Paper<'_, W>, digit: u8)
     };
     let mut room = [0; 4];
     paper.text(char::from(letter).encode_utf8(&mut room));
+}
+
+/// Prints a byte by two digits, as `0A`.
+pub(crate) fn print_byte<W: Sink>(paper: &mut Paper<'_, W>, byte: u8)
+    ensures { Says W.state paper.old paper.new (byte_digits byte) }
+{
+    print_digit(paper, byte / 16);
+    print_digit(paper, byte % 16);
 }
 
 /// Prints a number in upper case hexadecimal, without leading zeros.
@@ -66,4 +78,29 @@ pub(crate) fn print_shown<W: Sink>(paper: &mut Paper<'_, W>, text: &str)
         rest = after;
     }
     paper.text(rest);
+}
+
+/// The first 60 characters, and whether there are more.
+fn clip(text: &str) -> (&str, bool)
+    ensures front { chars result.0.now ≡ take 60 (chars text.now) }
+    ensures more { result.1 ≡ nat_lt 60 (length (chars text.now)) }
+{
+    let mut chars = text.chars();
+    for _ in 0..MOST_SHOWN {
+        let _ = chars.next();
+    }
+    let rest = chars.as_str();
+    let (front, _) = text.split_at(text.len() - rest.len());
+    (front, !rest.is_empty())
+}
+
+/// Prints the first 60 characters of a text as `print_shown` does, and `..` where there are more.
+pub(crate) fn print_clipped<W: Sink>(paper: &mut Paper<'_, W>, text: &str)
+    ensures { Says W.state paper.old paper.new (clipped text.now) }
+{
+    let (front, is_cut) = clip(text);
+    print_shown(paper, front);
+    if is_cut {
+        paper.text("..");
+    }
 }

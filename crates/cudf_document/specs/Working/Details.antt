@@ -8,7 +8,6 @@ use Rattle.cudf_text.specs.declared.fault.Kind.TheVariants.{E4, E6, E7, E8, E9, 
 use Rattle.cudf_text.specs.Stanzas.{PlainProperty, PlainStanza}
 use Rattle.cudf_text.specs.Promises.Views.{stanza_view}
 use Rattle.cudf_value.specs.Parts.{look_up}
-use Rattle.cudf_value.specs.Misfits.{misfit}
 use Rattle.cudf_value.specs.Spots.{pieces}
 use Rattle.cudf_value.specs.Declarations.{PlainDeclaration}
 use Rattle.cudf_problem.specs.declared.mode.Mode.TheVariants.{Strict}
@@ -18,7 +17,7 @@ use Rattle.cudf_problem.specs.Documents.{is_empty, postmark, is_request, has_nam
 use Rattle.cudf_problem.specs.Ids.{Id, id_of, is_known}
 use Rattle.cudf_problem.specs.Preamble.{added_by, declared}
 use Rattle.cudf_document.specs.ProblemFaults.{required_names}
-use Rattle.cudf_document.specs.Details.{PlainDetail, request_on, undeclared, mistyped, misdeclared, lacking, misplaced, words, bad_piece, first_detail, repeated_detail}
+use Rattle.cudf_document.specs.Details.{PlainDetail, request_on, undeclared, mistyped_as, misdeclared, lacking, misplaced, words, bad_piece, first_detail, repeated_detail}
 
 -- ---- what was passed on the way to a stanza
 
@@ -61,7 +60,7 @@ misdeclared_in ds line [] = None
 misdeclared_in ds line (p ∷ ps) = if p.line == line then option_and_then (bad_piece 1 ds) (pieces (trim p.value)) else misdeclared_in (ds ++ added_by ds p) line ps
 
 abbrev pub mistyped_after : List PlainDeclaration → PlainStanza → PlainProperty → Option PlainDetail
-mistyped_after ds s p = option_map (λ word. mistyped p.name word (misfit word (trim p.value))) (look_up p.name (words ds (postmark s)))
+mistyped_after ds s p = option_map (mistyped_as p.name p.value) (look_up p.name (words ds (postmark s)))
 
 abbrev pub lacking_after : List PlainDeclaration → PlainStanza → Option PlainDetail
 lacking_after ds s = option_map lacking (find (λ name. not (list_any (has_name name) s.properties)) (required_names Strict ds))

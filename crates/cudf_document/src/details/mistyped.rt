@@ -1,11 +1,11 @@
-//! Of which type a value isn't.
-ghost use Rattle.std.specs.Prelude.{◌≡◌, Some, None, option_map, option_and_then, codes, if◌then◌else◌};
-ghost use Rattle.cudf_text.specs.Chars.{trim};
+//! Of which type a value isn't, and which entry of it.
+ghost use Rattle.std.specs.Prelude.{◌≡◌, Some, None, option_map, option_and_then, slice_get, codes, if◌then◌else◌};
+ghost use Rattle.std.specs.Str.{byte};
 ghost use Rattle.cudf_text.specs.Promises.Views.{property_view, stanza_view};
-ghost use Rattle.cudf_value.specs.Misfits.{type_word, misfit};
-ghost use Rattle.cudf_value.specs.Parts.{look_up};
+ghost use Rattle.cudf_value.specs.Misfits.{type_word};
+ghost use Rattle.cudf_value.specs.Parts.{look_up, parts};
 ghost use Rattle.cudf_value.specs.Promises.Types.{type_view};
-ghost use Rattle.cudf_document.specs.Details.{mistyped, package_words, request_words, words};
+ghost use Rattle.cudf_document.specs.Details.{misfit_text, mistyped_as, package_words, request_words, words};
 ghost use Rattle.cudf_document.specs.Promises.Views.{detail_view};
 ghost use Rattle.cudf_document.specs.Working.Details.{property_at, mistyped_after};
 ghost use Rattle.cudf_problem.specs.declared.postmark.Postmark.TheVariants.{Package as PackageMark, Request as RequestMark};
@@ -15,7 +15,7 @@ use crate::details::Detail;
 use crate::details::of_stanza::property_on;
 use crate::postmark::postmark_of;
 use cudf_problem::Postmark;
-use cudf_text::{PropertyRef, StanzaRef};
+use cudf_text::{PropertyRef, StanzaRef, trim};
 use cudf_value::{ValueType, misfit};
 use std::alloc::Global;
 
@@ -43,7 +43,7 @@ fn typed<'t>(
     property: &PropertyRef<'t>,
 ) -> Option<Detail<'t>>
     ensures { option_map detail_view result
-        ≡ option_map (λ word. mistyped property.now.name.now word (misfit word (trim property.now.value.now))) (look_up property.now.name.now (words declarations.now mark)) }
+        ≡ option_map (mistyped_as property.now.name.now property.now.value.now) (look_up property.now.name.now (words declarations.now mark)) }
 {
     match mark {
         Some(Postmark::Package) => in_package(alloc, declarations, property),
@@ -59,7 +59,7 @@ fn in_package<'t>(
     property: &PropertyRef<'t>,
 ) -> Option<Detail<'t>>
     ensures { option_map detail_view result
-        ≡ option_map (λ word. mistyped property.now.name.now word (misfit word (trim property.now.value.now))) (look_up property.now.name.now (words declarations.now (Some PackageMark))) }
+        ≡ option_map (mistyped_as property.now.name.now property.now.value.now) (look_up property.now.name.now (words declarations.now (Some PackageMark))) }
 {
     match package_type(alloc, property.name) {
         Some(kind) => Some(not_of(&kind, property)),
@@ -73,7 +73,7 @@ fn in_package<'t>(
 /// The same in a request.
 fn in_request<'t>(property: &PropertyRef<'t>) -> Option<Detail<'t>>
     ensures { option_map detail_view result
-        ≡ option_map (λ word. mistyped property.now.name.now word (misfit word (trim property.now.value.now))) (look_up property.now.name.now request_words) }
+        ≡ option_map (mistyped_as property.now.name.now property.now.value.now) (look_up property.now.name.now request_words) }
 {
     if is_request_name(property.name) {
         Some(not_of(&ValueType::List, property))
@@ -85,13 +85,32 @@ fn in_request<'t>(property: &PropertyRef<'t>) -> Option<Detail<'t>>
 /// The property, which isn't of this type.
 fn not_of<'t>(kind: &ValueType<'_>, property: &PropertyRef<'t>) -> Detail<'t>
     ensures { detail_view result
-        ≡ mistyped property.now.name.now (type_word (type_view kind.now)) (misfit (type_word (type_view kind.now)) (trim property.now.value.now)) }
+        ≡ mistyped_as property.now.name.now property.now.value.now (type_word (type_view kind.now)) }
 {
+    let entry = misfit(kind, property.value);
     Detail::Mistyped {
         name: property.name,
         word: kind.word(),
-        entry: misfit(kind, property.value),
+        entry,
+        text: misfit_text(trim(property.value), entry),
     }
+}
+
+/// The entry of this number from 1, without blanks round it, or else the whole value.
+fn misfit_text(value: &str, entry: Option<u64>) -> &str
+    ensures { result.now ≡ misfit_text entry value.now }
+{
+    match entry {
+        Some(number) => trim(part_at(value, number.saturating_sub(1)).unwrap_or("")),
+        None => value,
+    }
+}
+
+/// The part between commas at an index.
+fn part_at(text: &str, index: u64) -> Option<&str>
+    ensures { option_map (λ part. part.now) result ≡ slice_get (parts (byte ",") text.now) index }
+{
+    text.split(',').nth(index as usize)
 }
 
 /// The type of a package's property of this name (CUDF 2.0, package properties); `keep` is an enum.

@@ -1,22 +1,24 @@
 //! The detail of a fault, by its kind.
-ghost use Rattle.std.specs.Prelude.{◌≡◌, option_map, IfOk};
+ghost use Rattle.std.specs.Prelude.{◌≡◌, option_map, IfOk, IsUtf8};
 ghost use Rattle.cudf_text.specs.Stanzas.{plain_text};
-ghost use Rattle.cudf_document.specs.Details.{fault_detail};
+ghost use Rattle.cudf_document.specs.Details.{byte_detail, fault_detail, source_detail, text_detail};
 ghost use Rattle.cudf_document.specs.Promises.Views.{detail_view};
 ghost use Rattle.cudf_document.specs.Working.Details.{is_of_pair, is_of_stanza};
 
 use crate::details::Detail;
 use crate::details::found::find_stanza;
+use crate::details::invalid::{invalid, mark};
 use crate::details::of_stanza::told;
 use crate::details::pair::earlier_package;
-use cudf_text::{Fault, Kind, Room, Stanzas};
+use cudf_text::{Fault, Kind, Room, Stanzas, source_of};
 use std::alloc::{AllocError, Global};
 
 /// What a document, be it a problem or a solution, says beside this fault of it (own). It may be asked of any
 /// fault, whether or not the document has it.
 ///
-/// `None` is answered of the kinds E1, E2, E3, E5, E12 and E13, for which nothing is read; of E10 where
-/// quotes or brackets are wrong; and where the document has nothing of what the kind tells. The document
+/// `None` is answered of the kinds E3, E5, E12 and E13, for which nothing is read; of E2, unless it is on line 1 and the
+/// document begins with a byte order mark; of E10 where quotes or brackets are wrong; of E1 where the document is
+/// UTF-8, and of other kinds where it isn't; and where the document has nothing of what the kind tells. The document
 /// is read as far as the fault's line, and twice for E11 and E15.
 ///
 /// # Errors
@@ -24,11 +26,51 @@ use std::alloc::{AllocError, Global};
 /// `AllocError` where memory is refused.
 pub fn detail<'t>(
     alloc: Global,
+    bytes: &'t [u8],
+    room: &'t mut Room,
+    fault: Fault,
+) -> Result<Option<Detail<'t>>, AllocError>
+    ensures { IfOk result (λ d. option_map detail_view d ≡ fault_detail bytes.now fault) }
+{
+    match source_of(bytes) {
+        Ok(source) => source_detail(alloc, source, room, fault),
+        Err(_) => Ok(byte_detail(bytes, fault.kind)),
+    }
+}
+
+/// The detail of a fault of bytes that are no text.
+fn byte_detail<'t>(bytes: &[u8], kind: Kind) -> Option<Detail<'t>>
+    ensures { ¬ (IsUtf8 bytes.now) → option_map detail_view result ≡ byte_detail kind bytes.now }
+{
+    match kind {
+        Kind::E1 => invalid(bytes),
+        _ => None,
+    }
+}
+
+/// The detail of a fault of a text.
+fn source_detail<'t>(
+    alloc: Global,
     source: &'t str,
     room: &'t mut Room,
     fault: Fault,
 ) -> Result<Option<Detail<'t>>, AllocError>
-    ensures { IfOk result (λ d. option_map detail_view d ≡ fault_detail (plain_text source.now) fault) }
+    ensures { IfOk result (λ d. option_map detail_view d ≡ source_detail fault.kind source.now fault) }
+{
+    match fault.kind {
+        Kind::E2 => Ok(mark(source, fault.line)),
+        _ => text_detail(alloc, source, room, fault),
+    }
+}
+
+/// The detail of a fault in a stanza.
+fn text_detail<'t>(
+    alloc: Global,
+    source: &'t str,
+    room: &'t mut Room,
+    fault: Fault,
+) -> Result<Option<Detail<'t>>, AllocError>
+    ensures { IfOk result (λ d. option_map detail_view d ≡ text_detail (plain_text source.now) fault) }
 {
     if is_of_pair(fault.kind) {
         return earlier_package(alloc, source, room, fault.line);

@@ -7,7 +7,6 @@ use Rattle.cudf_check.specs.Report.{problem_fault}
 use Rattle.cudf_check.specs.Working.Named.{names_in}
 use Rattle.cudf_check.proofs.AnswerLemmas.{memory_first}
 use Rattle.cudf_check.proofs.RankingLawLemmas.{entrants_own}
-use Rattle.cudf_check.proofs.ReadingLemmas.{problem_is_text}
 use Rattle.cudf_check.proofs.rank_report.answer_ranking.Goals as goal
 
 pub returns-in-Err : goal.returns-in-Err
@@ -17,7 +16,7 @@ returns-in-Err g c =
     let solutions = map (λ b. b.items) c.args.ranked.texts.now in
     c.answer_unread.ensures (problem_fault mode c.args.problem.bytes.now)
     (first_faulty_or (names_in g.S.Source.state c.args.ranked.sources.now) (placed_faults mode solutions) (ranked_report c.args.aims.now (names_in g.S.Source.state c.args.ranked.sources.now) (entrants (plain_problem (plain_text c.args.problem.bytes.now)) solutions)))
-    (problem_is_text mode c.args.problem.bytes.now) c.in-Err.ensures.fault
+    c.in-Err.ensures.fault
 
 pub returns : goal.returns
 returns g c = memory_first _ _

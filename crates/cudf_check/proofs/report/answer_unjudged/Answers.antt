@@ -5,7 +5,6 @@ use Rattle.cudf_check.specs.Report.{alone, faulty_or, solution_fault, told}
 use Rattle.cudf_check.specs.Working.Named.{origin_view}
 use Rattle.cudf_check.specs.Working.Unjudged.{IsUnjudged}
 use Rattle.cudf_check.proofs.AnswerLemmas.{answers_as}
-use Rattle.cudf_check.proofs.ReadingLemmas.{solution_is_text}
 use Rattle.cudf_check.proofs.report.answer_unjudged.Goals as goal
 
 pub returns-in-SaysFail : goal.returns-in-SaysFail
@@ -20,4 +19,4 @@ returns-in-Unread g c = λ report is.
     let mode = c.args.setting.mode in
     let bytes = c.args.solution.bytes.now in
     let rest = if is_fail bytes then alone (codes "solution FAIL") Fail else report in
-    c.answer_unread.ensures (solution_fault mode bytes) rest (solution_is_text mode bytes) (subst (IsUnjudged mode bytes) c.in-Unread.is is)
+    c.answer_unread.ensures (solution_fault mode bytes) rest (subst (IsUnjudged mode bytes) c.in-Unread.is is)

@@ -1,21 +1,20 @@
-use Rattle.std.proofs.Common.{IfSome, ap, sym, ◌∙◌, subst, option_map}
+use Rattle.std.proofs.Common.{ap, sym, ◌∙◌, subst, option_map}
 use Rattle.cudf_check.specs.Report.{faulty, faulty_or, told}
 use Rattle.cudf_check.specs.Working.Named.{origin_view}
-use Rattle.cudf_check.specs.Working.Unjudged.{IsFaultOf, IsTextOr}
+use Rattle.cudf_check.specs.Working.Unjudged.{IsFaultOf}
 use Rattle.cudf_check.proofs.AnswerLemmas.{memory_first, answers_as}
 use Rattle.cudf_check.proofs.report.answer_unread.Goals as goal
 
 pub returns-in-Ok : goal.returns-in-Ok
-returns-in-Ok g c = λ fault report text is.
+returns-in-Ok g c = λ fault report is.
     let origin = option_map origin_view c.args.document.origin in
     let whose = c.args.document.whose.now in
     let bytes = c.args.document.bytes.now in
     let same = subst (IsFaultOf fault) c.in-Fault.is is in
-    let told_is = c.in-Ok.ensures (subst (λ f. IfSome f (IsTextOr bytes)) same text) in
-    answers_as _ _ _ _ _ (ap (faulty origin whose c.in-Fault.fault) told_is ∙ ap (λ f. faulty_or origin whose (told c.args.document.explain bytes) f report) (sym same)) c.answer_fault.ensures
+    answers_as _ _ _ _ _ (ap (faulty origin whose c.in-Fault.fault) c.in-Ok.ensures ∙ ap (λ f. faulty_or origin whose (told c.args.document.explain bytes) f report) (sym same)) c.answer_fault.ensures
 
 pub returns-in-Fault : goal.returns-in-Fault
-returns-in-Fault g c = λ fault report text is. memory_first _ _
+returns-in-Fault g c = λ fault report is. memory_first _ _
 
 pub returns : goal.returns
-returns g c = λ fault report text is. memory_first _ _
+returns g c = λ fault report is. memory_first _ _

@@ -11,7 +11,7 @@ use Rattle.cudf_check.specs.Working.Found.{explains, found_text}
 use Rattle.cudf_check.specs.Working.Named.{origins_view}
 use Rattle.cudf_check.specs.declared.outcome.Outcome.TheVariants.{Fail}
 use Rattle.cudf_check.proofs.AnswerLemmas.{answers_as}
-use Rattle.cudf_check.proofs.ReadingLemmas.{pair_judged, problem_is_text, put_forward}
+use Rattle.cudf_check.proofs.ReadingLemmas.{pair_judged, put_forward}
 use Rattle.cudf_check.proofs.report.check.Goals as goal
 
 pub returns-in-Err : goal.returns-in-Err
@@ -25,7 +25,7 @@ returns-in-Err g c =
     (c.answer_unread.ensures (problem_fault mode problem)
     (faulty_or origins.solution (codes "solution") (told c.explains-explain.result solution) (solution_fault mode solution) (if is_fail solution then alone (codes "solution FAIL") Fail
     else judged_report (found origins) (proposal_of (plain_problem (plain_text problem)) (plain_text solution))))
-    (problem_is_text mode problem) c.in-Err.ensures.fault)
+    c.in-Err.ensures.fault)
 
 pub returns-in-Err-proposed_in : goal.returns-in-Err-proposed_in
 returns-in-Err-proposed_in g c =

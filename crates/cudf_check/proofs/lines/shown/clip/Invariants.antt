@@ -1,0 +1,7 @@
+-- What is left is what stands behind the characters so far.
+use Rattle.std.proofs.Common.{◌≡◌, drop}
+use Rattle.std.specs.Str.{IsUtf8, chars}
+use Rattle.cudf_check.proofs.lines.shown.clip.Given as goal
+
+abbrev pub invariant-loop : goal.invariant-loop
+invariant-loop l = IsUtf8 l.chars.rest.now × (chars l.chars.rest.now ≡ drop l.counter (chars l.text))
