@@ -10,8 +10,11 @@ pub mod GroundLemmas
 pub mod KeyTellLemmas
 pub mod ListLemmas
 pub mod ListingLemmas
+pub mod MissedLemmas
 pub mod MoveLemmas
 pub mod NameLemmas
+pub mod NeederExamples
+pub mod NeederLemmas
 pub mod NumberLemmas
 pub mod PagingLemmas
 pub mod PlaceLemmas

@@ -290,7 +290,7 @@ was_installed_was problem i place found =
 -- ---- where nothing would do
 
 -- one of two tests is passed
-any-or : (f g : Placed → Bool) (status : List Placed) → (list_any f status || list_any g status) ≡ list_any (λ p. f p || g p) status
+pub any-or : (f g : Placed → Bool) (status : List Placed) → (list_any f status || list_any g status) ≡ list_any (λ p. f p || g p) status
 any-or f g [] = refl
 any-or f g (p ∷ status) = by (f p) (g p) (list_any f status) (list_any g status) ∙ ap (λ b. (f p || g p) || b) (any-or f g status)
   where
@@ -305,7 +305,7 @@ any-none [] = refl
 any-none (p ∷ status) = any-none status
 
 -- a status satisfies a clause that needs a package where one of its packages alone does
-clause_alone : (status : List Placed) (clause : List PlainAtom) → satisfies_clause [] clause ≡ false
+pub clause_alone : (status : List Placed) (clause : List PlainAtom) → satisfies_clause [] clause ≡ false
     → satisfies_clause status clause ≡ list_any (λ p. satisfies_clause (p ∷ []) clause) status
 clause_alone status [] lacks = any-none status
 clause_alone status (truth_atom ∷ atoms) lacks = absurd (true≢false lacks)

@@ -2,6 +2,7 @@ pub mod Before
 pub mod Firsts
 pub mod Judged
 pub mod Named
+pub mod Needers
 pub mod Numbered
 pub mod Places
 pub mod RequestSites

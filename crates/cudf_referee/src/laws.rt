@@ -4,7 +4,7 @@ ghost use Rattle.std.specs.Ordering.{is_lt, partial_lt};
 ghost use Rattle.cudf_job.specs.KeyViews.{key_view};
 ghost use Rattle.cudf_job.specs.Keys.{key_cmp};
 ghost use Rattle.cudf_referee.specs.Laws.{SolutionIsEmpty, ListingAscends};
-ghost use Rattle.cudf_referee.specs.Promises.Laws.{TextsTellKeys, PagesJoin, PagesSuffice, PagesAreBound, NothingDoes, WasInstalled, WouldDo};
+ghost use Rattle.cudf_referee.specs.Promises.Laws.{TextsTellKeys, PagesJoin, PagesSuffice, PagesAreBound, NeededIsMissed, NothingDoes, WasInstalled, WouldDo};
 
 use cudf_job::Key;
 
@@ -53,4 +53,10 @@ pub fn does()
 /// does.
 pub fn nothing()
     ensures { NothingDoes }
+{}
+
+/// What a package is said to be needed for is missed without it: of a status with other packages, it alone satisfies a
+/// clause, and no other package does, exactly where the status satisfies the clause, and without it doesn't.
+pub fn needed()
+    ensures { NeededIsMissed }
 {}

@@ -10,7 +10,9 @@ ghost use Rattle.cudf_referee.specs.Promises.Walks.{left};
 
 mod before;
 mod explainer;
+mod held;
 mod instances;
+mod needers;
 mod numbered;
 mod remedies;
 
@@ -22,6 +24,7 @@ use cudf_job::{Criteria, Key, Part};
 use cudf_problem::{Keep, Package, Problem, Solution, initial};
 pub use explainer::Explainer;
 pub use instances::Instances;
+use needers::{Needers, needers_of};
 use numbered::keys_can_be_written;
 pub use remedies::Remedies;
 use std::alloc::{AllocError, Global};
@@ -123,8 +126,9 @@ impl<'p, 't> Referee<'p, 't> {
     ghost use Rattle.cudf_index.specs.Promises.Prices.{digits};
     ghost use Rattle.cudf_index.specs.Satisfaction.{numbers_of};
     ghost use Rattle.cudf_referee.specs.Criteria.{criteria};
-    ghost use Rattle.cudf_referee.specs.Explanations.{least_of, greatest_of};
+    ghost use Rattle.cudf_referee.specs.Explanations.{least_of, greatest_of, needed_by};
     ghost use Rattle.cudf_referee.specs.Working.Before.{kept_greatest};
+    ghost use Rattle.cudf_referee.specs.Working.Needers.{kept_needer};
     ghost use Rattle.cudf_problem.specs.Documents.{is_empty};
     ghost use Rattle.cudf_job.specs.KeyViews.{key_view};
     ghost use Rattle.cudf_referee.specs.Promises.Pages.{least_search};
@@ -189,6 +193,13 @@ impl<'p, 't> Referee<'p, 't> {
     {
         let was_installed = initial(alloc, self.problem)?;
         numbered(alloc, self.problem, &was_installed)
+    }
+
+    /// Which packages of the proposed status need which others.
+    fn needers(&self, alloc: Global) -> Result<Needers, AllocError>
+        ensures { IfOk result (λ needers. (place : ℕ) → kept_needer place needers ≡ needed_by self.entry.now.proposed place) }
+    {
+        needers_of(alloc, self.problem, &self.solution.status, &self.now)
     }
 
     /// The least number that the proposed status gives of the name.

@@ -1,13 +1,14 @@
 -- Laws of texts of keys and of pages, over the definitions alone: own.
-use Rattle.std.specs.Prelude.{◌≡◌, ◌≤◌, ◌==◌, ℕ, Bool, true, false, List, [], All, length, take, sum, Option, Some, None, IsTrue}
-use Rattle.std.specs.List.{flat_map}
+use Rattle.std.specs.Prelude.{◌≡◌, ◌≤◌, ◌==◌, ◌&&◌, ℕ, Bool, true, false, not, List, [], All, length, take, sum, Option, Some, None, IsTrue}
+use Rattle.std.specs.List.{flat_map, list_any}
+use Rattle.cudf_value.specs.Formulas.{PlainAtom}
 use Rattle.cudf_problem.specs.Universe.{PlainProblem}
 use Rattle.cudf_problem.specs.Statuses.{PlainUnknown, ascend_above, is_initial}
-use Rattle.cudf_index.specs.Satisfaction.{Placed, members, satisfies, satisfies_clause}
+use Rattle.cudf_index.specs.Satisfaction.{Placed, members, without, satisfies, satisfies_clause}
 use Rattle.cudf_job.specs.Keys.{PlainKey, key_text}
 use Rattle.cudf_job.specs.Promises.Keys.{IsWritable}
 use Rattle.cudf_referee.specs.Promises.Pages.{pages, ReadsKeys, page_bound, page_price}
-use Rattle.cudf_referee.specs.Explanations.{was_installed, would_do}
+use Rattle.cudf_referee.specs.Explanations.{is_only, was_installed, would_do}
 use Rattle.cudf_referee.specs.Instances.{PlainInstance, PlainWhat, needs, install, upgrade}
 use Rattle.cudf_referee.specs.Proposals.{proposal}
 use Rattle.cudf_referee.specs.Violations.{listing}
@@ -62,3 +63,9 @@ WasInstalled = (problem : PlainProblem) (i : PlainInstance) (place : ℕ) → wa
 abbrev pub NothingDoes : Type 0
 NothingDoes = (problem : PlainProblem) (is_installed : ℕ → Bool) (i : PlainInstance) → satisfies_what [] i.what ≡ false
     → would_do problem i ≡ None → satisfies_what (members is_installed problem.packages) i.what ≡ false
+
+-- in a status that has another package too, the one at a place is the only one that alone satisfies a clause exactly where
+-- the status satisfies the clause, and without that package doesn't
+abbrev pub NeededIsMissed : Type 0
+NeededIsMissed = (status : List Placed) (place : ℕ) (clause : List PlainAtom) → list_any (λ p. not (p.0 == place)) status ≡ true
+    → is_only status place clause ≡ (satisfies_clause status clause && not (satisfies_clause (without place status) clause))

@@ -1,34 +1,39 @@
 //! What is said of a violated instance, by the problem and the statuses.
 use crate::referee::Referee;
 use crate::referee::before::NumberedNames;
+use crate::referee::needers::Needers;
 use crate::referee::remedies::Remedies;
 use std::alloc::{AllocError, Global};
 use std::fmt;
 use std::marker::Model;
 
-/// Says what would help where an instance is violated, and which numbers an upgrade has and had. Contracts see what its
-/// referee judges. Own.
+/// Says what would help where an instance is violated, what needs a package that is in the way, and which numbers an
+/// upgrade has and had. Contracts see what its referee judges. Own.
 #[derive(Drop)]
 pub struct Explainer<'r, 'p, 't> {
     referee: &'r Referee<'p, 't>,
     remedies: Remedies<'p, 't>,
     /// The numbers that the initial status gives.
     before: NumberedNames<'t>,
+    /// Which installed packages need which others.
+    needers: Needers,
 }
 
 impl<'r, 'p, 't> Model for Explainer<'r, 'p, 't> {
     ghost use Rattle.std.specs.Prelude.{◌≡◌, ℕ, List};
     ghost use Rattle.cudf_index.specs.Satisfaction.{numbers_of};
-    ghost use Rattle.cudf_referee.specs.Explanations.{greatest_of};
+    ghost use Rattle.cudf_referee.specs.Explanations.{greatest_of, needed_by};
     ghost use Rattle.cudf_referee.specs.Proposals.{Proposal};
     ghost use Rattle.cudf_referee.specs.Working.Before.{kept_greatest};
+    ghost use Rattle.cudf_referee.specs.Working.Needers.{kept_needer};
 
     ghost Value = { Proposal };
 
     ghost view = { λ e. e.referee.now };
 
     ghost invariant = { λ e. (e.remedies ≡ e.referee.now.problem)
-        × ((f : List ℕ) → kept_greatest f e.before ≡ greatest_of (numbers_of f e.referee.now.initial)) };
+        × ((f : List ℕ) → kept_greatest f e.before ≡ greatest_of (numbers_of f e.referee.now.initial))
+        × ((place : ℕ) → kept_needer place e.needers ≡ needed_by e.referee.now.proposed place) };
 }
 
 /// Its referee: all else that it keeps follows from what that judges.
@@ -43,13 +48,13 @@ impl fmt::Debug for Explainer<'_, '_, '_> {
 impl<'r, 'p, 't> Explainer<'r, 'p, 't> {
     ghost use Rattle.std.specs.Prelude.{◌≡◌, IfOk};
     ghost use Rattle.cudf_index.specs.Satisfaction.{numbers_of};
-    ghost use Rattle.cudf_referee.specs.Explanations.{least_of, greatest_of};
+    ghost use Rattle.cudf_referee.specs.Explanations.{least_of, greatest_of, needed_by};
 
     /// The explainer of what a referee finds.
     ///
     /// # Errors
     ///
-    /// `AllocError` where memory for what the packages give is refused.
+    /// `AllocError` where memory for what the packages give and need is refused.
     pub fn new(alloc: Global, referee: &'r Referee<'p, 't>) -> Result<Self, AllocError>
         ensures { IfOk result (λ e. e ≡ referee.entry.now) }
     {
@@ -57,6 +62,7 @@ impl<'r, 'p, 't> Explainer<'r, 'p, 't> {
             referee,
             remedies: referee.remedies(alloc)?,
             before: referee.numbers_before(alloc)?,
+            needers: referee.needers(alloc)?,
         })
     }
 
@@ -96,5 +102,14 @@ impl<'r, 'p, 't> Explainer<'r, 'p, 't> {
         ensures { result ≡ greatest_of (numbers_of name.now self.now.initial) }
     {
         self.before.find(name)
+    }
+
+    /// The place (from 1) of the first package of the proposed status that needs the one at this place: it is another
+    /// one, and has a clause of `depends` that this one alone satisfies, and that no other package of the status does,
+    /// itself included. `None` where no package needs it, and for places of no package of the status.
+    pub fn needed_by(&self, place: u64) -> Option<u64>
+        ensures { result ≡ needed_by self.now.proposed place }
+    {
+        self.needers.find(place)
     }
 }

@@ -1,12 +1,11 @@
 //! Which package of a problem would help where an instance is violated.
-ghost use Rattle.std.specs.Prelude.{◌≡◌, find, option_map, true};
-ghost use Rattle.std.specs.FinSet as set;
-ghost use Rattle.cudf_index.specs.Satisfaction.{members};
+ghost use Rattle.std.specs.Prelude.{◌≡◌};
 ghost use Rattle.cudf_referee.specs.Working.Firsts.{lesser_of};
 
 use crate::instance::{Instance, What};
+use crate::referee::held::first_held;
 use cudf_index::{Index, Providers};
-use cudf_problem::{Package, Problem, Status, initial};
+use cudf_problem::{Package, Problem, initial};
 use cudf_value::{Atom, Clause, Vpkg};
 use std::alloc::{AllocError, Global};
 use std::fmt;
@@ -78,7 +77,7 @@ impl<'p, 't> Remedies<'p, 't> {
         let was_installed = initial(alloc, problem)?;
         let all = Providers::build(alloc, problem)?;
         let given = Index::build(alloc, problem, &was_installed)?;
-        let first_installed = first_held(problem, &was_installed);
+        let first_installed = first_held(problem, &was_installed, None);
         Ok(Remedies {
             problem,
             all,
@@ -180,19 +179,6 @@ impl<'p, 't> Remedies<'p, 't> {
             Some(1)
         }
     }
-}
-
-/// The place of the first package that the status holds.
-fn first_held(problem: &Problem<'_>, status: &Status) -> Option<u64>
-    ensures { result ≡ option_map (λ p. p.0) (find (λ _. true) (members (set.contains status.now) problem.now.packages)) }
-{
-    for before in 0..problem.packages().len() {
-        let place = before as u64 + 1;
-        if status.holds(place) {
-            return Some(place);
-        }
-    }
-    None
 }
 
 /// The lesser one of those that are there.

@@ -1,0 +1,203 @@
+//! Which installed package needs another one: the first with a clause of its `depends` that only this one satisfies.
+ghost use Rattle.std.specs.Prelude.{◌≡◌, ℕ, true, [], ◌∷◌, None, IfOk, OnOk};
+ghost use Rattle.std.specs.FinSet as set;
+ghost use Rattle.cudf_value.specs.Promises.Views.{atom_view, clause_view, formula_view};
+ghost use Rattle.cudf_index.specs.Promises.Members.{other_than};
+ghost use Rattle.cudf_index.specs.Satisfaction.{members, satisfies_atom};
+ghost use Rattle.cudf_referee.specs.Explanations.{needed_by};
+ghost use Rattle.cudf_referee.specs.Working.Needers.{first_beside, first_passing, kept_needer, only_satisfying, some_satisfying, unless_other, with_clauses, with_needer, with_other};
+
+use crate::referee::held::first_held;
+use cudf_index::Index;
+use cudf_problem::{Problem, Status};
+use cudf_value::{Atom, Clause, Formula};
+use indexmap::IndexMap;
+use std::alloc::{AllocError, Global};
+use std::marker::Model;
+
+/// The installed packages, among which those are searched that satisfy a clause. Contracts see them.
+#[derive(Drop)]
+struct Installed<'i, 'p, 't> {
+    index: &'i Index<'p, 't>,
+    /// The place of the first of them.
+    first: Option<u64>,
+    /// The place of the first other one.
+    second: Option<u64>,
+}
+
+impl<'i, 'p, 't> Model for Installed<'i, 'p, 't> {
+    ghost use Rattle.std.specs.Prelude.{◌≡◌, List, true};
+    ghost use Rattle.cudf_index.specs.Promises.Members.{other_than};
+    ghost use Rattle.cudf_index.specs.Satisfaction.{Placed};
+    ghost use Rattle.cudf_referee.specs.Working.Needers.{first_passing};
+
+    ghost Value = { List Placed };
+
+    ghost view = { λ i. i.index.now };
+
+    ghost invariant = { λ i. (i.first ≡ first_passing (λ _. true) i.index.now)
+        × (i.second ≡ first_passing (λ _. true) (other_than i.first i.index.now)) };
+}
+
+impl<'i, 'p, 't> Installed<'i, 'p, 't> {
+    /// Those of a status of the problem, by its index.
+    fn new(problem: &Problem<'_>, status: &Status, index: &'i Index<'p, 't>) -> Self
+        requires { index.now ≡ members (set.contains status.now) problem.now.packages }
+        ensures { result ≡ index.now }
+    {
+        let first = first_held(problem, status, None);
+        let second = first_held(problem, status, first);
+        Installed {
+            index,
+            first,
+            second,
+        }
+    }
+
+    /// The place of the first one other than the package at `except`.
+    fn first_other(&self, except: Option<u64>) -> Option<u64>
+        ensures { result ≡ first_passing (λ _. true) (other_than except self.now) }
+    {
+        match except {
+            Some(place) => first_beside(place, self.first, self.second),
+            None => self.first,
+        }
+    }
+
+    /// The place of the first one other than the package at `except` that alone satisfies the atom.
+    fn satisfying_atom(&self, atom: &Atom<'_>, except: Option<u64>) -> Option<u64>
+        ensures { result ≡ first_passing (λ p. satisfies_atom (p ∷ []) (atom_view atom.now)) (other_than except self.now) }
+    {
+        match atom {
+            Atom::Yes => self.first_other(except),
+            Atom::No => None,
+            Atom::Is(vpkg) => self.index.first_meeting(vpkg, except),
+        }
+    }
+
+    /// The place of one other than the package at `except` that alone satisfies the clause, if there is one.
+    fn satisfying(&self, clause: Clause<'_>, except: Option<u64>) -> Option<u64>
+        ensures { result ≡ some_satisfying (other_than except self.now) (clause_view clause.entry) }
+    {
+        for atom in clause.atoms() {
+            if let Some(place) = self.satisfying_atom(&atom, except) {
+                return Some(place);
+            }
+        }
+        None
+    }
+
+    /// The place that was found, unless another package alone satisfies the clause too.
+    fn unless_other(&self, clause: Clause<'_>, found: u64) -> Option<u64>
+        ensures { result ≡ unless_other self.now (clause_view clause.entry) found }
+    {
+        match self.satisfying(clause, Some(found)) {
+            Some(_) => None,
+            None => Some(found),
+        }
+    }
+
+    /// The place of the package that alone satisfies the clause, if exactly one does.
+    fn only_satisfying(&self, clause: Clause<'_>) -> Option<u64>
+        ensures { result ≡ only_satisfying self.now (clause_view clause.entry) }
+    {
+        match self.satisfying(clause, None) {
+            Some(found) => self.unless_other(clause, found),
+            None => None,
+        }
+    }
+}
+
+/// The first place other than this one, where the first and the first other one are these.
+fn first_beside(place: u64, first: Option<u64>, second: Option<u64>) -> Option<u64>
+    ensures { result ≡ first_beside place first second }
+{
+    match first {
+        Some(first) => { if first == place { second } else { Some(first) } }
+        None => None,
+    }
+}
+
+/// For each package that another one needs, the first that does, by their places.
+#[derive(Drop)]
+pub(super) struct Needers {
+    first: IndexMap<u64, u64>,
+}
+
+impl Needers {
+    fn new(alloc: Global) -> Self
+        ensures { (place : ℕ) → kept_needer place result ≡ None }
+    {
+        Needers {
+            first: IndexMap::new(alloc),
+        }
+    }
+
+    /// Adds that the package at `needer` needs the one at `needed`.
+    fn add(&mut self, needer: u64, needed: u64) -> Result<(), AllocError>
+        ensures { OnOk result ((place : ℕ) → kept_needer place self.new ≡ with_needer needer needed place (kept_needer place self.old)) }
+    {
+        self.first.entry(needed)?.or_insert(needer);
+        Ok(())
+    }
+
+    /// The same, if there is one, and it is another package.
+    fn add_other(&mut self, needer: u64, needed: Option<u64>) -> Result<(), AllocError>
+        ensures { OnOk result ((place : ℕ) → kept_needer place self.new ≡ with_other needer needed place (kept_needer place self.old)) }
+    {
+        match needed {
+            Some(needed) => {
+                if needed == needer {
+                    return Ok(());
+                }
+                self.add(needer, needed)
+            }
+            None => Ok(()),
+        }
+    }
+
+    /// Adds what the package at `needer` needs by these clauses.
+    fn add_clauses(
+        &mut self,
+        installed: &Installed<'_, '_, '_>,
+        needer: u64,
+        depends: Formula<'_>,
+    ) -> Result<(), AllocError>
+        ensures { OnOk result ((place : ℕ) → kept_needer place self.new
+            ≡ with_clauses installed.now needer place (formula_view depends.entry) (kept_needer place self.old)) }
+    {
+        for clause in depends.clauses() {
+            let needed = installed.only_satisfying(clause);
+            self.add_other(needer, needed)?;
+        }
+        Ok(())
+    }
+
+    /// The place of the first package that needs the one at this place.
+    pub(super) fn find(&self, place: u64) -> Option<u64>
+        ensures { result ≡ kept_needer place self.now }
+    {
+        self.first.get(&place).copied()
+    }
+}
+
+/// Which package of a status needs which other one.
+pub(super) fn needers_of(
+    alloc: Global,
+    problem: &Problem<'_>,
+    status: &Status,
+    index: &Index<'_, '_>,
+) -> Result<Needers, AllocError>
+    requires { index.now ≡ members (set.contains status.now) problem.now.packages }
+    ensures { IfOk result (λ needers. (place : ℕ) → kept_needer place needers ≡ needed_by index.now place) }
+{
+    let installed = Installed::new(problem, status, index);
+    let mut needers = Needers::new(alloc);
+    for (before, package) in problem.packages().iter().enumerate() {
+        let place = before as u64 + 1;
+        if status.holds(place) {
+            needers.add_clauses(&installed, place, package.depends)?;
+        }
+    }
+    Ok(needers)
+}
