@@ -21,10 +21,11 @@ def place_of(package):
 
 
 class Explainer:
-    """What the whole problem has for what isn't satisfied, each clause and entry looked up once."""
+    """What the whole problem has for what isn't satisfied, each clause and entry looked up once, and what of one status
+    needs a package that meets an entry."""
 
     def __init__(self, packages):
-        self.packages, self.known = packages, {}
+        self.packages, self.known, self.needs = packages, {}, {}
         self.initial = [package for package in packages if package.installed]
 
     def would_do(self, wanted, is_satisfied):
@@ -48,6 +49,17 @@ class Explainer:
         """The first package of a name."""
         found = next((package for package in self.packages if package.name == name), None)
         return f"the problem has {place_of(found)}" if found else f"the problem has no {name}"
+
+    def needed(self, met, status):
+        """Where the package that meets an entry stands, and the first other one of the status that needs it: a clause of
+        its `depends` is satisfied by that package alone, and by no other of the status."""
+        if met.place not in self.needs:
+            needer = next((package for package in status if package != met and self.is_needed(met, package, status)), None)
+            self.needs[met.place] = f"line {met.line}, needed by {place_of(needer) if needer else 'nothing installed'}"
+        return self.needs[met.place]
+
+    def is_needed(self, met, package, status):
+        return any([other for other in status if satisfies_clause([other], clause)] == [met] for clause in package.depends)
 
 
 def many(now):
@@ -195,6 +207,7 @@ def fault_detail(data, fault):
 KINDS = (
     r": (E9) .*; \S+ is no (\w+), entry (\d+)", r": (E9) .*; \S+ is no (\w+)", r": (E10) .*; (declaration) (\d+)", r": (E\d+) .*;",
     r": (E10) bad declaration$", r"^\w+\.(depends|install|upgrade)\..*; (nothing)\b", r"^\w+\.(depends|install|upgrade)\..* (do|installed)$",
+    r"^\w+\.(conflicts|remove)\..* (nothing) installed$", r"^\w+\.(conflicts|remove)\..*, needed by \S+ \S+ line \d+$",
     r"^s\.(unknown)\..* (no) \S+$", r"^s\.(unknown)\..*;", r"^r\.upgrade\.\d+\.(many|lower) .*;",
 )
 

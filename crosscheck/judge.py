@@ -26,7 +26,8 @@ def violated_needs(package, status, explainer):
     others = [other for other in status if other.place != package.place]
     for entry, vpkg in enumerate(package.conflicts, 1):
         if satisfies(others, vpkg):
-            yield f"conflicts.{entry}", f"conflicts with {vpkg_text(vpkg)}, met by {meeting(others, vpkg)}", ""
+            met = meeting(others, vpkg)
+            yield f"conflicts.{entry}", f"conflicts with {vpkg_text(vpkg)}, met by {met.words()}", explainer.needed(met, status)
 
 
 def violated_keep(package, status):
@@ -55,7 +56,8 @@ def violated_request(request, initial, status, explainer):
             yield f"install.{entry}", f"needs {vpkg_text(vpkg)}", explainer.entry(vpkg)
     for entry, vpkg in enumerate(wished["remove"], 1):
         if satisfies(status, vpkg):
-            yield f"remove.{entry}", f"must remove {vpkg_text(vpkg)}, met by {meeting(status, vpkg)}", ""
+            met = meeting(status, vpkg)
+            yield f"remove.{entry}", f"must remove {vpkg_text(vpkg)}, met by {met.words()}", explainer.needed(met, status)
     for entry, vpkg in enumerate(wished["upgrade"], 1):
         name = vpkg[0]
         now, before = numbers(status, name), numbers(initial, name)

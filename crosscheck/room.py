@@ -268,6 +268,45 @@ def atoms(count):
     return check_explained(problem, installed(["a"], name="{}"), [line])
 
 
+def needed_in_turn(count):
+    """Packages that are all to go, each of which is needed by the one before."""
+    numbers = range(1, count + 1)
+    problem = packages(numbers, lambda number: f"depends: p{number + 1}\n" * (number < count))
+    needed = (f"p{number} 1 line {4 * number - 3}" if number else "nothing installed" for number in range(count))
+    lines = (
+        f"r.remove.{number} line {4 * count}: must remove p{number}, met by p{number} 1; line {4 * number - 3}, needed by {needer}"
+        for number, needer in enumerate(needed, 1)
+    )
+    return check_explained(problem + f"request:\nremove: {entries(count, 'p{}')}\n", installed(numbers), lines)
+
+
+def needed_by_all(count):
+    """Packages each of which needs the first one and conflicts with it."""
+    numbers = range(1, count + 1)
+    problem = packages(["base"], name="{}") + packages(numbers, lambda number: "depends: base\nconflicts: base\n") + "request:\n"
+    lines = (
+        f"p{number + 1}.conflicts.1 p{number} 1 line {5 * number - 1}: conflicts with base, met by base 1; "
+        "line 1, needed by p1 1 line 4" for number in numbers
+    )
+    return check_explained(problem, installed(["base"], name="{}") + installed(numbers), lines)
+
+
+def needed_for_an_atom(count):
+    """A package that is to go, which gives the last of many atoms of a clause."""
+    problem = f"package: a\nversion: 1\ndepends: {entries(count, 'x{}', ' | ')}\n\npackage: x{count}\nversion: 1\n\n"
+    line = f"r.remove.1 line 8: must remove x{count}, met by x{count} 1; line 5, needed by a 1 line 1"
+    return check_explained(problem + f"request:\nremove: x{count}\n", installed(["a", f"x{count}"], name="{}"), [line])
+
+
+def needed_for_numbers(count):
+    """A package that is to go and gives many numbers of a feature, beside one that needs each and one that gives another."""
+    text = entries(count, "f = {}")
+    problem = f"package: a\nversion: 1\ndepends: {text}\n\npackage: b\nversion: 1\nprovides: {text}\n\n"
+    problem += f"package: c\nversion: 1\nprovides: f = {count + 1}\n\nrequest:\nremove: b\n"
+    line = "r.remove.1 line 13: must remove b, met by b 1; line 5, needed by a 1 line 1"
+    return check_explained(problem, installed(["a", "b", "c"], name="{}"), [line])
+
+
 def wishes(count):
     """Entries of the request, each of which another package gives or none does."""
     numbers = range(1, count + 1)
@@ -415,6 +454,10 @@ EXPLAINED = (
     Case("explained: a later version, descending", 20_000, lambda n: later_versions(n, -1)),
     Case("explained: a later version, of which the last was installed", 20_000, installed_last),
     Case("explained: a clause of many atoms", 100_000, atoms),
+    Case("explained: each is needed by the one before", 20_000, needed_in_turn),
+    Case("explained: one that all need and conflict with", 20_000, needed_by_all),
+    Case("explained: needed for one of many atoms", 100_000, needed_for_an_atom),
+    Case("explained: needed for many numbers of a feature", 20_000, needed_for_numbers),
     Case("explained: wishes, given and not", 20_000, wishes),
     Case("explained: other versions of many names", 20_000, other_versions),
     Case("explained: other versions of one name", 20_000, unknown_versions),

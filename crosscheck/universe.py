@@ -80,4 +80,4 @@ def satisfies_clause(status, clause):
 
 def meeting(status, vpkg):
     """The first package that alone satisfies the vpkg."""
-    return next(package.words() for package in sorted(status, key=lambda p: p.place) if satisfies([package], vpkg))
+    return next(package for package in sorted(status, key=lambda p: p.place) if satisfies([package], vpkg))

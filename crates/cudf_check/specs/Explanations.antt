@@ -10,9 +10,10 @@ use Rattle.cudf_index.specs.Satisfaction.{numbers_of, first_named}
 use Rattle.cudf_job.specs.declared.key.Aspect.{Aspect}
 use Rattle.cudf_job.specs.declared.key.Aspect.TheVariants.{Unsatisfied, Many, Lower}
 use Rattle.cudf_referee.specs.Criteria.{universe}
-use Rattle.cudf_referee.specs.Explanations.{was_installed, would_do, least_of, greatest_of}
+use Rattle.cudf_referee.specs.Explanations.{was_installed, would_do, needed_by, least_of, greatest_of}
 use Rattle.cudf_referee.specs.Instances.{PlainWhat, needs, install, upgrade, unknown, PlainInstance}
 use Rattle.cudf_referee.specs.Proposals.{Proposal}
+use Rattle.cudf_referee.specs.Violations.{met_by}
 use Rattle.cudf_check.specs.Naming.{PlainOrigin, line_in}
 use Rattle.cudf_check.specs.Shown.{byte_digits, clipped}
 
@@ -73,13 +74,30 @@ status_added s (upgrade v) aspect subject = numbers_added s v.name aspect
 status_added s unknown aspect subject = unknown_added s subject
 status_added s what aspect subject = []
 
--- what the problem and the statuses say of a violated instance
-unfoldable pub explained : Proposal → PlainInstance → List ℕ
-explained s i = help_of s.problem i ++ status_added s i.what i.key.aspect i.subject
+-- the package that needs the one that meets an entry, where there is one
+abbrev pub needer_text : Option PlainPackage → List ℕ
+needer_text None = codes "nothing installed"
+needer_text (Some p) = stanza_text p
+
+-- `; line 13, needed by shop 1 line 1`, of the package that meets an entry, where there is one
+abbrev pub needed_text : Option PlainPackage → Option PlainPackage → List ℕ
+needed_text None needer = []
+needed_text (Some p) needer = codes "; line " ++ decimal p.line ++ codes ", needed by " ++ needer_text needer
+
+-- of the package at the place that meets an entry, and the first installed one that needs it
+abbrev pub needed_added : Proposal → Option ℕ → List ℕ
+needed_added s met = needed_text (option_and_then (package_at s.problem) met) (option_and_then (package_at s.problem) (option_and_then (needed_by s.proposed) met))
+
+-- what the problem and the statuses say of a violated instance, whose entry the package at this place meets
+unfoldable pub explained : Proposal → PlainInstance → Option ℕ → List ℕ
+explained s i met = help_of s.problem i ++ status_added s i.what i.key.aspect i.subject ++ needed_added s met
+
+abbrev pub met_added : Bool → Proposal → PlainInstance → Option ℕ → List ℕ
+met_added explain s i met = if explain then explained s i met else []
 
 -- what is added to its line, where lines are explained
 abbrev pub instance_added : Bool → Proposal → PlainInstance → List ℕ
-instance_added explain s i = if explain then explained s i else []
+instance_added explain s i = met_added explain s i (met_by s.proposed i)
 
 -- and to that of an instance of a problem, whatever the status
 abbrev pub reason_added : Bool → PlainProblem → PlainInstance → List ℕ

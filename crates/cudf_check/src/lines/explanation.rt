@@ -1,8 +1,9 @@
-//! Prints what the problem says beside a violated instance.
-ghost use Rattle.std.specs.Prelude.{◌≡◌, ◌++◌, Some, option_map, true};
+//! Prints what the problem and the statuses say beside a violated instance.
+ghost use Rattle.std.specs.Prelude.{◌≡◌, ◌++◌, Some, option_and_then, option_map, true};
 ghost use Rattle.cudf_problem.specs.Promises.Views.{package_view};
 ghost use Rattle.cudf_referee.specs.Promises.Views.{instance_view};
-ghost use Rattle.cudf_check.specs.Explanations.{stanza_text, explained, help_of, help_text, lacks_package, named_text, number_text, numbers_added, status_added, unknown_added, would_do_text};
+ghost use Rattle.cudf_referee.specs.Explanations.{needed_by};
+ghost use Rattle.cudf_check.specs.Explanations.{stanza_text, explained, help_of, help_text, lacks_package, named_text, needed_added, needed_text, needer_text, number_text, numbers_added, status_added, unknown_added, would_do_text};
 ghost use Rattle.cudf_check.specs.Working.Paper.{Says};
 
 use crate::device::Sink;
@@ -167,14 +168,61 @@ fn print_status<W: Sink>(
     }
 }
 
-/// Prints what the problem and the statuses say of an instance.
+/// Prints the package that needs another one, or that none does.
+fn print_needer<W: Sink>(paper: &mut Paper<'_, W>, needer: Option<&Package<'_>>)
+    ensures { Says W.state paper.old paper.new (needer_text (option_map (λ p. package_view p.now) needer.entry)) }
+{
+    match needer {
+        Some(package) => print_stanza(paper, package),
+        None => paper.text("nothing installed"),
+    }
+}
+
+/// Prints where the package stands that meets an entry, if there is one, and which one needs it.
+fn print_needed<W: Sink>(
+    paper: &mut Paper<'_, W>,
+    met: Option<&Package<'_>>,
+    needer: Option<&Package<'_>>,
+)
+    ensures { Says W.state paper.old paper.new (needed_text (option_map (λ p. package_view p.now) met.entry) (option_map (λ p. package_view p.now) needer.entry)) }
+{
+    if let Some(package) = met {
+        paper.text("; line ");
+        paper.number(package.line);
+        paper.text(", needed by ");
+        print_needer(paper, needer);
+    }
+}
+
+/// The place of the first installed package that needs the one at this place, if there is one.
+fn needer_of(explainer: &Explainer<'_, '_, '_>, met: Option<u64>) -> Option<u64>
+    ensures { result ≡ option_and_then (needed_by explainer.now.proposed) met }
+{
+    match met {
+        Some(place) => explainer.needed_by(place),
+        None => None,
+    }
+}
+
+/// Prints what is added of the package at the place that meets an entry.
+fn print_met<W: Sink>(paper: &mut Paper<'_, W>, explainer: &Explainer<'_, '_, '_>, met: Option<u64>)
+    ensures { Says W.state paper.old paper.new (needed_added explainer.now met) }
+{
+    let packages = explainer.remedies().packages();
+    let needer = package_at(packages, needer_of(explainer, met));
+    print_needed(paper, package_at(packages, met), needer);
+}
+
+/// Prints what the problem and the statuses say of an instance, whose entry the package at this place meets.
 pub(crate) fn print_explained<W: Sink>(
     paper: &mut Paper<'_, W>,
     explainer: &Explainer<'_, '_, '_>,
     instance: &Instance<'_>,
+    met: Option<u64>,
 )
-    ensures { Says W.state paper.old paper.new (explained explainer.now (instance_view instance.now)) }
+    ensures { Says W.state paper.old paper.new (explained explainer.now (instance_view instance.now) met) }
 {
     print_help(paper, explainer.remedies(), instance);
     print_status(paper, explainer, instance);
+    print_met(paper, explainer, met);
 }

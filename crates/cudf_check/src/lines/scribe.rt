@@ -31,7 +31,7 @@ impl<'r, 'p, 't> Model for Scribe<'r, 'p, 't> {
 impl<'r, 'p, 't> Scribe<'r, 'p, 't> {
     ghost use Rattle.std.specs.Prelude.{◌≡◌, IfOk};
     ghost use Rattle.cudf_referee.specs.Promises.Views.{instance_view};
-    ghost use Rattle.cudf_check.specs.Explanations.{instance_added};
+    ghost use Rattle.cudf_check.specs.Explanations.{met_added};
     ghost use Rattle.cudf_check.specs.Report.{instance_line};
     ghost use Rattle.cudf_check.specs.Working.Named.{origins_view};
     ghost use Rattle.cudf_check.specs.Working.Paper.{Says};
@@ -76,19 +76,26 @@ impl<'r, 'p, 't> Scribe<'r, 'p, 't> {
         ensures { Says W.state paper.old paper.new (instance_line self.now.explain self.now.origins self.now.judged (instance_view instance.now)) }
     {
         let referee = self.referee;
-        let met = package_at(referee.packages(), referee.met_by(instance));
+        let place = referee.met_by(instance);
+        let met = package_at(referee.packages(), place);
         let origin = self.origins.of(instance.key.part());
         print_instance(paper, origin, instance, met);
-        self.print_added(paper, instance);
+        self.print_added(paper, instance, place);
         paper.text("\n");
     }
 
-    /// Prints what the problem says beside an instance, where lines are explained.
-    fn print_added<W: Sink>(&self, paper: &mut Paper<'_, W>, instance: &Instance<'_>)
-        ensures { Says W.state paper.old paper.new (instance_added self.now.explain self.now.judged (instance_view instance.now)) }
+    /// Prints what the problem and the statuses say beside an instance, where lines are explained. The package at this
+    /// place meets its entry.
+    fn print_added<W: Sink>(
+        &self,
+        paper: &mut Paper<'_, W>,
+        instance: &Instance<'_>,
+        met: Option<u64>,
+    )
+        ensures { Says W.state paper.old paper.new (met_added self.now.explain self.now.judged (instance_view instance.now) met) }
     {
         if let Some(explainer) = &self.explainer {
-            print_explained(paper, explainer, instance);
+            print_explained(paper, explainer, instance, met);
         }
     }
 }

@@ -1,6 +1,6 @@
 use Rattle.std.proofs.Common.{◌++◌, ap}
 use Rattle.cudf_referee.specs.Promises.Views.{instance_view}
-use Rattle.cudf_check.specs.Explanations.{explained, help_of, status_added}
+use Rattle.cudf_check.specs.Explanations.{explained, help_of}
 use Rattle.cudf_check.proofs.PaperLemmas.{Says-as, ◌▸◌}
 use Rattle.cudf_check.proofs.lines.explanation.print_explained.Goals as goal
 
@@ -8,5 +8,4 @@ pub returns : goal.returns
 unfolding explained
 returns g c =
     let i = instance_view c.args.instance.now in
-    let s = c.args.explainer.now in
-    Says-as _ _ _ _ _ (ap (λ problem. help_of problem i ++ status_added s i.what i.key.aspect i.subject) c.remedies.ensures) (c.print_help.ensures ▸ c.print_status.ensures)
+    Says-as _ _ _ _ _ (ap (λ problem. help_of problem i) c.remedies.ensures) c.print_help.ensures ▸ c.print_status.ensures ▸ c.print_met.ensures

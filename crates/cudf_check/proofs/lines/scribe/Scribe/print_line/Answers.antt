@@ -1,7 +1,8 @@
-use Rattle.std.proofs.Common.{option_and_then, ap, ◌∙◌}
+use Rattle.std.proofs.Common.{◌≡◌, option_and_then, ap, ◌∙◌}
 use Rattle.cudf_problem.specs.Universe.{package_at}
 use Rattle.cudf_referee.specs.Promises.Views.{instance_view}
 use Rattle.cudf_referee.specs.Violations.{met_by}
+use Rattle.cudf_check.specs.Explanations.{met_added}
 use Rattle.cudf_check.specs.Naming.{origin_of}
 use Rattle.cudf_check.specs.Report.{met_text}
 use Rattle.cudf_check.specs.Working.Named.{origins_view}
@@ -12,7 +13,9 @@ pub returns : goal.returns
 returns g c =
     let i = instance_view c.args.instance.now in
     let s = c.self.inside.referee.now in
-    let met = c.package_at-met.ensures s.problem c.packages.ensures ∙ ap (option_and_then (package_at s.problem)) c.met_by.ensures
-    ∙ ap (λ w. option_and_then (package_at w.judged.problem) (met_by w.judged.proposed i)) c.self.view_is in
+    let w = c.args.self.now in
+    let place : c.met_by-place.result ≡ met_by w.judged.proposed i = c.met_by-place.ensures ∙ ap (λ w. met_by w.judged.proposed i) c.self.view_is in
+    let met = c.package_at-met.ensures s.problem c.packages.ensures ∙ (λ k. option_and_then (package_at (c.self.view_is k).judged.problem) (place k)) in
     let origin = c.of-origin.ensures ∙ ap (origin_of (origins_view c.self.inside.origins)) c.part.ensures.value ∙ ap (λ w. origin_of w.origins i.key.part) c.self.view_is in
-    Says-as _ _ _ _ _ (λ k. met_text (origin k) i (met k)) c.print_instance.ensures ▸ (c.print_added.ensures ▸ c.text.ensures)
+    Says-as _ _ _ _ _ (λ k. met_text (origin k) i (met k)) c.print_instance.ensures
+    ▸ (Says-as _ _ _ _ _ (ap (met_added w.explain w.judged i) place) c.print_added.ensures ▸ c.text.ensures)
