@@ -1,50 +1,44 @@
 -- Files in a row: the devices over them, and the bytes that these give.
-use Rattle.std.proofs.Common.{◌≡◌, ◌≤◌, ℕ, suc, true, List, [], ◌∷◌, ◌++◌, map, Vec, Global, length, slice_index_or, nat_lt, Option, Some, None, Result, Ok, Err, MatchResult, inl, refl, sym, ap, ◌∙◌, subst, arith}
+use Rattle.std.proofs.Common.{◌≡◌, ◌≢◌, ◌+◌, ◌<◌, ◌≤◌, ◌⊎◌, ℕ, Bool, suc, zero, true, false, cond, ◌||◌, List, [], ◌∷◌, ◌++◌, map, take, drop, count_by, Vec, Global, length, get_or, nat_lt, IfOk, IsErrOf, ◌↔◌, IfSome, Option, Some, None, option_map, Result, Ok, Err, MatchResult, IsErr, inl, inr, refl, sym, ap, ◌∙◌, subst, arith}
 use Rattle.std.proofs.lemmas.Grind.{common_steps}
+use Rattle.std.proofs.lemmas.Bool.{cases_lt, ltb-false}
+use Rattle.std.proofs.lemmas.List.Sums.{sum_by-cons, sum_by-drop_more}
 use Rattle.std.specs.List.{AllZip}
 use Rattle.std.specs.Option.{option_to_list}
-use Rattle.cudf_check.specs.ManyRuns.{LeavesBehind}
-use Rattle.cudf_check.specs.Readers.{Change, ReadsAll, change, changes}
-use Rattle.cudf_check.specs.Runs.{AppendsPrefix, Runs, job_report, read_for}
+use Rattle.std.specs.Result.{IsErrAnd}
+use Rattle.std.specs.declared.io.Error.{Error}
+use Rattle.cudf_check.specs.Readers.{Change, IsTooLong, OfOne, ReadsAll, change, changes, most_bytes}
+use Rattle.cudf_check.specs.Runs.{AppendsPrefix, OfReport as Whole, Runs, job_report, read_for}
 use Rattle.cudf_check.specs.RankReport.{rank_report}
 use Rattle.cudf_check.specs.Report.{Report, report}
 use Rattle.cudf_job.specs.declared.job.Job.{Job}
 use Rattle.cudf_job.specs.declared.job.Job.TheVariants.{Lint, Check, Score, Cnf, Refute}
 use Rattle.std.specs.Io.KnownBytes.{Appends, Consumes, Keeps}
-use Rattle.std.proofs.lemmas.Result.{IfOk-weaker}
 use Rattle.cudf_check.specs.Device.{SinkState, SourceState}
-use Rattle.cudf_check.specs.DeviceInside.{device_inner}
-use Rattle.cudf_check.specs.declared.device.Device.{Device}
+use Rattle.cudf_check.specs.Naming.{Names, names_of}
 use Rattle.cudf_check.specs.declared.outcome.Outcome.{Outcome}
 use Rattle.cudf_check.specs.declared.outcome.RunError.{RunError}
+use Rattle.cudf_check.specs.declared.outcome.RunError.TheVariants.{TooLong, Write}
 use Rattle.cudf_problem.specs.declared.mode.Mode.{Mode}
 use Rattle.cudf_job.specs.declared.aims.Aim.{Aim}
-use Rattle.cudf_program.specs.Program.{AreOpened, Did, DidOrder, Finishes, IsFailureOf, IsKnownAs, IsNamed, IsOfFile, IsPrepared, IsTask, OfReport, Responds, known_of, left_of, origin_left}
+use Rattle.cudf_program.specs.Failure.{IsStatusOf, Prints, failure_status}
+use Rattle.cudf_program.specs.Inputs.{IsFirstUnopened, IsGivenFor, IsHeldBy, IsOpenable, IsOpenedAs, IsThere, IsUnopened, KeepsGiven, Opens, ReaderOf, left_behind}
+use Rattle.cudf_program.specs.Program.{AreShort, Did, Fails, Finishes, IsDone, IsKnownAs, IsTried, OfReport, labels, names_in, read_by, texts_read, work_report}
+use Rattle.cudf_command_line.specs.Command.{is_standard, takes_standard, takes_standard_twice}
 use Rattle.cudf_command_line.specs.declared.command.FileName.{FileName}
-use Rattle.cudf_command_line.specs.declared.command.Order.{Order}
-use Rattle.cudf_command_line.specs.declared.command.Work.TheVariants.{Run as RunOf, Rank as RankOf}
-use Rattle.cudf_command_line.specs.Orders.{IsAskedFor}
-use Rattle.cudf_program.specs.declared.failure.Failure.{Failure}
-use Rattle.cudf_program.specs.declared.failure.Failure.TheVariants as reason
-use Rattle.cudf_program.specs.declared.file.Input.{Input}
-use Rattle.cudf_program.specs.declared.file.Origin.{Origin}
-use Rattle.cudf_program.specs.declared.file.Origin.TheVariants as origin
-use Rattle.cudf_program.specs.declared.Task.{Task}
 use Rattle.cudf_command_line.specs.declared.command.FileName.TheVariants.{Path, Standard}
+use Rattle.cudf_command_line.specs.declared.command.Order.{Order}
+use Rattle.cudf_command_line.specs.declared.command.Work.{Work}
+use Rattle.cudf_command_line.specs.declared.command.Work.TheVariants.{Run as RunOf, Rank as RankOf}
+use Rattle.cudf_program.specs.declared.failure.Failure.{Failure}
+use Rattle.cudf_program.specs.declared.Task.{Task}
 
 -- ---- bytes
 
 all_known : (reader : Change SourceState) (bytes : List ℕ) → ReadsAll reader bytes → IsKnownAs reader.before.remaining bytes
 all_known reader bytes h = grind (arith, common_steps)
 
--- as many are returned as were lent
-pub same_length : {D : Type 0} (P : D → D → Type 0) (olds news : List D) → LeavesBehind P olds news → length news ≡ length olds
-same_length P [] [] m = refl
-same_length P [] (new ∷ news) m = absurd m
-same_length P (old ∷ olds) [] m = absurd m
-same_length P (old ∷ olds) (new ∷ news) m = ap suc (same_length P olds news m.1)
-
-pub each_known : {D : Type 0} (state : D → SourceState) (left : D → Option (List ℕ)) → ((d : D) → left d ≡ (state d).remaining)
+each_known : {D : Type 0} (state : D → SourceState) (left : D → Option (List ℕ)) → ((d : D) → left d ≡ (state d).remaining)
     → (olds news : List D) (texts : List (List ℕ)) → length news ≡ length olds → AllZip ReadsAll (changes state olds news) texts → AllZip IsKnownAs (map left olds) texts
 each_known state left is [] [] [] same m = tt
 each_known state left is [] [] (t ∷ texts) same m = absurd m
@@ -53,6 +47,18 @@ each_known state left is (old ∷ olds) [] texts same m = absurd (omega arith)
 each_known state left is (old ∷ olds) (new ∷ news) [] same m = absurd m
 each_known state left is (old ∷ olds) (new ∷ news) (t ∷ texts) same m =
     (subst (λ known. IsKnownAs known t) (sym (is old)) (all_known (change state old new) t m.0), each_known state left is olds news texts (omega arith) m.1)
+
+all_short : (readers : List (Change SourceState)) (texts : List (List ℕ)) → AllZip ReadsAll readers texts → (OfOne IsTooLong readers → ⊥) → AreShort texts
+all_short [] [] m none = tt
+all_short [] (t ∷ texts) m none = absurd m
+all_short (reader ∷ readers) [] m none = absurd m
+all_short (reader ∷ readers) (t ∷ texts) m none = (
+  elim (cases_lt most_bytes (length t)) [
+    | inl long ↦ absurd (none (inl (omega (arith, m.0.counted))))
+    | inr short ↦ short
+  ],
+  all_short readers texts m.1 (λ h. none (inr h)),
+)
 
 -- a read that gave no byte leaves what is known as it was
 pub kept : (old new : Option (List ℕ)) (bytes : List ℕ) → bytes ≡ [] → Consumes old new bytes → Keeps old new
@@ -73,150 +79,286 @@ filled (None ∷ known) = (tt, filled known)
 filled (Some bytes ∷ known) = (refl, filled known)
 
 -- what is known of the solutions, of which a run has read the first
-abbrev pub knowns : Option (Change SourceState) → List (Option (List ℕ)) → List (Option (List ℕ))
+abbrev knowns : Option (Change SourceState) → List (Option (List ℕ)) → List (Option (List ℕ))
 knowns None rest = []
 knowns (Some reader) rest = reader.before.remaining ∷ rest
 
--- texts of which this is known, with the same report as these
-abbrev HasOthers : Job → Mode → List ℕ → List (List ℕ) → List (Option (List ℕ)) → Type 0
-HasOthers job mode text texts known = (others : List (List ℕ)) × AllZip IsKnownAs known others × (job_report job mode text texts ≡ job_report job mode text others)
+-- their names
+abbrev names_known : Option (Change SourceState) → List (Option (List ℕ)) → List (Option (List ℕ))
+names_known None rest = []
+names_known (Some reader) rest = reader.before.name ∷ rest
 
-read_alone : (job : Job) (mode : Mode) (text : List ℕ) (reader : Change SourceState) (texts : List (List ℕ)) (rest : List (Option (List ℕ)))
-    → AllZip ReadsAll (reader ∷ []) texts → HasOthers job mode text texts (reader.before.remaining ∷ rest)
-read_alone job mode text reader [] rest h = absurd h
-read_alone job mode text reader (bytes ∷ []) rest h = (bytes ∷ map filling rest, (all_known reader bytes h.0, filled rest), refl)
-read_alone job mode text reader (bytes ∷ other ∷ texts) rest h = absurd h.1
+-- the names of a run's inputs
+abbrev all_names : Change SourceState → Option (Change SourceState) → List (Option (List ℕ)) → Names
+all_names input solution rest = record { first = input.before.name; others = names_known solution rest }
 
-others_of : (job : Job) (mode : Mode) (text : List ℕ) (solution : Option (Change SourceState)) (texts : List (List ℕ)) (rest : List (Option (List ℕ)))
-    → AllZip ReadsAll (read_for job (option_to_list solution)) texts → HasOthers job mode text texts (knowns solution rest)
+-- texts of which this is known, with the same report under all names as these have under the names of the inputs that are read
+abbrev HasOthers : Job → Mode → Names → Names → List ℕ → List (List ℕ) → List (Option (List ℕ)) → Type 0
+HasOthers job mode read all text texts known = (others : List (List ℕ)) × AllZip IsKnownAs known others × (job_report job mode read text texts ≡ job_report job mode all text others) × AreShort (texts_read (RunOf job) others)
+
+others_of : (job : Job) (mode : Mode) (text : List ℕ) (input : Change SourceState) (solution : Option (Change SourceState)) (texts : List (List ℕ)) (names rest : List (Option (List ℕ)))
+    → AllZip ReadsAll (read_for job (option_to_list solution)) texts → AreShort texts
+    → HasOthers job mode (names_of input (read_for job (option_to_list solution))) (all_names input solution names) text texts (knowns solution rest)
 unfolding report
-others_of (Lint explain) mode text None [] rest h = ([], tt, refl)
-others_of (Lint explain) mode text None (bytes ∷ texts) rest h = absurd h
-others_of (Check after limit explain) mode text None [] rest h = ([], tt, refl)
-others_of (Check after limit explain) mode text None (bytes ∷ texts) rest h = absurd h
-others_of (Score aims) mode text None [] rest h = ([], tt, refl)
-others_of (Score aims) mode text None (bytes ∷ texts) rest h = absurd h
-others_of Cnf mode text None [] rest h = ([], tt, refl)
-others_of Cnf mode text None (bytes ∷ texts) rest h = absurd h
-others_of (Refute explain) mode text None [] rest h = ([], tt, refl)
-others_of (Refute explain) mode text None (bytes ∷ texts) rest h = absurd h
-others_of (Lint explain) mode text (Some reader) texts rest h = (map filling (knowns (Some reader) rest), filled (knowns (Some reader) rest), refl)
-others_of (Check after limit explain) mode text (Some reader) texts rest h = read_alone (Check after limit explain) mode text reader texts rest h
-others_of (Score aims) mode text (Some reader) texts rest h = read_alone (Score aims) mode text reader texts rest h
-others_of Cnf mode text (Some reader) texts rest h = (map filling (knowns (Some reader) rest), filled (knowns (Some reader) rest), refl)
-others_of (Refute explain) mode text (Some reader) texts rest h = read_alone (Refute explain) mode text reader texts rest h
+others_of (Lint explain) mode text input None [] names rest h short = ([], tt, refl, tt)
+others_of (Lint explain) mode text input None (bytes ∷ texts) names rest h short = absurd h
+others_of (Check after limit explain) mode text input None [] names rest h short = ([], tt, refl, tt)
+others_of (Check after limit explain) mode text input None (bytes ∷ texts) names rest h short = absurd h
+others_of (Score aims) mode text input None [] names rest h short = ([], tt, refl, tt)
+others_of (Score aims) mode text input None (bytes ∷ texts) names rest h short = absurd h
+others_of Cnf mode text input None [] names rest h short = ([], tt, refl, tt)
+others_of Cnf mode text input None (bytes ∷ texts) names rest h short = absurd h
+others_of (Refute explain) mode text input None [] names rest h short = ([], tt, refl, tt)
+others_of (Refute explain) mode text input None (bytes ∷ texts) names rest h short = absurd h
+others_of (Lint explain) mode text input (Some reader) texts names rest h short = (map filling (knowns (Some reader) rest), filled (knowns (Some reader) rest), refl, tt)
+others_of Cnf mode text input (Some reader) texts names rest h short = (map filling (knowns (Some reader) rest), filled (knowns (Some reader) rest), refl, tt)
+others_of (Check after limit explain) mode text input (Some reader) [] names rest h short = absurd h
+others_of (Check after limit explain) mode text input (Some reader) (bytes ∷ []) names rest h short = (bytes ∷ map filling rest, (all_known reader bytes h.0, filled rest), refl, (short.0, tt))
+others_of (Check after limit explain) mode text input (Some reader) (bytes ∷ other ∷ texts) names rest h short = absurd h.1
+others_of (Score aims) mode text input (Some reader) [] names rest h short = absurd h
+others_of (Score aims) mode text input (Some reader) (bytes ∷ []) names rest h short = (bytes ∷ map filling rest, (all_known reader bytes h.0, filled rest), refl, (short.0, tt))
+others_of (Score aims) mode text input (Some reader) (bytes ∷ other ∷ texts) names rest h short = absurd h.1
+others_of (Refute explain) mode text input (Some reader) [] names rest h short = absurd h
+others_of (Refute explain) mode text input (Some reader) (bytes ∷ []) names rest h short = (bytes ∷ map filling rest, (all_known reader bytes h.0, filled rest), refl, (short.0, tt))
+others_of (Refute explain) mode text input (Some reader) (bytes ∷ other ∷ texts) names rest h short = absurd h.1
 
-of_run : (P : Report → Type 0) (job : Job) (mode : Mode) (input : Change SourceState) (solution : Option (Change SourceState)) (rest : List (Option (List ℕ)))
-    (text : List ℕ) (texts : List (List ℕ)) → ReadsAll input text → AllZip ReadsAll (read_for job (option_to_list solution)) texts → P (job_report job mode text texts)
-    → OfReport (RunOf job) mode input.before.remaining (knowns solution rest) P
-of_run P job mode input solution rest text texts first_read others_read holds =
-    let o : HasOthers job mode text texts (knowns solution rest) = others_of job mode text solution texts rest others_read in
-    record { first = text; others = o.0; first_is = all_known input text first_read; others_are = o.1; holds = subst P o.2 holds }
+of_run : (P : Report → Type 0) (job : Job) (mode : Mode) (input : Change SourceState) (solution : Option (Change SourceState)) (names rest : List (Option (List ℕ)))
+    → (IsTooLong input ⊎ OfOne IsTooLong (read_for job (option_to_list solution)) → ⊥) → Whole (job_report job mode) input (read_for job (option_to_list solution)) P
+    → OfReport (RunOf job) mode (all_names input solution names) input.before.remaining (knowns solution rest) P
+of_run P job mode input solution names rest none h =
+    let short : AreShort (h.text ∷ h.texts) = all_short (input ∷ read_for job (option_to_list solution)) (h.text ∷ h.texts) (h.first_read, h.others_read) none in
+    let o : HasOthers job mode (names_of input (read_for job (option_to_list solution))) (all_names input solution names) h.text h.texts (knowns solution rest)
+    = others_of job mode h.text input solution h.texts names rest h.others_read short.1 in
+    record { first = h.text; others = o.0; first_is = all_known input h.text h.first_read; others_are = o.1; short = (short.0, o.3); holds = subst P o.2 h.holds }
+
+-- an outcome, or a failed write, comes of no input that is too long
+done_then : {L : Type 0} {P Q : Outcome → Type 0} (result : Result Outcome RunError) → (IsErrOf result TooLong ↔ L) → ((outcome : Outcome) → (L → ⊥) → P outcome → Q outcome) → IfOk result P → IfOk result Q
+done_then (Ok outcome) long f h = f outcome (λ l. absurd (not_err outcome (long.1 l))) h
+  where
+    not_err : (outcome : Outcome) → IsErrOf (Ok outcome) TooLong → ⊥
+    not_err outcome e = cc
+done_then (Err error) long f h = h
+
+not_long : {L : Type 0} (result : Result Outcome RunError) → (IsErrOf result TooLong ↔ L) → IsErrOf result Write → L → ⊥
+not_long result long failed l = let told : IsErrOf result TooLong = long.1 l in cc
 
 -- a run on a problem, and on the first solution where there is one
-pub did_run : (job : Job) (mode : Mode) (input : Change SourceState) (solution : Option (Change SourceState)) (rest : List (Option (List ℕ)))
+did_run : (job : Job) (mode : Mode) (input : Change SourceState) (solution : Option (Change SourceState)) (names rest : List (Option (List ℕ)))
     (out : Change SinkState) (result : Result Outcome RunError) → Runs (job_report job mode) input (read_for job (option_to_list solution)) out result
-    → Did (RunOf job) mode input.before.remaining (knowns solution rest) out.before out.after result
-did_run job mode input solution rest out result runs = record {
-  done = IfOk-weaker result _ _ (λ outcome h. of_run (λ r. Appends out.before.contents out.after.contents r.text × (outcome ≡ r.outcome)) job mode input solution rest h.text h.texts h.first_read h.others_read h.holds) runs.done;
-  cut_short = λ failed. let h = runs.cut_short failed in of_run (λ r. AppendsPrefix out.before.contents out.after.contents r.text) job mode input solution rest h.text h.texts h.first_read h.others_read h.holds;
+    → Did (RunOf job) mode (all_names input solution names) input.before.remaining (knowns solution rest) out result
+did_run job mode input solution names rest out result runs = record {
+  done = done_then result runs.too_long (λ outcome none h. of_run (λ r. Appends out.before.contents out.after.contents r.text × (outcome ≡ r.outcome)) job mode input solution names rest none h) runs.done;
+  cut_short = λ failed. of_run (λ r. AppendsPrefix out.before.contents out.after.contents r.text) job mode input solution names rest (not_long result runs.too_long failed) (runs.cut_short failed);
   untouched = runs.untouched;
   write = runs.write;
 }
-
-first_item : {D : Type 0} (d : D) (olds : List D) → true ≡ nat_lt 0 (length olds) → d ≡ slice_index_or olds 0 d → (rest : List D) × (olds ≡ d ∷ rest)
-first_item d [] some is = absurd cc
-first_item d (old ∷ olds) some is = (olds, ap (λ first. first ∷ olds) (sym is))
-
--- a run where there is no device of a solution
-pub did_alone : {D : Type 0} (state : D → SourceState) (job : Job) (mode : Mode) (input : Change SourceState) (olds : List D)
-    (out : Change SinkState) (result : Result Outcome RunError) → length olds ≤ 0 → Runs (job_report job mode) input (read_for job []) out result
-    → Did (RunOf job) mode input.before.remaining (map (λ d. (state d).remaining) olds) out.before out.after result
-did_alone state job mode input [] out result none runs = did_run job mode input None [] out result runs
-did_alone state job mode input (old ∷ olds) out result none runs = absurd (omega arith)
-
--- a run on the first of these devices
-pub did_first : {D : Type 0} (state : D → SourceState) (job : Job) (mode : Mode) (input : Change SourceState) (olds : List D) (old : D) (reader : Change SourceState)
-    (out : Change SinkState) (result : Result Outcome RunError) → true ≡ nat_lt 0 (length olds) → old ≡ slice_index_or olds 0 old → reader.before ≡ state old
-    → Runs (job_report job mode) input (read_for job (reader ∷ [])) out result
-    → Did (RunOf job) mode input.before.remaining (map (λ d. (state d).remaining) olds) out.before out.after result
-did_first state job mode input olds old reader out result some is first runs =
-    let more = first_item old olds some is in
-    let rest = map (λ d. (state d).remaining) more.0 in
-    subst (λ ds. Did (RunOf job) mode input.before.remaining (map (λ d. (state d).remaining) ds) out.before out.after result) (sym more.1)
-    (subst (λ (s : SourceState). Did (RunOf job) mode input.before.remaining (s.remaining ∷ rest) out.before out.after result) first
-    (did_run job mode input (Some reader) rest out result runs))
 
 -- ---- rankings
 
+-- the names of readers are those that they had before
+same_names : {D : Type 0} (state : D → SourceState) (olds news : List D) → length news ≡ length olds → map (λ r. r.before.name) (changes state olds news) ≡ map (λ d. (state d).name) olds
+same_names state [] [] same = refl
+same_names state [] (new ∷ news) same = absurd (omega arith)
+same_names state (old ∷ olds) [] same = absurd (omega arith)
+same_names state (old ∷ olds) (new ∷ news) same = ap (λ names. (state old).name ∷ names) (same_names state olds news (omega arith))
+
 of_ranking : {D : Type 0} (P : Report → Type 0) (state : D → SourceState) (aims : Vec Aim Global) (mode : Mode) (problem : Change SourceState) (olds news : List D)
-    (text : List ℕ) (texts : List (List ℕ)) → length news ≡ length olds → ReadsAll problem text → AllZip ReadsAll (changes state olds news) texts → P (rank_report aims.items mode text texts)
-    → OfReport (RankOf aims) mode problem.before.remaining (map (λ d. (state d).remaining) olds) P
-of_ranking P state aims mode problem olds news text texts same first_read others_read holds = record {
-  first = text;
-  others = texts;
-  first_is = all_known problem text first_read;
-  others_are = each_known state (λ d. (state d).remaining) (λ d. refl) olds news texts same others_read;
-  holds = holds;
+    → length news ≡ length olds → (IsTooLong problem ⊎ OfOne IsTooLong (changes state olds news) → ⊥) → Whole (rank_report aims.items mode) problem (changes state olds news) P
+    → OfReport (RankOf aims) mode (record { first = problem.before.name; others = map (λ d. (state d).name) olds }) problem.before.remaining (map (λ d. (state d).remaining) olds) P
+of_ranking P state aims mode problem olds news same none h = record {
+  first = h.text;
+  others = h.texts;
+  first_is = all_known problem h.text h.first_read;
+  others_are = each_known state (λ d. (state d).remaining) (λ d. refl) olds news h.texts same h.others_read;
+  short = all_short (problem ∷ changes state olds news) (h.text ∷ h.texts) (h.first_read, h.others_read) none;
+  holds = subst (λ names. P (rank_report aims.items mode (record { first = problem.before.name; others = names }) h.text h.texts)) (same_names state olds news same) h.holds;
 }
 
--- a ranking, by the bytes that its inputs still give
-pub did_ranking : {D : Type 0} (state : D → SourceState) (aims : Vec Aim Global) (mode : Mode) (problem : Change SourceState) (olds news : List D)
+did_ranking : {D : Type 0} (state : D → SourceState) (aims : Vec Aim Global) (mode : Mode) (problem : Change SourceState) (olds news : List D)
     (out : Change SinkState) (result : Result Outcome RunError) → length news ≡ length olds → Runs (rank_report aims.items mode) problem (changes state olds news) out result
-    → Did (RankOf aims) mode problem.before.remaining (map (λ d. (state d).remaining) olds) out.before out.after result
+    → Did (RankOf aims) mode (record { first = problem.before.name; others = map (λ d. (state d).name) olds }) problem.before.remaining (map (λ d. (state d).remaining) olds) out result
 did_ranking state aims mode problem olds news out result same runs = record {
-  done = IfOk-weaker result _ _ (λ outcome h. of_ranking (λ r. Appends out.before.contents out.after.contents r.text × (outcome ≡ r.outcome)) state aims mode problem olds news h.text h.texts same h.first_read h.others_read h.holds) runs.done;
-  cut_short = λ failed. let h = runs.cut_short failed in of_ranking (λ r. AppendsPrefix out.before.contents out.after.contents r.text) state aims mode problem olds news h.text h.texts same h.first_read h.others_read h.holds;
+  done = done_then result runs.too_long (λ outcome none h. of_ranking (λ r. Appends out.before.contents out.after.contents r.text × (outcome ≡ r.outcome)) state aims mode problem olds news same none h) runs.done;
+  cut_short = λ failed. of_ranking (λ r. AppendsPrefix out.before.contents out.after.contents r.text) state aims mode problem olds news same (not_long result runs.too_long failed) (runs.cut_short failed);
   untouched = runs.untouched;
   write = runs.write;
 }
 
--- ---- what an order did
+-- ---- work
 
--- what is known of a file's bytes is what is known of those of its input
-opened_known : {I : Type 0} (left : I → Option (List ℕ)) (standard : I) (name : FileName) (opened : Origin I) → IsNamed standard name opened
-    → origin_left left opened ≡ known_of (left standard) name
-opened_known left standard (Path path) (origin.File file) is = refl
-opened_known left standard (Path path) (origin.Standard other) is = absurd is
-opened_known left standard Standard (origin.File file) is = absurd is
-opened_known left standard Standard (origin.Standard other) is = ap left is
+-- what was done to devices is what was done to inputs of which they tell the bytes
+pub did : {D : Type 0} (state : D → SourceState) (work : Work) (mode : Mode) (problem : Change SourceState) (olds news : List D)
+    (out : Change SinkState) (result : Result Outcome RunError) → length news ≡ length olds
+    → Runs (work_report work mode) problem (read_by work (changes state olds news)) out result
+    → Did work mode (record { first = problem.before.name; others = map (λ d. (state d).name) olds }) problem.before.remaining (map (λ d. (state d).remaining) olds) out result
+did state (RankOf aims) mode problem olds news out result same runs = did_ranking state aims mode problem olds news out result same runs
+did state (RunOf job) mode problem [] news out result same runs = did_run job mode problem None [] [] out result runs
+did state (RunOf job) mode problem (old ∷ olds) [] out result same runs = absurd (omega arith)
+did state (RunOf job) mode problem (old ∷ olds) (new ∷ news) out result same runs =
+    did_run job mode problem (Some (change state old new)) (map (λ d. (state d).name) olds) (map (λ d. (state d).remaining) olds) out result runs
 
-all_opened_known : {I : Type 0} (left : I → Option (List ℕ)) (standard : I) (names : List FileName) (devices : List (Device (Input I))) → AreOpened standard names devices
-    → map (left_of left) devices ≡ map (known_of (left standard)) names
-all_opened_known left standard [] [] are = refl
-all_opened_known left standard [] (device ∷ devices) are = absurd are
-all_opened_known left standard (name ∷ names) [] are = absurd are
-all_opened_known left standard (name ∷ names) (device ∷ devices) are =
-    ap (λ first. first ∷ map (left_of left) devices) (opened_known left standard name (device_inner device).origin are.0)
-    ∙ ap (λ others. known_of (left standard) name ∷ others) (all_opened_known left standard names devices are.1)
+-- ---- files by name
 
-pub did : {I : Type 0} (left : I → Option (List ℕ)) (standard : I) (order : Order) (task : Task I) (before after : SinkState) (answer : Result Outcome RunError)
-    → IsTask standard order task → Did task.order.work task.order.mode (left_of left task.problem) (map (left_of left) task.solutions.items) before after answer
-    → DidOrder order (left standard) before after answer
-did left standard order task before after answer is performed =
-    let solutions = map (known_of (left standard)) order.solutions.items in
-    subst (λ known. Did order.work order.mode known solutions before after answer) (opened_known left standard order.problem (device_inner task.problem).origin is.problem_is)
-    (subst (λ known. Did order.work order.mode (left_of left task.problem) known before after answer)
-    (all_opened_known left standard order.solutions.items task.solutions.items is.solutions_are)
-    (subst (λ (o : Order). Did o.work o.mode (left_of left task.problem) (map (left_of left) task.solutions.items) before after answer) is.order_is performed))
+-- where standard input isn't given, no file is named `-`
+pub held_anyway : (opens : Opens) (standard : Option (Option (List ℕ))) (name : FileName) (known : Option (List ℕ))
+    → IsHeldBy opens None name known → IsHeldBy opens standard name known
+held_anyway opens standard (Path path) known h = h
+held_anyway opens standard Standard known h = absurd h
 
--- what is finished is what the words ask for
-pub answered : {I : Type 0} (words : List (List ℕ)) (left : I → Option (List ℕ)) (standard : I) (task : Task I) (before after : SinkState) (status : ℕ)
-    → IsPrepared words standard task → Finishes left task before after status → Responds words (left standard) before after status
-answered words left standard task before after status prepared finished = inl (record {
-  order = prepared.0;
-  asked = prepared.1;
+-- what is held of what a file left behind is held of what was there before
+pub held_behind : {S : Type 0} (opens : Opens) (left : S → Option (List ℕ)) (first : FileName) (standard : Option S) (name : FileName) (known : Option (List ℕ))
+    → IsHeldBy opens (option_map left (left_behind first standard)) name known → IsHeldBy opens (option_map left standard) name known
+held_behind opens left (Path path) standard name known h = h
+held_behind opens left Standard standard name known h = held_anyway opens (option_map left standard) name known h
+
+-- what is held of what is there now is held of what was there at the start, if that is the same
+pub held_from : {S : Type 0} (opens : Opens) (left : S → Option (List ℕ)) (start now : Option S) (name : FileName) (known : Option (List ℕ))
+    → IfSome now (λ given. start ≡ Some given) → IsHeldBy opens (option_map left now) name known → IsHeldBy opens (option_map left start) name known
+held_from opens left start None name known same h = held_anyway opens (option_map left start) name known h
+held_from opens left start (Some given) name known same h = subst (λ standard. IsHeldBy opens (option_map left standard) name known) (sym same) h
+
+pub same_behind : {S : Type 0} (start now : Option S) (name : FileName) → IfSome now (λ given. start ≡ Some given) → IfSome (left_behind name now) (λ given. start ≡ Some given)
+same_behind start now (Path path) same = same
+same_behind start now Standard same = tt
+
+pub keeps_all : (known : Option (List ℕ)) → Keeps known known
+keeps_all None = tt
+keeps_all (Some bytes) = refl
+
+keeps_on : (old mid new : Option (List ℕ)) → Keeps old mid → Keeps mid new → Keeps old new
+keeps_on None mid new h k = tt
+keeps_on (Some xs) None new h k = absurd h
+keeps_on (Some xs) (Some ys) None h k = absurd k
+keeps_on (Some xs) (Some ys) (Some zs) h k = k ∙ h
+
+pub held_before : (opens : Opens) (old new : Option (Option (List ℕ))) (name : FileName) (known : Option (List ℕ))
+    → KeepsGiven old new → IsHeldBy opens new name known → IsHeldBy opens old name known
+held_before opens old new (Path path) known keeps h = h
+held_before opens old None Standard known keeps h = absurd h
+held_before opens None (Some new) Standard known keeps h = absurd keeps
+held_before opens (Some old) (Some new) Standard known keeps h = keeps_on old new known keeps h
+
+pub each_weaker : {A B : Type 0} (R S : A → B → Type 0) → ((a : A) (b : B) → R a b → S a b) → (xs : List A) (ys : List B) → AllZip R xs ys → AllZip S xs ys
+each_weaker R S weaker [] [] h = tt
+each_weaker R S weaker [] (y ∷ ys) h = absurd h
+each_weaker R S weaker (x ∷ xs) [] h = absurd h
+each_weaker R S weaker (x ∷ xs) (y ∷ ys) h = (weaker x y h.0, each_weaker R S weaker xs ys h.1)
+
+-- what is known of files is what is known of the inputs under their devices
+each_held : {F S : Type 0} (opens : Opens) (standard : Option (Option (List ℕ))) (left : ReaderOf F S → Option (List ℕ)) (names : List FileName) (devices : List (ReaderOf F S))
+    → AllZip (IsOpenedAs opens standard left) names devices → AllZip (IsHeldBy opens standard) names (map left devices)
+each_held opens standard left [] [] h = tt
+each_held opens standard left [] (device ∷ devices) h = absurd h
+each_held opens standard left (name ∷ names) [] h = absurd h
+each_held opens standard left (name ∷ names) (device ∷ devices) h = (h.0, each_held opens standard left names devices h.1)
+
+-- a file that is open could be opened
+pub openable : (opens : Opens) (standard : Option (Option (List ℕ))) (name : FileName) (known : Option (List ℕ)) → IsHeldBy opens standard name known → IsOpenable opens name
+openable opens standard (Path path) known h = (known, h)
+openable opens standard Standard known h = tt
+
+-- those before it are open
+pub first_unopened : {F S : Type 0} (opens : Opens) (standard : Option (Option (List ℕ))) (left : ReaderOf F S → Option (List ℕ)) (names : List FileName) (i : ℕ) (d : FileName)
+    (devices : List (ReaderOf F S)) (failure : Failure) → i < length names → AllZip (IsOpenedAs opens standard left) (take i names) devices
+    → IsUnopened opens (get_or names i d) failure → IsFirstUnopened opens names failure
+first_unopened opens standard left [] i d devices failure below are h = absurd (omega arith)
+first_unopened opens standard left (name ∷ names) zero d devices failure below are h = inl h
+first_unopened opens standard left (name ∷ names) (suc i) d [] failure below are h = absurd are
+first_unopened opens standard left (name ∷ names) (suc i) d (device ∷ devices) failure below are h =
+    inr (openable opens standard name (left device) are.0, first_unopened opens standard left names i d devices failure (omega arith) are.1 h)
+
+-- ---- standard input
+
+abbrev one_if : Bool → ℕ
+one_if b = cond b 1 0
+
+-- at a place of a list, those from there on are it and those behind it
+pub counted : (names : List FileName) (i : ℕ) (d : FileName) → i < length names
+    → count_by is_standard (drop i names) ≡ one_if (is_standard (get_or names i d)) + count_by is_standard (drop (i + 1) names)
+counted names i d below = sum_by-drop_more (λ name. one_if (is_standard name)) names i d below
+
+-- it is there for a name for which there is enough of it
+pub there : {S : Type 0} (name : FileName) (standard : Option S) (n : ℕ) → one_if (is_standard name) + n ≤ length (option_to_list standard) → IsThere name standard
+there (Path path) standard n enough = tt
+there Standard None n enough = absurd (omega arith)
+there Standard (Some given) n enough = tt
+
+-- and behind it there is enough for the others
+pub enough_behind : {S : Type 0} (name : FileName) (standard : Option S) (n : ℕ) → one_if (is_standard name) + n ≤ length (option_to_list standard)
+    → n ≤ length (option_to_list (left_behind name standard))
+enough_behind (Path path) standard n enough = omega arith
+enough_behind Standard None n enough = absurd (omega arith)
+enough_behind Standard (Some given) n enough = omega arith
+
+none_taken : (first : Bool) (n : ℕ) → false ≡ (first || nat_lt 0 n) → one_if first + n ≤ 0
+none_taken true n h = absurd cc
+none_taken false n h = omega (arith, ltb-false 0 n (sym h))
+
+-- for an order for which it is given there is enough of it
+pub enough : {S : Type 0} (order : Order) (standard : Option S) → IsGivenFor order standard
+    → one_if (is_standard order.problem) + count_by is_standard order.solutions.items ≤ length (option_to_list standard)
+enough order None is = none_taken (is_standard order.problem) (count_by is_standard order.solutions.items) is.given
+enough order (Some given) is =
+    let counted = sum_by-cons (λ name. one_if (is_standard name)) order.problem order.solutions.items in
+    omega (arith, counted, ltb-false 1 (count_by is_standard (order.problem ∷ order.solutions.items)) is.once)
+
+-- ---- what is done
+
+-- an error that is handed on by `?`
+pub refused : {T E : Type 0} (P : T → Type 0) (Q : E → Type 0) (error : E) (result : Result T E) → IsErr result × IsErrAnd result (λ e. e ≡ error) → Q error → MatchResult result P Q
+refused P Q error (Ok value) is h = absurd is.1
+refused P Q error (Err e) is h = subst Q (sym is.1) h
+
+pub done : {F S : Type 0} (opens : Opens) (standard : Option (Option (List ℕ))) (left : ReaderOf F S → Option (List ℕ)) (order : Order) (task : Task F S) (out : Change SinkState) (status : ℕ)
+    → task.order ≡ order → IsOpenedAs opens standard left order.problem task.problem → AllZip (IsOpenedAs opens standard left) order.solutions.items task.solutions.items
+    → names_in task ≡ labels order → Finishes left task out status → IsDone opens standard order out status
+done opens standard left order task out status order_is problem_is solutions_are named finished = record {
+  problem = left task.problem;
+  solutions = map left task.solutions.items;
+  problem_is = problem_is;
+  solutions_are = each_held opens standard left order.solutions.items task.solutions.items solutions_are;
   answer = finished.answer;
-  did = did left standard prepared.0 task before after finished.answer prepared.2 finished.did;
+  did = subst (λ names. Did order.work order.mode names (left task.problem) (map left task.solutions.items) out finished.answer) named
+      (subst (λ (o : Order). Did o.work o.mode (names_in task) (left task.problem) (map left task.solutions.items) out finished.answer) order_is finished.did);
   status_is = finished.status_is;
+}
+
+-- what is told of a failure
+pub told : {W : Type 0} (state : W → SinkState) (P : Failure → Type 0) (failure : Failure) (old new : W) (status : ℕ)
+    → P failure → IsStatusOf failure (state old) (state new) status → Prints failure (state old) (state new) status → (failure_status failure ≢ 0 → new ≡ old)
+    → Fails P (change state old new) status
+told state P failure old new status comes is prints quiet = record {
+  failure = failure;
+  comes_of = comes;
+  status_is = is;
+  printed = prints;
+  untouched = λ fault. subst (λ w. Keeps (state old).contents (state w).contents) (sym (quiet fault)) (keeps_all (state old).contents);
+}
+
+pub not_alone : (takes answer : Bool) (P : Type 0) → answer ≡ takes → answer ≡ true → takes ≡ false → P
+not_alone takes answer P is taken alone = absurd cc
+
+-- an order that was tried without standard input was tried
+pub tried_anyway : (opens : Opens) (standard : Option (Option (List ℕ))) (order : Order) (out : Change SinkState) (status : ℕ)
+    → IsTried opens None order out status → IsTried opens standard order out status
+tried_anyway opens standard order out status (inl h) = inl (record {
+  problem = h.problem;
+  solutions = h.solutions;
+  problem_is = held_anyway opens standard order.problem h.problem h.problem_is;
+  solutions_are = each_weaker (IsHeldBy opens None) (IsHeldBy opens standard) (held_anyway opens standard) order.solutions.items h.solutions h.solutions_are;
+  answer = h.answer;
+  did = h.did;
+  status_is = h.status_is;
 })
+tried_anyway opens standard order out status (inr h) = inr h
 
--- ---- what is prepared
+-- ---- labels
 
-pub prepared : {I : Type 0} (words : List (List ℕ)) (standard : I) (order : Order) (r : Result (Task I) Failure) → IsAskedFor words order
-    → MatchResult r (IsTask standard order) IsOfFile → MatchResult r (IsPrepared words standard) (IsFailureOf words)
-prepared words standard order (Ok task) asked h = (order, asked, h)
-prepared words standard order (Err (reason.Words error)) asked h = absurd h
-prepared words standard order (Err (reason.Usage usage)) asked h = absurd h
-prepared words standard order (Err (reason.Open name error)) asked h = (order, asked)
-prepared words standard order (Err reason.Memory) asked h = (order, asked)
+-- the labels of the first names, and of one more
+pub labelled-more : {A B : Type 0} (f : A → B) (xs : List A) (i : ℕ) (d : A) → i < length xs → map f (take i xs) ++ f (get_or xs i d) ∷ [] ≡ map f (take (i + 1) xs)
+labelled-more f xs i d below = let next : i + 1 ≡ suc i = omega arith in go f xs i d below ∙ ap (λ n. map f (take n xs)) (sym next)
+  where
+    go : {A B : Type 0} (f : A → B) (xs : List A) (i : ℕ) (d : A) → i < length xs → map f (take i xs) ++ f (get_or xs i d) ∷ [] ≡ map f (take (suc i) xs)
+    go f [] i d below = absurd (omega arith)
+    go f (x ∷ xs) zero d below = refl
+    go f (x ∷ xs) (suc i) d below = ap (λ ys. f x ∷ ys) (go f xs i d (omega arith))

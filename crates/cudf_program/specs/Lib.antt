@@ -1,2 +1,3 @@
 pub mod Failure
+pub mod Inputs
 pub mod Program

@@ -1,18 +1,28 @@
 //! The program `cudf_check`: from its words to what it prints and its exit status.
 #![tactic(auto)]
 
-ghost use Rattle.std.specs.Prelude.{◌≡◌, ◌≢◌, IfOk, IfErr, MatchResult, map, string_bytes};
-ghost use Rattle.std.specs.Io.KnownBytes.{Keeps};
+ghost use Rattle.std.specs.Prelude.{◌≡◌, ◌≢◌, ◌≤◌, ◌⊎◌, ◌∷◌, [], Ok, Err, IfOk, IfErr, MatchResult, count_by, is_some, length, map, option_map, string_bytes, true};
+ghost use Rattle.std.specs.List.{AllZip};
+ghost use Rattle.std.specs.Option.{option_to_list};
+ghost use Rattle.std.specs.IoError.{error_kind};
 ghost use Rattle.std.specs.Vec.Iter.{into_iter_items};
+ghost use Rattle.std.specs.declared.io.ErrorKind.TheVariants.{OutOfMemory};
+ghost use Rattle.cudf_check.specs.NamedInside.{name_of};
+ghost use Rattle.cudf_check.specs.Readers.{change, changes};
+ghost use Rattle.cudf_check.specs.Runs.{job_report, read_for, Runs};
+ghost use Rattle.cudf_command_line.specs.Command.{is_standard};
 ghost use Rattle.cudf_program.specs.Failure.{IsStatusOf, Prints, failure_status};
-ghost use Rattle.cudf_program.specs.Program.{AreOpened, Did, Finishes, IsPrepared, IsFailureOf, IsOfFile, IsOpened, IsTask, IsUnopened, Responds, left_of};
+ghost use Rattle.cudf_program.specs.Inputs.{IsClosed, IsFirstUnopened, IsGivenFor, IsOfFiles, IsOpenedAs, IsThere, IsUnopened, KeepsGiven, label, left_behind, left_of};
+ghost use Rattle.cudf_program.specs.Program.{Finishes, Follows, IsTried, Responds, labels, names_in, read_by, work_report};
+ghost use Rattle.cudf_program.specs.declared.failure.Failure.TheVariants as reason;
 
 mod failure;
 mod file;
 mod output;
 mod stop;
+mod system;
 
-use cudf_check::{Device, Outcome, RunError, Sink, rank, run};
+use cudf_check::{Device, Job, Mode, Named, Outcome, RunError, Sink, Source, rank, run};
 use cudf_command_line::{FileName, Order, Usage, Work, command};
 use failure::Failure;
 use file::{Input, open};
@@ -22,21 +32,38 @@ use std::env;
 use std::fs::File;
 use std::io::{self, Read, Write};
 use std::process::ExitCode;
-use std::rt::Env;
 use stop::{Stop, tell_outcome};
+use system::System;
 
+// No clause can be stated on `main`: what it hands to `respond`, and what it does with the answer, is read.
 fn main(rt: HostRuntime) -> ExitCode {
     let (mut out, mut errors) = (Device::new(rt.stdout()), rt.stderr());
-    let status = match words(&rt) {
-        Ok(words) => respond(&rt, &words, rt.stdin(), &mut out, &mut errors),
-        Err(error) => fail(Failure::from_words(error), &mut out, &mut errors),
-    };
+    let status = respond(&rt, &mut rt.stdin(), &mut out, &mut errors);
     ExitCode::from(status)
 }
 
+/// Does what the words of the command line ask for, over standard input and output, and answers the exit status.
+fn respond<R: System + AllocGlobal, I: Read, W: Sink, E: Write>(
+    rt: &R,
+    standard: &mut I,
+    out: &mut W,
+    errors: &mut E,
+) -> u8
+    ensures { Responds (R.says rt.now) (R.opens rt.now) (change I.remaining standard.old standard.new) (change W.state out.old out.new) result }
+{
+    match words(rt) {
+        Ok(words) => obey(rt, &words, standard, out, errors),
+        Err(error) => fail(Failure::from_words(error), out, errors),
+    }
+}
+
 /// The program's own name, and then the words of the command line.
-fn words(rt: &(impl Env + AllocGlobal)) -> io::Result<Vec<String>> {
-    let args = env::args(rt)?;
+fn words<R: System + AllocGlobal>(rt: &R) -> io::Result<Vec<String>>
+    ensures { MatchResult result
+        (λ words. R.says rt.now (Ok (map (λ word. string_bytes word) words.items)))
+        (λ error. R.says rt.now (Err error) ⊎ (error_kind error ≡ OutOfMemory)) }
+{
+    let args = rt.args()?;
     Ok(gathered(rt.alloc(), args)?)
 }
 
@@ -52,38 +79,161 @@ fn gathered(alloc: Global, args: env::Args) -> Result<Vec<String>, AllocError>
     Ok(words)
 }
 
-/// Does what the words ask for, over standard input and output, and answers the exit status.
-fn respond<I: Read + Copy + Drop, W: Sink, E: Write>(
-    rt: &HostRuntime,
+/// Does what these words ask for. Standard input is handed on only where one of the files is named `-`.
+fn obey<R: System + AllocGlobal, I: Read, W: Sink, E: Write>(
+    rt: &R,
     words: &[String],
-    standard: I,
+    standard: &mut I,
     out: &mut W,
     errors: &mut E,
 ) -> u8
-    ensures { Responds (map (λ word. string_bytes word) words.now) (I.remaining standard) (W.state out.old) (W.state out.new) result }
+    ensures { Follows (map (λ word. string_bytes word) words.now) (R.opens rt.now) (change I.remaining standard.old standard.new) (change W.state out.old out.new) result }
 {
-    match prepare(rt, words, standard) {
+    match command::command(rt.alloc(), words) {
+        Ok(order) => {
+            if order.takes_standard() {
+                carry_out(rt, order, Some(standard), out, errors)
+            } else {
+                carry_out::<R, &mut I, W, E>(rt, order, None, out, errors)
+            }
+        }
+        Err(usage) => fail(Failure::Usage(usage), out, errors),
+    }
+}
+
+/// Opens the files of an order, and does its work on them.
+fn carry_out<R: System + AllocGlobal, S: Read + Drop, W: Sink, E: Write>(
+    rt: &R,
+    order: Order<'_>,
+    standard: Option<S>,
+    out: &mut W,
+    errors: &mut E,
+) -> u8
+    requires { IsGivenFor order standard }
+    ensures { IsTried (R.opens rt.now) (option_map S.remaining standard) order.entry (change W.state out.old out.new) result }
+{
+    match open_files(rt, order, standard) {
         Ok(task) => finish(rt.alloc(), task, out, errors),
         Err(failure) => fail(failure, out, errors),
     }
 }
 
+/// A reader of an input, with the name that lines of the report begin with, where they name files.
+pub(crate) type Reader<'w, F, S> = Named<'w, Device<Input<F, S>>>;
+
 /// An order on open files.
 #[derive(Drop)]
-struct Task<'w, I> {
+struct Task<'w, F, S> {
     order: Order<'w>,
-    problem: Device<Input<I>>,
-    solutions: Vec<Device<Input<I>>>,
+    problem: Reader<'w, F, S>,
+    solutions: Vec<Reader<'w, F, S>>,
+}
+
+/// Opens the files of an order, that of the problem first, and then those of the solutions in order. Nothing is opened
+/// before standard input, where it is one of the files, is tried; nothing is read before all files are open.
+#[tactic(auto, using(crate::proofs::FileLemmas::held_before))]
+fn open_files<'w, R: System + AllocGlobal, S: Read + Drop>(
+    rt: &R,
+    order: Order<'w>,
+    standard: Option<S>,
+) -> Result<Task<'w, R::File, S>, Failure<'w>>
+    requires { IsGivenFor order standard }
+    ensures order { IfOk result (λ task. task.order ≡ order.entry) }
+    ensures problem { IfOk result (λ task. IsOpenedAs (R.opens rt.now) (option_map S.remaining standard) (left_of R.File.remaining S.remaining)
+        order.entry.problem task.problem) }
+    ensures solutions { IfOk result (λ task. AllZip (IsOpenedAs (R.opens rt.now) (option_map S.remaining standard) (left_of R.File.remaining S.remaining))
+        order.entry.solutions.items task.solutions.items) }
+    ensures named { IfOk result (λ task. names_in task ≡ labels order.entry) }
+    ensures failed { IfErr result (IsOfFiles (R.opens rt.now) order.entry) }
+{
+    let mut standard = standard;
+    expect_open(&mut standard)?;
+    let names_files = order.names_files;
+    let problem = open_named(rt, names_files, order.problem, &mut standard)?;
+    let solutions = open_each(rt, names_files, &order.solutions, &mut standard)?;
+    Ok(Task {
+        order,
+        problem,
+        solutions,
+    })
+}
+
+/// Fails where standard input is given and closed: a file that is opened then would be read in its place.
+fn expect_open<'w, S: Read>(standard: &mut Option<S>) -> Result<(), Failure<'w>>
+    ensures failed { IfErr result (λ failure. (is_some standard.old ≡ true) × IsClosed failure) }
+    ensures untouched { KeepsGiven (option_map S.remaining standard.old) (option_map S.remaining standard.new) }
+{
+    let Some(given) = standard else {
+        return Ok(());
+    };
+    match given.read(&mut []) {
+        Ok(_) => Ok(()),
+        Err(error) => Err(Failure::from_open(FileName::Standard, error)),
+    }
+}
+
+/// Opens the files of these names, in order. There is a standard input for each that is named `-`.
+fn open_each<'w, R: System + AllocGlobal, S: Read + Drop>(
+    rt: &R,
+    names_files: bool,
+    names: &[FileName<'w>],
+    standard: &mut Option<S>,
+) -> Result<Vec<Reader<'w, R::File, S>>, Failure<'w>>
+    requires { count_by is_standard names.now ≤ length (option_to_list standard.old) }
+    ensures opened { MatchResult result
+        (λ readers. AllZip (IsOpenedAs (R.opens rt.now) (option_map S.remaining standard.old) (left_of R.File.remaining S.remaining)) names.now readers.items)
+        (λ failure. IsFirstUnopened (R.opens rt.now) names.now failure ⊎ (failure ≡ reason.Memory)) }
+    ensures named { IfOk result (λ readers. map name_of readers.items ≡ map (label names_files) names.now) }
+{
+    let mut readers = Vec::new(rt.alloc());
+    for &name in names {
+        let reader = open_named(rt, names_files, name, standard)?;
+        if readers.push(reader).is_err() {
+            return Err(Failure::Memory);
+        }
+    }
+    Ok(readers)
+}
+
+/// Opens a file that the words name.
+fn open_named<'w, R: System, S: Read>(
+    rt: &R,
+    names_files: bool,
+    name: FileName<'w>,
+    standard: &mut Option<S>,
+) -> Result<Reader<'w, R::File, S>, Failure<'w>>
+    requires { IsThere name standard.old }
+    ensures opened { MatchResult result
+        (IsOpenedAs (R.opens rt.now) (option_map S.remaining standard.old) (left_of R.File.remaining S.remaining) name.entry)
+        (IsUnopened (R.opens rt.now) name.entry) }
+    ensures named { IfOk result (λ reader. name_of reader ≡ label names_files name.entry) }
+    ensures left { standard.new ≡ left_behind name.entry standard.old }
+{
+    match open(rt, name, standard) {
+        Ok(input) => Ok(Named::new(Device::new(input), label(names_files, name))),
+        Err(error) => Err(Failure::from_open(name, error)),
+    }
+}
+
+/// How lines of the report name a file, where they name files.
+fn label(names_files: bool, name: FileName<'_>) -> Option<&str>
+    ensures { option_map (λ n. n.now) result ≡ label names_files name.entry }
+{
+    if names_files {
+        Some(name.label())
+    } else {
+        None
+    }
 }
 
 /// Does the work, and answers its exit status. Where it was broken off, it says why.
-fn finish<I: Read + Drop, W: Sink, E: Write>(
+fn finish<F: Read + Drop, S: Read + Drop, W: Sink, E: Write>(
     alloc: Global,
-    task: Task<'_, I>,
+    task: Task<'_, F, S>,
     out: &mut W,
     errors: &mut E,
 ) -> u8
-    ensures { Finishes I.remaining task.entry (W.state out.old) (W.state out.new) result }
+    ensures { Finishes (left_of F.remaining S.remaining) task.entry (change W.state out.old out.new) result }
 {
     let Task {
         order,
@@ -103,103 +253,39 @@ fn finish<I: Read + Drop, W: Sink, E: Write>(
     }
 }
 
-/// Opens the files that the words name. Nothing is opened before the words are understood and, where
-/// they name it, standard input is open; nothing is read before all files are open.
-fn prepare<'w, I: Read + Copy + Drop>(
-    rt: &HostRuntime,
-    words: &'w [String],
-    standard: I,
-) -> Result<Task<'w, I>, Failure<'w>>
-    ensures { MatchResult result (IsPrepared (map (λ word. string_bytes word) words.entry.now) standard) (IsFailureOf (map (λ word. string_bytes word) words.entry.now)) }
-{
-    match command::command(rt.alloc(), words) {
-        Ok(order) => open_files(rt, order, standard),
-        Err(usage) => Err(Failure::Usage(usage)),
-    }
-}
-
-/// Opens the files of an order, that of the problem first, and then those of the solutions in order.
-fn open_files<'w, I: Read + Copy + Drop>(
-    rt: &HostRuntime,
-    order: Order<'w>,
-    standard: I,
-) -> Result<Task<'w, I>, Failure<'w>>
-    ensures { MatchResult result (IsTask standard order.entry) IsOfFile }
-{
-    if order.takes_standard() {
-        let mut tried = standard;
-        expect_open(&mut tried)?;
-    }
-    let problem = open_named(rt, order.problem, standard)?;
-    let solutions = open_each(rt, &order.solutions, standard)?;
-    Ok(Task {
-        order,
-        problem: Device::new(problem),
-        solutions,
-    })
-}
-
-/// Opens the files of these names, in order.
-fn open_each<'w, I: Copy + Drop>(
-    rt: &HostRuntime,
-    names: &[FileName<'w>],
-    standard: I,
-) -> Result<Vec<Device<Input<I>>>, Failure<'w>>
-    ensures { MatchResult result (λ devices. AreOpened standard names.now devices.items) IsOfFile }
-{
-    let mut devices = Vec::new(rt.alloc());
-    for &name in names {
-        let input = open_named(rt, name, standard)?;
-        if devices.push(Device::new(input)).is_err() {
-            return Err(Failure::Memory);
-        }
-    }
-    Ok(devices)
-}
-
-/// Fails where standard input is closed: a file that is opened then would be read in its place.
-fn expect_open<'w, I: Read>(standard: &mut I) -> Result<(), Failure<'w>>
-    ensures failed { IfErr result IsOfFile }
-    ensures untouched { Keeps (I.remaining standard.old) (I.remaining standard.new) }
-{
-    match standard.read(&mut []) {
-        Ok(_) => Ok(()),
-        Err(error) => Err(Failure::from_open(FileName::Standard, error)),
-    }
-}
-
-/// Opens a file that the words name.
-fn open_named<'w, I: Drop>(
-    rt: &HostRuntime,
-    name: FileName<'w>,
-    standard: I,
-) -> Result<Input<I>, Failure<'w>>
-    ensures opened { MatchResult result (IsOpened standard name.entry) IsOfFile }
-    ensures named { IfErr result (IsUnopened name.entry) }
-{
-    match open(rt, name, standard) {
-        Ok(input) => Ok(input),
-        Err(error) => Err(Failure::from_open(name, error)),
-    }
-}
-
 /// Does the work of an order on open files: a run is on the first of the solutions, where there is one.
-fn perform<I: Read + Drop, W: Sink>(
+fn perform<D: Source, W: Sink>(
     alloc: Global,
     order: &Order<'_>,
-    problem: &mut Device<Input<I>>,
-    solutions: &mut [Device<Input<I>>],
+    problem: &mut D,
+    solutions: &mut [D],
     out: &mut W,
 ) -> Result<Outcome, RunError>
-    ensures { Did order.now.work order.now.mode (left_of I.remaining problem.old) (map (left_of I.remaining) solutions.old) (W.state out.old) (W.state out.new) result }
+    ensures { Runs (work_report order.now.work order.now.mode) (change D.state problem.old problem.new)
+        (read_by order.now.work (changes D.state solutions.old solutions.new)) (change W.state out.old out.new) result }
 {
     match &order.work {
         Work::Rank(aims) => rank(alloc, aims, order.mode, problem, solutions, out),
         Work::Run(job) => match solutions.first_mut() {
-            Some(solution) => run(alloc, job, order.mode, problem, Some(solution), out),
+            Some(solution) => run_on(alloc, job, order.mode, problem, solution, out),
             None => run::<_, Device<File>, _>(alloc, job, order.mode, problem, None, out),
         },
     }
+}
+
+/// A run on a problem and a solution.
+fn run_on<D: Source, W: Sink>(
+    alloc: Global,
+    job: &Job,
+    mode: Mode,
+    problem: &mut D,
+    solution: &mut D,
+    out: &mut W,
+) -> Result<Outcome, RunError>
+    ensures { Runs (job_report job.now mode) (change D.state problem.old problem.new)
+        (read_for job.now (change D.state solution.old solution.new ∷ [])) (change W.state out.old out.new) result }
+{
+    run(alloc, job, mode, problem, Some(solution), out)
 }
 
 /// Prints help or the version, or says what went wrong, and answers the exit status. Help that can't be printed is a

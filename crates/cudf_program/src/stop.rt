@@ -1,6 +1,7 @@
 //! What the program says where a run was broken off.
-use crate::file::{Input, Reading};
-use cudf_check::{Device, Outcome, RunError};
+use crate::Reader;
+use crate::file::Reading;
+use cudf_check::{Outcome, RunError};
 use cudf_command_line::FileName;
 use std::io::{self, Write};
 
@@ -15,18 +16,18 @@ pub(crate) struct Stop<'w> {
 
 impl<'w> Stop<'w> {
     /// The last of these inputs that was read, or else the first of all.
-    pub(crate) fn of<I: Drop>(
-        problem: (FileName<'w>, Device<Input<I>>),
+    pub(crate) fn of<F: Drop, S: Drop>(
+        problem: (FileName<'w>, Reader<'_, F, S>),
         names: &[FileName<'w>],
-        solutions: Vec<Device<Input<I>>>,
+        solutions: Vec<Reader<'_, F, S>>,
     ) -> Stop<'w> {
-        let (name, device) = problem;
+        let (name, reader) = problem;
         let mut last = Stop {
             name,
-            reading: device.into_inner().reading(),
+            reading: reader.into_inner().into_inner().reading(),
         };
-        for (name, device) in names.iter().zip(solutions) {
-            let reading = device.into_inner().reading();
+        for (name, reader) in names.iter().zip(solutions) {
+            let reading = reader.into_inner().into_inner().reading();
             if !matches!(reading, Reading::Unread) {
                 last = Stop {
                     name: *name,

@@ -1,20 +1,35 @@
 use Rattle.std.proofs.Common.{◌∙◌, ap, map, subst, sym}
+use Rattle.cudf_check.specs.DeviceInside.{source_state}
+use Rattle.cudf_check.specs.NamedInside.{name_of, named_state}
+use Rattle.cudf_check.specs.Readers.{change}
 use Rattle.cudf_program.specs.Failure.{answer_status}
-use Rattle.cudf_program.specs.Program.{Did, left_of}
+use Rattle.cudf_program.specs.Inputs.{bytes_left, left_of}
+use Rattle.cudf_program.specs.Program.{Did}
+use Rattle.cudf_program.proofs.FileLemmas.{did}
 use Rattle.cudf_program.proofs.finish.Goals as goal
 
 pub returns-in-Ok : goal.returns-in-Ok
-returns-in-Ok g c = record {
-  answer = c.perform.result;
-  did = subst (λ devices. Did c.args.task.order.work c.args.task.order.mode (left_of g.I.Read.remaining c.args.task.problem) (map (left_of g.I.Read.remaining) devices)
-      (g.W.Sink.state c.args.out.now) (g.W.Sink.state c.perform.new.out) c.perform.result) c.deref_mut.ensures.value c.perform.ensures;
-  status_is = c.status.ensures ∙ ap answer_status (sym c.in-Ok.is);
-}
+returns-in-Ok g c =
+    let left = left_of g.F.Read.remaining g.S.Read.remaining in
+    let state = named_state (source_state (bytes_left g.F.Read.remaining g.S.Read.remaining)) in
+    let out = change g.W.Sink.state c.args.out.now c.perform.new.out in
+    let task = c.args.task in
+    record {
+      answer = c.perform.result;
+      did = subst (λ readers. Did task.order.work task.order.mode (record { first = name_of task.problem; others = map name_of readers }) (left task.problem) (map left readers) out c.perform.result) c.deref_mut.ensures.value
+          (did state task.order.work task.order.mode (change state task.problem c.perform.new.problem) c.deref_mut.result.now c.perform.new.solutions out c.perform.result c.perform.auto.solutions c.perform.ensures);
+      status_is = c.status.ensures ∙ ap answer_status (sym c.in-Ok.is);
+    }
 
 pub returns : goal.returns
-returns g c = record {
-  answer = c.perform.result;
-  did = subst (λ devices. Did c.args.task.order.work c.args.task.order.mode (left_of g.I.Read.remaining c.args.task.problem) (map (left_of g.I.Read.remaining) devices)
-      (g.W.Sink.state c.args.out.now) (g.W.Sink.state c.perform.new.out) c.perform.result) c.deref_mut.ensures.value c.perform.ensures;
-  status_is = c.status-in-Err.ensures ∙ ap answer_status (sym c.in-Err.is);
-}
+returns g c =
+    let left = left_of g.F.Read.remaining g.S.Read.remaining in
+    let state = named_state (source_state (bytes_left g.F.Read.remaining g.S.Read.remaining)) in
+    let out = change g.W.Sink.state c.args.out.now c.perform.new.out in
+    let task = c.args.task in
+    record {
+      answer = c.perform.result;
+      did = subst (λ readers. Did task.order.work task.order.mode (record { first = name_of task.problem; others = map name_of readers }) (left task.problem) (map left readers) out c.perform.result) c.deref_mut.ensures.value
+          (did state task.order.work task.order.mode (change state task.problem c.perform.new.problem) c.deref_mut.result.now c.perform.new.solutions out c.perform.result c.perform.auto.solutions c.perform.ensures);
+      status_is = c.status-in-Err.ensures ∙ ap answer_status (sym c.in-Err.is);
+    }
