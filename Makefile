@@ -23,11 +23,11 @@ export DESTDIR PREFIX LIBDIR PROGRAM LIBRARY DIST PAGES VERSION
 
 .PHONY: run library linked test statement install uninstall dist deb toolchain
 
-# The example is no solution, so the program's status is 1. rt's status is 1 too where a proof fails: then there is no program.
+# The answer is no solution, so the program's status is 1. rt's status is 1 too where a proof fails: then there is no program.
 run: toolchain
 	@echo "Everything is proved before it is built: later runs prove only what changed."
 	@rm -f $(BUILT)
-	tools/lanes.sh cudf_referee cudf_command_line -- sh -c 'cd crates/cudf_program && rt run -- check ../../examples/car-and-wheel.cudf'; test $$? -eq 1
+	tools/lanes.sh cudf_referee cudf_command_line -- sh -c 'cd crates/cudf_program && rt run -- check ../../examples/car.problem.cudf ../../examples/car.broken.cudf --explain'; test $$? -eq 1
 	install -D -m 755 $(BUILT) "$(PROGRAM)"
 	@echo "the program is $(PROGRAM)"
 

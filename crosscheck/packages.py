@@ -469,7 +469,7 @@ def in_root(root, folder, program, *words, **surroundings):
 
 
 def runs(trial, root, program, library, folder):
-    """The program prints the README's example, in a root into which the C library is copied, which alone is needed."""
+    """The program checks an example, in a root into which the C library is copied, which alone is needed."""
     for name in (program, library):
         told = output("ldd", f"{root}/{name}")
         needed = re.findall(r"(/\S+) \(0x", told)
