@@ -15,7 +15,7 @@ DIST := dist
 BUILT := crates/cudf_program/out/cudf_program
 ARCHIVE := crates/cudf_c/out/libcudf_c.a
 
-PAGES := RULES FORMAT DIFFERENCES COMPETITION UNINSTALLABLE EMBEDDING
+PAGES := RULES FORMAT DIFFERENCES COMPETITION MAINTAINERS CI EMBEDDING
 VERSION := $(shell sed -n 's/^.define CUDF_CHECK_VERSION "\(.*\)"$$/\1/p' include/cudf_check.h)
 
 # for the scripts of packaging/

@@ -48,7 +48,7 @@ SURROUNDINGS = {
 }
 
 MULTIARCH = "lib/x86_64-linux-gnu"
-PAGES = ("RULES.md", "FORMAT.md", "DIFFERENCES.md", "COMPETITION.md", "UNINSTALLABLE.md", "EMBEDDING.md")
+PAGES = ("RULES.md", "FORMAT.md", "DIFFERENCES.md", "COMPETITION.md", "MAINTAINERS.md", "CI.md", "EMBEDDING.md")
 OF_PROGRAM = {
     "bin/cudf_check", "share/man/man1/cudf_check.1", "share/bash-completion/completions/cudf_check",
     "share/zsh/site-functions/_cudf_check", "share/fish/vendor_completions.d/cudf_check.fish",
