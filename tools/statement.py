@@ -565,12 +565,12 @@ def title_of(path):
 
 
 def table(files):
-    rows = ["| File | What it says | Lines | With `use` | In all |", "|---|---|---|---|---|"]
+    rows = ["| File | Lines |", "|---|--:|"]
     for path in files:
-        rows.append("| `%s` | %s | %d | %d | %d |" % (path.relative_to(CRATES), title_of(path), *lines_of(path)))
+        rows.append("| `%s` | %d |" % (path.relative_to(CRATES), lines_of(path)[0]))
     plain = unexplained(files)
-    rows.append("| %d files | | %d | %d | %d |" % (len(files), *sums_of(files)))
-    return rows + ["| %d files | Without what `--explain` adds | %d | %d | %d |" % (len(plain), *sums_of(plain))]
+    rows.append("| %d files | %d |" % (len(files), sums_of(files)[0]))
+    return rows + ["| %d files without what `--explain` adds | %d |" % (len(plain), sums_of(plain)[0])]
 
 
 def unexplained(files):
