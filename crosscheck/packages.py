@@ -153,7 +153,7 @@ def versions(trial):
     for name, pattern in (
         (HEADER, number), ("crates/cudf_c/src/lib.rt", number), ("crates/cudf_command_line/src/grammar.rt", number),
         ("crosscheck/outermost.py", rf"cudf_check ({number})"), ("cudf_check.1", number),
-        ("embedding/python/pyproject.toml", number),
+        ("embedding/python/pyproject.toml", number), ("embedding/expected.txt", number), ("README.md", number),
     ):
         trial.note(f"version in {name}", set(re.findall(pattern, text_of(name))), {trial.version})
     trial.note("version in CHANGELOG.md", re.search(r"^## (.*)", text_of("CHANGELOG.md"), re.M).group(1), trial.version)
