@@ -24,7 +24,6 @@ ROOT = Path(__file__).resolve().parent.parent
 PAGE = ROOT / "docs" / "FIGURES.md"
 BLOCK = "<!-- figures: {} -->\n", "<!-- end of figures -->"
 PROVED = re.compile(r"^== (\w+)(?:: its tests)?\n(?:(?!^== ).*\n)*?logic=proved (?:tests=\d+ )?functions=(\d+)", re.M)
-TESTED = re.compile(r"^test result: ok\. (\d+) passed.*\nrt: (\w+): its tests passed", re.M)
 TOOK = re.compile(r"^real\s+(\S+)\s+user\s+(\d+)m([\d.]+)s\s+sys\s+(\d+)m([\d.]+)s", re.M)
 MINUTES = re.compile(r"^minutes (\w+): proofs ([\d.]+), tests ([\d.]+), wrong bodies ([\d.]+)", re.M)
 # what the parts of the gate print last
@@ -53,24 +52,24 @@ def minutes(text):
 
 
 def crates(files):
-    """Functions (of a crate of tests those of its tests) and tests by crate, the wrong bodies that stand in the tree, and
-    the minutes of the two commands."""
+    """Functions by crate (of a crate of tests those of its tests), the mutants in the tree, and the minutes of the two
+    commands, with those of mutants among those of the gate."""
     gate = files["gate"]
     proved = {}
     for crate, functions in PROVED.findall(gate):
         proved.setdefault(crate, functions)
         if proved[crate] == "0":
             proved[crate] = functions
-    tested = {crate: tests for tests, crate in TESTED.findall(gate)}
     names = [line.partition(":")[0].split()[0] for line in (ROOT / "crates.txt").read_text().splitlines() if line[:1].isalpha()]
     of_run, of_gate = minutes(files.get("run", "")), minutes(gate)
-    head = ["Crate", "Functions proved", "Tests", "Wrong bodies"]
-    head += ["`make run`, min"] * bool(of_run) + ["Gate, min: proofs", "tests", "wrong bodies"] * bool(of_gate)
+    head = ["Crate", "Functions proved", "Mutants"]
+    head += ["`make run`, min"] * bool(of_run) + ["Gate, min", "of these mutants"] * bool(of_gate)
     rows = []
     for name in names:
-        row = [name, proved.get(name, ""), tested.get(name, ""), edits(name) or ""]
+        row = [name, proved.get(name, ""), edits(name) or ""]
         row += [f"{sum(of_run[name]):.1f}" if name in of_run else ""] * bool(of_run)
-        row += [f"{it:.1f}" if it else "" for it in of_gate.get(name, [0, 0, 0])] * bool(of_gate)
+        spent = of_gate.get(name, [0, 0, 0])
+        row += [f"{it:.1f}" if it else "" for it in (sum(spent), spent[2])] * bool(of_gate)
         rows.append(row)
     return table(head, rows)
 
