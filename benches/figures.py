@@ -26,8 +26,6 @@ BLOCK = "<!-- figures: {} -->\n", "<!-- end of figures -->"
 PROVED = re.compile(r"^== (\w+)(?:: its tests)?\n(?:(?!^== ).*\n)*?logic=proved (?:tests=\d+ )?functions=(\d+)", re.M)
 TOOK = re.compile(r"^real\s+(\S+)\s+user\s+(\d+)m([\d.]+)s\s+sys\s+(\d+)m([\d.]+)s", re.M)
 MINUTES = re.compile(r"^minutes (\w+): proofs ([\d.]+), tests ([\d.]+), wrong bodies ([\d.]+)", re.M)
-# what the parts of the gate print last
-TOLD = re.compile(r"^(?:\d+ passed, \d+ failed|\d+ rows, \d+ wrong|at most \d+ MB a check).*", re.M)
 # of the shapes that measure.py makes those that the page shows
 SHOWN = (
     "distribution, 156000", "distribution, 624000", "distribution, all installed, 134000", "half installed, 200000",
@@ -82,10 +80,7 @@ def took(text):
 
 def gate(files):
     commands = [(name, files[file]) for file, name in (("run", "make run"), ("gate", ".ci/run")) if file in files]
-    text = table(["Command", "Time", "Processor time"], [[f"`{name}`", *took(told)] for name, told in commands])
-    if told := TOLD.findall(files.get("gate", "")):
-        text += f"\nThe gate printed: {'; '.join(f'`{it}`' for it in told)}.\n"
-    return text
+    return table(["Command", "Time", "Processor time"], [[f"`{name}`", *took(told)] for name, told in commands])
 
 
 def sitting(text):
@@ -115,11 +110,11 @@ def times(sittings):
         cells = []
         for job in ("lint", "check"):
             name = f"{shape}: {job}"
-            cells += [sittings[0][name]["ms"], told(name, "ratio")] if job in jobs else ["", ""]
+            cells.append(told(name, "ratio") if job in jobs else "")
         whole = sittings[0][last]
         memory = f"{float(whole['MB']) / float(whole['plain MB']):.1f}"
         rows.append([shape, whole["size MB"], *cells, told(last, "doubled"), memory])
-    return table(["Input", "MB", "`lint`, ms", "By plain", "`check`, ms", "By plain", "Doubled", "Memory by plain"], rows)
+    return table(["Input", "MB", "`lint`", "`check`", "Doubled", "Memory"], rows)
 
 
 def trials(text):
