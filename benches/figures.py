@@ -50,8 +50,8 @@ def minutes(text):
 
 
 def crates(files):
-    """Functions by crate (of a crate of tests those of its tests), the mutants in the tree, and the minutes of the two
-    commands, with those of mutants among those of the gate."""
+    """Of each crate with mutants its functions, the mutants in the tree, and the minutes of the two commands, with those of
+    mutants among those of the gate."""
     gate = files["gate"]
     proved = {}
     for crate, functions in PROVED.findall(gate):
@@ -63,8 +63,8 @@ def crates(files):
     head = ["Crate", "Functions proved", "Mutants"]
     head += ["`make run`, min"] * bool(of_run) + ["Gate, min", "of these mutants"] * bool(of_gate)
     rows = []
-    for name in names:
-        row = [name, proved.get(name, ""), edits(name) or ""]
+    for name in filter(edits, names):
+        row = [name, proved.get(name, ""), edits(name)]
         row += [f"{sum(of_run[name]):.1f}" if name in of_run else ""] * bool(of_run)
         spent = of_gate.get(name, [0, 0, 0])
         row += [f"{it:.1f}" if it else "" for it in (sum(spent), spent[2])] * bool(of_gate)
