@@ -501,8 +501,8 @@ def rows_of(text):
 
 
 def document(cell):
-    """The text of an example: `¶` ends a line, `\\e` says that the last one has no end, `+` begins package a 1."""
-    text = re.sub(r"^\+", "package: a¶version: 1¶", cell.strip("`")).replace("¶", "\n") + "\n"
+    """The text of an example: `¶` ends a line, `\\e` says that the last one has no end, `@a` is package a 1."""
+    text = re.sub("@([a-z])", r"package: \1¶version: 1", cell.strip("`")).replace("¶", "\n") + "\n"
     for word, byte in ((r"\r", "\r"), (r"\t", "\t"), (r"\377", "\xff"), ("\\e\n", "")):
         text = text.replace(word, byte)
     return text
