@@ -119,7 +119,7 @@ def times(sittings):
 
 def trials(text):
     rows = [line.split("\t") for line in text.splitlines() if "\t" in line]
-    return table(["Trial", "What it printed last"], [[f"`{command}`", told] for command, told in rows])
+    return table(["Test", "What it printed last"], [[f"`{command}`", told] for command, told in rows])
 
 
 def main(folder, commit):
