@@ -15,7 +15,7 @@ DIST := dist
 BUILT := crates/cudf_program/out/cudf_program
 ARCHIVE := crates/cudf_c/out/libcudf_c.a
 
-PAGES := RULES FORMAT DIFFERENCES COMPETITION UNINSTALLABLE EMBEDDING
+PAGES := RULES FORMAT DIFFERENCES COMPETITION MAINTAINERS CI EMBEDDING
 VERSION := $(shell sed -n 's/^.define CUDF_CHECK_VERSION "\(.*\)"$$/\1/p' include/cudf_check.h)
 
 # for the scripts of packaging/
@@ -23,11 +23,11 @@ export DESTDIR PREFIX LIBDIR PROGRAM LIBRARY DIST PAGES VERSION
 
 .PHONY: run library linked test statement install uninstall dist deb toolchain
 
-# The example is no solution, so the program's status is 1. rt's status is 1 too where a proof fails: then there is no program.
+# The answer is no solution, so the program's status is 1. rt's status is 1 too where a proof fails: then there is no program.
 run: toolchain
 	@echo "Everything is proved before it is built: later runs prove only what changed."
 	@rm -f $(BUILT)
-	tools/lanes.sh cudf_referee cudf_command_line -- sh -c 'cd crates/cudf_program && rt run -- check ../../examples/car-and-wheel.cudf'; test $$? -eq 1
+	tools/lanes.sh cudf_referee cudf_command_line -- sh -c 'cd crates/cudf_program && rt run -- check ../../examples/car.problem.cudf ../../examples/car.broken.cudf --explain'; test $$? -eq 1
 	install -D -m 755 $(BUILT) "$(PROGRAM)"
 	@echo "the program is $(PROGRAM)"
 

@@ -24,11 +24,8 @@ ROOT = Path(__file__).resolve().parent.parent
 PAGE = ROOT / "docs" / "FIGURES.md"
 BLOCK = "<!-- figures: {} -->\n", "<!-- end of figures -->"
 PROVED = re.compile(r"^== (\w+)(?:: its tests)?\n(?:(?!^== ).*\n)*?logic=proved (?:tests=\d+ )?functions=(\d+)", re.M)
-TESTED = re.compile(r"^test result: ok\. (\d+) passed.*\nrt: (\w+): its tests passed", re.M)
 TOOK = re.compile(r"^real\s+(\S+)\s+user\s+(\d+)m([\d.]+)s\s+sys\s+(\d+)m([\d.]+)s", re.M)
 MINUTES = re.compile(r"^minutes (\w+): proofs ([\d.]+), tests ([\d.]+), wrong bodies ([\d.]+)", re.M)
-# what the parts of the gate print last
-TOLD = re.compile(r"^(?:\d+ passed, \d+ failed|\d+ rows, \d+ wrong|at most \d+ MB a check).*", re.M)
 # of the shapes that measure.py makes those that the page shows
 SHOWN = (
     "distribution, 156000", "distribution, 624000", "distribution, all installed, 134000", "half installed, 200000",
@@ -53,24 +50,24 @@ def minutes(text):
 
 
 def crates(files):
-    """Functions (of a crate of tests those of its tests) and tests by crate, the wrong bodies that stand in the tree, and
-    the minutes of the two commands."""
+    """Of each crate with mutants its functions, the mutants in the tree, and the minutes of the two commands, with those of
+    mutants among those of the gate."""
     gate = files["gate"]
     proved = {}
     for crate, functions in PROVED.findall(gate):
         proved.setdefault(crate, functions)
         if proved[crate] == "0":
             proved[crate] = functions
-    tested = {crate: tests for tests, crate in TESTED.findall(gate)}
     names = [line.partition(":")[0].split()[0] for line in (ROOT / "crates.txt").read_text().splitlines() if line[:1].isalpha()]
     of_run, of_gate = minutes(files.get("run", "")), minutes(gate)
-    head = ["Crate", "Functions proved", "Tests", "Wrong bodies"]
-    head += ["`make run`, min"] * bool(of_run) + ["Gate, min: proofs", "tests", "wrong bodies"] * bool(of_gate)
+    head = ["Crate", "Functions proved", "Mutants"]
+    head += ["`make run`, min"] * bool(of_run) + ["Gate, min", "of these mutants"] * bool(of_gate)
     rows = []
-    for name in names:
-        row = [name, proved.get(name, ""), tested.get(name, ""), edits(name) or ""]
+    for name in filter(edits, names):
+        row = [name, proved.get(name, ""), edits(name)]
         row += [f"{sum(of_run[name]):.1f}" if name in of_run else ""] * bool(of_run)
-        row += [f"{it:.1f}" if it else "" for it in of_gate.get(name, [0, 0, 0])] * bool(of_gate)
+        spent = of_gate.get(name, [0, 0, 0])
+        row += [f"{it:.1f}" if it else "" for it in (sum(spent), spent[2])] * bool(of_gate)
         rows.append(row)
     return table(head, rows)
 
@@ -83,10 +80,7 @@ def took(text):
 
 def gate(files):
     commands = [(name, files[file]) for file, name in (("run", "make run"), ("gate", ".ci/run")) if file in files]
-    text = table(["Command", "Time", "Processor time"], [[f"`{name}`", *took(told)] for name, told in commands])
-    if told := TOLD.findall(files.get("gate", "")):
-        text += f"\nThe gate printed: {'; '.join(f'`{it}`' for it in told)}.\n"
-    return text
+    return table(["Command", "Time", "Processor time"], [[f"`{name}`", *took(told)] for name, told in commands])
 
 
 def sitting(text):
@@ -116,16 +110,16 @@ def times(sittings):
         cells = []
         for job in ("lint", "check"):
             name = f"{shape}: {job}"
-            cells += [sittings[0][name]["ms"], told(name, "ratio")] if job in jobs else ["", ""]
+            cells.append(told(name, "ratio") if job in jobs else "")
         whole = sittings[0][last]
         memory = f"{float(whole['MB']) / float(whole['plain MB']):.1f}"
         rows.append([shape, whole["size MB"], *cells, told(last, "doubled"), memory])
-    return table(["Input", "MB", "`lint`, ms", "By plain", "`check`, ms", "By plain", "Doubled", "Memory by plain"], rows)
+    return table(["Input", "MB", "`lint`", "`check`", "Doubled", "Memory"], rows)
 
 
 def trials(text):
     rows = [line.split("\t") for line in text.splitlines() if "\t" in line]
-    return table(["Trial", "What it printed last"], [[f"`{command}`", told] for command, told in rows])
+    return table(["Test", "What it printed last"], [[f"`{command}`", told] for command, told in rows])
 
 
 def main(folder, commit):

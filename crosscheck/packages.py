@@ -48,7 +48,7 @@ SURROUNDINGS = {
 }
 
 MULTIARCH = "lib/x86_64-linux-gnu"
-PAGES = ("RULES.md", "FORMAT.md", "DIFFERENCES.md", "COMPETITION.md", "UNINSTALLABLE.md", "EMBEDDING.md")
+PAGES = ("RULES.md", "FORMAT.md", "DIFFERENCES.md", "COMPETITION.md", "MAINTAINERS.md", "CI.md", "EMBEDDING.md")
 OF_PROGRAM = {
     "bin/cudf_check", "share/man/man1/cudf_check.1", "share/bash-completion/completions/cudf_check",
     "share/zsh/site-functions/_cudf_check", "share/fish/vendor_completions.d/cudf_check.fish",
@@ -153,7 +153,7 @@ def versions(trial):
     for name, pattern in (
         (HEADER, number), ("crates/cudf_c/src/lib.rt", number), ("crates/cudf_command_line/src/grammar.rt", number),
         ("crosscheck/outermost.py", rf"cudf_check ({number})"), ("cudf_check.1", number),
-        ("embedding/python/pyproject.toml", number),
+        ("embedding/python/pyproject.toml", number), ("embedding/expected.txt", number), ("README.md", number),
     ):
         trial.note(f"version in {name}", set(re.findall(pattern, text_of(name))), {trial.version})
     trial.note("version in CHANGELOG.md", re.search(r"^## (.*)", text_of("CHANGELOG.md"), re.M).group(1), trial.version)
@@ -469,7 +469,7 @@ def in_root(root, folder, program, *words, **surroundings):
 
 
 def runs(trial, root, program, library, folder):
-    """The program prints the README's example, in a root into which the C library is copied, which alone is needed."""
+    """The program checks an example, in a root into which the C library is copied, which alone is needed."""
     for name in (program, library):
         told = output("ldd", f"{root}/{name}")
         needed = re.findall(r"(/\S+) \(0x", told)

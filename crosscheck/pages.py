@@ -1,11 +1,11 @@
 #!/usr/bin/env python3
-"""Runs what the pages show: their commands, their scripts, and the examples of docs/DIFFERENCES.md.
+"""Runs what the pages show: their commands, their scripts, and the examples of docs/DIFFERENCES.md; and tries their links.
 
 usage: pages.py PROGRAM
 
-- Each command that README.md, examples/README.md and pages of docs/ show behind `$`, and each
-  script with a block of output below it, on the repository's own data: it prints what the page says.
-- docs/COMPETITION.md shows the scripts of examples/competition, each whole and once.
+- Each command that README.md, examples/README.md and pages of docs/ for users show after `$`, and each script with a block of
+  output below it, on the repository's own data: it prints what the page says.
+- Each link of a page to a file, and to a heading, leads somewhere; docs/COMPETITION.md names each script of examples/competition.
 - These scripts in a folder with nastier names and files, with solvers that end in many ways, with runs that are ended from
   outside, and the points, totals and page of what came of it.
 - The walk by pages of examples/README.md, on a listing of thirteen lines.
@@ -32,7 +32,8 @@ TOO_LONG = 300_000_000
 ROOT = os.path.dirname(os.path.dirname(os.path.abspath(__file__)))
 COMPETITION = "docs/COMPETITION.md"
 DIFFERENCES = "docs/DIFFERENCES.md"
-DOCUMENTS = ("README.md", "examples/README.md", COMPETITION, DIFFERENCES, "docs/UNINSTALLABLE.md")
+DOCUMENTS = ("README.md", "examples/README.md", COMPETITION, DIFFERENCES, "docs/MAINTAINERS.md", "docs/CI.md")
+LINKED = {*DOCUMENTS, "CONTRIBUTING.md", "CHANGELOG.md", *(f"docs/{name}" for name in os.listdir(os.path.join(ROOT, "docs")))}
 SHELLS = [name for name in ("dash", "bash") if shutil.which(name)] or ["sh"]
 # the lines of a block, and its end
 BLOCK = r"((?:(?!```).*\n)*)```$"
@@ -186,13 +187,27 @@ def script(name):
     return page(f"examples/competition/{name}")
 
 
+def headings(text):
+    """What links call the headings of a page: small letters, digits, `-` and `_`, a `-` for each space."""
+    for heading in re.findall(r"^#+ (.*)$", re.sub(rf"^```.*\n{BLOCK}", "", text, flags=re.MULTILINE), re.MULTILINE):
+        yield re.sub(r"[^\w -]", "", heading.lower()).replace(" ", "-")
+
+
+def links(trial):
+    """Each link leads to a file, and to a heading of it where it names one."""
+    for name in sorted(LINKED):
+        text = page(name)
+        for target in re.findall(r"\]\(([^()\s]+)\)", text):
+            path, _, heading = target.partition("#")
+            file = os.path.normpath(os.path.join(os.path.dirname(name), path)) if path else name
+            there = os.path.exists(os.path.join(ROOT, file)) and (not heading or heading in headings(page(file)))
+            trial.note(f"{name}: link to {target}", there, True)
+
+
 def scripts(trial):
-    """docs/COMPETITION.md shows them all, and no others."""
-    blocks = re.findall(rf"^```sh\n{BLOCK}", page(COMPETITION), re.MULTILINE)
-    names = [name for name in os.listdir(SCRIPTS) if name.endswith(".sh")]
-    for name in names:
-        trial.note(f"{COMPETITION}, how often it shows {name}", blocks.count(script(name)), 1)
-    trial.note(f"{COMPETITION}, scripts", len(blocks), len(names))
+    """docs/COMPETITION.md names them all, and no others."""
+    named = set(re.findall(r"`(?:sh |sbatch )?(\w+\.sh)\b", page(COMPETITION)))
+    trial.note(f"{COMPETITION}: scripts", named, {name for name in os.listdir(SCRIPTS) if name.endswith(".sh")})
 
 
 def shown(trial):
@@ -486,8 +501,8 @@ def rows_of(text):
 
 
 def document(cell):
-    """The text of an example: `¶` ends a line, and `\\e` says that the last one has no end."""
-    text = cell.strip("`").replace("¶", "\n") + "\n"
+    """The text of an example: `¶` ends a line, `\\e` says that the last one has no end, `@a` is package a 1."""
+    text = re.sub("@([a-z])", r"package: \1¶version: 1", cell.strip("`")).replace("¶", "\n") + "\n"
     for word, byte in ((r"\r", "\r"), (r"\t", "\t"), (r"\377", "\xff"), ("\\e\n", "")):
         text = text.replace(word, byte)
     return text
@@ -526,7 +541,7 @@ def differences(trial):
 def main(path):
     with tempfile.TemporaryDirectory() as folder:
         trial = Trial(path, folder)
-        for part in (scripts, shown, by_pages, odd_answers, bad_names, many_runs, other_runs, pages, differences):
+        for part in (links, scripts, shown, by_pages, odd_answers, bad_names, many_runs, other_runs, pages, differences):
             part(trial)
     print(f"{trial.passed} passed, {trial.failed} failed")
     return 1 if trial.failed else 0

@@ -77,7 +77,7 @@ HAS = {
     "Values": has_value,
     "Properties of packages": has_property,
     "Declarations": has_declaration,
-    "Faults": has_fault,
+    "Errors": has_fault,
     "Keys": has_key,
     "Lists of criteria": has_aim,
 }

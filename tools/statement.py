@@ -565,12 +565,10 @@ def title_of(path):
 
 
 def table(files):
-    rows = ["| File | What it says | Lines | With `use` | In all |", "|---|---|---|---|---|"]
-    for path in files:
-        rows.append("| `%s` | %s | %d | %d | %d |" % (path.relative_to(CRATES), title_of(path), *lines_of(path)))
+    rows = ["%5d  %s" % (lines_of(path)[0], path.relative_to(CRATES)) for path in files]
     plain = unexplained(files)
-    rows.append("| %d files | | %d | %d | %d |" % (len(files), *sums_of(files)))
-    return rows + ["| %d files | Without what `--explain` adds | %d | %d | %d |" % (len(plain), *sums_of(plain))]
+    sums = "%d files" % len(files), "%d files without what --explain adds" % len(plain)
+    return ["```", *rows, *("%5d  in %s" % (sums_of(them)[0], told) for them, told in zip((files, plain), sums)), "```"]
 
 
 def unexplained(files):
@@ -591,7 +589,7 @@ def told():
 def differences(computed, rows):
     """What tells the table in docs/PROOFS.md from the computed one, a line each."""
     def by_file(lines):
-        return {row.split("|")[1].strip(): row for row in lines if row.startswith("| `")}
+        return {row.split()[-1]: row.strip() for row in lines if row.endswith(".antt")}
     ours, theirs = by_file(computed), by_file(rows)
     found = [f"docs/PROOFS.md lacks {file}" for file in ours if file not in theirs]
     found += [f"docs/PROOFS.md has {file}, on which the headline doesn't rest" for file in theirs if file not in ours]
