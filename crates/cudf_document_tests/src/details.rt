@@ -253,12 +253,7 @@ const BYTES: [ByteRow; 17] = [
         Kind::E1,
         "Some(InvalidByte { place: 1, byte: 253 })",
     ),
-    (
-        b"\x1F\x8B\x08\x00",
-        1,
-        Kind::E1,
-        "Some(OfFormat(Gzip))",
-    ),
+    (b"\x1F\x8B\x08\x00", 1, Kind::E1, "Some(OfFormat(Gzip))"),
     (b"BZh9\n\xFF", 2, Kind::E1, "Some(OfFormat(Bzip2))"),
     (b"\xFD7zXZ\x00", 1, Kind::E1, "Some(OfFormat(Xz))"),
     (

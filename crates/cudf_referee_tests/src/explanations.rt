@@ -23,11 +23,13 @@ const WAS_INSTALLED: [Option<u64>; 8] = [None, None, None, None, None, None, Som
 /// The first car, and what gives the door that it needs, once beside the wheel that it may have instead.
 const BESIDE_A_BUS: &str =
     "package: car\nversion: 1\ninstalled: true\n\npackage: bus\nversion: 4\ninstalled: true\n";
+
 const BESIDE_BOTH: &str =
     "package: car\nversion: 1\ninstalled: true\n\npackage: bus\nversion: 4\ninstalled: true\n\npackage: wheel\nversion: 3\ninstalled: true\n";
 
 /// For each place from 0 on the first package that needs the one there: the car needs the bus where it has no wheel.
 const NEEDERS_BESIDE_A_BUS: [Option<u64>; 6] = [None, None, None, None, Some(1), None];
+
 const NEEDERS_BESIDE_BOTH: [Option<u64>; 6] = [None; 6];
 
 fn is_explained(alloc: Global, referee: &Referee<'_, '_>) -> bool {
@@ -39,10 +41,9 @@ fn is_explained(alloc: Global, referee: &Referee<'_, '_>) -> bool {
 
 fn are_needers(alloc: Global, referee: &Referee<'_, '_>, needers: &[Option<u64>]) -> bool {
     match Explainer::new(alloc, referee) {
-        Ok(explainer) => needers
-            .iter()
-            .enumerate()
-            .all(|(place, needer)| explainer.needed_by(place as u64) == *needer),
+        Ok(explainer) => needers.iter().enumerate().all(|(place, needer)| explainer.needed_by(
+            place as u64,
+        ) == *needer),
         Err(_) => false,
     }
 }
