@@ -6,7 +6,8 @@ FILE has requests, one behind the other, in numbers of 64 bits as the machine ha
 2 score, 3 rank, 4 cnf, 5 refute), whether it is strict, whether lines are explained, the limit, whether the buffer is null,
 the room, how many texts there are, and then the texts, each a kind, a length and, where it is WRITTEN, bytes. The problem
 comes first, then the solutions or the proof, and last the key or the list, where the call has one. A text of ZEROES has that
-many bytes 0; of one that is NOTHING the pointer is null, and of one that is CLAIMED there is one byte, whatever its length.
+many bytes 0; of one that is NOTHING the pointer is null, and of one that is CLAIMED there is one byte, whatever its length. Of
+one that is UNREADABLE there are all bytes, and a read of any ends the process.
 
 For each request its answer is written in the same way: the status, the length that was told, and the buffer with GUARD
 bytes behind its room, or nothing of one that is null. All its bytes were PATTERN before the call.
@@ -14,18 +15,21 @@ bytes behind its room, or nothing of one that is null. All its bytes were PATTER
 With THREADS the requests are answered once, and then so often as CALLS says by so many threads at once, whose stacks have
 STACK bytes, or the usual ones where that is 0. What is written is how many of these answers were others. The status is 70
 where FILE can't be opened, or memory for a request is refused before its call. For systems with POSIX threads. */
+#define _DEFAULT_SOURCE
 #include "cudf_check.h"
 
 #include <pthread.h>
 #include <stdio.h>
 #include <stdlib.h>
 #include <string.h>
+#include <sys/mman.h>
 
-enum { WRITTEN, ZEROES, NOTHING, CLAIMED };
+enum { WRITTEN, ZEROES, NOTHING, CLAIMED, UNREADABLE };
 enum { LINT, CHECK, SCORE, RANK, CNF, REFUTE };
 enum { GUARD = 64, PATTERN = 0xa5, REFUSED = 70 };
 
 struct text {
+    uint64_t kind;
     uint8_t *bytes;
     size_t length;
 };
@@ -56,15 +60,28 @@ static bool read_number(FILE *file, uint64_t *number)
     return fread(number, sizeof *number, 1, file) == 1;
 }
 
+static void *unreadable(size_t size)
+{
+    void *memory = mmap(NULL, size, PROT_NONE, MAP_PRIVATE | MAP_ANONYMOUS | MAP_NORESERVE, -1, 0);
+    if (memory == MAP_FAILED)
+        exit(REFUSED);
+    return memory;
+}
+
 /* Each text has a block of its own, so that a sanitizer knows where it ends. */
 static void read_text(FILE *file, struct text *text)
 {
-    uint64_t kind, length;
-    if (!read_number(file, &kind) || !read_number(file, &length))
+    uint64_t length;
+    if (!read_number(file, &text->kind) || !read_number(file, &length))
         abort();
     text->length = (size_t)length;
-    text->bytes = kind == NOTHING ? NULL : taken(kind == CLAIMED ? 1 : text->length);
-    if (kind == WRITTEN && fread(text->bytes, 1, text->length, file) != text->length)
+    if (text->kind == NOTHING)
+        text->bytes = NULL;
+    else if (text->kind == UNREADABLE)
+        text->bytes = unreadable(text->length);
+    else
+        text->bytes = taken(text->kind == CLAIMED ? 1 : text->length);
+    if (text->kind == WRITTEN && fread(text->bytes, 1, text->length, file) != text->length)
         abort();
 }
 
@@ -90,8 +107,13 @@ static bool read_request(FILE *file, struct request *request)
 
 static void drop_request(struct request *request)
 {
-    for (uint64_t at = 0; at < request->count; at++)
-        free(request->texts[at].bytes);
+    for (uint64_t at = 0; at < request->count; at++) {
+        const struct text *text = &request->texts[at];
+        if (text->kind == UNREADABLE)
+            munmap(text->bytes, text->length);
+        else
+            free(text->bytes);
+    }
     free(request->texts);
     free(request->solutions);
 }

@@ -12,7 +12,8 @@ LIBRARY_FOLDER has libcudf_check.a and libcudf_check.so.1.
   and the values that Python gives say the same; where the program refuses a key or a list, Python raises with its text.
 - Reports that are cut at every length; null pointers, also with a length or a room; keys, lists and rankings that a command
   line can't ask for; lengths of which there are no bytes. Python with buffers of all kinds, and with files.
-- Each growth of memory in a call refused in turn; documents that are too long, and one that just isn't.
+- Each growth of memory in a call refused in turn; documents that are too long, of which no byte can be read, and one that
+  just isn't; a report of a million lines that has no room, and takes no memory.
 - 10,000 calls by eight threads at once: with stacks of 128 KB, under a sanitizer for addresses and leaks, and under one for
   threads. Of the library these see what it asks of the C library; so its data is looked at too, of which none is writable.
 - What the shared library exports.
@@ -29,13 +30,16 @@ import pathlib
 import random
 import re
 import shutil
-import struct
 import subprocess
 import sys
 import tempfile
 
 import programs
 import refusals
+from calls import (
+    BAD, CALLS, FAIL, FAULTY, GONE, GOOD, GREATEST, GREATEST_INPUT, MANY, MEMORY, MISTYPED, NO, PROBLEM, REFUSED, SHOP,
+    SHOP_PROOF, USAGE, YES, Nothing, Request, answers, by_hand, lengths,
+)
 from cnf import Rules
 from inputs import Inputs
 from lrat import Prover
@@ -44,7 +48,6 @@ from refutations import Small, spoilt
 HERE = os.path.dirname(os.path.abspath(__file__))
 ROOT = os.path.dirname(HERE)
 EMBEDDING = os.path.join(ROOT, "embedding")
-EXAMPLES = os.path.join(ROOT, "examples")
 INCLUDE = "-I" + os.path.join(ROOT, "include")
 DRIVER = os.path.join(HERE, "embedding.c")
 STATIC, SHARED = "libcudf_check.a", "libcudf_check.so.1"
@@ -52,67 +55,8 @@ LIMIT_SECONDS = 120
 # a section's name, size and flags, as readelf -SW tells them
 SECTION = re.compile(r"^ *\[ *\d+\] (\S.*?) +\S+ +[0-9a-f]{16} [0-9a-f]+ ([0-9a-f]+) [0-9a-f]+ +([A-Za-z]*) ", re.M)
 WARNINGS = ("-O1", "-Wall", "-Wextra", "-pedantic", "-Werror")
-CALLS = ("lint", "check", "score", "rank", "cnf", "refute")
-# these have neither a key nor a list
-WORDLESS = ("lint", "cnf", "refute")
 PAIRS, THREADS, TURNS, SOME = 500, 8, 10_000, 60
 SMALL_STACK = 128 << 10
-YES, NO, FAULTY, FAIL, USAGE, UNREAD, MEMORY = range(7)
-GREATEST_INPUT = 268_435_456
-GREATEST = 2**64 - 1
-# as the driver has them
-GUARD, PATTERN, REFUSED = 64, b"\xa5", 70
-
-PROBLEM = b"package: car\nversion: 1\ndepends: wheel > 2\ninstalled: true\n\npackage: wheel\nversion: 2\n\nrequest:\n"
-# its CNF is longer than all static memory of the driver
-MANY = b"".join(b"package: %s\nversion: %d\n\n" % (b"a" * 90, number) for number in range(1, 10_001)) + b"request:\n"
-GOOD = b"package: wheel\nversion: 2\ninstalled: true\n"
-BAD = b"package: car\nversion: 1\ninstalled: true\n"
-UNMET = b"p1.depends.1 car 1 line 1: needs wheel > 2\nsolution no\n"
-EXPLAINED = b"p1.depends.1 car 1 line 1: needs wheel > 2; nothing in the problem would do\nsolution no\n"
-# a value of many lines, of which the last entry is none
-MISTYPED = b"package: car\nversion: 1\ndepends: wheel" + b",\n wheel" * 69 + b",\n\nrequest:\n"
-# docs/FORMAT.md: what a key and a list can't be; and what no word of a command line can be
-NO_KEYS = (b"p01.keep.1", b"r.upgrade.1", b"r.install.1.many", b" r.install.1", b"r.install.1 ", b"r.install.1\n", b"\xff",
-           b"r.install.1\0", b"\0", b"p18446744073709551616.keep.1")
-NO_LISTS = (b"removed", b"-removed,", b"- removed", b"-Removed", b"-size", b",", b"-new\0", b"\0", b"-new,\xff")
-
-# a problem without a solution, with its CNF and what its proof shows, as docs/FORMAT.md and docs/RULES.md have them
-with open(os.path.join(EXAMPLES, "shop.problem.cudf"), "rb") as file:
-    SHOP = file.read()
-with open(os.path.join(EXAMPLES, "shop.lrat"), "rb") as file:
-    SHOP_PROOF = file.read()
-SHOP_CNF = (
-    b"c p1 shop 1\nc p2 server 2\nc p3 proxy 1\nc p4 mailer 4\nc p5 tls 2\np cnf 5 6\n"
-    b"-1 2 3 0\n-1 4 0\n-2 0\n-3 -4 0\n5 0\n1 0\n"
-)
-SHOP_CORE = (
-    b"r.install.1 line 21: needs shop\n"
-    b"p1.depends.1 shop 1 line 1: needs server | proxy\n"
-    b"p2.depends.1 server 2 line 5: needs tls >= 3\n"
-    b"p3.conflicts.1 proxy 1 line 9: conflicts with mailer, met by mailer 4\n"
-    b"p1.depends.2 shop 1 line 1: needs mailer\n"
-    b"no solution exists\n"
-)
-SHOP_EXPLAINED = (
-    b"r.install.1 line 21: needs shop; shop 1 line 1 would do\n"
-    b"p1.depends.1 shop 1 line 1: needs server | proxy; server 2 line 5 would do\n"
-    b"p2.depends.1 server 2 line 5: needs tls >= 3; nothing in the problem would do\n"
-    b"p3.conflicts.1 proxy 1 line 9: conflicts with mailer, met by mailer 4\n"
-    b"p1.depends.2 shop 1 line 1: needs mailer; mailer 4 line 13 would do\n"
-    b"no solution exists\n"
-)
-# a package that lacks what the preamble declares
-LACKING = b"preamble:\nproperty: size: int\n\npackage: a\nversion: 1\n\nrequest:\n"
-LACKS = b"problem line 5: E14 declared property missing\n"
-LACKS_EXPLAINED = b"problem line 5: E14 declared property missing; it lacks size\n"
-# the one car was installed, and is to go
-GONE = b"package: car\nversion: 1\ninstalled: true\n\nrequest:\ninstall: car\nremove: car\n"
-GONE_EXPLAINED = (
-    b"r.install.1 line 5: needs car; car 1 line 1 was installed\n"
-    b"r.remove.1 line 5: must remove car, met by car 1\n"
-    b"no solution exists\n"
-)
 
 # wrong words, and documents that are too long, of which there is one byte where the language lets a caller say so
 MISUSES = {
@@ -299,63 +243,6 @@ def shown_blocks(trial):
 # ---- requests and their answers
 
 
-class Nothing(int):
-    """A null pointer, which is said to have so many bytes."""
-
-
-class Claimed(int):
-    """One byte, which is said to be so many."""
-
-
-@dataclasses.dataclass(frozen=True)
-class Request:
-    """A call: the texts are the problem and the solutions or the proof, `said` the key or the list.
-
-    A number is so many bytes 0. A room that is Nothing is that of a null buffer.
-    """
-
-    call: str
-    texts: tuple
-    said: bytes = b""
-    limit: int = 0
-    is_strict: bool = False
-    is_explained: bool = False
-    room: int = 1024
-
-    def words(self, files):
-        """What asks the program the same, of these files."""
-        option = {"check": "--after=", "score": "--criteria=", "rank": "--criteria="}.get(self.call, "")
-        words = [os.fsencode(option) + self.said] * bool(self.said) + [f"--limit={self.limit}"] * bool(self.limit)
-        return [self.call, *files, *words] + ["--strict"] * self.is_strict + ["--explain"] * self.is_explained
-
-    def written(self):
-        """The request as the driver reads it."""
-        texts = self.texts if self.call in WORDLESS else (*self.texts, self.said)
-        numbers = self.limit, isinstance(self.room, Nothing), self.room, len(texts)
-        head = struct.pack("7Q", CALLS.index(self.call), self.is_strict, self.is_explained, *numbers)
-        return head + b"".join(map(written, texts))
-
-    def left(self, status, report):
-        """What the call leaves of a report: the status, its length, and the buffer with the guard behind it."""
-        is_null = isinstance(self.room, Nothing)
-        return status, len(report), b"" if is_null else report[: self.room].ljust(self.room + GUARD, PATTERN)
-
-
-def written(text):
-    if isinstance(text, bytes):
-        return struct.pack("2Q", 0, len(text)) + text
-    return struct.pack("2Q", (int, Nothing, Claimed).index(type(text)) + 1, text)
-
-
-def answers(output):
-    """What the driver wrote: of each request the status, the length and the buffer."""
-    at = 0
-    while at + 24 <= len(output):
-        status, length, size = struct.unpack_from("3Q", output, at)
-        at += 24 + size
-        yield status, length, output[at - size: at]
-
-
 def through_c(trial, driver, named):
     """Makes the calls, and compares with what is wanted of each: rows of a name, a request and what it leaves."""
     path = trial.file("requests")
@@ -491,7 +378,7 @@ def misuses(trial, module):
     for limit in (0, -1, 2**64):
         text = f"invalid value '{limit}' for 'limit': it is no number from 1 to 18446744073709551615"
         trial.note(f"Python, limit {limit}", refused(module.check, PROBLEM, BAD, limit=limit), (ValueError, text))
-    # what is too long is told by the library here, and by the header in C
+    # what is too long
     long = bytearray(GREATEST_INPUT + 1)
     for call, words in (
         (module.lint, (long,)), (module.check, (PROBLEM, long)), (module.score, (long, b"FAIL")),
@@ -651,7 +538,7 @@ def said_again(told):
 
 
 def example(name):
-    return contents(EXAMPLES, name)
+    return contents(ROOT, "examples", name)
 
 
 def usual_requests():
@@ -697,75 +584,38 @@ def bytes_of(text):
     return b"" if isinstance(text, Nothing) else text
 
 
-def by_hand():
-    """What docs/FORMAT.md and the header say of what no command line can ask for."""
-    faulty = b"problem line 1: E2 not a property, continuation, comment or blank line\n"
-    ranked = b"1 solution 2 yes\n2 solution 4 yes\n3 solution 1 no\n4 solution 3 FAIL\n"
-    rows = [
-        (Request("rank", (PROBLEM,)), FAIL, b""), (Request("rank", (PROBLEM,), Nothing(0), room=Nothing(0)), FAIL, b""),
-        (Request("rank", (PROBLEM,), b"-new"), FAIL, b""), (Request("rank", (b"?",), b"-new"), FAULTY, faulty),
-        (Request("rank", (PROBLEM, BAD, GOOD, b"FAIL", GOOD)), YES, ranked),
-        (Request("check", (PROBLEM, BAD), b"p1.conflicts.1"), NO, b"solution no\n"),
-        (Request("check", (PROBLEM, BAD), limit=1), NO, UNMET),
-        (Request("check", (PROBLEM, BAD), is_explained=True), NO, EXPLAINED),
-        (Request("lint", (b"?",), is_explained=True), FAULTY, faulty),
-    ]
-    rows += [(Request("check", (PROBLEM, BAD), key), USAGE, b"") for key in NO_KEYS]
-    rows += [(Request(call, (PROBLEM, BAD), said), USAGE, b"") for said in NO_LISTS for call in ("score", "rank")]
-    rows += refutations_by_hand(faulty)
-    # the words are judged before the documents
-    rows += [(Request("check", (b"?", BAD), b"x"), USAGE, b""), (Request("rank", (b"?",), b"x"), USAGE, b"")]
-    for request, status, report in rows:
-        yield f"by hand: {request}", request, request.left(status, report)
-
-
-def refutations_by_hand(faulty):
-    """What docs/FORMAT.md says of a CNF, of proofs that hold and of proofs that don't."""
-    unread = b"r.install.1 line 1: needs a\nno solution exists\n"
-    late = b"proof line 2: L5 no such clause\n"
-    return [
-        (Request("cnf", (PROBLEM,)), YES, b"c p1 car 1\nc p2 wheel 2\np cnf 2 1\n-1 0\n"),
-        (Request("cnf", (SHOP,)), YES, SHOP_CNF), (Request("cnf", (b"request:\n",)), YES, b"p cnf 0 0\n"),
-        (Request("cnf", (b"request:\ninstall: a\n",)), YES, b"p cnf 0 1\n0\n"), (Request("cnf", (b"?",)), FAULTY, faulty),
-        (Request("cnf", (LACKING,)), YES, b"c p1 a 1\np cnf 1 0\n"),
-        (Request("cnf", (LACKING,), is_strict=True), FAULTY, LACKS),
-        (Request("refute", (SHOP, SHOP_PROOF)), YES, SHOP_CORE),
-        (Request("refute", (SHOP, SHOP_PROOF), is_explained=True), YES, SHOP_EXPLAINED),
-        (Request("refute", (GONE, b"3 0 1 2 0\n"), is_explained=True), YES, GONE_EXPLAINED),
-        (Request("refute", (SHOP, b"c \xff\0\n" + SHOP_PROOF)), YES, SHOP_CORE),
-        (Request("refute", (SHOP, SHOP_PROOF[:-1])), YES, SHOP_CORE),
-        (Request("refute", (SHOP, b"")), NO, b"proof line 1: L8 proof ends early\n"),
-        (Request("refute", (SHOP, b"7 3 0 6 3 1 0\n8 4 0 9 2 0\n9 0 7 8 4 0\n")), NO, late),
-        (Request("refute", (b"?", SHOP_PROOF)), FAULTY, faulty),
-        (Request("refute", (b"?", b"?")), FAULTY, faulty),
-        (Request("refute", (b"request:\ninstall: a\n", b"?")), YES, unread),
-        (Request("refute", (LACKING, b"")), NO, b"proof line 1: L8 proof ends early\n"),
-        (Request("refute", (LACKING, b""), is_strict=True), FAULTY, LACKS),
-        (Request("refute", (SHOP, b""), is_explained=True), NO, b"proof line 1: L8 proof ends early\n"),
-        (Request("refute", (LACKING, b""), is_strict=True, is_explained=True), FAULTY, LACKS_EXPLAINED),
-    ]
-
-
-def lengths():
-    """Documents that are longer than may be, whatever the others are, also where no byte of them can be read, and one that is
-    as long as may be. A wrong key and a wrong list are told before."""
-    for long in (GREATEST_INPUT + 1, Claimed(GREATEST_INPUT + 1), Claimed(GREATEST)):
-        for request in (
-            Request("lint", (long,)), Request("check", (PROBLEM, long)), Request("score", (long, b"FAIL")),
-            Request("rank", (b"?", GOOD, long, b"FAIL"), b"-new"), Request("rank", (long,), b"-new"), Request("cnf", (long,)),
-            Request("refute", (b"?", long)), Request("refute", (long, SHOP_PROOF)),
-        ):
-            yield f"too long: {request}", request, request.left(UNREAD, b"")
-        for request in (
-            Request("check", (long, BAD), b"x"), Request("score", (PROBLEM, long), b"new"), Request("rank", (long,), b"new"),
-        ):
-            yield f"too long, and wrong words: {request}", request, request.left(USAGE, b"")
-    request = Request("lint", (GREATEST_INPUT,))
-    faulty = b"problem line 1: E2 not a property, continuation, comment or blank line\n"
-    yield "as long as may be", request, request.left(FAULTY, faulty)
-
-
 # ---- memory, threads, symbols
+
+
+def peak(words, folder):
+    """The most memory that a command had at a time, in KB, its status, and what it wrote."""
+    with tempfile.TemporaryFile(dir=folder) as output:
+        started = subprocess.Popen(words, cwd=folder, stdin=subprocess.DEVNULL, stdout=output)
+        _, status, used = os.wait4(started.pid, 0)
+        started.returncode = os.waitstatus_to_exitcode(status)
+        output.seek(0)
+        return used.ru_maxrss, started.returncode, output.read()
+
+
+def without_room(trial, driver):
+    """A report of a million lines, in a buffer of 100 bytes or none: its length is told, and it takes no more memory than one
+    of a line."""
+    count = 1_000_000
+    problem = b"package: a\nversion: 1\ndepends: " + b", ".join([b"b"] * count) + b"\ninstalled: true\n\nrequest:\n"
+    solution = b"package: a\nversion: 1\ninstalled: true\n"
+    lines = b"".join(b"p1.depends.%d a 1 line 1: needs b\n" % place for place in range(1, count + 1))
+    more = b"p1.depends.1 a 1 line 1: needs b\nmore after p1.depends.1\nsolution no\n"
+    used = []
+    for request, report in (
+        (Request("check", (problem, solution), limit=1, room=100), more),
+        (Request("check", (problem, solution), room=100), lines + b"solution no\n"),
+        (Request("check", (problem, solution), room=Nothing(0)), lines + b"solution no\n"),
+    ):
+        path = programs.write(trial.folder, "request", request.written())
+        most, status, output = peak([driver, path], trial.folder)
+        used.append(most)
+        trial.note(f"{len(report)} bytes, room {request.room}", (status, list(answers(output))), (0, [request.left(NO, report)]))
+    trial.note(f"memory for a long report, in KB: {used}", max(used) - used[0] < 1024, True)
 
 
 def refused_growths(trial, driver):
@@ -845,6 +695,7 @@ def main(program, library):
             through_c(trial, driver, [*cuts(trial), *nulls(trial), *by_hand()])
         if drivers[0]:
             through_c(trial, drivers[0], list(lengths()))
+            without_room(trial, drivers[0])
             refused_growths(trial, drivers[0])
             at_once(trial, drivers[0], named)
         else:

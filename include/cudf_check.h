@@ -12,11 +12,11 @@
  *     5  a document is longer than 256 MiB (268435456 bytes); cnf and refute: the CNF has more than 4294967295 clauses
  *     6  out of memory
  *
- * Status 4 comes before 5. A document is too long by its length alone: no byte of it is read.
+ * Status 4 comes before 5, and both come before a byte of a document is read: one is too long by its length alone.
  *
  * The report goes to the front of the caller's buffer, `report`, as far as it has room, and `*length` is the length of the
  * whole report. Where that is more than `room`, the report was cut at the buffer's end: the same call with a larger buffer
- * gives all of it. No byte of the buffer behind the report is written. With status 4, 5 and 6 no byte is written, and
+ * gives all of it. What lies in the buffer behind the report stays as it was, and with status 4, 5 and 6 all of it, and then
  * `*length` is 0. A report is UTF-8 text in lines that end with LF, without a NUL behind it.
  *
  * Texts are bytes with a length, in no need of a NUL. A null text is empty, a null buffer has no room, and a null array has
@@ -24,8 +24,8 @@
  * report's length alone. The buffer and `*length` lie apart from each other and from all texts.
  *
  * Nothing is kept between calls: any number of threads may call at once. Memory is taken by malloc and given back before a
- * call returns. A call holds its whole report, whatever the room: `limit` bounds that of check. No call may be made from a
- * signal handler, or in a child that was forked from a process with several threads.
+ * call returns. The report takes none: what the buffer has no room for is only counted. No call may be made from a signal
+ * handler, or in a child that was forked from a process with several threads.
  *
  * docs/FORMAT.md and docs/RULES.md of cudf_check say what a report says.
  */
@@ -97,7 +97,7 @@ uint8_t cudf_check_rank(bool strict, const uint8_t *problem, size_t problem_leng
 
 /*
  * Makes the rules of a problem a CNF in DIMACS, for a SAT solver: it has a model exactly where the problem has a solution.
- * It can be far longer than the problem, and is held in memory whole.
+ * It can be far longer than the problem: a call with a room of 0 tells how long.
  */
 uint8_t cudf_check_cnf(bool strict, const uint8_t *problem, size_t problem_length, uint8_t *report, size_t room,
                        size_t *length);
@@ -115,9 +115,8 @@ uint8_t cudf_check_refute(bool strict, bool explain, const uint8_t *problem, siz
 void cudf_check_version(uint8_t *text, size_t room, size_t *length);
 
 /*
- * What a C compiler calls by the names above. The library takes no null pointers, and reads a document as far as one may be
- * long before it says that it is longer; these functions see to both. Whoever calls by other ways, as from another language,
- * gives no null pointers and true lengths.
+ * What a C compiler calls by the names above. The library takes no null pointers; these functions see to it. Whoever calls
+ * by other ways, as from another language, gives no null pointers.
  */
 static inline cudf_check_text cudf_check_text_of(const void *bytes, size_t length)
 {
@@ -140,97 +139,60 @@ static inline const cudf_check_text *cudf_check_texts(const cudf_check_text *tex
     return texts ? texts : &none;
 }
 
-/* Whether one of two documents is too long. Then nothing of them is given to the library, which judges a key or a list alone. */
-static inline bool cudf_check_are_long(cudf_check_text *one, cudf_check_text *other)
-{
-    const bool are_long = one->length > CUDF_CHECK_LONGEST || other->length > CUDF_CHECK_LONGEST;
-    if (are_long)
-        one->length = other->length = 0;
-    return are_long;
-}
-
-/* The status of a call that was given its documents, or nothing of them, since one is too long. */
-static inline uint8_t cudf_check_status(uint8_t status, bool is_long, size_t *length)
-{
-    if (!is_long)
-        return status;
-    *length = 0;
-    return status < CUDF_CHECK_USAGE ? CUDF_CHECK_UNREAD : status;
-}
-
 static inline uint8_t cudf_check_call_lint(bool strict, bool explain, const void *problem, size_t problem_length,
                                            void *report, size_t room, size_t *length)
 {
-    cudf_check_text text = cudf_check_text_of(problem, problem_length);
-    const bool is_long = cudf_check_are_long(&text, &text);
-    const uint8_t status = cudf_check_lint(strict, explain, text.bytes, text.length, cudf_check_room(report),
-                                           report && !is_long ? room : 0, length);
-    return cudf_check_status(status, is_long, length);
+    const cudf_check_text text = cudf_check_text_of(problem, problem_length);
+    return cudf_check_lint(strict, explain, text.bytes, text.length, cudf_check_room(report), report ? room : 0, length);
 }
 
 static inline uint8_t cudf_check_call_check(bool strict, bool explain, const void *problem, size_t problem_length,
                                             const void *solution, size_t solution_length, const void *after,
                                             size_t after_length, uint64_t limit, void *report, size_t room, size_t *length)
 {
-    cudf_check_text text = cudf_check_text_of(problem, problem_length);
-    cudf_check_text answer = cudf_check_text_of(solution, solution_length);
+    const cudf_check_text text = cudf_check_text_of(problem, problem_length);
+    const cudf_check_text answer = cudf_check_text_of(solution, solution_length);
     const cudf_check_text key = cudf_check_text_of(after, after_length);
-    const bool is_long = cudf_check_are_long(&text, &answer);
-    const uint8_t status = cudf_check_check(strict, explain, text.bytes, text.length, answer.bytes, answer.length, key.bytes,
-                                            key.length, limit, cudf_check_room(report), report && !is_long ? room : 0,
-                                            length);
-    return cudf_check_status(status, is_long, length);
+    return cudf_check_check(strict, explain, text.bytes, text.length, answer.bytes, answer.length, key.bytes, key.length,
+                            limit, cudf_check_room(report), report ? room : 0, length);
 }
 
 static inline uint8_t cudf_check_call_score(bool strict, const void *problem, size_t problem_length, const void *solution,
                                             size_t solution_length, const void *criteria, size_t criteria_length,
                                             void *report, size_t room, size_t *length)
 {
-    cudf_check_text text = cudf_check_text_of(problem, problem_length);
-    cudf_check_text answer = cudf_check_text_of(solution, solution_length);
+    const cudf_check_text text = cudf_check_text_of(problem, problem_length);
+    const cudf_check_text answer = cudf_check_text_of(solution, solution_length);
     const cudf_check_text list = cudf_check_text_of(criteria, criteria_length);
-    const bool is_long = cudf_check_are_long(&text, &answer);
-    const uint8_t status = cudf_check_score(strict, text.bytes, text.length, answer.bytes, answer.length, list.bytes,
-                                            list.length, cudf_check_room(report), report && !is_long ? room : 0, length);
-    return cudf_check_status(status, is_long, length);
+    return cudf_check_score(strict, text.bytes, text.length, answer.bytes, answer.length, list.bytes, list.length,
+                            cudf_check_room(report), report ? room : 0, length);
 }
 
 static inline uint8_t cudf_check_call_rank(bool strict, const void *problem, size_t problem_length,
                                            const cudf_check_text *solutions, size_t count, const void *criteria,
                                            size_t criteria_length, void *report, size_t room, size_t *length)
 {
-    cudf_check_text text = cudf_check_text_of(problem, problem_length);
+    const cudf_check_text text = cudf_check_text_of(problem, problem_length);
     const cudf_check_text list = cudf_check_text_of(criteria, criteria_length);
-    bool is_long = cudf_check_are_long(&text, &text);
-    uint8_t status;
-    for (size_t at = 0; solutions && at < count; at++) {
-        cudf_check_text answer = solutions[at];
-        is_long = cudf_check_are_long(&text, &answer) || is_long;
-    }
-    status = cudf_check_rank(strict, text.bytes, text.length, cudf_check_texts(solutions), solutions && !is_long ? count : 0,
-                             list.bytes, list.length, cudf_check_room(report), report && !is_long ? room : 0, length);
-    return cudf_check_status(status, is_long, length);
+    return cudf_check_rank(strict, text.bytes, text.length, cudf_check_texts(solutions), solutions ? count : 0, list.bytes,
+                           list.length, cudf_check_room(report), report ? room : 0, length);
 }
 
 static inline uint8_t cudf_check_call_cnf(bool strict, const void *problem, size_t problem_length, void *report,
                                           size_t room, size_t *length)
 {
-    cudf_check_text text = cudf_check_text_of(problem, problem_length);
-    const bool is_long = cudf_check_are_long(&text, &text);
-    const uint8_t status = cudf_check_cnf(strict, text.bytes, text.length, cudf_check_room(report),
-                                          report && !is_long ? room : 0, length);
-    return cudf_check_status(status, is_long, length);
+    const cudf_check_text text = cudf_check_text_of(problem, problem_length);
+    return cudf_check_cnf(strict, text.bytes, text.length, cudf_check_room(report), report ? room : 0, length);
 }
 
 static inline uint8_t cudf_check_call_refute(bool strict, bool explain, const void *problem, size_t problem_length,
                                              const void *proof, size_t proof_length, void *report, size_t room,
                                              size_t *length)
 {
-    cudf_check_text text = cudf_check_text_of(problem, problem_length), steps = cudf_check_text_of(proof, proof_length);
-    const bool is_long = cudf_check_are_long(&text, &steps);
-    const uint8_t status = cudf_check_refute(strict, explain, text.bytes, text.length, steps.bytes, steps.length,
-                                             cudf_check_room(report), report && !is_long ? room : 0, length);
-    return cudf_check_status(status, is_long, length);
+    const cudf_check_text text = cudf_check_text_of(problem, problem_length);
+    const cudf_check_text steps = cudf_check_text_of(proof, proof_length);
+    return cudf_check_refute(strict, explain, text.bytes, text.length, steps.bytes, steps.length, cudf_check_room(report),
+                             report ? room : 0, length);
 }
 
 static inline void cudf_check_call_version(void *text, size_t room, size_t *length)

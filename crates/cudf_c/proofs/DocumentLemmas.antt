@@ -1,52 +1,27 @@
 -- What became of documents in memory that a run has read.
-use Rattle.std.proofs.Common.{◌≡◌, ◌+◌, ◌<◌, ◌≤◌, inl, inr, ℕ, List, [], ◌∷◌, map, length, suc, refl, sym, ap, ◌∙◌, subst, arith}
-use Rattle.std.proofs.lemmas.Grind.{common_steps}
-use Rattle.std.proofs.lemmas.List.Elements.{All-nil, All-cons, All-head, All-tail}
+use Rattle.std.proofs.Common.{◌≡◌, ◌++◌, ℕ, List, [], ◌∷◌, Some, map, length, suc, refl, sym, ap, ◌∙◌, arith, append-nil}
+use Rattle.std.proofs.lemmas.List.Elements.{All-head, All-tail}
 use Rattle.std.specs.List.{All, AllZip}
 use Rattle.cudf_check.specs.Device.{SourceState}
 use Rattle.cudf_check.specs.ManyRuns.{LeavesBehind}
-use Rattle.cudf_check.specs.Readers.{Change, change, IsTooLong, IsUnfinished, OfOne, ReadsAll, changes}
-use Rattle.cudf_c.specs.Calls.{IsLong, IsShort}
+use Rattle.cudf_check.specs.Readers.{Change, change, ReadsAll, changes}
 use Rattle.cudf_c.specs.Working.Documents.{IsNew, IsUnread, document_state}
 use Rattle.cudf_c.specs.Working.Given.{given_before}
 use Rattle.cudf_c.specs.declared.document.Document.{Document}
-use Rattle.cudf_c.proofs.ArithmeticLemmas.{had_few, had_more, no_turn_left}
 
--- a reader of this text: its reading always comes to an end, and gives the text, and no more bytes than there are
+-- a reader of this text: what was read of it is the text
 pub record OfDocument (text : List ℕ) (reader : Change SourceState) : Type 0 where
-  pub finished : IsUnfinished reader → ⊥
-  pub long : IsTooLong reader → IsLong text
   pub whole : (bytes : List ℕ) → ReadsAll reader bytes → bytes ≡ text
-  pub short : (bytes : List ℕ) → ReadsAll reader bytes → (IsTooLong reader → ⊥) → IsShort text
 
--- its reading came to an end
-finished : (text : List ℕ) (old new : Document) → IsUnread text old → IsUnfinished (change document_state old new) → ⊥
-finished text old new unread (inl failed) = omega (arith, failed)
-finished text old new unread (inr (calls, ends, few)) =
-    no_turn_left (given_before text) new.calls new.ends (given_before new.rest.now) new.counted
-    (calls ∙ ap (λ n. n + 536870912) unread.calls) (ends ∙ unread.ends)
-    (subst (λ rest. given_before new.rest.now ≤ given_before rest + 268435456) unread.rest few)
-
--- what was read of it is the text
-whole : (text : List ℕ) (old new : Document) → IsUnread text old → (bytes : List ℕ) → ReadsAll (change document_state old new) bytes → bytes ≡ text
-whole text old new unread bytes read = grind (arith, common_steps)
-
--- its text is short where it was read, and gave not too many bytes
-short : (text : List ℕ) (old new : Document) → IsUnread text old → (bytes : List ℕ) → ReadsAll (change document_state old new) bytes
-    → (IsTooLong (change document_state old new) → ⊥) → IsShort text
-short text old new unread bytes read few =
-    let left = length new.rest.now in
-    had_few (length text) left
-    (read.counted ∙ ap (λ rest. given_before rest + length bytes) unread.rest ∙ ap (λ b. given_before text + length b) (whole text old new unread bytes read))
-    (λ more. few (subst (λ rest. given_before rest + 268435456 < given_before new.rest.now) (sym unread.rest) more))
+-- a document of which nothing was read, and what it is then
+pub of_read : (text : List ℕ) (old : Document) (rest : List ℕ) (calls failures ends given : ℕ) → IsUnread text old
+    → OfDocument text (record { before = document_state old; after = record { remaining = Some rest; calls = calls; failures = failures; ends = ends; given = given } })
+of_read text old rest calls failures ends given unread = record {
+  whole = λ bytes read. sym (append-nil bytes) ∙ ap (λ left. bytes ++ left) (sym read.at_end) ∙ sym read.consumed ∙ unread.rest;
+}
 
 pub of_document : (text : List ℕ) (old new : Document) → IsUnread text old → OfDocument text (change document_state old new)
-of_document text old new unread = record {
-  finished = finished text old new unread;
-  long = λ more. had_more (length text) (length new.rest.now) (subst (λ rest. given_before rest + 268435456 < given_before new.rest.now) unread.rest more);
-  whole = whole text old new unread;
-  short = short text old new unread;
-}
+of_document text old new unread = of_read text old new.rest.now new.calls 0 new.ends (given_before new.rest.now) unread
 
 -- as many are returned as were lent
 same_length : {D : Type 0} (P : D → D → Type 0) (olds news : List D) → LeavesBehind P olds news → length news ≡ length olds
@@ -67,20 +42,6 @@ of_documents P olds news behind new = go olds news (same_length P olds news behi
 
 -- ---- documents of which each has its reader
 
-pub none_unfinished : (texts : List (List ℕ)) (readers : List (Change SourceState)) → AllZip OfDocument texts readers → OfOne IsUnfinished readers → ⊥
-none_unfinished [] [] each one = one
-none_unfinished [] (r ∷ readers) each one = absurd each
-none_unfinished (t ∷ texts) [] each one = one
-none_unfinished (t ∷ texts) (r ∷ readers) each (inl here) = each.0.finished here
-none_unfinished (t ∷ texts) (r ∷ readers) each (inr there) = none_unfinished texts readers each.1 there
-
-pub one_long : (texts : List (List ℕ)) (readers : List (Change SourceState)) → AllZip OfDocument texts readers → OfOne IsTooLong readers → OfOne IsLong texts
-one_long [] [] each one = one
-one_long [] (r ∷ readers) each one = absurd each
-one_long (t ∷ texts) [] each one = absurd one
-one_long (t ∷ texts) (r ∷ readers) each (inl here) = inl (each.0.long here)
-one_long (t ∷ texts) (r ∷ readers) each (inr there) = inr (one_long texts readers each.1 there)
-
 pub all_whole : (texts : List (List ℕ)) (readers : List (Change SourceState)) (read : List (List ℕ)) → AllZip OfDocument texts readers → AllZip ReadsAll readers read → read ≡ texts
 all_whole [] [] [] each all = refl
 all_whole [] [] (b ∷ read) each all = absurd all
@@ -89,11 +50,3 @@ all_whole (t ∷ texts) [] read each all = absurd each
 all_whole (t ∷ texts) (r ∷ readers) [] each all = absurd all
 all_whole (t ∷ texts) (r ∷ readers) (b ∷ read) each all =
     ap (λ x. x ∷ read) (each.0.whole b all.0) ∙ ap (λ xs. t ∷ xs) (all_whole texts readers read each.1 all.1)
-
-pub all_short : (texts : List (List ℕ)) (readers : List (Change SourceState)) (read : List (List ℕ)) → AllZip OfDocument texts readers → AllZip ReadsAll readers read
-    → (OfOne IsTooLong readers → ⊥) → All IsShort texts
-all_short [] readers read each all few = All-nil IsShort
-all_short (t ∷ texts) [] read each all few = absurd each
-all_short (t ∷ texts) (r ∷ readers) [] each all few = absurd all
-all_short (t ∷ texts) (r ∷ readers) (b ∷ read) each all few =
-    All-cons IsShort t texts (each.0.short b all.0 (λ more. few (inl more))) (all_short texts readers read each.1 all.1 (λ more. few (inr more)))

@@ -1,3 +1,5 @@
-mod ArithmeticLemmas
+mod CallLemmas
 mod DocumentLemmas
+mod LengthLemmas
 mod ReadLemmas
+mod RoomLemmas

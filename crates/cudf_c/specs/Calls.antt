@@ -1,5 +1,5 @@
 -- What a call of the library leaves. Own.
-use Rattle.std.specs.Prelude.{◌≡◌, ◌<◌, ◌≤◌, ◌⊎◌, ◌++◌, ℕ, List, length, take, drop, Bool, if◌then◌else◌}
+use Rattle.std.specs.Prelude.{◌≡◌, ◌<◌, ◌≤◌, ◌⊎◌, ◌++◌, ℕ, List, length, min, take, drop, Bool, if◌then◌else◌}
 use Rattle.std.specs.List.{All}
 use Rattle.cudf_check.specs.Runs.{outcome_status}
 use Rattle.cudf_check.specs.Readers.{OfOne, most_bytes}
@@ -21,13 +21,19 @@ pub record Left : Type 0 where
 abbrev pub left : List ℕ → List ℕ → ℕ → ℕ → Left
 left old new told status = record { old = old; new = new; told = told; status = status }
 
--- the whole text's length is told; its front stands in the buffer, as far as there is room, and what lies behind it is as before
+-- the whole text's length is told, or 18446744073709551615 where it is longer; its front stands in the buffer, as far as there is room, and what lies behind it is as before
 pub record Shows (text : List ℕ) (call : Left) : Type 0 where
-  pub length_is : call.told ≡ length text
+  pub length_is : call.told ≡ min (length text) 18446744073709551615
   pub shown : call.new ≡ take (length call.old) text ++ drop (length text) call.old
 
--- no length is told, and the buffer is as before
-pub record ShowsNothing (call : Left) : Type 0 where
+-- the report is shown, and its outcome's status answered, which is 5 where a CNF is too large: that report has no text
+pub record Tells (answer : Report) (call : Left) : Type 0 where
+  pub status_is : call.status ≡ outcome_status answer.outcome
+  pub shows : Shows answer.text call
+
+-- there is no report, but this status: no length is told, and the buffer is as before
+pub record BreaksOff (status : ℕ) (call : Left) : Type 0 where
+  pub status_is : call.status ≡ status
   pub length_is : call.told ≡ 0
   pub kept : call.new ≡ call.old
 
@@ -39,27 +45,15 @@ IsShort text = length text ≤ most_bytes
 abbrev pub IsLong : List ℕ → Type 0
 IsLong text = most_bytes < length text
 
--- the report, and its outcome's status, which is 5 where a CNF is too large: that report has no text; none of the documents is too long
-pub record Tells (documents : List (List ℕ)) (answer : Report) (call : Left) : Type 0 where
-  pub status_is : call.status ≡ outcome_status answer.outcome
-  pub shows : Shows answer.text call
-  pub short : All IsShort documents
-
--- a word of the call says nothing that can be done
-pub record Refuses (call : Left) : Type 0 where
-  pub status_is : call.status ≡ 4
-  pub nothing : ShowsNothing call
-
--- why there is no report: 5 where one of the documents is too long, 6 where memory ran out
-pub record BreaksOff (documents : List (List ℕ)) (call : Left) : Type 0 where
-  pub status_is : ((call.status ≡ 5) × OfOne IsLong documents) ⊎ (call.status ≡ 6)
-  pub nothing : ShowsNothing call
-
--- the report on these documents, where none is too long and there is memory for it
+-- 5 where a document is too long; else the report on them, or 6 where memory ran out
 abbrev pub Answers : List (List ℕ) → Report → Left → Type 0
-Answers documents answer call = Tells documents answer call ⊎ BreaksOff documents call
+Answers documents answer call = (OfOne IsLong documents × BreaksOff 5 call) ⊎ (All IsShort documents × (Tells answer call ⊎ BreaksOff 6 call))
 
--- the report of what the call's words ask for, or a refusal where they ask for nothing
+-- 4 where the call's words ask for nothing, whatever the documents are; else the answer to what they ask for
 abbrev pub AnswersAsked : {A : Type 0} → (A → Type 0) → Type 0 → List (List ℕ) → (A → Report) → Left → Type 0
 AnswersAsked {A = A} IsAsked IsNothing documents answer call =
-    ((asked : A) × IsAsked asked × Tells documents (answer asked) call) ⊎ ((IsNothing × Refuses call) ⊎ BreaksOff documents call)
+    (IsNothing × BreaksOff 4 call) ⊎ ((asked : A) × IsAsked asked × Answers documents (answer asked) call)
+
+-- the same of words that are read into memory: where that runs out, 6, before it is known what they ask for
+abbrev pub AnswersRead : {A : Type 0} → (A → Type 0) → Type 0 → List (List ℕ) → (A → Report) → Left → Type 0
+AnswersRead IsAsked IsNothing documents answer call = AnswersAsked IsAsked IsNothing documents answer call ⊎ BreaksOff 6 call

@@ -5,8 +5,8 @@ ghost use Rattle.cudf_c.specs.Working.Given.{given_before};
 use cudf_check::{Source, Trouble};
 use cudf_index::Steps;
 
-/// What is left of a document in memory. No call fails, and each gives a byte or tells the end: so only its length, or want
-/// of memory, ends the reading of one in an error.
+/// What is left of a document in memory. No call fails, and each gives a byte or tells the end: so only want of memory ends
+/// the reading of one that isn't too long in an error.
 #[derive(Drop)]
 pub(crate) struct Document<'t> {
     pub(crate) rest: &'t [u8],

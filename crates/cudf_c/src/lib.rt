@@ -1,25 +1,32 @@
 //! The library for C, and for each language that calls C: reports of documents that are held in memory.
 //!
 //! A call answers the exit status that the program has for the same documents. Its report goes to the front of the
-//! caller's buffer as far as there is room, and the length of the whole report is told: where that is more than the
-//! buffer has, a second call with a larger one gives all of it. With status 4, 5 and 6 nothing is written, and the length
-//! is 0. Nothing is kept between calls, so any number of threads may call at once. Own.
+//! caller's buffer as far as there is room, and the rest is only counted: no more of a report is held in memory. The
+//! length of the whole report is told: where that is more than the buffer has, a second call with a larger one gives all
+//! of it. With status 4, 5 and 6 nothing is written, and the length is 0.
+//!
+//! Status 4, of words that ask for nothing, comes before 5. Status 5 is told by the lengths of the documents alone, before a
+//! byte of one is read. Nothing is kept between calls, so any number of threads may call at once. Own.
 #![tactic(auto)]
 
 ghost use Rattle.std.specs.Prelude.{◌≡◌, [], ◌∷◌, Some, None, codes, map};
 ghost use Rattle.cudf_check.specs.RankReport.{rank_report};
 ghost use Rattle.cudf_check.specs.Report.{report};
 ghost use Rattle.cudf_job.specs.declared.job.Job.TheVariants.{Cnf, Lint, Refute};
-ghost use Rattle.cudf_c.specs.Calls.{Answers, AnswersAsked, Shows, left, mode_of};
+ghost use Rattle.cudf_c.specs.Calls.{Answers, AnswersAsked, AnswersRead, Shows, left, mode_of};
 ghost use Rattle.cudf_c.specs.Words.{IsAims, IsNoKey, IsNoList, IsPage, IsScore};
 
 mod document;
+mod front;
+mod lengths;
 mod made;
 mod stop;
+mod taken;
 mod words;
 
 use cudf_check::{Job, Mode};
-use made::{copy_front, judged, ranked, refuse, show, single};
+use front::copy_front;
+use made::{judged, ranked, refuse, single, tell};
 use std::alloc::Global;
 use words::{aims, page, score};
 
@@ -44,8 +51,8 @@ pub extern "C" fn cudf_check_lint(
     ensures { Answers (problem.now ∷ []) (report (Lint explain) (mode_of strict) problem.now None) (left room.old room.new length.new result) }
 {
     let lint = Job::Lint { explain };
-    let report = single(alloc, &lint, mode(strict), problem);
-    show(report, room, length)
+    let report = single(alloc, &lint, mode(strict), problem, room);
+    tell(report, length)
 }
 
 /// Says what is wrong with a solution of a problem, as the program's `check` does, with its `--explain` where `explain`
@@ -68,8 +75,8 @@ pub extern "C" fn cudf_check_check(
 {
     match page(after, limit, explain) {
         Ok(page) => {
-            let report = judged(alloc, &page, mode(strict), problem, solution);
-            show(report, room, length)
+            let report = judged(alloc, &page, mode(strict), problem, solution, room);
+            tell(report, length)
         }
         Err(stop) => refuse(stop, length),
     }
@@ -87,13 +94,13 @@ pub extern "C" fn cudf_check_score(
     room: &mut [u8],
     length: &mut usize,
 ) -> u8
-    ensures { AnswersAsked (IsScore criteria.now) (IsNoList criteria.now) (problem.now ∷ solution.now ∷ [])
+    ensures { AnswersRead (IsScore criteria.now) (IsNoList criteria.now) (problem.now ∷ solution.now ∷ [])
         (λ job. report job (mode_of strict) problem.now (Some solution.now)) (left room.old room.new length.new result) }
 {
     match score(alloc, criteria) {
         Ok(score) => {
-            let report = judged(alloc, &score, mode(strict), problem, solution);
-            show(report, room, length)
+            let report = judged(alloc, &score, mode(strict), problem, solution, room);
+            tell(report, length)
         }
         Err(stop) => refuse(stop, length),
     }
@@ -111,13 +118,13 @@ pub extern "C" fn cudf_check_rank(
     room: &mut [u8],
     length: &mut usize,
 ) -> u8
-    ensures { AnswersAsked (IsAims criteria.now) (IsNoList criteria.now) (problem.now ∷ map (λ text. text.bytes.now) solutions.now)
+    ensures { AnswersRead (IsAims criteria.now) (IsNoList criteria.now) (problem.now ∷ map (λ text. text.bytes.now) solutions.now)
         (λ aims. rank_report aims (mode_of strict) problem.now (map (λ text. text.bytes.now) solutions.now)) (left room.old room.new length.new result) }
 {
     match aims(alloc, criteria) {
         Ok(aims) => {
-            let report = ranked(alloc, &aims, mode(strict), problem, solutions);
-            show(report, room, length)
+            let report = ranked(alloc, &aims, mode(strict), problem, solutions, room);
+            tell(report, length)
         }
         Err(stop) => refuse(stop, length),
     }
@@ -136,8 +143,8 @@ pub extern "C" fn cudf_check_cnf(
     ensures { Answers (problem.now ∷ []) (report Cnf (mode_of strict) problem.now None) (left room.old room.new length.new result) }
 {
     let cnf = Job::Cnf;
-    let report = single(alloc, &cnf, mode(strict), problem);
-    show(report, room, length)
+    let report = single(alloc, &cnf, mode(strict), problem, room);
+    tell(report, length)
 }
 
 /// Checks a proof that a problem has no solution, as the program's `refute` does, with its `--explain` where `explain` says
@@ -155,8 +162,8 @@ pub extern "C" fn cudf_check_refute(
     ensures { Answers (problem.now ∷ proof.now ∷ []) (report (Refute explain) (mode_of strict) problem.now (Some proof.now)) (left room.old room.new length.new result) }
 {
     let refute = Job::Refute { explain };
-    let report = judged(alloc, &refute, mode(strict), problem, proof);
-    show(report, room, length)
+    let report = judged(alloc, &refute, mode(strict), problem, proof, room);
+    tell(report, length)
 }
 
 /// Tells the library's version, which is that of the program: as `1.0.0`.

@@ -1,50 +1,67 @@
-//! Reports that are made in memory, and how a caller's buffer gets one.
-ghost use Rattle.std.specs.Prelude.{◌≡◌, ◌++◌, [], ◌∷◌, IfErr, IfOk, MatchResult, None, Some, drop, length, map, take};
+//! Reports, whose front goes to a caller's buffer.
+ghost use Rattle.std.specs.Prelude.{◌≡◌, [], ◌∷◌, IfOk, MatchResult, None, Some, map};
 ghost use Rattle.std.specs.List.{All};
 ghost use Rattle.cudf_check.specs.RankReport.{rank_report};
 ghost use Rattle.cudf_check.specs.Report.{report};
-ghost use Rattle.cudf_c.specs.Calls.{left};
 ghost use Rattle.cudf_c.specs.Working.Documents.{IsNew};
-ghost use Rattle.cudf_c.specs.Working.Made.{IsMade, IsStopped, IsTold, IsUnmade, Judges};
+ghost use Rattle.cudf_c.specs.Working.Fronts.{IsUnwritten, IsWritten};
+ghost use Rattle.cudf_c.specs.Working.Made.{IsLeft, IsTold, Judges};
 ghost use Rattle.cudf_c.specs.Working.Stops.{stop_status};
 
 use crate::Text;
 use crate::document::Document;
+use crate::front::{Front, Seen};
+use crate::lengths::{are_short, is_short};
 use crate::stop::Stop;
-use cudf_check::{Aim, Device, Job, Mode, Outcome, rank, run};
+use cudf_check::{Aim, Job, Mode, Outcome, rank, run};
 use std::alloc::{AllocError, Global};
 
-/// A report.
-#[derive(Drop)]
+/// A report whose front is in the caller's buffer.
+#[derive(Clone, Copy, Debug)]
 pub(crate) struct Made {
-    pub text: Vec<u8>,
+    /// How long it is, or 18446744073709551615 where it is longer.
+    pub length: usize,
     pub outcome: Outcome,
 }
 
-impl Made {
-    ghost use Rattle.std.specs.Prelude.{◌≡◌};
-    ghost use Rattle.cudf_check.specs.DeviceInside.{device_inner};
-
-    /// What a device took of the report that ended so.
-    fn of(outcome: Outcome, out: Device<Vec<u8>>) -> Made
-        ensures text { result.text ≡ device_inner out }
-        ensures outcome { result.outcome ≡ outcome }
-    {
-        Made {
-            text: out.into_inner(),
-            outcome,
-        }
+/// The report of a job on a problem alone.
+pub(crate) fn single(
+    alloc: Global,
+    job: &Job,
+    mode: Mode,
+    problem: &[u8],
+    room: &mut [u8],
+) -> Result<Made, Stop>
+    ensures { IsLeft (problem.now ∷ []) (report job.now mode problem.now None) room.old room.new result }
+{
+    if !is_short(problem.len()) {
+        return Err(Stop::TooLong);
     }
+    let mut seen = Seen::of(room);
+    let mut out = Front::new(room, &mut seen);
+    let outcome = run_single(alloc, job, mode, problem, &mut out)?;
+    Ok(Made {
+        length: out.length(),
+        outcome,
+    })
 }
 
-/// The report of a job on a problem alone.
-pub(crate) fn single(alloc: Global, job: &Job, mode: Mode, problem: &[u8]) -> Result<Made, Stop>
-    ensures { MatchResult result (IsMade (problem.now ∷ []) (report job.now mode problem.now None)) (IsUnmade (problem.now ∷ [])) }
+fn run_single(
+    alloc: Global,
+    job: &Job,
+    mode: Mode,
+    problem: &[u8],
+    out: &mut Front<'_>,
+) -> Result<Outcome, Stop>
+    requires { out.old.seen.now.report ≡ [] }
+
+    ensures same_reference { out.new.room.ghost_name ≡ out.old.room.ghost_name }
+    ensures written { MatchResult result (IsWritten (report job.now mode problem.now None) out.old out.new)
+        (IsUnwritten out.old out.new) }
 {
     let mut first = Document::new(problem);
-    let mut out = Device::new(Vec::new(alloc));
-    let outcome = run::<_, Document<'_>, _>(alloc, job, mode, &mut first, None, &mut out)?;
-    Ok(Made::of(outcome, out))
+    let outcome = run::<_, Document<'_>, _>(alloc, job, mode, &mut first, None, out)?;
+    Ok(outcome)
 }
 
 /// The report of a job on a problem and the solution or the proof that it judges.
@@ -54,17 +71,46 @@ pub(crate) fn judged(
     mode: Mode,
     problem: &[u8],
     answer: &[u8],
+    room: &mut [u8],
 ) -> Result<Made, Stop>
     requires { Judges job.now }
 
-    ensures { MatchResult result (IsMade (problem.now ∷ answer.now ∷ []) (report job.now mode problem.now (Some answer.now)))
-        (IsUnmade (problem.now ∷ answer.now ∷ [])) }
+    ensures { IsLeft (problem.now ∷ answer.now ∷ []) (report job.now mode problem.now (Some answer.now)) room.old room.new result }
+{
+    if !is_short(problem.len()) {
+        return Err(Stop::TooLong);
+    }
+    if !is_short(answer.len()) {
+        return Err(Stop::TooLong);
+    }
+    let mut seen = Seen::of(room);
+    let mut out = Front::new(room, &mut seen);
+    let outcome = run_judged(alloc, job, mode, problem, answer, &mut out)?;
+    Ok(Made {
+        length: out.length(),
+        outcome,
+    })
+}
+
+fn run_judged(
+    alloc: Global,
+    job: &Job,
+    mode: Mode,
+    problem: &[u8],
+    answer: &[u8],
+    out: &mut Front<'_>,
+) -> Result<Outcome, Stop>
+    requires judges { Judges job.now }
+    requires report { out.old.seen.now.report ≡ [] }
+
+    ensures same_reference { out.new.room.ghost_name ≡ out.old.room.ghost_name }
+    ensures written { MatchResult result (IsWritten (report job.now mode problem.now (Some answer.now)) out.old out.new)
+        (IsUnwritten out.old out.new) }
 {
     let mut first = Document::new(problem);
     let mut second = Document::new(answer);
-    let mut out = Device::new(Vec::new(alloc));
-    let outcome = run(alloc, job, mode, &mut first, Some(&mut second), &mut out)?;
-    Ok(Made::of(outcome, out))
+    let outcome = run(alloc, job, mode, &mut first, Some(&mut second), out)?;
+    Ok(outcome)
 }
 
 /// The report of a ranking of solutions of a problem.
@@ -74,16 +120,45 @@ pub(crate) fn ranked(
     mode: Mode,
     problem: &[u8],
     solutions: &[Text<'_>],
+    room: &mut [u8],
 ) -> Result<Made, Stop>
-    ensures { MatchResult result
-        (IsMade (problem.now ∷ map (λ text. text.bytes.now) solutions.now) (rank_report aims.now mode problem.now (map (λ text. text.bytes.now) solutions.now)))
-        (IsUnmade (problem.now ∷ map (λ text. text.bytes.now) solutions.now)) }
+    ensures { IsLeft (problem.now ∷ map (λ text. text.bytes.now) solutions.now)
+        (rank_report aims.now mode problem.now (map (λ text. text.bytes.now) solutions.now)) room.old room.new result }
+{
+    if !is_short(problem.len()) {
+        return Err(Stop::TooLong);
+    }
+    if !are_short(solutions) {
+        return Err(Stop::TooLong);
+    }
+    let mut seen = Seen::of(room);
+    let mut out = Front::new(room, &mut seen);
+    let outcome = run_ranked(alloc, aims, mode, problem, solutions, &mut out)?;
+    Ok(Made {
+        length: out.length(),
+        outcome,
+    })
+}
+
+fn run_ranked(
+    alloc: Global,
+    aims: &[Aim],
+    mode: Mode,
+    problem: &[u8],
+    solutions: &[Text<'_>],
+    out: &mut Front<'_>,
+) -> Result<Outcome, Stop>
+    requires { out.old.seen.now.report ≡ [] }
+
+    ensures same_reference { out.new.room.ghost_name ≡ out.old.room.ghost_name }
+    ensures written { MatchResult result
+        (IsWritten (rank_report aims.now mode problem.now (map (λ text. text.bytes.now) solutions.now)) out.old out.new)
+        (IsUnwritten out.old out.new) }
 {
     let mut first = Document::new(problem);
     let mut others = documents(alloc, solutions)?;
-    let mut out = Device::new(Vec::new(alloc));
-    let outcome = rank(alloc, aims, mode, &mut first, &mut others, &mut out)?;
-    Ok(Made::of(outcome, out))
+    let outcome = rank(alloc, aims, mode, &mut first, &mut others, out)?;
+    Ok(outcome)
 }
 
 /// A document for each text.
@@ -98,15 +173,13 @@ fn documents<'t>(alloc: Global, texts: &[Text<'t>]) -> Result<Vec<Document<'t>>,
     Ok(documents)
 }
 
-/// Gives a caller the report, or nothing, and answers the status.
-pub(crate) fn show(made: Result<Made, Stop>, room: &mut [u8], length: &mut usize) -> u8
-    ensures told { IfOk made (λ m. IsTold m (left room.old room.new length.new result)) }
-    ensures nothing { IfErr made (λ stop. IsStopped stop (left room.old room.new length.new result)) }
+/// Tells a caller the length of the report, or that there is none, and answers the status.
+pub(crate) fn tell(made: Result<Made, Stop>, length: &mut usize) -> u8
+    ensures { IsTold made length.new result }
 {
     match made {
         Ok(made) => {
-            *length = made.text.len();
-            copy_front(&made.text, room);
+            *length = made.length;
             made.outcome.status()
         }
         Err(stop) => refuse(stop, length),
@@ -120,12 +193,4 @@ pub(crate) fn refuse(stop: Stop, length: &mut usize) -> u8
 {
     *length = 0;
     stop.status()
-}
-
-/// Copies a text to the front of the room, as far as it fits. What lies behind it stays.
-pub(crate) fn copy_front(text: &[u8], room: &mut [u8])
-    ensures { room.new ≡ take (length room.old) text.now ++ drop (length text.now) room.old }
-{
-    let shown = text.len().min(room.len());
-    room[..shown].copy_from_slice(&text[..shown]);
 }

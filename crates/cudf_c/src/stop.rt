@@ -42,17 +42,14 @@ impl From<AllocError> for Stop {
     }
 }
 
+// No read of a document in memory fails, and no write to a front; and that no document is too long is known before it is read.
 impl From<RunError> for Stop {
-    ghost use Rattle.std.specs.Prelude.{◌≡◌, ◌≢◌};
-    ghost use Rattle.cudf_c.specs.Working.Stops.{stop_of};
+    ghost use Rattle.std.specs.Prelude.{◌≡◌};
+    ghost use Rattle.cudf_c.specs.declared.stop.Stop.TheVariants.{Memory};
 
-    ghost from_gives = { λ error stop. stop ≡ stop_of error };
+    ghost from_gives = { λ _ stop. stop ≡ Memory };
 
-    fn from(error: RunError) -> Self {
-        match error {
-            RunError::Read | RunError::TooLong => Stop::TooLong,
-            // A report is written to memory, which fails where a growth is refused, and never else.
-            RunError::Write | RunError::Memory => Stop::Memory,
-        }
+    fn from(_error: RunError) -> Self {
+        Stop::Memory
     }
 }

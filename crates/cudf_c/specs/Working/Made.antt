@@ -1,12 +1,13 @@
--- A report that was made in memory, and jobs that judge, for proofs.
-use Rattle.std.specs.Prelude.{◌≡◌, ◌⊎◌, List, ℕ}
+-- A report that was made, and jobs that judge, for proofs.
+use Rattle.std.specs.Prelude.{◌≡◌, ◌⊎◌, ℕ, List, length, min, MatchResult, Result, Ok, Err}
 use Rattle.std.specs.List.{All}
 use Rattle.cudf_check.specs.Readers.{OfOne}
 use Rattle.cudf_check.specs.Report.{Report}
 use Rattle.cudf_check.specs.Runs.{outcome_status}
 use Rattle.cudf_job.specs.declared.job.Job.{Job}
 use Rattle.cudf_job.specs.declared.job.Job.TheVariants.{Lint, Check, Score, Cnf, Refute}
-use Rattle.cudf_c.specs.Calls.{IsLong, IsShort, Left, Shows, ShowsNothing}
+use Rattle.cudf_c.specs.Calls.{IsLong, IsShort}
+use Rattle.cudf_c.specs.Working.Rooms.{over}
 use Rattle.cudf_c.specs.Working.Stops.{stop_status}
 use Rattle.cudf_c.specs.declared.made.Made.{Made}
 use Rattle.cudf_c.specs.declared.stop.Stop.{Stop}
@@ -20,22 +21,23 @@ Judges (Score aims) = Unit {0}
 Judges Cnf = ⊥
 Judges (Refute explain) = Unit {0}
 
--- it is this report, on documents of which none is too long
-pub record IsMade (documents : List (List ℕ)) (answer : Report) (made : Made) : Type 0 where
-  pub text_is : made.text.items ≡ answer.text
-  pub outcome_is : made.outcome ≡ answer.outcome
+-- it is this report on documents of which none is too long, and its front is in the buffer
+pub record IsMade (documents : List (List ℕ)) (answer : Report) (old new : List ℕ) (made : Made) : Type 0 where
   pub short : All IsShort documents
+  pub outcome_is : made.outcome ≡ answer.outcome
+  pub length_is : made.length ≡ min (length answer.text) 18446744073709551615
+  pub shown : new ≡ over old answer.text
 
--- a document is too long, or memory ran out
-abbrev pub IsUnmade : List (List ℕ) → Stop → Type 0
-IsUnmade documents stop = ((stop ≡ TooLong) × OfOne IsLong documents) ⊎ (stop ≡ Memory)
+-- a document is too long, or none is and memory ran out; the buffer is as before
+pub record IsUnmade (documents : List (List ℕ)) (old new : List ℕ) (stop : Stop) : Type 0 where
+  pub why : ((stop ≡ TooLong) × OfOne IsLong documents) ⊎ ((stop ≡ Memory) × All IsShort documents)
+  pub kept : new ≡ old
 
--- a call tells this report
-pub record IsTold (made : Made) (call : Left) : Type 0 where
-  pub status_is : call.status ≡ outcome_status made.outcome
-  pub shows : Shows made.text.items call
+-- what is left of the caller's buffer
+abbrev pub IsLeft : List (List ℕ) → Report → List ℕ → List ℕ → Result Made Stop → Type 0
+IsLeft documents answer old new result = MatchResult result (IsMade documents answer old new) (IsUnmade documents old new)
 
--- a call tells nothing but this status
-pub record IsStopped (stop : Stop) (call : Left) : Type 0 where
-  pub status_is : call.status ≡ stop_status stop
-  pub nothing : ShowsNothing call
+-- a call tells this length and this status
+abbrev pub IsTold : Result Made Stop → ℕ → ℕ → Type 0
+IsTold (Ok made) told status = (told ≡ made.length) × (status ≡ outcome_status made.outcome)
+IsTold (Err stop) told status = (told ≡ 0) × (status ≡ stop_status stop)
