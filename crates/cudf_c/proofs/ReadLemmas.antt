@@ -4,6 +4,7 @@ use Rattle.std.specs.List.{All, AllZip}
 use Rattle.std.specs.Io.KnownBytes.{Appends, Keeps}
 use Rattle.cudf_check.specs.Device.{SourceState, SinkState}
 use Rattle.cudf_check.specs.ManyRuns.{LeavesBehind}
+use Rattle.cudf_check.specs.Naming.{Names}
 use Rattle.cudf_check.specs.Readers.{Change, change, changes}
 use Rattle.cudf_check.specs.Report.{Report}
 use Rattle.cudf_check.specs.Runs.{Runs, read_for}
@@ -20,7 +21,7 @@ use Rattle.cudf_c.specs.declared.document.Document.{Document}
 use Rattle.cudf_c.specs.declared.front.Front.{Front}
 use Rattle.cudf_c.specs.declared.stop.Stop.{Stop}
 use Rattle.cudf_c.specs.declared.stop.Stop.TheVariants.{Memory}
-use Rattle.cudf_c.proofs.DocumentLemmas.{OfDocument, of_documents, all_whole}
+use Rattle.cudf_c.proofs.DocumentLemmas.{OfDocument, of_documents, all_whole, are_nameless, nameless}
 use Rattle.cudf_c.proofs.RoomLemmas.{over-none, taken, untaken}
 
 -- ---- fronts
@@ -55,37 +56,37 @@ module _ (old new : Front) where
 
 -- ---- runs
 
-module _ (answer : List ℕ → List (List ℕ) → Report) (problem : List ℕ) (others : List (List ℕ)) (first : Change SourceState) (readers : List (Change SourceState)) (old new : Front)
-    (of_first : OfDocument problem first) (of_others : AllZip OfDocument others readers) where
-  module _ (outcome : Outcome) (runs : Runs answer first readers (change front_state old new) (Ok outcome)) where
-    done : Appends (front_state old).contents (front_state new).contents (answer problem others).text × (outcome ≡ (answer problem others).outcome)
+module _ (whole : Names → List ℕ → List (List ℕ) → Report) (answer : Report) (problem : List ℕ) (others : List (List ℕ)) (same_report : whole (nameless others) problem others ≡ answer) (first : Change SourceState)
+    (readers : List (Change SourceState)) (old new : Front) (of_first : OfDocument problem first) (of_others : AllZip OfDocument others readers) where
+  module _ (outcome : Outcome) (runs : Runs whole first readers (change front_state old new) (Ok outcome)) where
+    done : Appends (front_state old).contents (front_state new).contents answer.text × (outcome ≡ answer.outcome)
     done =
         let read = runs.done in
-        subst (λ ts. Appends (front_state old).contents (front_state new).contents (answer problem ts).text × (outcome ≡ (answer problem ts).outcome))
-        (all_whole others readers read.texts of_others read.others_read)
-        (subst (λ t. Appends (front_state old).contents (front_state new).contents (answer t read.texts).text × (outcome ≡ (answer t read.texts).outcome))
-        (of_first.whole read.text read.first_read) read.holds)
+        let texts = all_whole others readers read.texts of_others read.others_read in
+        let text = of_first.whole read.text read.first_read in
+        let names = are_nameless problem first others readers of_first of_others in
+        subst (λ r. Appends (front_state old).contents (front_state new).contents r.text × (outcome ≡ r.outcome)) ((λ k. whole (names k) (text k) (texts k)) ∙ same_report) read.holds
 
     pub run_named : new.room.ghost_name ≡ old.room.ghost_name
-    run_named = front_named old new (answer problem others).text done.0
+    run_named = front_named old new answer.text done.0
 
-    pub run_written : old.seen.now.report ≡ [] → IsWritten (answer problem others) old new outcome
-    run_written none = let shown = front_shows old new (answer problem others).text done.0 none in record { outcome_is = done.1; length_is = shown.0; shown = shown.1 }
+    pub run_written : old.seen.now.report ≡ [] → IsWritten answer old new outcome
+    run_written none = let shown = front_shows old new answer.text done.0 none in record { outcome_is = done.1; length_is = shown.0; shown = shown.1 }
 
   -- nothing was written: no write failed
-  same : (error : RunError) → Runs answer first readers (change front_state old new) (Err error) → Keeps (front_state old).contents (front_state new).contents
+  same : (error : RunError) → Runs whole first readers (change front_state old new) (Err error) → Keeps (front_state old).contents (front_state new).contents
   same errors.Read runs = runs.untouched (λ is. absurd (cc is))
   same errors.TooLong runs = runs.untouched (λ is. absurd (cc is))
   same errors.Write runs = let failed : 0 < 0 = runs.write.0 refl in absurd (omega (arith, failed))
   same errors.Memory runs = runs.untouched (λ is. absurd (cc is))
 
-  pub run_named-ended : (error : RunError) → Runs answer first readers (change front_state old new) (Err error) → new.room.ghost_name ≡ old.room.ghost_name
+  pub run_named-ended : (error : RunError) → Runs whole first readers (change front_state old new) (Err error) → new.room.ghost_name ≡ old.room.ghost_name
   run_named-ended error runs = front_named-same old new (same error runs)
 
   -- a call ends as its run did
-  pub run_ended : (error : RunError) (result : Result Outcome Stop) → Runs answer first readers (change front_state old new) (Err error)
+  pub run_ended : (error : RunError) (result : Result Outcome Stop) → Runs whole first readers (change front_state old new) (Err error)
       → IsErr result × IsErrAnd result (λ stop. stop ≡ Memory)
-      → MatchResult result (IsWritten (answer problem others) old new) (IsUnwritten old new)
+      → MatchResult result (IsWritten answer old new) (IsUnwritten old new)
   run_ended error (Ok outcome) runs is = absurd (cc is.0)
   run_ended error (Err stop) runs is = record { why = is.1; kept = front_kept old new (same error runs) }
 

@@ -39,6 +39,10 @@ impl<'t> Source for Document<'t> {
 
     ghost state = { document_state };
 
+    fn name(&self) -> Option<&str> {
+        None
+    }
+
     fn read(&mut self, buffer: &mut [u8]) -> Result<usize, Trouble> {
         let count = self.rest.len().min(buffer.len());
         let (front, rest) = self.rest.split_at(count);

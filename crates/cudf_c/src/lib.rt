@@ -10,6 +10,7 @@
 #![tactic(auto)]
 
 ghost use Rattle.std.specs.Prelude.{◌≡◌, [], ◌∷◌, Some, None, codes, map};
+ghost use Rattle.cudf_check.specs.Naming.{unnamed};
 ghost use Rattle.cudf_check.specs.RankReport.{rank_report};
 ghost use Rattle.cudf_check.specs.Report.{report};
 ghost use Rattle.cudf_job.specs.declared.job.Job.TheVariants.{Cnf, Lint, Refute};
@@ -48,7 +49,7 @@ pub extern "C" fn cudf_check_lint(
     room: &mut [u8],
     length: &mut usize,
 ) -> u8
-    ensures { Answers (problem.now ∷ []) (report (Lint explain) (mode_of strict) problem.now None) (left room.old room.new length.new result) }
+    ensures { Answers (problem.now ∷ []) (report (Lint explain) (mode_of strict) unnamed problem.now None) (left room.old room.new length.new result) }
 {
     let lint = Job::Lint { explain };
     let report = single(alloc, &lint, mode(strict), problem, room);
@@ -71,7 +72,7 @@ pub extern "C" fn cudf_check_check(
     length: &mut usize,
 ) -> u8
     ensures { AnswersAsked (IsPage after.now limit explain) (IsNoKey after.now) (problem.now ∷ solution.now ∷ [])
-        (λ job. report job (mode_of strict) problem.now (Some solution.now)) (left room.old room.new length.new result) }
+        (λ job. report job (mode_of strict) unnamed problem.now (Some solution.now)) (left room.old room.new length.new result) }
 {
     match page(after, limit, explain) {
         Ok(page) => {
@@ -95,7 +96,7 @@ pub extern "C" fn cudf_check_score(
     length: &mut usize,
 ) -> u8
     ensures { AnswersRead (IsScore criteria.now) (IsNoList criteria.now) (problem.now ∷ solution.now ∷ [])
-        (λ job. report job (mode_of strict) problem.now (Some solution.now)) (left room.old room.new length.new result) }
+        (λ job. report job (mode_of strict) unnamed problem.now (Some solution.now)) (left room.old room.new length.new result) }
 {
     match score(alloc, criteria) {
         Ok(score) => {
@@ -119,7 +120,7 @@ pub extern "C" fn cudf_check_rank(
     length: &mut usize,
 ) -> u8
     ensures { AnswersRead (IsAims criteria.now) (IsNoList criteria.now) (problem.now ∷ map (λ text. text.bytes.now) solutions.now)
-        (λ aims. rank_report aims (mode_of strict) problem.now (map (λ text. text.bytes.now) solutions.now)) (left room.old room.new length.new result) }
+        (λ aims. rank_report aims (mode_of strict) unnamed problem.now (map (λ text. text.bytes.now) solutions.now)) (left room.old room.new length.new result) }
 {
     match aims(alloc, criteria) {
         Ok(aims) => {
@@ -140,7 +141,7 @@ pub extern "C" fn cudf_check_cnf(
     room: &mut [u8],
     length: &mut usize,
 ) -> u8
-    ensures { Answers (problem.now ∷ []) (report Cnf (mode_of strict) problem.now None) (left room.old room.new length.new result) }
+    ensures { Answers (problem.now ∷ []) (report Cnf (mode_of strict) unnamed problem.now None) (left room.old room.new length.new result) }
 {
     let cnf = Job::Cnf;
     let report = single(alloc, &cnf, mode(strict), problem, room);
@@ -159,7 +160,7 @@ pub extern "C" fn cudf_check_refute(
     room: &mut [u8],
     length: &mut usize,
 ) -> u8
-    ensures { Answers (problem.now ∷ proof.now ∷ []) (report (Refute explain) (mode_of strict) problem.now (Some proof.now)) (left room.old room.new length.new result) }
+    ensures { Answers (problem.now ∷ proof.now ∷ []) (report (Refute explain) (mode_of strict) unnamed problem.now (Some proof.now)) (left room.old room.new length.new result) }
 {
     let refute = Job::Refute { explain };
     let report = judged(alloc, &refute, mode(strict), problem, proof, room);

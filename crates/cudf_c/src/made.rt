@@ -1,6 +1,7 @@
 //! Reports, whose front goes to a caller's buffer.
 ghost use Rattle.std.specs.Prelude.{◌≡◌, [], ◌∷◌, IfOk, MatchResult, None, Some, map};
 ghost use Rattle.std.specs.List.{All};
+ghost use Rattle.cudf_check.specs.Naming.{unnamed};
 ghost use Rattle.cudf_check.specs.RankReport.{rank_report};
 ghost use Rattle.cudf_check.specs.Report.{report};
 ghost use Rattle.cudf_c.specs.Working.Documents.{IsNew};
@@ -32,7 +33,7 @@ pub(crate) fn single(
     problem: &[u8],
     room: &mut [u8],
 ) -> Result<Made, Stop>
-    ensures { IsLeft (problem.now ∷ []) (report job.now mode problem.now None) room.old room.new result }
+    ensures { IsLeft (problem.now ∷ []) (report job.now mode unnamed problem.now None) room.old room.new result }
 {
     if !is_short(problem.len()) {
         return Err(Stop::TooLong);
@@ -56,7 +57,7 @@ fn run_single(
     requires { out.old.seen.now.report ≡ [] }
 
     ensures same_reference { out.new.room.ghost_name ≡ out.old.room.ghost_name }
-    ensures written { MatchResult result (IsWritten (report job.now mode problem.now None) out.old out.new)
+    ensures written { MatchResult result (IsWritten (report job.now mode unnamed problem.now None) out.old out.new)
         (IsUnwritten out.old out.new) }
 {
     let mut first = Document::new(problem);
@@ -75,7 +76,7 @@ pub(crate) fn judged(
 ) -> Result<Made, Stop>
     requires { Judges job.now }
 
-    ensures { IsLeft (problem.now ∷ answer.now ∷ []) (report job.now mode problem.now (Some answer.now)) room.old room.new result }
+    ensures { IsLeft (problem.now ∷ answer.now ∷ []) (report job.now mode unnamed problem.now (Some answer.now)) room.old room.new result }
 {
     if !is_short(problem.len()) {
         return Err(Stop::TooLong);
@@ -104,7 +105,7 @@ fn run_judged(
     requires report { out.old.seen.now.report ≡ [] }
 
     ensures same_reference { out.new.room.ghost_name ≡ out.old.room.ghost_name }
-    ensures written { MatchResult result (IsWritten (report job.now mode problem.now (Some answer.now)) out.old out.new)
+    ensures written { MatchResult result (IsWritten (report job.now mode unnamed problem.now (Some answer.now)) out.old out.new)
         (IsUnwritten out.old out.new) }
 {
     let mut first = Document::new(problem);
@@ -123,7 +124,7 @@ pub(crate) fn ranked(
     room: &mut [u8],
 ) -> Result<Made, Stop>
     ensures { IsLeft (problem.now ∷ map (λ text. text.bytes.now) solutions.now)
-        (rank_report aims.now mode problem.now (map (λ text. text.bytes.now) solutions.now)) room.old room.new result }
+        (rank_report aims.now mode unnamed problem.now (map (λ text. text.bytes.now) solutions.now)) room.old room.new result }
 {
     if !is_short(problem.len()) {
         return Err(Stop::TooLong);
@@ -152,7 +153,7 @@ fn run_ranked(
 
     ensures same_reference { out.new.room.ghost_name ≡ out.old.room.ghost_name }
     ensures written { MatchResult result
-        (IsWritten (rank_report aims.now mode problem.now (map (λ text. text.bytes.now) solutions.now)) out.old out.new)
+        (IsWritten (rank_report aims.now mode unnamed problem.now (map (λ text. text.bytes.now) solutions.now)) out.old out.new)
         (IsUnwritten out.old out.new) }
 {
     let mut first = Document::new(problem);

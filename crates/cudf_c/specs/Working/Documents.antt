@@ -1,5 +1,5 @@
 -- A document in memory as a run sees it, for proofs.
-use Rattle.std.specs.Prelude.{◌≡◌, ℕ, List, Some}
+use Rattle.std.specs.Prelude.{◌≡◌, ℕ, List, None, Some}
 use Rattle.cudf_check.specs.Device.{SourceState}
 use Rattle.cudf_c.specs.Working.Given.{given_before}
 use Rattle.cudf_c.specs.declared.document.Document.{Document}
@@ -7,6 +7,7 @@ use Rattle.cudf_c.specs.declared.document.Document.{Document}
 -- it has the rest of its text left, and never fails
 abbrev pub document_state : Document → SourceState
 document_state d = record {
+  name = None;
   remaining = Some d.rest.now;
   calls = d.calls;
   failures = 0;
