@@ -1,5 +1,9 @@
-use Rattle.cudf_check.proofs.InputsLemmas.{IsBeyondTurns, behind_still, beyond_turns_fails, each_within, none_still, too_long_fails, unfinished_fails}
-use Rattle.cudf_check.proofs.RunLemmas.{first_stopped}
+use Rattle.std.proofs.Common.{◌∙◌, map, subst, sym}
+use Rattle.cudf_check.specs.RankReport.{rank_report}
+use Rattle.cudf_check.specs.Readers.{ReadsAll, change, changes}
+use Rattle.cudf_check.specs.Working.Answering.{Answers}
+use Rattle.cudf_check.proofs.InputsLemmas.{IsBeyondTurns, behind_still, beyond_turns_fails, each_within, names-before, none_still, too_long_fails, unfinished_fails}
+use Rattle.cudf_check.proofs.RunLemmas.{all_answered, first_stopped, was_read}
 use Rattle.cudf_check.proofs.rank.Goals as goal
 
 pub returns-in_err-first-clause-runs : goal.returns-in_err-first-clause-runs
@@ -14,3 +18,26 @@ returns-in_err-first-clause-behind g c = behind_still g.S.Source.state _
 pub returns-in_err-first-clause-solutions_turns : goal.returns-in_err-first-clause-solutions_turns
 returns-in_err-first-clause-solutions_turns g c =
     each_within _ (none_still g.S.Source.state IsBeyondTurns (beyond_turns_fails g.S.Source.state) _)
+
+pub returns-clause-runs : goal.returns-clause-runs
+returns-clause-runs g c =
+    let aims = c.args.aims.now in
+    let mode = c.args.mode in
+    let state = g.S.Source.state in
+    let first = change g.R.Source.state c.args.problem.now c.read_all.new.source in
+    let others = changes state c.args.solutions.now c.read_each.new.sources in
+    let before = g.W.Sink.state c.args.out.now in
+    let after = g.W.Sink.state c.answer_ranking.new.out in
+    let text = c.in_ok-first.first.items in
+    let texts = map (λ b. b.items) c.in_ok-others.others.items in
+    let read = c.in_ok-first.ensures in
+    let reads = c.in_ok-others.ensures.reads in
+    let name = c.given.ensures.name ∙ read.named in
+    let names = c.in_ok-others.ensures.named ∙ sym (names-before state c.args.solutions.now c.read_each.new.sources ReadsAll texts reads.all c.read_each.auto.sources) in
+    all_answered (rank_report aims mode) first text others texts
+    (was_read first text c.in_ok-first.first read.all read.too_long read.read read.turns)
+    (record { all = reads.all; finished = λ h. absurd (cc (reads.read.1 h)); short = λ h. absurd (cc (reads.too_long.1 h)) })
+    before after c.answer_ranking.result
+    (subst (λ r. Answers before after r c.answer_ranking.result)
+    (λ k. rank_report aims mode (record { first = name k; others = names k }) ((c.given.ensures.bytes ∙ c.deref.ensures.value) k) (map (λ b. b.items) (c.deref-2.ensures.value k)))
+    c.answer_ranking.ensures)

@@ -1,4 +1,4 @@
-use Rattle.std.proofs.Common.{◌++◌, ap}
+use Rattle.std.proofs.Common.{ap}
 use Rattle.cudf_referee.specs.Promises.Views.{instance_view}
 use Rattle.cudf_check.specs.Explanations.{explained, help_of}
 use Rattle.cudf_check.proofs.PaperLemmas.{Says-as, ◌▸◌}
