@@ -1,4 +1,4 @@
-//! What would help where an instance is violated, and which packages need others.
+//! What would help where an instance is violated, and which package needs another one.
 use cudf_referee::{Explainer, Referee, laws};
 use cudf_text::{Text, is_fail, read};
 use cudf_universe::{Mode, Problem, read_problem, read_solution};
@@ -20,32 +20,37 @@ const WOULD_DO: [Option<u64>; 8] = [Some(3), None, None, Some(4), None, None, So
 /// For each of them the package that would do and was installed: the second car alone, of the last entry of `upgrade`.
 const WAS_INSTALLED: [Option<u64>; 8] = [None, None, None, None, None, None, Some(2), None];
 
-/// The first car, and what gives the door that it needs, once beside the wheel that it may have instead.
-const BESIDE_A_BUS: &str =
+/// The first car, and the bus, which gives the door that the car needs.
+const CAR_AND_BUS: &str =
     "package: car\nversion: 1\ninstalled: true\n\npackage: bus\nversion: 4\ninstalled: true\n";
 
-const BESIDE_BOTH: &str =
-    "package: car\nversion: 1\ninstalled: true\n\npackage: bus\nversion: 4\ninstalled: true\n\npackage: wheel\nversion: 3\ninstalled: true\n";
+/// Beside these the wheel, which the car may have in place of the door.
+const ALL_THREE: &str =
+    "package: car\nversion: 1\ninstalled: true\n\npackage: wheel\nversion: 3\ninstalled: true\n\npackage: bus\nversion: 4\ninstalled: true\n";
 
-/// For each place from 0 on the first package that needs the one there: the car needs the bus where it has no wheel.
-const NEEDERS_BESIDE_A_BUS: [Option<u64>; 6] = [None, None, None, None, Some(1), None];
+/// What an explainer is asked.
+#[derive(Clone, Copy)]
+enum Asked {
+    /// What would help, and the numbers.
+    Help,
+    /// Whether this one is the first package that needs the bus.
+    Needer(Option<u64>),
+}
 
-const NEEDERS_BESIDE_BOTH: [Option<u64>; 6] = [None; 6];
-
-fn is_explained(alloc: Global, referee: &Referee<'_, '_>) -> bool {
+fn is_explained(alloc: Global, referee: &Referee<'_, '_>, asked: Asked) -> bool {
     match Explainer::new(alloc, referee) {
-        Ok(explainer) => helps(&explainer) && has_numbers(&explainer),
+        Ok(explainer) => match asked {
+            Asked::Help => helps(&explainer) && has_numbers(&explainer),
+            Asked::Needer(needer) => is_needed_by(&explainer, needer),
+        },
         Err(_) => false,
     }
 }
 
-fn are_needers(alloc: Global, referee: &Referee<'_, '_>, needers: &[Option<u64>]) -> bool {
-    match Explainer::new(alloc, referee) {
-        Ok(explainer) => needers.iter().enumerate().all(|(place, needer)| explainer.needed_by(
-            place as u64,
-        ) == *needer),
-        Err(_) => false,
-    }
+/// Whether this package is the first that needs the bus, and nothing needs the car, nor what isn't there.
+fn is_needed_by(explainer: &Explainer<'_, '_, '_>, needer: Option<u64>) -> bool {
+    (explainer.needed_by(4), explainer.needed_by(1)) == (needer, None)
+        && (explainer.needed_by(0), explainer.needed_by(9)) == (None, None)
 }
 
 fn helps(explainer: &Explainer<'_, '_, '_>) -> bool {
@@ -75,34 +80,26 @@ fn has_numbers(explainer: &Explainer<'_, '_, '_>) -> bool {
         ) == (Some(1), None)
 }
 
-fn is_judged(
-    alloc: Global,
-    problem: &Problem<'_>,
-    text: &Text<'_>,
-    needers: Option<&[Option<u64>]>,
-) -> bool {
+fn is_judged(alloc: Global, problem: &Problem<'_>, text: &Text<'_>, asked: Asked) -> bool {
     if is_fail(text.source) {
         return false;
     }
     match read_solution(alloc, text, problem, Mode::Lenient) {
         Ok(solution) => match Referee::new(alloc, problem, &solution) {
-            Ok(referee) => match needers {
-                Some(needers) => are_needers(alloc, &referee, needers),
-                None => is_explained(alloc, &referee),
-            },
+            Ok(referee) => is_explained(alloc, &referee, asked),
             Err(_) => false,
         },
         Err(_) => false,
     }
 }
 
-fn is_judged_of_cars(alloc: Global, solution: &str, needers: Option<&[Option<u64>]>) -> bool {
+fn is_judged_of_cars(alloc: Global, solution: &str, asked: Asked) -> bool {
     match (
         read(alloc, CARS.as_bytes()),
         read(alloc, solution.as_bytes()),
     ) {
         (Ok(problem), Ok(solution)) => match read_problem(alloc, &problem, Mode::Lenient) {
-            Ok(problem) => is_judged(alloc, &problem, &solution, needers),
+            Ok(problem) => is_judged(alloc, &problem, &solution, asked),
             Err(_) => false,
         },
         _ => false,
@@ -111,14 +108,14 @@ fn is_judged_of_cars(alloc: Global, solution: &str, needers: Option<&[Option<u64
 
 #[test]
 fn explanations(rt: HostRuntime) {
-    assert!(rt; is_judged_of_cars(rt.alloc(), FIRST_CAR, None));
+    assert!(rt; is_judged_of_cars(rt.alloc(), FIRST_CAR, Asked::Help));
     laws::does();
     laws::nothing();
 }
 
 #[test]
 fn needers(rt: HostRuntime) {
-    assert!(rt; is_judged_of_cars(rt.alloc(), BESIDE_A_BUS, Some(&NEEDERS_BESIDE_A_BUS)));
-    assert!(rt; is_judged_of_cars(rt.alloc(), BESIDE_BOTH, Some(&NEEDERS_BESIDE_BOTH)));
+    assert!(rt; is_judged_of_cars(rt.alloc(), CAR_AND_BUS, Asked::Needer(Some(1))));
+    assert!(rt; is_judged_of_cars(rt.alloc(), ALL_THREE, Asked::Needer(None)));
     laws::needed();
 }

@@ -39,5 +39,5 @@ returns-clause-runs g c =
     (record { all = reads.all; finished = λ h. absurd (cc (reads.read.1 h)); short = λ h. absurd (cc (reads.too_long.1 h)) })
     before after c.answer_ranking.result
     (subst (λ r. Answers before after r c.answer_ranking.result)
-    (λ k. rank_report aims mode (record { first = name k; others = names k }) ((c.given.ensures.bytes ∙ c.deref.ensures.value) k) (map (λ b. b.items) (c.deref-2.ensures.value k)))
+    (λ k. rank_report aims mode (record { first = name k; others = names k }) ((c.given.ensures.bytes ∙ c.deref-2.ensures.value) k) (map (λ b. b.items) (c.deref.ensures.value k)))
     c.answer_ranking.ensures)

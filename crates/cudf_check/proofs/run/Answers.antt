@@ -1,8 +1,9 @@
-use Rattle.std.proofs.Common.{[], ◌∷◌, Some, None, refl, subst, sym}
+use Rattle.std.proofs.Common.{[], ◌∷◌, Some, None, refl, subst, sym, ◌∙◌}
 use Rattle.cudf_check.specs.Readers.{IsTooLong, IsUnfinished, IsWithinTurns, change, changes}
 use Rattle.cudf_check.specs.Report.{report}
 use Rattle.cudf_check.specs.Runs.{Runs, job_report}
 use Rattle.cudf_check.specs.Working.Answering.{Answers}
+use Rattle.cudf_check.specs.Working.Named.{given_names}
 use Rattle.cudf_check.proofs.InputsLemmas.{IsBeyondTurns, beyond_turns_fails, each_within, none_still, too_long_fails, unfinished_fails}
 use Rattle.cudf_check.proofs.RefutationLemmas.{job_refutes}
 use Rattle.cudf_check.proofs.RunLemmas.{all_answered, first_stopped, none_for, of_one, one_behind, reads_it, second_stopped, was_read}
@@ -53,13 +54,52 @@ pub returns-in_err-second-in-Check-clause-solution_turns : goal.returns-in_err-s
 returns-in_err-second-in-Check-clause-solution_turns g c = rw c.in-Some.is (of_one IsWithinTurns _ c.read_all-in-Check.ensures.turns)
 
 pub returns-clause-runs : goal.returns-clause-runs
-returns-clause-runs g c = ?
+returns-clause-runs g c =
+    let job = c.args.job.now in
+    let mode = c.args.mode in
+    let first = change g.R.Source.state c.args.input.now c.read_all-2.new.source in
+    let second = change g.S.Source.state c.in-Some.solution.now c.read_all-in-Check.new.source in
+    let before = g.W.Sink.state c.args.out.now in
+    let after = g.W.Sink.state c.answer_job-in-Check.new.out in
+    let text = c.in_ok-first-2.first.items in
+    let bytes = c.in_ok-second-in-Check.second.items in
+    let read = c.in_ok-first-2.ensures in
+    let read_too = c.in_ok-second-in-Check.ensures in
+    let text_is = c.given-in-Check-2.ensures.bytes ∙ c.deref-in-Check-2.ensures.value in
+    let bytes_are = c.given-in-Check.ensures.bytes ∙ c.deref-in-Check.ensures.value in
+    let name = c.given-in-Check-2.ensures.name ∙ read.named in
+    let other = c.given-in-Check.ensures.name ∙ read_too.named in
+    rw c.in-Some.is (subst (λ others. Runs (job_report job mode) first others (record { before = before; after = after }) c.answer_job-in-Check.result) (sym (reads_it job (second ∷ []) c.in-Check.is))
+    (all_answered (job_report job mode) first text (second ∷ []) (bytes ∷ [])
+    (was_read first text c.in_ok-first-2.first read.all read.too_long read.read read.turns)
+    (one_behind second bytes (was_read second bytes c.in_ok-second-in-Check.second read_too.all read_too.too_long read_too.read read_too.turns))
+    before after c.answer_job-in-Check.result
+    (subst (λ r. Answers before after r c.answer_job-in-Check.result)
+    (λ k. report job mode (record { first = name k; others = other k ∷ [] }) (text_is k) (Some (bytes_are k)))
+    c.answer_job-in-Check.ensures)))
 
 pub returns-clause-solution_turns : goal.returns-clause-solution_turns
 returns-clause-solution_turns g c = rw c.in-Some.is (of_one IsWithinTurns _ c.in_ok-second-in-Check.ensures.turns)
 
 pub returns-in_default-clause-refuted : goal.returns-in_default-clause-refuted
-returns-in_default-clause-refuted g c = ?
+returns-in_default-clause-refuted g c =
+    let job = c.args.job.now in
+    let mode = c.args.mode in
+    let names = given_names c.given.result None in
+    let first = change g.R.Source.state c.args.input.now c.read_all.new.source in
+    let before = g.W.Sink.state c.args.out.now in
+    let after = g.W.Sink.state c.answer_job.new.out in
+    job_refutes c.refuted.ensures job mode names first (record { before = before; after = after }) c.in_ok-first.first.items None c.answer_job.result c.in_ok-first.ensures.all
+    (subst (λ t. Answers before after (report job mode names t None) c.answer_job.result) (c.given.ensures.bytes ∙ c.deref.ensures.value) c.answer_job.ensures)
 
 pub returns-clause-refuted : goal.returns-clause-refuted
-returns-clause-refuted g c = ?
+returns-clause-refuted g c =
+    let job = c.args.job.now in
+    let mode = c.args.mode in
+    let names = given_names c.given-in-Check-2.result (Some c.given-in-Check.result) in
+    let first = change g.R.Source.state c.args.input.now c.read_all-2.new.source in
+    let before = g.W.Sink.state c.args.out.now in
+    let after = g.W.Sink.state c.answer_job-in-Check.new.out in
+    let bytes = c.given-in-Check.result.bytes.now in
+    job_refutes c.refuted.ensures job mode names first (record { before = before; after = after }) c.in_ok-first-2.first.items (Some bytes) c.answer_job-in-Check.result c.in_ok-first-2.ensures.all
+    (subst (λ t. Answers before after (report job mode names t (Some bytes)) c.answer_job-in-Check.result) (c.given-in-Check-2.ensures.bytes ∙ c.deref-in-Check-2.ensures.value) c.answer_job-in-Check.ensures)
