@@ -1,23 +1,12 @@
 -- What became of documents in memory that a run has read.
-use Rattle.std.proofs.Common.{◌≡◌, ◌++◌, ◌-◌, ℕ, zero, List, [], ◌∷◌, codes, decimal, Option, None, Some, map, option_and_then, slice_get, length, suc, refl, sym, ap, ◌∙◌, arith, append-nil}
+use Rattle.std.proofs.Common.{◌≡◌, ◌++◌, ℕ, List, [], ◌∷◌, None, Some, map, length, suc, refl, sym, ap, ◌∙◌, arith, append-nil}
 use Rattle.std.proofs.lemmas.List.Elements.{All-head, All-tail}
-use Rattle.std.specs.List.{All, AllZip, enumerate_from, flat_map}
-use Rattle.cudf_text.specs.declared.fault.Fault.{Fault}
-use Rattle.cudf_text.specs.Stanzas.{plain_text}
-use Rattle.cudf_problem.specs.declared.mode.Mode.{Mode}
-use Rattle.cudf_problem.specs.Universe.{plain_problem}
-use Rattle.cudf_job.specs.declared.aims.Aim.{Aim}
-use Rattle.cudf_job.specs.declared.job.Job.{Job}
-use Rattle.cudf_job.specs.declared.job.Job.TheVariants.{Lint, Check, Score, Cnf, Refute}
+use Rattle.std.specs.List.{All, AllZip}
 use Rattle.cudf_check.specs.Device.{SourceState}
 use Rattle.cudf_check.specs.ManyRuns.{LeavesBehind}
-use Rattle.cudf_check.specs.Naming.{Names, name_at, names_of, own_file, unnamed}
-use Rattle.cudf_check.specs.RankReport.{best_outcome, entrant_name, entrant_word, entrants, first_faulty_or, judgement_text, placed_faults, rank_line, rank_report, ranked_report}
-use Rattle.cudf_check.specs.Ranking.{ranking}
-use Rattle.cudf_check.specs.Report.{Report, faulty, faulty_or, line, problem_fault, report}
-use Rattle.cudf_check.specs.Runs.{job_report}
-use Rattle.cudf_check.specs.declared.ranking.Entrant.{Entrant}
+use Rattle.cudf_check.specs.Naming.{names_of}
 use Rattle.cudf_check.specs.Readers.{Change, change, ReadsAll, changes}
+use Rattle.cudf_c.specs.Calls.{nameless}
 use Rattle.cudf_c.specs.Working.Documents.{IsNew, IsUnread, document_state}
 use Rattle.cudf_c.specs.Working.Given.{given_before}
 use Rattle.cudf_c.specs.declared.document.Document.{Document}
@@ -68,10 +57,6 @@ all_whole (t ∷ texts) (r ∷ readers) (b ∷ read) each all =
 
 -- ---- names
 
--- the names of a first reader and these behind it, of which none has one
-abbrev pub nameless : List (List ℕ) → Names
-nameless texts = record { first = None; others = map (λ text. None) texts }
-
 pub are_nameless : (text : List ℕ) (first : Change SourceState) (texts : List (List ℕ)) (readers : List (Change SourceState)) → OfDocument text first → AllZip OfDocument texts readers
     → names_of first readers ≡ nameless texts
 are_nameless text first texts readers of_first of_others = λ k. record { first = of_first.nameless k; others = go texts readers of_others k }
@@ -81,38 +66,3 @@ are_nameless text first texts readers of_first of_others = λ k. record { first 
     go [] (r ∷ readers) all = absurd all
     go (t ∷ texts) [] all = absurd all
     go (t ∷ texts) (r ∷ readers) all = λ k. all.0.nameless k ∷ go texts readers all.1 k
-
--- there is no name at any place
-none_named : (texts : List (List ℕ)) (place : ℕ) → name_at (map (λ text. None) texts) place ≡ None
-none_named texts place = go texts (place - 1)
-  where
-    go : (texts : List (List ℕ)) (i : ℕ) → option_and_then (λ (name : Option (List ℕ)). name) (slice_get (map (λ text. None) texts) i) ≡ None
-    go [] i = refl
-    go (t ∷ texts) zero = refl
-    go (t ∷ texts) (suc i) = go texts i
-
--- reports of such inputs name no file
-pub job_unnamed : (job : Job) (mode : Mode) (problem : List ℕ) (texts : List (List ℕ)) → job_report job mode (nameless texts) problem texts ≡ report job mode unnamed problem (slice_get texts 0)
-unfolding report
-job_unnamed (Lint explain) mode problem texts = refl
-job_unnamed (Check after limit explain) mode problem [] = refl
-job_unnamed (Check after limit explain) mode problem (t ∷ texts) = refl
-job_unnamed (Score aims) mode problem [] = refl
-job_unnamed (Score aims) mode problem (t ∷ texts) = refl
-job_unnamed Cnf mode problem texts = refl
-job_unnamed (Refute explain) mode problem texts = refl
-
-line_unnamed : (aims : List Aim) (texts : List (List ℕ)) (entrant : ℕ × Entrant) → rank_line aims (map (λ text. None) texts) entrant ≡ rank_line aims [] entrant
-line_unnamed aims texts (rank, entrant) = λ k. line (decimal rank ++ codes " solution " ++ entrant_name (none_named texts entrant.place k) entrant.place ++ codes " " ++ judgement_text aims entrant.judgement)
-
-fault_unnamed : (texts : List (List ℕ)) (faults : List (ℕ × Fault)) (one other : Report) → one ≡ other → first_faulty_or (map (λ text. None) texts) faults one ≡ first_faulty_or [] faults other
-fault_unnamed texts [] one other same = same
-fault_unnamed texts ((place, f) ∷ faults) one other same = λ k. faulty (own_file (none_named texts place k)) (entrant_word (none_named texts place k) place) f None
-
-pub rank_unnamed : (aims : List Aim) (mode : Mode) (problem : List ℕ) (texts : List (List ℕ)) → rank_report aims mode (nameless texts) problem texts ≡ rank_report aims mode unnamed problem texts
-unfolding rank_report
-rank_unnamed aims mode problem texts =
-    let entered = entrants (plain_problem (plain_text problem)) texts in
-    let lines : ranked_report aims (map (λ text. None) texts) entered ≡ ranked_report aims [] entered
-    = λ k. record { text = flat_map (λ entrant. line_unnamed aims texts entrant k) (enumerate_from 1 (ranking aims entered)); outcome = best_outcome entered } in
-    ap (faulty_or None (codes "problem") (λ f. None) (problem_fault mode problem)) (fault_unnamed texts (placed_faults mode texts) _ _ lines)

@@ -13,6 +13,7 @@ use Rattle.cudf_check.specs.declared.outcome.RunError.{RunError}
 use Rattle.cudf_check.specs.declared.outcome.RunError.TheVariants as errors
 use Rattle.cudf_job.specs.declared.job.Job.{Job}
 use Rattle.cudf_job.specs.declared.job.Job.TheVariants.{Lint, Check, Score, Cnf, Refute}
+use Rattle.cudf_c.specs.Calls.{nameless}
 use Rattle.cudf_c.specs.Working.Documents.{IsNew, document_state}
 use Rattle.cudf_c.specs.Working.Fronts.{front_state, IsUnwritten, IsWritten}
 use Rattle.cudf_c.specs.Working.Made.{Judges}
@@ -21,7 +22,7 @@ use Rattle.cudf_c.specs.declared.document.Document.{Document}
 use Rattle.cudf_c.specs.declared.front.Front.{Front}
 use Rattle.cudf_c.specs.declared.stop.Stop.{Stop}
 use Rattle.cudf_c.specs.declared.stop.Stop.TheVariants.{Memory}
-use Rattle.cudf_c.proofs.DocumentLemmas.{OfDocument, of_documents, all_whole, are_nameless, nameless}
+use Rattle.cudf_c.proofs.DocumentLemmas.{OfDocument, of_documents, all_whole, are_nameless}
 use Rattle.cudf_c.proofs.RoomLemmas.{over-none, taken, untaken}
 
 -- ---- fronts
@@ -56,22 +57,22 @@ module _ (old new : Front) where
 
 -- ---- runs
 
-module _ (whole : Names → List ℕ → List (List ℕ) → Report) (answer : Report) (problem : List ℕ) (others : List (List ℕ)) (same_report : whole (nameless others) problem others ≡ answer) (first : Change SourceState)
+module _ (whole : Names → List ℕ → List (List ℕ) → Report) (problem : List ℕ) (others : List (List ℕ)) (first : Change SourceState)
     (readers : List (Change SourceState)) (old new : Front) (of_first : OfDocument problem first) (of_others : AllZip OfDocument others readers) where
   module _ (outcome : Outcome) (runs : Runs whole first readers (change front_state old new) (Ok outcome)) where
-    done : Appends (front_state old).contents (front_state new).contents answer.text × (outcome ≡ answer.outcome)
+    done : Appends (front_state old).contents (front_state new).contents (whole (nameless others) problem others).text × (outcome ≡ (whole (nameless others) problem others).outcome)
     done =
         let read = runs.done in
         let texts = all_whole others readers read.texts of_others read.others_read in
         let text = of_first.whole read.text read.first_read in
         let names = are_nameless problem first others readers of_first of_others in
-        subst (λ r. Appends (front_state old).contents (front_state new).contents r.text × (outcome ≡ r.outcome)) ((λ k. whole (names k) (text k) (texts k)) ∙ same_report) read.holds
+        subst (λ r. Appends (front_state old).contents (front_state new).contents r.text × (outcome ≡ r.outcome)) ((λ k. whole (names k) (text k) (texts k))) read.holds
 
     pub run_named : new.room.ghost_name ≡ old.room.ghost_name
-    run_named = front_named old new answer.text done.0
+    run_named = front_named old new (whole (nameless others) problem others).text done.0
 
-    pub run_written : old.seen.now.report ≡ [] → IsWritten answer old new outcome
-    run_written none = let shown = front_shows old new answer.text done.0 none in record { outcome_is = done.1; length_is = shown.0; shown = shown.1 }
+    pub run_written : old.seen.now.report ≡ [] → IsWritten (whole (nameless others) problem others) old new outcome
+    run_written none = let shown = front_shows old new (whole (nameless others) problem others).text done.0 none in record { outcome_is = done.1; length_is = shown.0; shown = shown.1 }
 
   -- nothing was written: no write failed
   same : (error : RunError) → Runs whole first readers (change front_state old new) (Err error) → Keeps (front_state old).contents (front_state new).contents
@@ -86,7 +87,7 @@ module _ (whole : Names → List ℕ → List (List ℕ) → Report) (answer : R
   -- a call ends as its run did
   pub run_ended : (error : RunError) (result : Result Outcome Stop) → Runs whole first readers (change front_state old new) (Err error)
       → IsErr result × IsErrAnd result (λ stop. stop ≡ Memory)
-      → MatchResult result (IsWritten answer old new) (IsUnwritten old new)
+      → MatchResult result (IsWritten (whole (nameless others) problem others) old new) (IsUnwritten old new)
   run_ended error (Ok outcome) runs is = absurd (cc is.0)
   run_ended error (Err stop) runs is = record { why = is.1; kept = front_kept old new (same error runs) }
 

@@ -1,6 +1,7 @@
 -- What a call of the library leaves. Own.
-use Rattle.std.specs.Prelude.{◌≡◌, ◌<◌, ◌≤◌, ◌⊎◌, ◌++◌, ℕ, List, length, min, take, drop, Bool, if◌then◌else◌}
+use Rattle.std.specs.Prelude.{◌≡◌, ◌<◌, ◌≤◌, ◌⊎◌, ◌++◌, ℕ, List, length, map, min, take, drop, Bool, None, if◌then◌else◌}
 use Rattle.std.specs.List.{All}
+use Rattle.cudf_check.specs.Naming.{Names}
 use Rattle.cudf_check.specs.Runs.{outcome_status}
 use Rattle.cudf_check.specs.Readers.{OfOne, most_bytes}
 use Rattle.cudf_check.specs.Report.{Report}
@@ -36,6 +37,10 @@ pub record BreaksOff (status : ℕ) (call : Left) : Type 0 where
   pub status_is : call.status ≡ status
   pub length_is : call.told ≡ 0
   pub kept : call.new ≡ call.old
+
+-- documents in memory have no names
+abbrev pub nameless : List (List ℕ) → Names
+nameless others = record { first = None; others = map (λ text. None) others }
 
 -- a document is as long as a run reads
 abbrev pub IsShort : List ℕ → Type 0

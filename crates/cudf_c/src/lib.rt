@@ -14,7 +14,7 @@ ghost use Rattle.cudf_check.specs.Naming.{unnamed};
 ghost use Rattle.cudf_check.specs.RankReport.{rank_report};
 ghost use Rattle.cudf_check.specs.Report.{report};
 ghost use Rattle.cudf_job.specs.declared.job.Job.TheVariants.{Cnf, Lint, Refute};
-ghost use Rattle.cudf_c.specs.Calls.{Answers, AnswersAsked, AnswersRead, Shows, left, mode_of};
+ghost use Rattle.cudf_c.specs.Calls.{Answers, AnswersAsked, AnswersRead, Shows, left, mode_of, nameless};
 ghost use Rattle.cudf_c.specs.Words.{IsAims, IsNoKey, IsNoList, IsPage, IsScore};
 
 mod document;
@@ -72,7 +72,7 @@ pub extern "C" fn cudf_check_check(
     length: &mut usize,
 ) -> u8
     ensures { AnswersAsked (IsPage after.now limit explain) (IsNoKey after.now) (problem.now ∷ solution.now ∷ [])
-        (λ job. report job (mode_of strict) unnamed problem.now (Some solution.now)) (left room.old room.new length.new result) }
+        (λ job. report job (mode_of strict) (nameless (solution.now ∷ [])) problem.now (Some solution.now)) (left room.old room.new length.new result) }
 {
     match page(after, limit, explain) {
         Ok(page) => {
@@ -96,7 +96,7 @@ pub extern "C" fn cudf_check_score(
     length: &mut usize,
 ) -> u8
     ensures { AnswersRead (IsScore criteria.now) (IsNoList criteria.now) (problem.now ∷ solution.now ∷ [])
-        (λ job. report job (mode_of strict) unnamed problem.now (Some solution.now)) (left room.old room.new length.new result) }
+        (λ job. report job (mode_of strict) (nameless (solution.now ∷ [])) problem.now (Some solution.now)) (left room.old room.new length.new result) }
 {
     match score(alloc, criteria) {
         Ok(score) => {
@@ -120,7 +120,7 @@ pub extern "C" fn cudf_check_rank(
     length: &mut usize,
 ) -> u8
     ensures { AnswersRead (IsAims criteria.now) (IsNoList criteria.now) (problem.now ∷ map (λ text. text.bytes.now) solutions.now)
-        (λ aims. rank_report aims (mode_of strict) unnamed problem.now (map (λ text. text.bytes.now) solutions.now)) (left room.old room.new length.new result) }
+        (λ aims. rank_report aims (mode_of strict) (nameless (map (λ text. text.bytes.now) solutions.now)) problem.now (map (λ text. text.bytes.now) solutions.now)) (left room.old room.new length.new result) }
 {
     match aims(alloc, criteria) {
         Ok(aims) => {
@@ -160,7 +160,7 @@ pub extern "C" fn cudf_check_refute(
     room: &mut [u8],
     length: &mut usize,
 ) -> u8
-    ensures { Answers (problem.now ∷ proof.now ∷ []) (report (Refute explain) (mode_of strict) unnamed problem.now (Some proof.now)) (left room.old room.new length.new result) }
+    ensures { Answers (problem.now ∷ proof.now ∷ []) (report (Refute explain) (mode_of strict) (nameless (proof.now ∷ [])) problem.now (Some proof.now)) (left room.old room.new length.new result) }
 {
     let refute = Job::Refute { explain };
     let report = judged(alloc, &refute, mode(strict), problem, proof, room);

@@ -4,6 +4,7 @@ ghost use Rattle.std.specs.List.{All};
 ghost use Rattle.cudf_check.specs.Naming.{unnamed};
 ghost use Rattle.cudf_check.specs.RankReport.{rank_report};
 ghost use Rattle.cudf_check.specs.Report.{report};
+ghost use Rattle.cudf_c.specs.Calls.{nameless};
 ghost use Rattle.cudf_c.specs.Working.Documents.{IsNew};
 ghost use Rattle.cudf_c.specs.Working.Fronts.{IsUnwritten, IsWritten};
 ghost use Rattle.cudf_c.specs.Working.Made.{IsLeft, IsTold, Judges};
@@ -76,7 +77,7 @@ pub(crate) fn judged(
 ) -> Result<Made, Stop>
     requires { Judges job.now }
 
-    ensures { IsLeft (problem.now ∷ answer.now ∷ []) (report job.now mode unnamed problem.now (Some answer.now)) room.old room.new result }
+    ensures { IsLeft (problem.now ∷ answer.now ∷ []) (report job.now mode (nameless (answer.now ∷ [])) problem.now (Some answer.now)) room.old room.new result }
 {
     if !is_short(problem.len()) {
         return Err(Stop::TooLong);
@@ -105,7 +106,7 @@ fn run_judged(
     requires report { out.old.seen.now.report ≡ [] }
 
     ensures same_reference { out.new.room.ghost_name ≡ out.old.room.ghost_name }
-    ensures written { MatchResult result (IsWritten (report job.now mode unnamed problem.now (Some answer.now)) out.old out.new)
+    ensures written { MatchResult result (IsWritten (report job.now mode (nameless (answer.now ∷ [])) problem.now (Some answer.now)) out.old out.new)
         (IsUnwritten out.old out.new) }
 {
     let mut first = Document::new(problem);
@@ -124,7 +125,7 @@ pub(crate) fn ranked(
     room: &mut [u8],
 ) -> Result<Made, Stop>
     ensures { IsLeft (problem.now ∷ map (λ text. text.bytes.now) solutions.now)
-        (rank_report aims.now mode unnamed problem.now (map (λ text. text.bytes.now) solutions.now)) room.old room.new result }
+        (rank_report aims.now mode (nameless (map (λ text. text.bytes.now) solutions.now)) problem.now (map (λ text. text.bytes.now) solutions.now)) room.old room.new result }
 {
     if !is_short(problem.len()) {
         return Err(Stop::TooLong);
@@ -153,7 +154,7 @@ fn run_ranked(
 
     ensures same_reference { out.new.room.ghost_name ≡ out.old.room.ghost_name }
     ensures written { MatchResult result
-        (IsWritten (rank_report aims.now mode unnamed problem.now (map (λ text. text.bytes.now) solutions.now)) out.old out.new)
+        (IsWritten (rank_report aims.now mode (nameless (map (λ text. text.bytes.now) solutions.now)) problem.now (map (λ text. text.bytes.now) solutions.now)) out.old out.new)
         (IsUnwritten out.old out.new) }
 {
     let mut first = Document::new(problem);

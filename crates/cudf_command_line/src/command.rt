@@ -46,7 +46,7 @@ impl<'w> FileName<'w> {
 
     /// How lines of a report name it: the word of the command line, or `(standard input)`.
     pub fn label(self) -> &'w str
-        ensures { result.now ≡ file_label self }
+        ensures { result.now ≡ file_label self.entry }
     {
         match self {
             FileName::Path(path) => path,
