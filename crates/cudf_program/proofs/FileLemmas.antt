@@ -6,7 +6,6 @@ use Rattle.std.proofs.lemmas.List.Sums.{sum_by-cons, sum_by-drop_more}
 use Rattle.std.specs.List.{AllZip}
 use Rattle.std.specs.Option.{option_to_list}
 use Rattle.std.specs.Result.{IsErrAnd}
-use Rattle.std.specs.declared.io.Error.{Error}
 use Rattle.cudf_check.specs.Readers.{Change, IsTooLong, OfOne, ReadsAll, change, changes, most_bytes}
 use Rattle.cudf_check.specs.Runs.{AppendsPrefix, OfReport as Whole, Runs, job_report, read_for}
 use Rattle.cudf_check.specs.RankReport.{rank_report}
@@ -24,7 +23,7 @@ use Rattle.cudf_job.specs.declared.aims.Aim.{Aim}
 use Rattle.cudf_program.specs.Failure.{IsStatusOf, Prints, failure_status}
 use Rattle.cudf_program.specs.Inputs.{IsFirstUnopened, IsGivenFor, IsHeldBy, IsOpenable, IsOpenedAs, IsThere, IsUnopened, KeepsGiven, Opens, ReaderOf, left_behind}
 use Rattle.cudf_program.specs.Program.{AreShort, Did, Fails, Finishes, IsDone, IsKnownAs, IsTried, OfReport, labels, names_in, read_by, texts_read, work_report}
-use Rattle.cudf_command_line.specs.Command.{is_standard, takes_standard, takes_standard_twice}
+use Rattle.cudf_command_line.specs.Command.{is_standard}
 use Rattle.cudf_command_line.specs.declared.command.FileName.{FileName}
 use Rattle.cudf_command_line.specs.declared.command.FileName.TheVariants.{Path, Standard}
 use Rattle.cudf_command_line.specs.declared.command.Order.{Order}
