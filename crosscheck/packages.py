@@ -258,20 +258,20 @@ class Known:
     @staticmethod
     def options_of(told):
         lines = re.search(r"^Options:\n((?: .*\n|\n)+)", told, re.M).group(1)
-        return {word for line in re.findall(r"^ +((?:-\w, )?--\w+)", lines, re.M) for word in line.split(", ")}
+        return {word for line in re.findall(r"^ +((?:-\w, )?--[\w-]+)", lines, re.M) for word in line.split(", ")}
 
     def aims(self, *left_out):
         return {sign + count for sign in "-+" for count in self.counts if count not in left_out}
 
 
-OPTION = re.compile(r"(?<![\w-])(?:-\w|--\w+)\b")
+OPTION = re.compile(r"(?<![\w-])(?:-\w|--\w[\w-]*)\b")
 
 
 def named_in_zsh(text):
     """The options of each command, by the texts of its arm and of the lists that the arm names."""
-    lists = dict(re.findall(r"local -a (common|judging|explaining)=\((.*)\)$", text, re.M))
+    lists = dict(re.findall(r"local -a (common|judging|explaining|naming)=\((.*)\)$", text, re.M))
     lists["judging"] = lists["judging"].replace("$common", lists["common"])
-    text = re.sub(r"_arguments( -\w)*", "", re.sub(r"\$(common|judging|explaining)", lambda found: lists[found[1]], text))
+    text = re.sub(r"_arguments( -\w)*", "", re.sub(r"\$(common|judging|explaining|naming)", lambda found: lists[found[1]], text))
     arms = {"": re.search(r"^     (.*'1:command:.*)", text, re.M)[1]}
     arms.update(re.findall(r"^        (\w+)\)((?:.*\n)*?.*;;)$", text, re.M))
     return re.findall(r"^        '(\w+):", text, re.M), {name: set(OPTION.findall(arm)) for name, arm in arms.items()}
@@ -281,7 +281,7 @@ def named_in_fish(text):
     """The options of each command, by the condition of each line."""
     commands = re.findall(r"-n __fish_use_subcommand -f -a (\w+)", text)
     options = {name: set() for name in ["", *commands]}
-    for condition, short, name in re.findall(r"-n ('.*?'|\w+)(?: -[fx])*( -s \w)? (?:-[fx] )?-l (\w+)", text):
+    for condition, short, name in re.findall(r"-n ('.*?'|\w+)(?: -[fx])*( -s \w)? (?:-[fx] )?-l ([\w-]+)", text):
         seen = set(re.findall(r"\w+", condition.partition("from")[2])) or {""}
         for command in set(options) - seen if condition.startswith("'not") else seen:
             options[command] |= {f"--{name}", *short.replace(" -s ", "-").split()}
