@@ -24,6 +24,7 @@ Problems for reading:
 Problems for judging, each with its solution of the same COUNT. A solution without fault, but where said:
     tenth, half, all       a distribution with so many packages installed: chosen-tenth, chosen-half, chosen-all
     broken                 five missing dependencies a package, so five lines of report a package: chosen-all
+    conflicting            all, and each tenth package conflicts with another one: chosen-most, which lacks each ninth
     ascending, descending, shuffled  one name in COUNT versions: versions
     one-feature            packages that provide one feature and conflict with it, a line of report each: chosen-all
     last-entry             each conflicts with one feature's number that the last one alone provides, a line of report
@@ -186,9 +187,9 @@ def version_of(number):
     return number % 8 + 1
 
 
-def installed_distribution(out, packages, step):
+def installed_distribution(out, packages, step, is_conflicting=False):
     """Every step-th package is installed; its dependencies are installed too."""
-    chance = random.Random(1)
+    chance, partner = random.Random(1), random.Random(2)
     out.add(PREAMBLE)
     for number in range(1, packages + 1):
         is_installed = number % step == 0
@@ -197,17 +198,18 @@ def installed_distribution(out, packages, step):
         names = [f"lib-{other}" for other in others]
         clauses = [f"{names[0]} >= {version_of(others[0])}", f"missing | {names[1]}"] + names[2:]
         name = f"lib-{number}"
+        conflicts = f", lib-{partner.randrange(1, packages + 1)}" if is_conflicting and number % 10 == 0 else ""
         out.add(
             f"package: {name}\nversion: {version_of(number)}\ndepends: {', '.join(clauses)}\n"
-            f"conflicts: {name}, missing-{number % 991}\nprovides: {name} = 9, feature-{number % 997}\n"
+            f"conflicts: {name}, missing-{number % 991}{conflicts}\nprovides: {name} = 9, feature-{number % 997}\n"
             f"recommends: true!\nsource: source of {name}\npriority: {number % 7 - 3}\narchitecture: amd64\n"
         )
         out.add("installed: true\n\n" if is_installed else "\n")
     out.add(f"request: none\ninstall: lib-{step}\n")
 
 
-def chosen(out, packages, step):
-    for number in range(step, packages + 1, step):
+def chosen(out, numbers):
+    for number in numbers:
         out.add(f"package: lib-{number}\nversion: {version_of(number)}\ninstalled: true\n\n")
 
 
@@ -304,10 +306,12 @@ KINDS = {
     "tenth": lambda out, packages: installed_distribution(out, packages, 10),
     "half": lambda out, packages: installed_distribution(out, packages, 2),
     "all": lambda out, packages: installed_distribution(out, packages, 1),
-    "chosen-tenth": lambda out, packages: chosen(out, packages, 10),
-    "chosen-half": lambda out, packages: chosen(out, packages, 2),
-    "chosen-all": lambda out, packages: chosen(out, packages, 1),
+    "chosen-tenth": lambda out, packages: chosen(out, range(10, packages + 1, 10)),
+    "chosen-half": lambda out, packages: chosen(out, range(2, packages + 1, 2)),
+    "chosen-all": lambda out, packages: chosen(out, range(1, packages + 1, 1)),
+    "chosen-most": lambda out, packages: chosen(out, (number for number in range(1, packages + 1) if number % 9)),
     "broken": broken,
+    "conflicting": lambda out, packages: installed_distribution(out, packages, 1, True),
     "ascending": lambda out, packages: versions_in(out, range(1, packages + 1)),
     "descending": lambda out, packages: versions_in(out, range(packages, 0, -1)),
     "shuffled": shuffled,

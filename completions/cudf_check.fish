@@ -11,8 +11,8 @@ function __cudf_check_lists
     end
 end
 
-complete -c cudf_check -n __fish_use_subcommand -f -a lint -d 'Say whether a file is a problem without fault'
-complete -c cudf_check -n __fish_use_subcommand -f -a check -d 'Check a solution, and print each rule that it breaks'
+complete -c cudf_check -n __fish_use_subcommand -f -a lint -d 'Check that a file is a valid problem'
+complete -c cudf_check -n __fish_use_subcommand -f -a check -d 'Check a solution, and print each rule that it violates'
 complete -c cudf_check -n __fish_use_subcommand -f -a score -d 'Count what a solution changes and lacks'
 complete -c cudf_check -n __fish_use_subcommand -f -a rank -d 'Rank several solutions by a list of criteria'
 complete -c cudf_check -n __fish_use_subcommand -f -a cnf -d 'Print the rules of a problem as a CNF'
@@ -22,8 +22,8 @@ complete -c cudf_check -n __fish_use_subcommand -s V -l version -d 'Print the ve
 complete -c cudf_check -n 'not __fish_seen_subcommand_from help' -s h -l help -d 'Print help'
 complete -c cudf_check -n '__fish_seen_subcommand_from help' -f
 complete -c cudf_check -n '__fish_seen_subcommand_from help; and test (count (commandline -opc)) -eq 2' -a 'lint check score rank cnf refute help'
-complete -c cudf_check -n '__fish_seen_subcommand_from lint check score rank cnf refute' -l strict -d 'Take three things more for faults'
-complete -c cudf_check -n '__fish_seen_subcommand_from lint check refute' -l explain -d 'Add to each line what the documents say beside it'
+complete -c cudf_check -n '__fish_seen_subcommand_from lint check score rank cnf refute' -l strict -d 'Refuse three more kinds of faults'
+complete -c cudf_check -n '__fish_seen_subcommand_from lint check refute' -l explain -d 'Add the cause to each line'
 complete -c cudf_check -n '__fish_seen_subcommand_from lint check score rank' -s H -l with-filename -d 'Begin lines with FILE:LINE:'
 complete -c cudf_check -n '__fish_seen_subcommand_from check' -x -l after -d 'Print only the violations with greater keys'
 complete -c cudf_check -n '__fish_seen_subcommand_from check' -x -l limit -d 'Print at most so many violations'

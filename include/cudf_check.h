@@ -62,18 +62,17 @@ typedef struct cudf_check_text {
 } cudf_check_text;
 
 /*
- * Says whether a problem is without fault: `problem ok`, or its first fault. The whole text is the problem. With `strict`
- * three things more are faults, as with the program's `--strict`. With `explain` a fault has behind its text what the problem
- * says beside it, as with `--explain`.
+ * Checks that a text is a valid problem: `problem ok`, or its first fault. The whole text is the problem. `strict` refuses
+ * more kinds of faults, as the program's `--strict` does; `explain` adds the cause to a fault, as `--explain` does.
  */
 uint8_t cudf_check_lint(bool strict, bool explain, const uint8_t *problem, size_t problem_length, uint8_t *report,
                         size_t room, size_t *length);
 
 /*
- * Says what is wrong with a solution of a problem: a line for each violation, sorted by key, and the verdict. `after` is
- * the key behind which the lines begin, as `p1.depends.1`, or an empty text; `limit` is how many lines there are at most,
- * or 0 for all. Where a limit leaves lines out, `more after KEY` says where the next page begins. The verdict is of all.
- * With `explain` lines have behind their texts what docs/FORMAT.md lists; a fault has what it has in lint.
+ * Checks a solution of a problem: a line for each violation, sorted by key, and the verdict. `after` is the key after which
+ * the lines begin, as `p1.depends.1`, or an empty text; `limit` is the greatest number of lines, or 0 for all. If a limit
+ * leaves lines out, `more after KEY` says where the next page begins. The verdict is of all violations. `explain` adds the
+ * cause to each line and to a fault, as docs/FORMAT.md lists.
  */
 uint8_t cudf_check_check(bool strict, bool explain, const uint8_t *problem, size_t problem_length,
                          const uint8_t *solution, size_t solution_length, const uint8_t *after, size_t after_length,
@@ -105,8 +104,8 @@ uint8_t cudf_check_cnf(bool strict, const uint8_t *problem, size_t problem_lengt
 /*
  * Checks a proof, in LRAT's text form, that the CNF of a problem has no model, and so that the problem has no solution. A
  * proof that holds is answered by the instances that it needs, of which every answer violates one, and
- * `no solution exists`; else its first fault is reported, as `proof line 3: L5 no such clause`. With `explain` instances
- * and the problem's fault have behind their texts what docs/FORMAT.md lists.
+ * `no solution exists`. If it doesn't hold, its first fault is reported, as `proof line 3: L5 no such clause`. `explain`
+ * adds the cause to each line, as docs/FORMAT.md lists.
  */
 uint8_t cudf_check_refute(bool strict, bool explain, const uint8_t *problem, size_t problem_length,
                           const uint8_t *proof, size_t proof_length, uint8_t *report, size_t room, size_t *length);

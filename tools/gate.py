@@ -9,8 +9,8 @@ meanwhile fail the run. When rt ci says that a library is proved, what it built 
 wrong_bodies.py goes on with the crates above it, on the processors and the memory that rt ci leaves. When rt ci has passed,
 the command is run, and at last wrong_bodies_test.py on the copy.
 
-What rt ci prints comes as it is printed, then what the command prints, and what the wrong bodies came to stands last. The
-status is 0 if all pass.
+What rt ci prints comes as it is printed, then what the command prints, and what the wrong bodies came to stands last; until
+then build/wrong_bodies.log has it, crate by crate. The status is 0 if all pass.
 
 What it rests on, beside what wrong_bodies.py does: rt ci's lines 'rt: NAME proved' and 'rt: NAME is kept: ..', after which
 the library lies in crates/NAME/out/rlib till rt ci ends, and takes part in checks wherever it is linked to.
@@ -83,7 +83,8 @@ def run_ci(ci, to):
 def main():
     # (so that what it started ends with it)
     signal.signal(signal.SIGTERM, lambda number, _: sys.exit(128 + number))
-    with tempfile.TemporaryDirectory(prefix="wrong-bodies-") as folder, tempfile.TemporaryFile("w+") as told:
+    (ROOT / "build").mkdir(exist_ok=True)
+    with tempfile.TemporaryDirectory(prefix="wrong-bodies-") as folder, open(ROOT / "build/wrong_bodies.log", "w+", encoding="utf-8") as told:
         to = Path(folder)
         copy_sources(to)
         how = {"stdin": subprocess.DEVNULL, "stderr": subprocess.STDOUT, "text": True, "errors": "replace"}

@@ -20,10 +20,10 @@ type status =
 (** The report has no text with [Usage], [Unread] and [Memory]. *)
 type answer = { status : status; report : string }
 
-(** [lint problem] says whether the problem is without fault. *)
+(** [lint problem] checks that the problem is valid. *)
 val lint : ?strict:bool -> ?explain:bool -> string -> answer
 
-(** [check problem solution] says what is wrong with the solution: a line for each violation behind the key [after], at
+(** [check problem solution] says what is wrong with the solution: a line for each violation after the key [after], at
     most [limit] of them, and the verdict.
     @raise Invalid_argument where [limit] is less than 1. *)
 val check : ?strict:bool -> ?explain:bool -> ?after:string -> ?limit:int -> string -> string -> answer

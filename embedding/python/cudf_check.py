@@ -176,7 +176,7 @@ class Refuted:
 
 
 def lint(problem: Document, strict: bool = False, explain: bool = False) -> Linted:
-    """Whether a problem is without fault, or its first one."""
+    """Whether a problem is valid, or its first fault."""
     code, report = _call(_library.cudf_check_lint, strict, explain, *_sized(problem))
     return Linted(_status(code), report, _fault(report))
 
@@ -185,7 +185,7 @@ def check(
     problem: Document, solution: Document, after: Optional[Text] = None, limit: Optional[int] = None, strict: bool = False,
     explain: bool = False,
 ) -> Checked:
-    """What is wrong with a solution: the violations behind the key `after`, at most `limit` of them, and the verdict."""
+    """What is wrong with a solution: the violations after the key `after`, at most `limit` of them, and the verdict."""
     if limit is not None and not 1 <= limit < 2**64:
         raise _invalid("limit", str(limit))
     call = _library.cudf_check_check

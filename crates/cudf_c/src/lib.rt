@@ -39,7 +39,7 @@ pub struct Text<'t> {
     pub bytes: &'t [u8],
 }
 
-/// Says whether a problem is without fault, as the program's `lint` does, with its `--explain` where `explain` says so.
+/// Checks that a text is a valid problem, as the program's `lint` does; `explain` is its `--explain`.
 #[unsafe(no_mangle)]
 pub extern "C" fn cudf_check_lint(
     alloc: Global,
@@ -56,9 +56,9 @@ pub extern "C" fn cudf_check_lint(
     tell(report, length)
 }
 
-/// Says what is wrong with a solution of a problem, as the program's `check` does, with its `--explain` where `explain`
-/// says so: the violations behind the key `after`, which may be a text of no bytes, and at most `limit` of them, where that
-/// isn't 0. Status 4 where `after` is no key.
+/// Checks a solution of a problem, as the program's `check` does; `explain` is its `--explain`. It reports the violations
+/// after the key `after`, which may be a text of no bytes, and at most `limit` of them, unless that is 0. Status 4 where
+/// `after` is no key.
 #[unsafe(no_mangle)]
 pub extern "C" fn cudf_check_check(
     alloc: Global,

@@ -63,8 +63,7 @@ const ABOUT_RANK_LINES: &str = "Ranks several solutions of a problem by a list o
 It prints a line for each solution, the best first: its rank, its place among the files of solutions, and yes with its
 counts, or no where it is none, or FAIL. The list is one aim or more with a comma between each two, without blanks. An
 aim is - for the lesser count or + for the greater one, and then removed, new, changed, notuptodate, unsat_recommends
-or touched. Solutions are compared by the first aim whose counts differ. Those that tie stand in the order of their
-files.
+or touched. Solutions are compared by the first aim whose counts differ. Ties are printed in the order of the files.
   touched  counts the packages that are installed before or after, and not both.";
 
 const ABOUT_CNF: &str = "Prints the rules of a problem as a CNF, for a SAT solver";
@@ -80,15 +79,15 @@ const ABOUT_REFUTE: &str = "Checks a proof that a problem has no solution";
 const ABOUT_REFUTE_LINES: &str = "Checks a proof that a problem has no solution.
 
 The proof is in the text form of LRAT, as cadical --lrat --no-binary writes it for what cnf prints. It is checked against
-the rules of the problem itself. Where it holds, this prints the instances of rules of which no answer can keep all, and
-no solution exists; and else the line of the first fault of the proof, which says nothing of the problem.";
+the rules of the problem itself. If it holds, this prints rules that no answer satisfies together, and then no solution
+exists. If not, it prints the first fault of the proof, which says nothing about the problem.";
 
 const STATUSES: &str = "Exit status:
-  0  the answer is a solution, or the problem is without fault; rank: one of the answers is a solution; refute: the proof holds
-  1  the answer is no solution; rank: none is, and one doesn't say FAIL; refute: the proof has a fault
-  2  a document is faulty
+  0  the answer is a solution, or the problem is valid; rank: one of the answers is a solution; refute: the proof holds
+  1  the answer is no solution; rank: none is, and one doesn't say FAIL; refute: the proof is wrong
+  2  a document is invalid
   3  the answer says FAIL; rank: all do
-  4  the words aren't understood
+  4  the arguments are wrong
   5  a file can't be opened, a read or a write failed, an input is longer than 268435456 bytes, or a CNF has more than 4294967295 clauses
   6  there isn't enough memory
 
@@ -116,7 +115,7 @@ fn lint_command<'w>(alloc: Global) -> Result<Command<'w>, AllocError>
     ensures { IfOk result (IsOf lint_grammar) }
 {
     Command::new(alloc, LINT)
-        .about("Says whether a file is a problem without fault")
+        .about("Checks that a file is a valid problem")
         .after_help(STATUSES)
         .arg(problem(alloc))?
         .arg(strict_problem(alloc))?
@@ -128,7 +127,7 @@ fn check_command<'w>(alloc: Global) -> Result<Command<'w>, AllocError>
     ensures { IfOk result (IsOf check_grammar) }
 {
     Command::new(alloc, CHECK)
-        .about("Checks a solution, and prints each rule that it breaks")
+        .about("Checks a solution, and prints each rule that it violates")
         .after_help(STATUSES)
         .arg(problem(alloc))?
         .arg(solution(alloc))?
@@ -206,7 +205,7 @@ fn solution<'w>(alloc: Global) -> Arg<'w>
     ensures local { result.global ≡ false }
 {
     Arg::new(alloc, SOLUTION).value_name("S").help(
-        "The file of the solution; without it P holds the solution behind the problem",
+        "The file of the solution; without it, the solution follows the problem in P",
     )
 }
 
@@ -235,7 +234,7 @@ fn after<'w>(alloc: Global) -> Arg<'w>
     ensures local { result.global ≡ false }
 {
     Arg::new(alloc, AFTER).long(AFTER).value_name("KEY").help(
-        "Prints only the broken rules whose keys come after this one",
+        "Prints only the violated rules whose keys come after KEY",
     )
 }
 
@@ -244,7 +243,7 @@ fn limit<'w>(alloc: Global) -> Arg<'w>
     ensures local { result.global ≡ false }
 {
     Arg::new(alloc, LIMIT).long(LIMIT).value_name("N").help(
-        "Prints at most N broken rules, and after which key the next one comes",
+        "Prints at most N violated rules, and the key to continue after",
     )
 }
 
@@ -294,7 +293,7 @@ fn explain<'w>(alloc: Global) -> Arg<'w>
     ensures local { result.global ≡ false }
 {
     explain_fault(alloc).help(
-        "Adds to each line of a fault or a rule what the documents say beside it, as a package that would do",
+        "Adds the cause to each line, as the package that would satisfy a rule",
     )
 }
 
@@ -306,7 +305,7 @@ fn explain_fault<'w>(alloc: Global) -> Arg<'w>
         .long(EXPLAIN)
         .action(ArgAction::SetTrue)
         .help(
-            "Adds to the line of a fault what the problem says beside it, as the name that nothing declares",
+            "Adds the cause to the line of a fault, as the name that nothing declares",
         )
 }
 

@@ -5,11 +5,11 @@ use crate::key::Key;
 /// One run's task.
 #[derive(Clone, Debug, PartialEq, Eq, Drop)]
 pub enum Job {
-    /// Say whether the input is a problem without fault. The whole input is the problem, also what stands behind its
-    /// request, and no solution is read.
+    /// Say whether the input is a valid problem. The whole input is the problem, also what follows its request, and no
+    /// solution is read.
     Lint {
-        /// Whether the line of a fault tells what the document says beside it, as `; nothing declares size` (own). Of
-        /// the kinds E1, E2, E3, E5, E12 and E13 nothing is told. All other bytes are as without it.
+        /// Whether the cause is added to the line of a fault, as `; nothing declares size` (own): not of the kinds E3, E5,
+        /// E12 and E13, and of E2 only of a byte order mark. All other bytes are as without it.
         explain: bool,
     },
     /// Judge the solution and list the violated instances: those whose keys come behind `after`, where
@@ -17,11 +17,11 @@ pub enum Job {
     Check {
         after: Option<Key>,
         limit: Option<u64>,
-        /// Whether the line of a fault tells so, as for `Lint`, and that of an instance as well (own): of the packages
-        /// that alone would do what is needed the first that was installed, or else the first of all, with its version
-        /// and its line, as `; wheel 3 line 9 was installed` or `; wheel 3 line 9 would do`; the first package of the
-        /// name, where its version isn't in the problem; the numbers of an upgrade to several or to lower ones. All
-        /// other bytes are as without it.
+        /// Whether the cause is added to the line of a fault, as for `Lint`, and to that of an instance (own): of the
+        /// packages that alone satisfy what is needed the first that was installed, or else the first of all, as
+        /// `; wheel 3 line 9 was installed` or `; wheel 3 line 9 would do`; the line of the package that meets an entry
+        /// of conflicts or remove, and the first package that needs it; the first package of the name, where its version
+        /// isn't in the problem; the numbers of an upgrade to several or to lower ones. All other bytes are as without it.
         explain: bool,
     },
     /// Judge the solution and count what it changes and lacks: the counts that `aims` name, each with its
@@ -35,9 +35,8 @@ pub enum Job {
     /// Check a proof, the second input, that the problem has no solution, against the CNF that `Cnf` prints (own). The
     /// whole first input is the problem; without a second one the proof is empty.
     Refute {
-        /// Whether the line of a fault tells so, as for `Lint`, and that of an instance of depends, install or upgrade
-        /// as well (own): the first package that was installed, or else the first of all, that alone would do what is
-        /// needed. All other bytes are as without it.
+        /// Whether the cause is added to the line of a fault, as for `Lint`, and to that of an instance of depends,
+        /// install or upgrade, as for `Check` (own). All other bytes are as without it.
         explain: bool,
     },
 }

@@ -17,6 +17,7 @@ pub mod NeederExamples
 pub mod NeederLemmas
 pub mod NumberLemmas
 pub mod PagingLemmas
+pub mod PartnerLemmas
 pub mod PlaceLemmas
 pub mod PositionLemmas
 pub mod PriceExamples

@@ -12,7 +12,7 @@ use Rattle.cudf_referee.proofs.NeederLemmas.{and_not, any_more, or_right}
 use Rattle.cudf_referee.proofs.RemedyLemmas.{any-or, clause_alone}
 
 -- a clause that the empty status satisfies each one does
-always : (clause : List PlainAtom) → satisfies_clause [] clause ≡ true → (status : List Placed) → satisfies_clause status clause ≡ true
+pub always : (clause : List PlainAtom) → satisfies_clause [] clause ≡ true → (status : List Placed) → satisfies_clause status clause ≡ true
 always [] e status = absurd (true≢false (sym e))
 always (truth_atom ∷ atoms) e status = refl
 always (falsehood_atom ∷ atoms) e status = always atoms e status

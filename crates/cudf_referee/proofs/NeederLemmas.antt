@@ -1,5 +1,5 @@
 -- Which package needs another one: what is kept of it is what its definition says.
-use Rattle.std.proofs.Common.{◌≡◌, ℕ, ◌+◌, ◌==◌, ◌<◌, Bool, true, false, not, ◌&&◌, ◌||◌, cond, List, [], ◌∷◌, ◌++◌, length, get_or, take, map, Option, Some, None, refl, sym, ap, ◌∙◌, arith}
+use Rattle.std.proofs.Common.{◌≡◌, ℕ, zero, suc, ◌+◌, ◌==◌, ◌<◌, Bool, true, false, not, ◌&&◌, ◌||◌, cond, List, [], ◌∷◌, ◌++◌, length, get_or, take, map, Option, Some, None, refl, sym, ap, ◌∙◌, arith}
 use Rattle.std.specs.Prelude.{filter, find, is_some, option_map, option_and_then}
 use Rattle.std.specs.List.{enumerate_from, list_any}
 use Rattle.std.specs.Option.{option_or}
@@ -13,7 +13,7 @@ use Rattle.cudf_index.specs.Satisfaction.{Placed, members, satisfies_atom, witho
 use Rattle.cudf_index.proofs.MemberLemmas.{members_kept, members_left_out}
 use Rattle.cudf_index.proofs.SearchLemmas.{list_any-filter, none_narrowed}
 use Rattle.cudf_referee.specs.Explanations.{is_only, needs_place, satisfies_alone}
-use Rattle.cudf_referee.specs.Working.Needers.{first_beside, first_passing, holds_other, only_satisfying, some_satisfying, unless_other, with_clauses, with_needer, with_other}
+use Rattle.cudf_referee.specs.Working.Needers.{first_beside, first_passing, holds_other, is_named, only_satisfying, some_satisfying, unless_other, with_clauses, with_needer, with_other}
 
 -- ---- tests
 
@@ -21,15 +21,15 @@ pub or_right : (a b : Bool) → b ≡ true → (a || b) ≡ true
 or_right true b e = refl
 or_right false b e = e
 
-and_left : (a b : Bool) → (a && b) ≡ true → a ≡ true
+pub and_left : (a b : Bool) → (a && b) ≡ true → a ≡ true
 and_left true b e = refl
 and_left false b e = e
 
-and_right : (a b : Bool) → (a && b) ≡ true → b ≡ true
+pub and_right : (a b : Bool) → (a && b) ≡ true → b ≡ true
 and_right true b e = e
 and_right false b e = absurd (true≢false (sym e))
 
-and_both : (a b : Bool) → a ≡ true → b ≡ true → (a && b) ≡ true
+pub and_both : (a b : Bool) → a ≡ true → b ≡ true → (a && b) ≡ true
 and_both a b e f = λ i. e i && f i
 
 pub and_not : (a b : Bool) → b ≡ true → (a && not b) ≡ false
@@ -39,7 +39,7 @@ and_not false b e = refl
 same_place : (a b : ℕ) → a ≡ b → (a == b) ≡ true
 same_place a b e = grind (arith, nat_tests)
 
-is_place : (a b : ℕ) → (a == b) ≡ true → a ≡ b
+pub is_place : (a b : ℕ) → (a == b) ≡ true → a ≡ b
 is_place a b e = grind (arith, nat_tests)
 
 other_place : (a m n : ℕ) → (a == m) ≡ true → (m == n) ≡ false → (a == n) ≡ false
@@ -173,11 +173,6 @@ found_satisfying ps (atom ∷ atoms) m found = by (first_passing test ps) refl f
     by None e found rest = any_more (λ p. p.0 == m && satisfies_alone atoms p) all by_rest ps (rest found)
     by (Some k) e found rest = any_more (λ p. p.0 == m && test p) all by_atom ps (found_at test ps m (e ∙ found))
 
--- the place is the one that is named
-abbrev is_named : ℕ → Option ℕ → Bool
-is_named place None = false
-is_named place (Some m) = m == place
-
 -- where another one satisfies it too, none is the only one
 two_satisfying : (ps : List Placed) (clause : List PlainAtom) (m place : ℕ) → some_satisfying ps clause ≡ Some m → is_some (some_satisfying (without m ps) clause) ≡ true
     → false ≡ is_only ps place clause
@@ -211,7 +206,7 @@ one_satisfying ps clause m place found none = by (m == place) refl
     by true e = sym (at_place (is_place m place e))
     by false e = sym (and_not (list_any (λ p. p.0 == place && test p) ps) (list_any test (without place ps)) (elsewhere test m place ps e (found_satisfying ps clause m found)))
 
-only_is : (ps : List Placed) (clause : List PlainAtom) (place : ℕ) → is_named place (only_satisfying ps clause) ≡ is_only ps place clause
+pub only_is : (ps : List Placed) (clause : List PlainAtom) (place : ℕ) → is_named place (only_satisfying ps clause) ≡ is_only ps place clause
 only_is ps clause place = by (some_satisfying ps clause) refl
   where
     beside : (m : ℕ) → some_satisfying ps clause ≡ Some m → (o : Option ℕ) → some_satisfying (without m ps) clause ≡ o
@@ -264,6 +259,14 @@ module _ (needer place : ℕ) where
       ∙ ap (λ b. option_or (option_or kept (needer_if (not (needer == place) && b) needer)) (needer_if (not (needer == place) && rest) needer)) (only_is ps clause place)
       ∙ twice_added (not (needer == place)) (is_only ps place clause) rest kept
 
+  -- a clause that doesn't need the package adds nothing
+  pub nothing_added : (ps : List Placed) (clause : List PlainAtom) (kept : Option ℕ) → is_only ps place clause ≡ false
+      → with_other needer (only_satisfying ps clause) place kept ≡ kept
+  nothing_added ps clause kept not_only =
+      other_added (only_satisfying ps clause) kept
+      ∙ ap (λ b. option_or kept (needer_if (not (needer == place) && b) needer)) (only_is ps clause place ∙ not_only)
+      ∙ sym (none_added (not (needer == place)) kept)
+
 -- ---- and package by package
 
 -- one package more
@@ -281,6 +284,35 @@ passing_push test (x ∷ ps) p = by (test x) (passing_push test ps p)
     by true rest = refl
     by false rest = rest
 
+-- what is found of the first so many is found of all
+module _ {A : Type 0} (view : A → PlainPackage) (test : Placed → Bool) (holds : ℕ → Bool) where
+  abbrev held_from : ℕ → List A → List Placed
+  held_from n xs = filter (λ (q : Placed). holds q.0) (enumerate_from n (map view xs))
+
+  of_prefix : (k n : ℕ) (xs : List A) (m : ℕ) → first_passing test (held_from n (take k xs)) ≡ Some m → first_passing test (held_from n xs) ≡ Some m
+  of_prefix zero n xs m found = absurd cc
+  of_prefix (suc k) n [] m found = absurd cc
+  of_prefix (suc k) n (x ∷ xs) m found = by (holds n) found (of_prefix k (n + 1) xs m)
+    where
+      p : Placed
+      p = (n, view x)
+
+      few : List Placed
+      few = held_from (n + 1) (take k xs)
+
+      all : List Placed
+      all = held_from (n + 1) xs
+
+      first : (b : Bool) → option_map (λ (q : Placed). q.0) (cond b (Some p) (find test few)) ≡ Some m → (first_passing test few ≡ Some m → first_passing test all ≡ Some m)
+          → option_map (λ (q : Placed). q.0) (cond b (Some p) (find test all)) ≡ Some m
+      first true found more = found
+      first false found more = more found
+
+      by : (b : Bool) → first_passing test (cond b (p ∷ few) few) ≡ Some m → (first_passing test few ≡ Some m → first_passing test all ≡ Some m)
+          → first_passing test (cond b (p ∷ all) all) ≡ Some m
+      by true found more = first (test p) found more
+      by false found more = more found
+
 module _ {A : Type 0} (view : A → PlainPackage) (status : List Placed) (place : ℕ) (holds : ℕ → Bool) (xs : List A) (i : ℕ) (d : A) (inside : i < length xs) where
   pub needer_kept : (old new : Option ℕ) → holds (i + 1) ≡ true → old ≡ first_passing (needs_place status place) (members holds (map view (take i xs)))
       → new ≡ with_clauses status (i + 1) place (view (get_or xs i d)).depends old
@@ -296,3 +328,28 @@ module _ {A : Type 0} (view : A → PlainPackage) (status : List Placed) (place 
   pub needer_left_out : (old : Option ℕ) → holds (i + 1) ≡ false → old ≡ first_passing (needs_place status place) (members holds (map view (take i xs)))
       → old ≡ first_passing (needs_place status place) (members holds (map view (take (i + 1) xs)))
   needer_left_out old e before = before ∙ ap (first_passing (needs_place status place)) (sym (members_left_out view holds xs i d inside e))
+
+  abbrev this : Placed
+  this = (i + 1, view (get_or xs i d))
+
+  abbrev first_needer : List A → Option ℕ
+  first_needer ys = first_passing (needs_place status place) (members holds (map view ys))
+
+  pub search_goes_on : (holds (i + 1) && needs_place status place this) ≡ false → first_needer (take i xs) ≡ None → first_needer (take (i + 1) xs) ≡ None
+  search_goes_on fails none = by (holds (i + 1)) refl fails
+    where
+      by : (b : Bool) → holds (i + 1) ≡ b → (b && needs_place status place this) ≡ false → first_needer (take (i + 1) xs) ≡ None
+      by true e fails =
+          ap (first_passing (needs_place status place)) (members_kept view holds xs i d inside e)
+          ∙ passing_push (needs_place status place) (members holds (map view (take i xs))) this
+          ∙ (λ j. option_or (none j) (needer_if (fails j) (i + 1)))
+      by false e fails = ap (first_passing (needs_place status place)) (members_left_out view holds xs i d inside e) ∙ none
+
+  pub search_ends : (holds (i + 1) && needs_place status place this) ≡ true → first_needer (take i xs) ≡ None → Some (i + 1) ≡ first_needer xs
+  search_ends passes none =
+      let held = and_left (holds (i + 1)) (needs_place status place this) passes in
+      let needs = and_right (holds (i + 1)) (needs_place status place this) passes in
+      sym (of_prefix view (needs_place status place) holds (i + 1) 1 xs (i + 1)
+      (ap (first_passing (needs_place status place)) (members_kept view holds xs i d inside held)
+      ∙ passing_push (needs_place status place) (members holds (map view (take i xs))) this
+      ∙ (λ j. option_or (none j) (needer_if (needs j) (i + 1)))))

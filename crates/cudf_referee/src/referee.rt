@@ -14,18 +14,20 @@ mod held;
 mod instances;
 mod needers;
 mod numbered;
+mod partners;
 mod remedies;
 
 use crate::counting::count;
 use crate::instance::{Instance, What};
-use before::{NumberedNames, greatest_before, numbered};
+use before::greatest_before;
 use cudf_index::Index;
 use cudf_job::{Criteria, Key, Part};
-use cudf_problem::{Keep, Package, Problem, Solution, initial};
+use cudf_problem::{Keep, Package, Problem, Solution, Status, initial};
 pub use explainer::Explainer;
 pub use instances::Instances;
-use needers::{Needers, needers_of};
+use needers::{Needers, needers_of, search_needer};
 use numbered::keys_can_be_written;
+use partners::partners_of;
 pub use remedies::Remedies;
 use std::alloc::{AllocError, Global};
 use std::fmt;
@@ -118,16 +120,15 @@ fn has_none(mut instances: Instances<'_, '_, '_>) -> bool
 }
 
 impl<'p, 't> Referee<'p, 't> {
-    ghost use Rattle.std.specs.Prelude.{◌≡◌, ◌≤◌, ℕ, List, All, IsTrue, IfOk, length, map};
+    ghost use Rattle.std.specs.Prelude.{◌≡◌, ◌≤◌, ℕ, true, All, IsTrue, IfOk, length, map};
     ghost use Rattle.cudf_problem.specs.Promises.Views.{package_view};
     ghost use Rattle.std.specs.FinSet as set;
     ghost use Rattle.cudf_problem.specs.Statuses.{is_initial, ascend_above};
     ghost use Rattle.cudf_problem.specs.Promises.Views.{unknown_view};
     ghost use Rattle.cudf_index.specs.Promises.Prices.{digits};
-    ghost use Rattle.cudf_index.specs.Satisfaction.{numbers_of};
+    ghost use Rattle.cudf_index.specs.Satisfaction.{members, numbers_of};
     ghost use Rattle.cudf_referee.specs.Criteria.{criteria};
     ghost use Rattle.cudf_referee.specs.Explanations.{least_of, greatest_of, needed_by};
-    ghost use Rattle.cudf_referee.specs.Working.Before.{kept_greatest};
     ghost use Rattle.cudf_referee.specs.Working.Needers.{kept_needer};
     ghost use Rattle.cudf_problem.specs.Documents.{is_empty};
     ghost use Rattle.cudf_job.specs.KeyViews.{key_view};
@@ -182,24 +183,29 @@ impl<'p, 't> Referee<'p, 't> {
 
     /// The remedies of its problem.
     fn remedies(&self, alloc: Global) -> Result<Remedies<'p, 't>, AllocError>
-        ensures { IfOk result (λ remedies. remedies ≡ self.entry.now.problem) }
+        ensures problem { IfOk result (λ remedies. remedies ≡ self.entry.now.problem) }
+        ensures initial { self.entry.now.initial ≡ members (is_initial self.entry.now.problem) self.entry.now.problem.packages }
     {
         Remedies::new(alloc, self.problem)
     }
 
-    /// The numbers of all names that the initial status gives: of `upgrade` alone they are kept already.
-    fn numbers_before(&self, alloc: Global) -> Result<NumberedNames<'t>, AllocError>
-        ensures { IfOk result (λ kept. (f : List ℕ) → kept_greatest f kept ≡ greatest_of (numbers_of f self.entry.now.initial)) }
-    {
-        let was_installed = initial(alloc, self.problem)?;
-        numbered(alloc, self.problem, &was_installed)
+    /// The packages of the proposed status that lines name as meeting an entry.
+    fn partners(&self, alloc: Global) -> Result<Status, AllocError> {
+        partners_of(alloc, self.problem, &self.solution.status, &self.now)
     }
 
-    /// Which packages of the proposed status need which others.
-    fn needers(&self, alloc: Global) -> Result<Needers, AllocError>
-        ensures { IfOk result (λ needers. (place : ℕ) → kept_needer place needers ≡ needed_by self.entry.now.proposed place) }
+    /// Which packages of the proposed status need those that are asked about.
+    fn needers(&self, alloc: Global, asked: &Status) -> Result<Needers, AllocError>
+        ensures { IfOk result (λ needers. (place : ℕ) → set.contains asked.now place ≡ true → kept_needer place needers ≡ needed_by self.entry.now.proposed place) }
     {
-        needers_of(alloc, self.problem, &self.solution.status, &self.now)
+        needers_of(alloc, self.problem, &self.solution.status, &self.now, asked)
+    }
+
+    /// The place of the first package of the proposed status that needs the one at this place, searched anew.
+    fn needer(&self, place: u64) -> Option<u64>
+        ensures { result ≡ needed_by self.entry.now.proposed place }
+    {
+        search_needer(self.problem, &self.solution.status, &self.now, place)
     }
 
     /// The least number that the proposed status gives of the name.

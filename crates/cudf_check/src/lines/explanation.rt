@@ -1,9 +1,9 @@
 //! Prints what the problem and the statuses say beside a violated instance.
-ghost use Rattle.std.specs.Prelude.{◌≡◌, ◌++◌, Some, option_and_then, option_map, true};
+ghost use Rattle.std.specs.Prelude.{◌≡◌, ◌++◌, Some, codes, option_and_then, option_map, true};
 ghost use Rattle.cudf_problem.specs.Promises.Views.{package_view};
 ghost use Rattle.cudf_referee.specs.Promises.Views.{instance_view};
 ghost use Rattle.cudf_referee.specs.Explanations.{needed_by};
-ghost use Rattle.cudf_check.specs.Explanations.{stanza_text, explained, help_of, help_text, lacks_package, named_text, needed_added, needed_text, needer_text, number_text, numbers_added, status_added, unknown_added, would_do_text};
+ghost use Rattle.cudf_check.specs.Explanations.{stanza_text, explained, help_of, lacks_package, named_text, needed_added, needed_text, needer_text, number_text, numbers_added, status_added, unknown_added, would_do_text};
 ghost use Rattle.cudf_check.specs.Working.Paper.{Says};
 
 use crate::device::Sink;
@@ -37,22 +37,13 @@ fn print_would_do<W: Sink>(paper: &mut Paper<'_, W>, does: Option<&Package<'_>>)
     }
 }
 
-/// Prints the package that was installed, or else the one that would do.
-fn print_either<W: Sink>(
-    paper: &mut Paper<'_, W>,
-    was: Option<&Package<'_>>,
-    does: Option<&Package<'_>>,
-)
-    ensures { Says W.state paper.old paper.new (help_text (option_map (λ p. package_view p.now) was.entry) (option_map (λ p. package_view p.now) does.entry)) }
+/// Prints the package that was installed.
+fn print_was_installed<W: Sink>(paper: &mut Paper<'_, W>, package: &Package<'_>)
+    ensures { Says W.state paper.old paper.new (codes "; " ++ stanza_text (package_view «package».now) ++ codes " was installed") }
 {
-    match was {
-        Some(package) => {
-            paper.text("; ");
-            print_stanza(paper, package);
-            paper.text(" was installed");
-        }
-        None => print_would_do(paper, does),
-    }
+    paper.text("; ");
+    print_stanza(paper, package);
+    paper.text(" was installed");
 }
 
 /// Whether the instance is of depends, install or upgrade, and lacks a package that satisfies its conjunct or entry.
@@ -76,9 +67,10 @@ pub(crate) fn print_help<W: Sink>(
 {
     if lacks_package(instance) {
         let packages = remedies.packages();
-        let was = package_at(packages, remedies.was_installed(instance));
-        let does = package_at(packages, remedies.would_do(instance));
-        print_either(paper, was, does);
+        match package_at(packages, remedies.was_installed(instance)) {
+            Some(package) => print_was_installed(paper, package),
+            None => print_would_do(paper, package_at(packages, remedies.would_do(instance))),
+        }
     }
 }
 

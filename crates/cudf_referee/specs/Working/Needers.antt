@@ -1,10 +1,11 @@
 -- What is kept of which package needs another one, clause by clause and package by package (own).
-use Rattle.std.specs.Prelude.{ℕ, Bool, true, ◌&&◌, ◌==◌, nat_eq, List, [], ◌∷◌, find, Option, Some, None, is_some, option_map, option_and_then, if◌then◌else◌}
+use Rattle.std.specs.Prelude.{◌≡◌, ℕ, Bool, true, false, ◌&&◌, ◌==◌, nat_eq, List, [], ◌∷◌, find, Option, Some, None, is_some, option_map, option_and_then, if◌then◌else◌}
 use Rattle.std.specs.Option.{option_or}
 use Rattle.indexmap.specs.IndexMap.{get}
 use Rattle.cudf_value.specs.Formulas.{PlainAtom}
-use Rattle.cudf_index.specs.Satisfaction.{Placed, without, satisfies_atom}
+use Rattle.cudf_index.specs.Satisfaction.{Placed, without, satisfies_atom, satisfies_clause}
 use Rattle.cudf_index.specs.Working.Members.{is_other}
+use Rattle.cudf_referee.specs.Explanations.{is_only}
 use Rattle.cudf_referee.specs.declared.referee.needers.Needers.{Needers}
 
 -- ---- the first packages of a status
@@ -35,6 +36,15 @@ unless_other status clause found = if is_some (some_satisfying (without found st
 
 abbrev pub only_satisfying : List Placed → List PlainAtom → Option ℕ
 only_satisfying status clause = option_and_then (unless_other status clause) (some_satisfying status clause)
+
+-- the place is the one that was found
+abbrev pub is_named : ℕ → Option ℕ → Bool
+is_named place None = false
+is_named place (Some found) = found == place
+
+-- a clause that the partners don't satisfy among them isn't satisfied by the package at this place alone
+abbrev pub IsCovered : List Placed → List Placed → ℕ → Type 0
+IsCovered status partners place = (clause : List PlainAtom) → satisfies_clause partners clause ≡ false → is_only status place clause ≡ false
 
 -- ---- what is kept
 

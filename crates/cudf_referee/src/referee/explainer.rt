@@ -1,8 +1,8 @@
 //! What is said of a violated instance, by the problem and the statuses.
 use crate::referee::Referee;
-use crate::referee::before::NumberedNames;
 use crate::referee::needers::Needers;
 use crate::referee::remedies::Remedies;
+use cudf_problem::Status;
 use std::alloc::{AllocError, Global};
 use std::fmt;
 use std::marker::Model;
@@ -13,18 +13,19 @@ use std::marker::Model;
 pub struct Explainer<'r, 'p, 't> {
     referee: &'r Referee<'p, 't>,
     remedies: Remedies<'p, 't>,
-    /// The numbers that the initial status gives.
-    before: NumberedNames<'t>,
-    /// Which installed packages need which others.
+    /// The packages that meet an entry.
+    partners: Status,
+    /// Which installed packages need them.
     needers: Needers,
 }
 
 impl<'r, 'p, 't> Model for Explainer<'r, 'p, 't> {
-    ghost use Rattle.std.specs.Prelude.{◌≡◌, ℕ, List};
-    ghost use Rattle.cudf_index.specs.Satisfaction.{numbers_of};
-    ghost use Rattle.cudf_referee.specs.Explanations.{greatest_of, needed_by};
+    ghost use Rattle.std.specs.Prelude.{◌≡◌, ℕ, true};
+    ghost use Rattle.std.specs.FinSet as set;
+    ghost use Rattle.cudf_problem.specs.Statuses.{is_initial};
+    ghost use Rattle.cudf_index.specs.Satisfaction.{members};
+    ghost use Rattle.cudf_referee.specs.Explanations.{needed_by};
     ghost use Rattle.cudf_referee.specs.Proposals.{Proposal};
-    ghost use Rattle.cudf_referee.specs.Working.Before.{kept_greatest};
     ghost use Rattle.cudf_referee.specs.Working.Needers.{kept_needer};
 
     ghost Value = { Proposal };
@@ -32,8 +33,8 @@ impl<'r, 'p, 't> Model for Explainer<'r, 'p, 't> {
     ghost view = { λ e. e.referee.now };
 
     ghost invariant = { λ e. (e.remedies ≡ e.referee.now.problem)
-        × ((f : List ℕ) → kept_greatest f e.before ≡ greatest_of (numbers_of f e.referee.now.initial))
-        × ((place : ℕ) → kept_needer place e.needers ≡ needed_by e.referee.now.proposed place) };
+        × (e.referee.now.initial ≡ members (is_initial e.referee.now.problem) e.referee.now.problem.packages)
+        × ((place : ℕ) → set.contains e.partners place ≡ true → kept_needer place e.needers ≡ needed_by e.referee.now.proposed place) };
 }
 
 /// Its referee: all else that it keeps follows from what that judges.
@@ -58,11 +59,13 @@ impl<'r, 'p, 't> Explainer<'r, 'p, 't> {
     pub fn new(alloc: Global, referee: &'r Referee<'p, 't>) -> Result<Self, AllocError>
         ensures { IfOk result (λ e. e ≡ referee.entry.now) }
     {
+        let partners = referee.partners(alloc)?;
+        let needers = referee.needers(alloc, &partners)?;
         Ok(Explainer {
             referee,
             remedies: referee.remedies(alloc)?,
-            before: referee.numbers_before(alloc)?,
-            needers: referee.needers(alloc)?,
+            partners,
+            needers,
         })
     }
 
@@ -101,15 +104,20 @@ impl<'r, 'p, 't> Explainer<'r, 'p, 't> {
     pub fn greatest_before(&self, name: &str) -> Option<u64>
         ensures { result ≡ greatest_of (numbers_of name.now self.now.initial) }
     {
-        self.before.find(name)
+        self.remedies.greatest_before(name)
     }
 
     /// The place (from 1) of the first package of the proposed status that needs the one at this place: it is another
     /// one, and has a clause of `depends` that this one alone satisfies, and that no other package of the status does,
-    /// itself included. `None` where no package needs it, and for places of no package of the status.
+    /// itself included. `None` where no package needs it, and for places of no package of the status. It is known of
+    /// packages that meet an entry of `conflicts` or `remove`; for others all clauses are gone through.
     pub fn needed_by(&self, place: u64) -> Option<u64>
         ensures { result ≡ needed_by self.now.proposed place }
     {
-        self.needers.find(place)
+        if self.partners.holds(place) {
+            self.needers.find(place)
+        } else {
+            self.referee.needer(place)
+        }
     }
 }

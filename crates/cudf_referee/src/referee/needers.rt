@@ -1,15 +1,17 @@
 //! Which installed package needs another one: the first with a clause of its `depends` that only this one satisfies.
-ghost use Rattle.std.specs.Prelude.{◌≡◌, ℕ, true, [], ◌∷◌, None, IfOk, OnOk};
+ghost use Rattle.std.specs.Prelude.{◌≡◌, ◌&&◌, ℕ, true, [], ◌∷◌, None, IfOk, OnOk};
+ghost use Rattle.std.specs.List.{list_any};
 ghost use Rattle.std.specs.FinSet as set;
 ghost use Rattle.cudf_value.specs.Promises.Views.{atom_view, clause_view, formula_view};
 ghost use Rattle.cudf_index.specs.Promises.Members.{other_than};
 ghost use Rattle.cudf_index.specs.Satisfaction.{members, satisfies_atom};
-ghost use Rattle.cudf_referee.specs.Explanations.{needed_by};
-ghost use Rattle.cudf_referee.specs.Working.Needers.{first_beside, first_passing, kept_needer, only_satisfying, some_satisfying, unless_other, with_clauses, with_needer, with_other};
+ghost use Rattle.cudf_problem.specs.Promises.Views.{package_view};
+ghost use Rattle.cudf_referee.specs.Explanations.{is_only, needed_by, needs_place};
+ghost use Rattle.cudf_referee.specs.Working.Needers.{first_beside, first_passing, is_named, kept_needer, only_satisfying, some_satisfying, unless_other, with_clauses, with_needer, with_other, IsCovered};
 
 use crate::referee::held::first_held;
 use cudf_index::Index;
-use cudf_problem::{Problem, Status};
+use cudf_problem::{Package, Problem, Status};
 use cudf_value::{Atom, Clause, Formula};
 use indexmap::IndexMap;
 use std::alloc::{AllocError, Global};
@@ -106,6 +108,36 @@ impl<'i, 'p, 't> Installed<'i, 'p, 't> {
             None => None,
         }
     }
+
+    /// Whether one of the clauses is satisfied by the package at this place alone.
+    #[tactic(auto, using(crate::proofs::NeederLemmas::only_is))]
+    fn is_needed(&self, place: u64, depends: Formula<'_>) -> bool
+        ensures { result ≡ list_any (is_only self.now place) (formula_view depends.entry) }
+    {
+        for clause in depends.clauses() {
+            if is_named(place, self.only_satisfying(clause)) {
+                return true;
+            }
+        }
+        false
+    }
+
+    /// Whether the package at `own` is installed, and needs the one at `place`.
+    fn is_needer(&self, status: &Status, own: u64, package: &Package<'_>, place: u64) -> bool
+        ensures { result ≡ (set.contains status.now own && needs_place self.now place (own, package_view «package».now)) }
+    {
+        status.holds(own) && own != place && self.is_needed(place, package.depends)
+    }
+}
+
+/// Whether the place is the one that was found.
+fn is_named(place: u64, found: Option<u64>) -> bool
+    ensures { result ≡ is_named place found }
+{
+    match found {
+        None => false,
+        Some(found) => found == place,
+    }
 }
 
 /// The first place other than this one, where the first and the first other one are these.
@@ -156,19 +188,22 @@ impl Needers {
         }
     }
 
-    /// Adds what the package at `needer` needs by these clauses.
+    /// Adds what the package at `needer` needs by these clauses, but for those that the partners don't satisfy.
     fn add_clauses(
         &mut self,
         installed: &Installed<'_, '_, '_>,
+        partners: &Index<'_, '_>,
         needer: u64,
         depends: Formula<'_>,
     ) -> Result<(), AllocError>
-        ensures { OnOk result ((place : ℕ) → kept_needer place self.new
+        ensures { OnOk result ((place : ℕ) → IsCovered installed.now partners.now place → kept_needer place self.new
             ≡ with_clauses installed.now needer place (formula_view depends.entry) (kept_needer place self.old)) }
     {
         for clause in depends.clauses() {
-            let needed = installed.only_satisfying(clause);
-            self.add_other(needer, needed)?;
+            if partners.satisfies_clause(&clause) {
+                let needed = installed.only_satisfying(clause);
+                self.add_other(needer, needed)?;
+            }
         }
         Ok(())
     }
@@ -181,23 +216,46 @@ impl Needers {
     }
 }
 
-/// Which package of a status needs which other one.
+/// Which packages of a status need those that are asked about. Clauses that these don't satisfy among them, as most,
+/// are not searched.
 pub(super) fn needers_of(
     alloc: Global,
     problem: &Problem<'_>,
     status: &Status,
     index: &Index<'_, '_>,
+    asked: &Status,
 ) -> Result<Needers, AllocError>
     requires { index.now ≡ members (set.contains status.now) problem.now.packages }
-    ensures { IfOk result (λ needers. (place : ℕ) → kept_needer place needers ≡ needed_by index.now place) }
+    ensures { IfOk result (λ needers. (place : ℕ) → set.contains asked.now place ≡ true → kept_needer place needers ≡ needed_by index.now place) }
 {
     let installed = Installed::new(problem, status, index);
+    let partners = Index::build(alloc, problem, asked)?;
     let mut needers = Needers::new(alloc);
     for (before, package) in problem.packages().iter().enumerate() {
         let place = before as u64 + 1;
         if status.holds(place) {
-            needers.add_clauses(&installed, place, package.depends)?;
+            needers.add_clauses(&installed, &partners, place, package.depends)?;
         }
     }
     Ok(needers)
+}
+
+/// The place of the first package of a status that needs the one at this place: all clauses are searched.
+pub(super) fn search_needer(
+    problem: &Problem<'_>,
+    status: &Status,
+    index: &Index<'_, '_>,
+    place: u64,
+) -> Option<u64>
+    requires { index.now ≡ members (set.contains status.now) problem.now.packages }
+    ensures { result ≡ needed_by index.now place }
+{
+    let installed = Installed::new(problem, status, index);
+    for (before, package) in problem.packages().iter().enumerate() {
+        let own = before as u64 + 1;
+        if installed.is_needer(status, own, package, place) {
+            return Some(own);
+        }
+    }
+    None
 }

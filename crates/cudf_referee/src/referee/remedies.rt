@@ -61,8 +61,9 @@ impl<'p, 't> Remedies<'p, 't> {
     ghost use Rattle.cudf_value.specs.Promises.Views.{atom_view, clause_view, vpkg_view};
     ghost use Rattle.cudf_problem.specs.Promises.Views.{package_view};
     ghost use Rattle.std.specs.List.{enumerate_from};
-    ghost use Rattle.cudf_index.specs.Satisfaction.{first_meeting, first_named, first_satisfying, satisfies_atom};
-    ghost use Rattle.cudf_referee.specs.Explanations.{first_helping, was_installed, would_do};
+    ghost use Rattle.cudf_problem.specs.Statuses.{is_initial};
+    ghost use Rattle.cudf_index.specs.Satisfaction.{first_meeting, first_named, first_satisfying, members, numbers_of, satisfies_atom};
+    ghost use Rattle.cudf_referee.specs.Explanations.{first_helping, greatest_of, was_installed, would_do};
     ghost use Rattle.cudf_referee.specs.Promises.Views.{instance_view};
     ghost use Rattle.cudf_referee.specs.Working.Firsts.{searched};
 
@@ -113,6 +114,14 @@ impl<'p, 't> Remedies<'p, 't> {
         ensures { result ≡ first_named (enumerate_from 1 self.now.packages) name.now }
     {
         self.all.first_named(name)
+    }
+
+    /// The greatest number that the packages that were installed give of the name, as a version or by a versioned
+    /// feature.
+    pub(super) fn greatest_before(&self, name: &str) -> Option<u64>
+        ensures { result ≡ greatest_of (numbers_of name.now (members (is_initial self.now) self.now.packages)) }
+    {
+        self.initial.greatest(name)
     }
 
     /// The place of the first of these packages that would help.
