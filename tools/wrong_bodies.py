@@ -68,8 +68,8 @@ from queue import PriorityQueue
 sys.dont_write_bytecode = True
 ROOT = Path(__file__).resolve().parent.parent
 FOLDER = "wrong-bodies"
-# of one check: more make it longer than others that run beside it
-MOST_TOGETHER = 24
+# of one check: with more, the last crate's check goes on while other processors wait
+MOST_TOGETHER = 6
 # bytes that one check may take, and that a process holds which is one
 MEMORY = 4_000_000_000
 LARGE = 200_000_000

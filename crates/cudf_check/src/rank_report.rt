@@ -16,7 +16,7 @@ use crate::ranking::{best_outcome, ranked as in_order};
 use crate::readings::problem_in;
 use crate::report::{Document, answer_unread};
 use crate::setting::Setting;
-use cudf_document::ReadError;
+use cudf_document::{NameRoom, ReadError};
 use cudf_referee::Aim;
 use cudf_text::Room;
 use std::alloc::Global;
@@ -68,7 +68,8 @@ pub(crate) fn answer_ranking<S: Source, W: Sink>(
         explain: false,
     };
     let mut room = Room::new(alloc);
-    let problem = match problem_in(setting, problem.bytes, &mut room) {
+    let mut names = NameRoom::new(alloc);
+    let problem = match problem_in(setting, problem.bytes, &mut room, &mut names) {
         Ok(problem) => problem,
         Err(error) => return answer_unread(alloc, out, unexplained, error),
     };

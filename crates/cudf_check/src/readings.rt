@@ -8,7 +8,7 @@ ghost use Rattle.cudf_check.specs.Report.{problem_fault, solution_fault};
 ghost use Rattle.cudf_check.specs.Working.Unjudged.{IsFaultOf, IsUnjudged};
 
 use crate::setting::Setting;
-use cudf_document::{Problem, Proposed, ReadError, first_fault, problem_of, proposed_of};
+use cudf_document::{NameRoom, Problem, Proposed, ReadError, first_fault, problem_of, proposed_of};
 use cudf_text::{Room, Stanzas, is_fail, source_of, stanzas};
 
 /// Why what a solution puts forward isn't judged.
@@ -37,11 +37,12 @@ pub(crate) fn sound_in(setting: Setting, bytes: &[u8]) -> Result<(), ReadError>
     }
 }
 
-/// The problem. All of it is kept.
+/// The problem. All of it is kept, and the names of its packages are copied.
 pub(crate) fn problem_in<'t>(
     setting: Setting,
     bytes: &'t [u8],
     room: &'t mut Room,
+    names: &'t mut NameRoom,
 ) -> Result<Problem<'t>, ReadError>
     ensures sound { IfOk result (λ _. problem_fault setting.mode bytes.now ≡ None) }
     ensures problem { IfOk result (λ p. p ≡ plain_problem (plain_text bytes.now)) }
@@ -49,7 +50,7 @@ pub(crate) fn problem_in<'t>(
 {
     let Setting { alloc, mode } = setting;
     match stanzas(alloc, bytes, room) {
-        Ok(stanzas) => problem_of(alloc, stanzas, mode),
+        Ok(stanzas) => problem_of(alloc, stanzas, names, mode),
         Err(fault) => Err(ReadError::Fault(fault)),
     }
 }

@@ -20,7 +20,7 @@ use crate::naming::{Given, Origin, Origins, file_behind, own_file};
 use crate::outcome::{Outcome, RunError};
 use crate::readings::{Unjudged, problem_in, proposed_in, sound_in};
 use crate::setting::Setting;
-use cudf_document::{Detail, ReadError, detail, solution_of};
+use cudf_document::{Detail, NameRoom, ReadError, detail, solution_of};
 use cudf_job::Job;
 use cudf_text::{Fault, Room, cut_joined};
 use std::alloc::{AllocError, Global};
@@ -117,8 +117,9 @@ fn check<W: Sink>(
         explain,
     };
     let mut problem_room = Room::new(alloc);
+    let mut names = NameRoom::new(alloc);
     let mut solution_room = Room::new(alloc);
-    let judged = match problem_in(setting, problem.bytes, &mut problem_room) {
+    let judged = match problem_in(setting, problem.bytes, &mut problem_room, &mut names) {
         Ok(judged) => judged,
         Err(error) => return answer_unread(alloc, out, problem, error),
     };
@@ -153,7 +154,8 @@ fn print_cnf<W: Sink>(setting: Setting, out: &mut W, bytes: &[u8]) -> Result<Out
 {
     let alloc = setting.alloc;
     let mut room = Room::new(alloc);
-    match problem_in(setting, bytes, &mut room) {
+    let mut names = NameRoom::new(alloc);
+    match problem_in(setting, bytes, &mut room, &mut names) {
         Ok(problem) => answer_cnf(alloc, out, &problem),
         Err(error) => answer_unread(alloc, out, problem_document(unnamed(bytes), false), error),
     }
@@ -171,7 +173,8 @@ fn refute<W: Sink>(
 {
     let alloc = setting.alloc;
     let mut room = Room::new(alloc);
-    match problem_in(setting, bytes, &mut room) {
+    let mut names = NameRoom::new(alloc);
+    match problem_in(setting, bytes, &mut room, &mut names) {
         Ok(problem) => answer_proof(alloc, out, &problem, proof, explain),
         Err(error) => answer_unread(alloc, out, problem_document(unnamed(bytes), explain), error),
     }

@@ -21,6 +21,7 @@ pub use details::of_fault::detail;
 pub use details::{Detail, Format};
 pub use error::ReadError;
 pub use problem::held::read_problem;
+pub use problem::name_room::NameRoom;
 pub use problem::reading::{first_fault, problem_of};
 pub use proposed::Proposed;
 pub use proposed::reader::proposed_of;

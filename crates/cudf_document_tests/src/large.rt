@@ -1,7 +1,7 @@
 //! Values, lists and documents at the sizes at which a reader may take another way, and far beyond them: each is read,
 //! and memory is missed in none.
 use cudf_document::{
-    Mode, Problem, Proposed, ReadError, Solution, first_fault, problem_of, proposed_of,
+    Mode, NameRoom, Problem, Proposed, ReadError, Solution, first_fault, problem_of, proposed_of,
     read_problem, read_solution, solution_of,
 };
 use cudf_text::{Room, Text, is_fail, read, stanzas};
@@ -232,8 +232,9 @@ fn is_sound(alloc: Global, problem: &[u8]) -> bool {
 
 fn all_is_read(alloc: Global, problem: &[u8], solution: &[u8], count: u64) -> bool {
     let mut room = Room::new(alloc);
+    let mut names = NameRoom::new(alloc);
     match stanzas(alloc, problem, &mut room) {
-        Ok(stanzas) => match problem_of(alloc, stanzas, Mode::Lenient) {
+        Ok(stanzas) => match problem_of(alloc, stanzas, &mut names, Mode::Lenient) {
             Ok(problem) => is_proposed(alloc, &problem, solution, count),
             Err(_) => false,
         },

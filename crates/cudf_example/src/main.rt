@@ -5,7 +5,7 @@
 mod error;
 mod judging;
 
-use cudf_document::{Mode, problem_of};
+use cudf_document::{Mode, NameRoom, problem_of};
 use cudf_referee::{Aim, Key, read_criterion};
 use cudf_text::{Room, stanzas};
 use error::ExampleError;
@@ -84,7 +84,9 @@ fn main(rt: HostRuntime) -> ExitCode {
 /// Prints what is wrong with the bare answer, all of it and behind its first line, and which of the others is better.
 fn show<W: Write>(alloc: Global, out: &mut W) -> Result<(), ExampleError> {
     let mut room = Room::new(alloc);
-    let problem = problem_of(alloc, stanzas(alloc, PROBLEM, &mut room)?, Mode::Lenient)?;
+    let mut names = NameRoom::new(alloc);
+    let stanzas = stanzas(alloc, PROBLEM, &mut room)?;
+    let problem = problem_of(alloc, stanzas, &mut names, Mode::Lenient)?;
     print_violations(alloc, &problem, BARE, None, out)?;
     print_violations(alloc, &problem, BARE, Key::parse("p5.depends.1"), out)?;
     let aims = aims_of(alloc, "-changed,-removed")?;

@@ -1,5 +1,5 @@
 -- The ends of lists of numbers.
-use Rattle.std.proofs.Common.{◌≡◌, ℕ, suc, ◌≤◌, Bool, true, false, min, max, List, [], ◌∷◌, length, nat_lt, Option, Some, None, refl, sym, ap, subst, arith}
+use Rattle.std.proofs.Common.{◌≡◌, ℕ, suc, ◌≤◌, Bool, true, false, min, max, List, [], ◌∷◌, length, nat_lt, Option, Some, None, refl, ap, subst, arith}
 use Rattle.std.specs.Prelude.{IsNone, All, Contains, ◌↔◌}
 use Rattle.std.specs.Option.{option_map_or}
 use Rattle.std.proofs.lemmas.Bool.{true≢false, ltb-true, ltb-false}

@@ -13,7 +13,7 @@ use Rattle.cudf_index.specs.Satisfaction.{Placed, members, satisfies_atom, witho
 use Rattle.cudf_index.proofs.MemberLemmas.{members_kept, members_left_out}
 use Rattle.cudf_index.proofs.SearchLemmas.{list_any-filter, none_narrowed}
 use Rattle.cudf_referee.specs.Explanations.{is_only, needs_place, satisfies_alone}
-use Rattle.cudf_referee.specs.Working.Needers.{first_beside, first_passing, holds_other, is_named, only_satisfying, some_satisfying, unless_other, with_clauses, with_needer, with_other}
+use Rattle.cudf_referee.specs.Working.Needers.{first_beside, first_passing, holds_other, is_named, only_satisfying, some_satisfying, unless_other, with_clauses, with_other}
 
 -- ---- tests
 

@@ -6,7 +6,7 @@ use Rattle.cudf_value.specs.Formulas.{PlainAtom}
 use Rattle.cudf_problem.specs.Universe.{PlainPackage}
 use Rattle.cudf_index.specs.Satisfaction.{Placed, members, satisfies_clause, without}
 use Rattle.cudf_index.proofs.SearchLemmas.{list_any-filter}
-use Rattle.cudf_referee.specs.Explanations.{is_only, satisfies_alone}
+use Rattle.cudf_referee.specs.Explanations.{satisfies_alone}
 use Rattle.cudf_referee.specs.Working.Needers.{IsCovered}
 use Rattle.cudf_referee.proofs.MissedLemmas.{always}
 use Rattle.cudf_referee.proofs.NeederLemmas.{and_both, and_left, and_right, any_more, is_place}

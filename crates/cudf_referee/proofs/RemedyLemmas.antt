@@ -9,15 +9,14 @@ use Rattle.std.proofs.lemmas.List.Folds.{list_any-append}
 use Rattle.cudf_value.specs.declared.atom.Atom.{Atom}
 use Rattle.cudf_value.specs.Promises.Views.{atom_view}
 use Rattle.cudf_value.specs.Formulas.{PlainAtom, truth_atom, falsehood_atom, named}
-use Rattle.cudf_value.specs.Vpkgs.{PlainVpkg}
 use Rattle.cudf_problem.proofs.ListLemmas.{is_some-find, option_map-none}
 use Rattle.cudf_problem.specs.Statuses.{is_initial}
 use Rattle.cudf_problem.specs.Universe.{PlainPackage, PlainProblem}
-use Rattle.cudf_index.specs.Satisfaction.{Placed, first_meeting, first_satisfying, meets_alone, members, satisfies, satisfies_atom, satisfies_clause}
+use Rattle.cudf_index.specs.Satisfaction.{Placed, first_satisfying, meets_alone, members, satisfies, satisfies_atom, satisfies_clause}
 use Rattle.cudf_index.proofs.SatisfactionLemmas.{member_alone}
 use Rattle.cudf_index.proofs.SearchLemmas.{list_any-filter}
-use Rattle.cudf_referee.specs.Explanations.{first_helping, was_installed, would_do}
-use Rattle.cudf_referee.specs.Instances.{PlainWhat, needs, conflicts_with, keep_version, keep_package, keep_feature, install, remove, upgrade, unknown, PlainInstance}
+use Rattle.cudf_referee.specs.Explanations.{first_helping}
+use Rattle.cudf_referee.specs.Instances.{PlainWhat, needs, conflicts_with, keep_version, keep_package, keep_feature, install, remove, upgrade, unknown}
 use Rattle.cudf_referee.specs.Promises.Laws.{NothingDoes, satisfies_what, WasInstalled, WouldDo}
 use Rattle.cudf_referee.specs.Working.Firsts.{lesser_of, searched}
 use Rattle.cudf_referee.specs.declared.referee.remedies.Among.{Among}

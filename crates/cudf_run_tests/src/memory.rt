@@ -4,7 +4,7 @@ use cudf_check::{Device, Job, RunError, run};
 use cudf_referee::{Explainer, Key, Referee, read_criterion};
 use cudf_text::{Fault, Room, TextError, cut_joined, is_fail, read, stanzas};
 use cudf_universe::{
-    Index, Mode, Problem, ReadError, first_fault, initial, problem_of, proposed_of, read_problem,
+    Index, Mode, NameRoom, Problem, ReadError, first_fault, initial, problem_of, proposed_of, read_problem,
     read_solution, solution_of,
 };
 use cudf_value::{ValueType, fits, read_declarations, read_posint, read_vpkg};
@@ -101,9 +101,11 @@ fn reads_stanzas(alloc: Global) -> Result<bool, Ended> {
     let mut room = Room::new(alloc);
     let fault = first_fault(alloc, stanzas(alloc, PROBLEM, &mut room)?, Mode::Lenient)?;
     let mut room_of_problem = Room::new(alloc);
+    let mut names = NameRoom::new(alloc);
     let problem = problem_of(
         alloc,
         stanzas(alloc, PROBLEM, &mut room_of_problem)?,
+        &mut names,
         Mode::Lenient,
     )?;
     let mut room_of_solution = Room::new(alloc);

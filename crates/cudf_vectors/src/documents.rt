@@ -2,7 +2,7 @@
 use crate::shown::{agreed, push_clauses, push_list, push_vpkgs};
 use crate::texts::shown_fault;
 use cudf_document::{
-    Keep, Mode, Package, Problem, ReadError, Request, Solution, Status, Unknown, first_fault,
+    Keep, Mode, NameRoom, Package, Problem, ReadError, Request, Solution, Status, Unknown, first_fault,
     problem_of, proposed_of, read_problem, read_solution, solution_of,
 };
 use cudf_text::{Fault, Room, TextError, cut_joined, is_fail, read, stanzas};
@@ -138,8 +138,9 @@ pub(crate) fn problem(alloc: Global, bytes: &[u8]) -> Result<String, AllocError>
 
 fn walked_problem(alloc: Global, bytes: &[u8]) -> Result<String, AllocError> {
     let mut room = Room::new(alloc);
+    let mut names = NameRoom::new(alloc);
     match stanzas(alloc, bytes, &mut room) {
-        Ok(stanzas) => shown_problem(alloc, problem_of(alloc, stanzas, Mode::Lenient)),
+        Ok(stanzas) => shown_problem(alloc, problem_of(alloc, stanzas, &mut names, Mode::Lenient)),
         Err(fault) => shown_fault(alloc, fault),
     }
 }
@@ -207,8 +208,9 @@ pub(crate) fn solution(
     mode: Mode,
 ) -> Result<String, AllocError> {
     let mut room = Room::new(alloc);
+    let mut names = NameRoom::new(alloc);
     match stanzas(alloc, problem, &mut room) {
-        Ok(stanzas) => match problem_of(alloc, stanzas, Mode::Lenient) {
+        Ok(stanzas) => match problem_of(alloc, stanzas, &mut names, Mode::Lenient) {
             Ok(problem) => proposed(alloc, bytes, &problem, mode),
             Err(_) => String::from_str(alloc, "no problem"),
         },

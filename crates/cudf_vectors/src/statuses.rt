@@ -1,7 +1,7 @@
 //! Calls about what the last problem's initial status gives and satisfies.
 use crate::documents::shown_status;
 use crate::shown::yes_if;
-use cudf_document::{Mode, Problem, initial, problem_of};
+use cudf_document::{Mode, NameRoom, Problem, initial, problem_of};
 use cudf_text::{Room, stanzas};
 use cudf_universe::Index;
 use cudf_value::{read_formula, read_vpkg};
@@ -15,8 +15,9 @@ pub(crate) fn answer(
     problem: &[u8],
 ) -> Result<String, AllocError> {
     let mut room = Room::new(alloc);
+    let mut names = NameRoom::new(alloc);
     match stanzas(alloc, problem, &mut room) {
-        Ok(stanzas) => match problem_of(alloc, stanzas, Mode::Lenient) {
+        Ok(stanzas) => match problem_of(alloc, stanzas, &mut names, Mode::Lenient) {
             Ok(problem) => answer_in(alloc, call, text, &problem),
             Err(_) => String::from_str(alloc, "no problem"),
         },

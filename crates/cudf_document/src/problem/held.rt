@@ -50,7 +50,7 @@ fn walk_held<'t, 'a>(
         IsWhole mode (λ ss. AreParts true ss r.1) r.0 (text_view text.now)) }
 {
     let mut walk: Walk<'t> = Walk::new(alloc);
-    let mut parts: Parts<'t> = Parts::new(alloc, true);
+    let mut parts: Parts<'t> = Parts::new(alloc, true, None);
     let mut lent = StanzaRef {
         line: 0,
         last: 0,

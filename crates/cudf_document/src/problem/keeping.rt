@@ -1,11 +1,12 @@
 //! What is kept of a problem on the walk: its request and, unless it is only judged, its packages.
-ghost use Rattle.std.specs.Prelude.{◌≡◌, ◌++◌, map, option_map, option_to_list, OnOk};
+ghost use Rattle.std.specs.Prelude.{◌≡◌, ◌++◌, map, option_map, option_to_list, IfOk, OnOk};
 ghost use Rattle.cudf_problem.specs.Promises.Views.{package_view};
 
 use crate::declarations::Declarations;
 use crate::names::SeenNames;
 use crate::package::identity::Identity;
 use crate::package::reading::read_properties;
+use crate::problem::name_room::Names;
 use crate::problem::walk::Walk;
 use crate::request::lists::read_request;
 use cudf_problem::{Package, Problem, Request};
@@ -17,6 +18,8 @@ use std::alloc::{AllocError, Global};
 pub(crate) struct Parts<'a> {
     /// Whether packages are kept.
     pub(crate) keeps: bool,
+    /// Where the names of these are copied to, if they are.
+    pub(crate) names: Option<Names<'a>>,
     pub(crate) packages: Vec<Package<'a>>,
     pub(crate) request: Option<Request<'a>>,
 }
@@ -38,11 +41,12 @@ impl<'a> Parts<'a> {
     ghost use Rattle.cudf_document.specs.Working.SeenNames.{AreNames};
 
     /// Before the first stanza.
-    pub(crate) fn new(alloc: Global, keeps: bool) -> Self
+    pub(crate) fn new(alloc: Global, keeps: bool, names: Option<Names<'a>>) -> Self
         ensures { AreParts keeps [] result }
     {
         Parts {
             keeps,
+            names,
             packages: Vec::new(alloc),
             request: None,
         }
@@ -72,13 +76,13 @@ impl<'a> Parts<'a> {
     {
         let (fault, fields) = read_properties(alloc, names, declarations, identity, stanza)?;
         let read = fields.into_package(stanza.line, identity);
-        self.keep_package(read)?;
+        self.keep_package(alloc, read)?;
         Ok(fault)
     }
 
     /// Keeps the package, if there is one and packages are kept.
     #[inline(always)]
-    fn keep_package(&mut self, read: Option<Package<'a>>) -> Result<(), AllocError>
+    fn keep_package(&mut self, alloc: Global, read: Option<Package<'a>>) -> Result<(), AllocError>
         ensures packages { self.old.keeps ≡ true →
             OnOk result (map package_view self.new.packages.items
             ≡ map package_view self.old.packages.items ++ option_to_list (option_map package_view read.entry)) }
@@ -86,6 +90,7 @@ impl<'a> Parts<'a> {
         ensures keeps { OnOk result (self.new.keeps ≡ self.old.keeps) }
     {
         if self.keeps {
+            let read = named(alloc, &mut self.names, read)?;
             push_some(&mut self.packages, read)
         } else {
             Ok(())
@@ -141,6 +146,24 @@ impl<'a> Parts<'a> {
     {
         let recommends = walk.declarations.recommends_default();
         Problem::new(self.packages, self.request.unwrap(), recommends, walk.ids)
+    }
+}
+
+/// The package, if there is one, with a copy of its name, where names are copied.
+#[inline(always)]
+fn named<'t>(
+    alloc: Global,
+    names: &mut Option<Names<'t>>,
+    read: Option<Package<'t>>,
+) -> Result<Option<Package<'t>>, AllocError>
+    ensures { IfOk result (λ p. option_map package_view p ≡ option_map package_view read.entry) }
+{
+    match (names, read) {
+        (Some(names), Some(package)) => Ok(Some(Package {
+            name: names.copy(alloc, package.name)?,
+            ..package
+        })),
+        (_, read) => Ok(read),
     }
 }
 

@@ -6,6 +6,7 @@ ghost use Rattle.cudf_document.specs.ProblemFaults.{problem_faults};
 ghost use Rattle.cudf_problem.specs.Universe.{plain_problem};
 
 use crate::error::ReadError;
+use crate::problem::name_room::{NameRoom, Names};
 use crate::problem::walk::walk_all;
 use cudf_problem::{Mode, Problem};
 use cudf_text::{Fault, Stanzas};
@@ -24,11 +25,12 @@ pub fn first_fault(
 ) -> Result<Option<Fault>, AllocError>
     ensures { IfOk result (λ fault. fault ≡ least (problem_faults stanzas.entry mode)) }
 {
-    let (walk, _parts) = walk_all(alloc, stanzas, false, mode)?;
+    let (walk, _parts) = walk_all(alloc, stanzas, false, None, mode)?;
     Ok(walk.first)
 }
 
-/// Reads a problem (CUDF 2.0, syntax of documents) stanza by stanza: no text is held.
+/// Reads a problem (CUDF 2.0, syntax of documents) stanza by stanza: no text is held. The names of its packages are copied
+/// to `names`.
 ///
 /// # Errors
 ///
@@ -37,6 +39,7 @@ pub fn first_fault(
 pub fn problem_of<'t>(
     alloc: Global,
     stanzas: Stanzas<'t>,
+    names: &'t mut NameRoom,
     mode: Mode,
 ) -> Result<Problem<'t>, ReadError>
     // The problem has no fault,
@@ -46,7 +49,7 @@ pub fn problem_of<'t>(
     // The fault is the first of its faults.
     ensures fault { IfErr result (IsFirstFault (problem_faults stanzas.entry mode)) }
 {
-    let (walk, parts) = walk_all(alloc, stanzas, true, mode)?;
+    let (walk, parts) = walk_all(alloc, stanzas, true, Some(Names::new(names)), mode)?;
     if let Some(fault) = walk.first {
         return Err(ReadError::Fault(fault));
     }

@@ -22,21 +22,23 @@ use crate::names::SeenNames;
 use crate::package::identity::Identity;
 use crate::postmark::{is_preamble, postmark_of};
 use crate::problem::keeping::Parts;
+use crate::problem::name_room::Names;
 use cudf_problem::{Ids, Mode, Postmark};
 use cudf_text::{Fault, Kind, Next, StanzaRef, Stanzas};
 use std::alloc::{AllocError, Global};
 
-/// Walks over all stanzas, and keeps the packages if it is told to.
+/// Walks over all stanzas, and keeps the packages if it is told to, with copies of their names where there is room.
 pub(crate) fn walk_all<'t>(
     alloc: Global,
     stanzas: Stanzas<'t>,
     keeps: bool,
+    names: Option<Names<'t>>,
     mode: Mode,
 ) -> Result<(Walk<'t>, Parts<'t>), AllocError>
     ensures { IfOk result (λ w. IsWhole mode (λ ss. AreParts keeps ss w.1) w.0 stanzas.entry) }
 {
     let mut stanzas = stanzas;
-    let mut kept = Parts::new(alloc, keeps);
+    let mut kept = Parts::new(alloc, keeps, names);
     let mut walk: Walk<'t> = Walk::new(alloc);
     let mut required: Vec<&'t str> = Vec::new(alloc);
     let mut is_first = true;
