@@ -2,7 +2,7 @@
 use Rattle.std.proofs.Common.{◌≡◌, ℕ, ◌+◌, ◌<◌, zero, suc, Bool, true, false, not, cond, ◌||◌, List, [], ◌∷◌, ◌++◌, length, get_or, take, map, Option, Some, None, refl, sym, ap, ◌∙◌, arith, bytes_eq}
 use Rattle.std.specs.Prelude.{filter, filter_map, option_map, slice_get, option_to_list, if◌then◌else◌}
 use Rattle.std.specs.Option.{is_none}
-use Rattle.std.specs.List.{count_by, cons_option, enumerate_from}
+use Rattle.std.specs.List.{count_by, cons_option}
 use Rattle.std.specs.Global.{Vec}
 use Rattle.std.proofs.Math.Bool.{or-false, or-true}
 use Rattle.std.proofs.lemmas.List.{map-append, flat_map_more}
@@ -16,7 +16,7 @@ use Rattle.cudf_problem.specs.Universe.{PlainPackage}
 use Rattle.cudf_index.specs.Satisfaction.{Placed, members, entry_pair, unversioned_name, package_pairs, gives, gives_all_versions, numbers_of}
 use Rattle.cudf_problem.specs.Ids.{Id}
 use Rattle.cudf_index.specs.Working.Gathering.{provisions_of, own_entry, given_by, given_of, Completes, CompletesAt}
-use Rattle.cudf_index.proofs.MemberLemmas.{enumerate-more, members_kept, members_left_out}
+use Rattle.cudf_index.proofs.MemberLemmas.{members_kept, members_left_out}
 use Rattle.cudf_index.proofs.CountLemmas.{count-cons, count-append}
 
 -- ---- rows that are completed in turn
@@ -85,13 +85,6 @@ module _ {A : Type 0} (view : A → PlainPackage) (f : List ℕ) (holds : ℕ �
 
   pub given_left_out : (done : List Provision) → holds (i + 1) ≡ false → done ≡ given_of f (members holds (map view (take i xs))) → done ≡ given_of f (members holds (map view (take (i + 1) xs)))
   given_left_out done e before = before ∙ ap (given_of f) (sym (members_left_out view holds xs i d inside e))
-
--- the same, of a universe
-pub given_more : {A : Type 0} (view : A → PlainPackage) (f : List ℕ) (xs : List A) (i : ℕ) (d : A) → i < length xs → (done now : List Provision)
-    → done ≡ given_of f (enumerate_from 1 (map view (take i xs))) → now ≡ done ++ given_by f (i + 1, view (get_or xs i d)) → now ≡ given_of f (enumerate_from 1 (map view (take (i + 1) xs)))
-given_more view f xs i d inside done now before more =
-    more ∙ ap (λ ps. ps ++ given_by f (i + 1, view (get_or xs i d))) before
-    ∙ flat_map_more (given_by f) [] (enumerate_from 1 (map view (take i xs))) (i + 1, view (get_or xs i d)) ∙ ap (given_of f) (sym (enumerate-more view xs i d inside))
 
 -- ---- what is gathered is what the status gives
 

@@ -6,7 +6,7 @@ ghost use Rattle.cudf_value.specs.Promises.Views.{atom_view, clause_view, vpkg_v
 ghost use Rattle.cudf_problem.specs.Documents.{is_empty};
 ghost use Rattle.cudf_value.specs.Vpkgs.{meets};
 ghost use Rattle.cudf_index.specs.Promises.Prices.{digits, search_cost, atom_cost, atom_lookups, clause_cost, clause_lookups, own_cost};
-ghost use Rattle.cudf_index.specs.Satisfaction.{members, satisfies, satisfies_atom, satisfies_clause, without, first_meeting, numbers_of, gives_all_versions};
+ghost use Rattle.cudf_index.specs.Satisfaction.{members, satisfies, satisfies_atom, satisfies_clause, without, first_meeting, first_named, numbers_of, gives_all_versions};
 ghost use Rattle.cudf_index.specs.Promises.Members.{IsLeast, IsGreatest, other_than};
 ghost use Rattle.cudf_index.specs.Working.Gathering.{row_of, given_of, AreFilled};
 ghost use Rattle.cudf_index.specs.Working.Kept.{Keeps};
@@ -139,6 +139,14 @@ impl<'p, 't> Index<'p, 't> {
         ensures { result ≡ first_meeting (other_than except self.now) (vpkg_view vpkg.now) }
     {
         self.given.first_meeting(vpkg, except)
+    }
+
+    /// The least place of the status, from 1, whose package has this name; features don't count (own). `None` where
+    /// there is no such place.
+    pub fn first_named(&self, name: &str) -> Option<u64>
+        ensures { result ≡ first_named self.now name.now }
+    {
+        self.given.first_named(name)
     }
 
     /// The least number that the status gives of the name, as a version or by a versioned

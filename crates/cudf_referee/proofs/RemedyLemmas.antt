@@ -1,5 +1,5 @@
 -- The first package that would help, atom by atom, and what its status satisfies.
-use Rattle.std.proofs.Common.{◌≡◌, ℕ, zero, suc, ◌+◌, ◌==◌, ◌<◌, ◌≤◌, Bool, true, false, ◌&&◌, ◌||◌, cond, min, List, [], ◌∷◌, ◌++◌, length, take, map, Option, Some, None, refl, sym, ap, ◌∙◌, subst, arith, ne_eqb}
+use Rattle.std.proofs.Common.{◌≡◌, ℕ, zero, suc, ◌+◌, ◌==◌, ◌<◌, ◌≤◌, Bool, true, false, not, ◌&&◌, ◌||◌, cond, min, List, [], ◌∷◌, ◌++◌, length, take, map, Option, Some, None, refl, sym, ap, ◌∙◌, subst, arith, ne_eqb}
 use Rattle.std.specs.Prelude.{filter, find, is_some, option_map, IfSome}
 use Rattle.std.specs.List.{list_any, enumerate_from}
 use Rattle.std.proofs.lemmas.Bool.{true≢false}
@@ -12,9 +12,10 @@ use Rattle.cudf_value.specs.Formulas.{PlainAtom, truth_atom, falsehood_atom, nam
 use Rattle.cudf_problem.proofs.ListLemmas.{is_some-find, option_map-none}
 use Rattle.cudf_problem.specs.Statuses.{is_initial}
 use Rattle.cudf_problem.specs.Universe.{PlainPackage, PlainProblem}
+use Rattle.cudf_index.specs.Promises.Members.{outside}
 use Rattle.cudf_index.specs.Satisfaction.{Placed, first_satisfying, meets_alone, members, satisfies, satisfies_atom, satisfies_clause}
 use Rattle.cudf_index.proofs.SatisfactionLemmas.{member_alone}
-use Rattle.cudf_index.proofs.SearchLemmas.{list_any-filter}
+use Rattle.cudf_index.proofs.SearchLemmas.{find-filter, list_any-filter}
 use Rattle.cudf_referee.specs.Explanations.{first_helping}
 use Rattle.cudf_referee.specs.Instances.{PlainWhat, needs, conflicts_with, keep_version, keep_package, keep_feature, install, remove, upgrade, unknown}
 use Rattle.cudf_referee.specs.Promises.Laws.{NothingDoes, satisfies_what, WasInstalled, WouldDo}
@@ -131,6 +132,45 @@ atoms_push items atom problem among first here new before is more =
     more ∙ (λ k. lesser_of (before k) (is k))
     ∙ sym (atom_more 1 (searched problem among) (searched_ascend problem among) (map atom_view items) (atom_view atom))
     ∙ ap (first_satisfying (searched problem among)) (sym (map_push atom_view items atom))
+
+-- ---- packages in two parts
+
+-- the first of all is the first of those that are held, or of the others
+first_of_parts : (holds : ℕ → Bool) (test : Placed → Bool) (packages : List PlainPackage)
+    → lesser_of (first_of test (members holds packages)) (first_of test (outside holds packages)) ≡ first_of test (enumerate_from 1 packages)
+first_of_parts holds test packages =
+    let all = enumerate_from 1 packages in
+    (λ i. lesser_of (among_held i) (among_others i))
+    ∙ sym (first-or held others 1 all (all_ascend 1 packages))
+    ∙ (λ i. first_of (λ p. either p i) all)
+  where
+    held : Placed → Bool
+    held p = holds p.0 && test p
+
+    others : Placed → Bool
+    others p = not (holds p.0) && test p
+
+    among_held : first_of test (members holds packages) ≡ first_of held (enumerate_from 1 packages)
+    among_held = ap (option_map (λ (p : Placed). p.0)) (find-filter test (λ p. holds p.0) (enumerate_from 1 packages))
+
+    among_others : first_of test (outside holds packages) ≡ first_of others (enumerate_from 1 packages)
+    among_others = ap (option_map (λ (p : Placed). p.0)) (find-filter test (λ p. not (holds p.0)) (enumerate_from 1 packages))
+
+    by : (b c : Bool) → ((b && c) || (not b && c)) ≡ c
+    by true true = refl
+    by true false = refl
+    by false c = refl
+
+    either : (p : Placed) → (held p || others p) ≡ test p
+    either p = by (holds p.0) (test p)
+
+-- the same of what was installed and what was not
+pub first_of_both : (problem now : PlainProblem) (test : Placed → Bool) (initial others : List Placed) → others ≡ outside (is_initial problem) problem.packages
+    → initial ≡ members (is_initial problem) problem.packages → problem ≡ now → lesser_of (first_of test initial) (first_of test others) ≡ first_of test (enumerate_from 1 now.packages)
+first_of_both problem now test initial others outside_is initial_is view =
+    (λ i. lesser_of (first_of test (initial_is i)) (first_of test (outside_is i)))
+    ∙ first_of_parts (is_initial problem) test problem.packages
+    ∙ ap (λ p. first_of test (enumerate_from 1 p.packages)) view
 
 -- nothing passes `false!`
 pub none_pass : (status : List Placed) → None ≡ first_of (λ p. false) status

@@ -1,45 +1,49 @@
-//! What the packages of a universe give.
+//! What the packages that a status doesn't hold give.
 ghost use Rattle.std.specs.Prelude.{◌≡◌, ℕ, List, IfOk};
-ghost use Rattle.std.specs.List.{enumerate_from};
+ghost use Rattle.std.specs.FinSet as set;
 ghost use Rattle.cudf_value.specs.Promises.Views.{vpkg_view};
+ghost use Rattle.cudf_index.specs.Promises.Members.{outside};
 ghost use Rattle.cudf_index.specs.Satisfaction.{first_meeting, first_named};
 ghost use Rattle.cudf_index.specs.Working.Gathering.{row_of, given_of};
 
 use crate::index::gathered_names::GatheredNames;
 use crate::index::member::Member;
 use crate::index::named_trees::NamedTrees;
-use cudf_problem::Problem;
+use cudf_problem::{Problem, Status};
 use cudf_value::Vpkg;
 use std::alloc::{AllocError, Global};
 use std::fmt;
 use std::marker::Model;
 
-/// The packages of a universe, installed or not, to be asked which of them comes first that gives a name. Places are
-/// from 1, and the bounds of vpkgs are taken to be at least 1, as readers give them (CUDF 2.0, installations and
-/// features). It holds less than an [`Index`](crate::Index) of them would, which tells more.
+/// The packages of a universe that a status doesn't hold, to be asked which of them comes first that gives a name.
+/// Places are from 1, and the bounds of vpkgs are taken to be at least 1, as readers give them (CUDF 2.0, installations
+/// and features). It holds less than an [`Index`](crate::Index) of them would, which tells more.
 ///
 /// Contracts see each package beside its place in the universe, in the order of the places.
 #[derive(Drop)]
 pub struct Providers<'p, 't> {
     problem: &'p Problem<'t>,
+    /// The status whose packages aren't among them.
+    without: Status,
     given: NamedTrees<'t>,
 }
 
 impl<'p, 't> Model for Providers<'p, 't> {
     ghost use Rattle.std.specs.Prelude.{◌≡◌, List, ℕ};
-    ghost use Rattle.std.specs.List.{enumerate_from};
+    ghost use Rattle.std.specs.FinSet as set;
+    ghost use Rattle.cudf_index.specs.Promises.Members.{outside};
     ghost use Rattle.cudf_index.specs.Satisfaction.{Placed};
     ghost use Rattle.cudf_index.specs.Working.Gathering.{given_of};
     ghost use Rattle.cudf_index.specs.Working.NamedTrees.{tree_of};
 
     ghost Value = { List Placed };
 
-    ghost view = { λ p. enumerate_from 1 p.problem.now.packages };
+    ghost view = { λ p. outside (set.contains p.without) p.problem.now.packages };
 
-    ghost invariant = { λ p. (name : List ℕ) → tree_of name p.given ≡ given_of name (enumerate_from 1 p.problem.now.packages) };
+    ghost invariant = { λ p. (name : List ℕ) → tree_of name p.given ≡ given_of name (outside (set.contains p.without) p.problem.now.packages) };
 }
 
-/// The name alone: all that it holds follows from the problem.
+/// The name alone: all that it holds follows from the problem and the status.
 impl fmt::Debug for Providers<'_, '_> {
     fn fmt<W: fmt::Write>(&self, f: &mut fmt::Formatter<W>) -> fmt::Result {
         f.debug_struct("Providers").finish_non_exhaustive()
@@ -47,28 +51,36 @@ impl fmt::Debug for Providers<'_, '_> {
 }
 
 impl<'p, 't> Providers<'p, 't> {
-    /// Those of the universe of this problem.
+    /// Those of the universe of this problem that this status doesn't hold.
     ///
     /// # Errors
     ///
     /// `AllocError` where memory for them is refused.
-    pub fn build(alloc: Global, problem: &'p Problem<'t>) -> Result<Self, AllocError>
-        ensures { IfOk result (λ providers. providers ≡ enumerate_from 1 problem.now.packages) }
+    pub fn build(
+        alloc: Global,
+        problem: &'p Problem<'t>,
+        without: Status,
+    ) -> Result<Self, AllocError>
+        ensures { IfOk result (λ providers. providers ≡ outside (set.contains without) problem.now.packages) }
     {
-        let gathered = gathered(alloc, problem)?;
+        let gathered = gathered(alloc, problem, &without)?;
         let given = NamedTrees::of(alloc, gathered)?;
-        Ok(Providers { problem, given })
+        Ok(Providers {
+            problem,
+            without,
+            given,
+        })
     }
 
-    /// The least place, from 1, whose package alone satisfies the vpkg. `None` where there is no such place.
+    /// The least place of theirs, from 1, whose package alone satisfies the vpkg. `None` where there is no such place.
     pub fn first_meeting(&self, vpkg: &Vpkg<'_>) -> Option<u64>
         ensures { result ≡ first_meeting self.now (vpkg_view vpkg.now) }
     {
         self.given.first_meeting(vpkg, None)
     }
 
-    /// The least place, from 1, whose package has this name; features don't count (own). `None` where there is no
-    /// such place.
+    /// The least place of theirs, from 1, whose package has this name; features don't count (own). `None` where there
+    /// is no such place.
     pub fn first_named(&self, name: &str) -> Option<u64>
         ensures { result ≡ first_named self.now name.now }
     {
@@ -76,14 +88,20 @@ impl<'p, 't> Providers<'p, 't> {
     }
 }
 
-/// What all packages give, by name.
-fn gathered<'t>(alloc: Global, problem: &Problem<'t>) -> Result<GatheredNames<'t>, AllocError>
-    ensures { IfOk result (λ g. (f : List ℕ) → row_of f g ≡ given_of f (enumerate_from 1 problem.now.packages)) }
+/// What the packages that the status doesn't hold give, by name.
+fn gathered<'t>(
+    alloc: Global,
+    problem: &Problem<'t>,
+    without: &Status,
+) -> Result<GatheredNames<'t>, AllocError>
+    ensures { IfOk result (λ g. (f : List ℕ) → row_of f g ≡ given_of f (outside (set.contains without.now) problem.now.packages)) }
 {
     let mut gathered = GatheredNames::new(alloc);
     for (before, package) in problem.packages().iter().enumerate() {
         let place = before as u64 + 1;
-        gathered.add_package(alloc, Member { place, package })?;
+        if !without.holds(place) {
+            gathered.add_package(alloc, Member { place, package })?;
+        }
     }
     Ok(gathered)
 }

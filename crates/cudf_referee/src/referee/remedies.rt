@@ -25,24 +25,26 @@ enum Among {
 #[derive(Drop)]
 pub struct Remedies<'p, 't> {
     problem: &'p Problem<'t>,
-    all: Providers<'p, 't>,
+    /// What was installed.
     initial: Index<'p, 't>,
+    /// What was not installed. Each package is in one of the two, so that what it gives is kept once.
+    others: Providers<'p, 't>,
     /// The place of the first package that was installed.
     first_installed: Option<u64>,
 }
 
 impl<'p, 't> Model for Remedies<'p, 't> {
     ghost use Rattle.std.specs.Prelude.{◌≡◌, find, option_map, true};
-    ghost use Rattle.std.specs.List.{enumerate_from};
     ghost use Rattle.cudf_problem.specs.Statuses.{is_initial};
     ghost use Rattle.cudf_problem.specs.Universe.{PlainProblem};
+    ghost use Rattle.cudf_index.specs.Promises.Members.{outside};
     ghost use Rattle.cudf_index.specs.Satisfaction.{members};
 
     ghost Value = { PlainProblem };
 
     ghost view = { λ r. r.problem.now };
 
-    ghost invariant = { λ r. (r.all ≡ enumerate_from 1 r.problem.now.packages)
+    ghost invariant = { λ r. (r.others ≡ outside (is_initial r.problem.now) r.problem.now.packages)
         × (r.initial ≡ members (is_initial r.problem.now) r.problem.now.packages)
         × (r.first_installed ≡ option_map (λ p. p.0) (find (λ _. true) (members (is_initial r.problem.now) r.problem.now.packages))) };
 }
@@ -76,13 +78,13 @@ impl<'p, 't> Remedies<'p, 't> {
         ensures { IfOk result (λ r. r ≡ problem.entry.now) }
     {
         let was_installed = initial(alloc, problem)?;
-        let all = Providers::build(alloc, problem)?;
         let given = Index::build(alloc, problem, &was_installed)?;
         let first_installed = first_held(problem, &was_installed, None);
+        let others = Providers::build(alloc, problem, was_installed)?;
         Ok(Remedies {
             problem,
-            all,
             initial: given,
+            others,
             first_installed,
         })
     }
@@ -113,7 +115,10 @@ impl<'p, 't> Remedies<'p, 't> {
     pub fn first_named(&self, name: &str) -> Option<u64>
         ensures { result ≡ first_named (enumerate_from 1 self.now.packages) name.now }
     {
-        self.all.first_named(name)
+        lesser_of(
+            self.initial.first_named(name),
+            self.others.first_named(name),
+        )
     }
 
     /// The greatest number that the packages that were installed give of the name, as a version or by a versioned
@@ -163,7 +168,10 @@ impl<'p, 't> Remedies<'p, 't> {
         ensures { result ≡ first_meeting (searched self.now among) (vpkg_view vpkg.now) }
     {
         match among {
-            Among::All => self.all.first_meeting(vpkg),
+            Among::All => lesser_of(
+                self.initial.first_meeting(vpkg, None),
+                self.others.first_meeting(vpkg),
+            ),
             Among::Initial => self.initial.first_meeting(vpkg, None),
         }
     }

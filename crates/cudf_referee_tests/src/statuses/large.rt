@@ -2,7 +2,9 @@
 //! none.
 use cudf_referee::{Explainer, Referee};
 use cudf_text::{Text, is_fail, read};
-use cudf_universe::{Index, Mode, Problem, Providers, initial, read_problem, read_solution};
+use cudf_universe::{
+    Index, Mode, Problem, Providers, Status, initial, read_problem, read_solution,
+};
 use cudf_value::{Relop, Vpkg};
 use std::alloc::{AllocError, Global};
 
@@ -69,7 +71,7 @@ fn is_provided(alloc: Global, problem: &Problem<'_>, row: &Row) -> bool {
         name: "f",
         bound: Some((Relop::Eq, row.1)),
     };
-    match Providers::build(alloc, problem) {
+    match Providers::build(alloc, problem, Status::from_flags(Vec::new(alloc))) {
         Ok(providers) => (providers.first_named("p"), providers.first_meeting(&last))
             == (first, first_given),
         Err(_) => false,

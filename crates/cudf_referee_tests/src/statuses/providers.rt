@@ -1,6 +1,6 @@
-//! What a universe gives, installed or not.
+//! What the packages of a universe give that a status doesn't hold.
 use cudf_text::read;
-use cudf_universe::{Mode, Problem, Providers, read_problem};
+use cudf_universe::{Mode, Problem, Providers, Status, initial, read_problem};
 use cudf_value::{Relop, Vpkg};
 use std::alloc::Global;
 
@@ -11,6 +11,7 @@ const MAKERS: &str =
 /// A name, a bound of it, and the places of the first package that alone meets it and of the first one of that name.
 type Row = (&'static str, Option<(Relop, u64)>, Option<u64>, Option<u64>);
 
+/// Without a status: all packages.
 const ROWS: [Row; 9] = [
     ("maker", None, Some(1), Some(1)),
     ("maker", Some((Relop::Gt, 1)), Some(2), Some(1)),
@@ -23,6 +24,15 @@ const ROWS: [Row; 9] = [
     ("user", None, None, None),
 ];
 
+/// Those that aren't installed.
+const OTHERS: [Row; 5] = [
+    ("maker", None, Some(1), Some(1)),
+    ("maker", Some((Relop::Gt, 1)), None, Some(1)),
+    ("f", None, Some(1), Some(3)),
+    ("f", Some((Relop::Eq, 7)), None, Some(3)),
+    ("g", None, None, None),
+];
+
 fn is_found(providers: &Providers<'_, '_>, row: &Row) -> bool {
     let vpkg = Vpkg {
         name: row.0,
@@ -31,9 +41,20 @@ fn is_found(providers: &Providers<'_, '_>, row: &Row) -> bool {
     (providers.first_meeting(&vpkg), providers.first_named(row.0)) == (row.2, row.3)
 }
 
-fn are_found(alloc: Global, problem: &Problem<'_>) -> bool {
-    match Providers::build(alloc, problem) {
-        Ok(providers) => ROWS.iter().all(|row| is_found(&providers, row)),
+fn are_found(alloc: Global, problem: &Problem<'_>, without: Status, rows: &[Row]) -> bool {
+    match Providers::build(alloc, problem, without) {
+        Ok(providers) => rows.iter().all(|row| is_found(&providers, row)),
+        Err(_) => false,
+    }
+}
+
+fn are_all_found(alloc: Global, problem: &Problem<'_>) -> bool {
+    are_found(alloc, problem, Status::from_flags(Vec::new(alloc)), &ROWS)
+}
+
+fn are_others_found(alloc: Global, problem: &Problem<'_>) -> bool {
+    match initial(alloc, problem) {
+        Ok(installed) => are_found(alloc, problem, installed, &OTHERS),
         Err(_) => false,
     }
 }
@@ -41,7 +62,7 @@ fn are_found(alloc: Global, problem: &Problem<'_>) -> bool {
 fn are_found_of_makers(alloc: Global) -> bool {
     match read(alloc, MAKERS.as_bytes()) {
         Ok(text) => match read_problem(alloc, &text, Mode::Lenient) {
-            Ok(problem) => are_found(alloc, &problem),
+            Ok(problem) => are_all_found(alloc, &problem) && are_others_found(alloc, &problem),
             Err(_) => false,
         },
         Err(_) => false,
