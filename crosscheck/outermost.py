@@ -8,6 +8,8 @@ usage: outermost.py PROGRAM
 - Standard input that is a folder, and one that fails after its first bytes.
 - Empty words, names of files with blanks, and a program that is started as `--`, `--criteria` or another name.
 - Lists of criteria and rankings: answers, refusals, and a thousand solutions in one command.
+- Names without meaning in a preamble or a request, and stanzas without a blank line between.
+- Lines that name their files: standard input, names with control characters, and one input for both documents.
 - The text of each error, to the byte. Of a usage fault found by the words' parser, only what README.md, docs/FORMAT.md
   and the man page fix, and the usage of the command behind it.
 
@@ -30,6 +32,7 @@ PROBLEM = "package: car\nversion: 1\ndepends: wheel > 2\ninstalled: true\n\npack
 GOOD = "package: wheel\nversion: 2\ninstalled: true\n"
 BAD = "package: car\nversion: 1\ninstalled: true\n"
 SIZED = "preamble:\nproperty: size: nat\n\npackage: a\nversion: 1\n\nrequest:\n"
+DECLARES = "preamble:\nproperty: x: int = [0]\n"
 UNMET = "p1.depends.1 car 1 line 1: needs wheel > 2\nsolution no\n"
 EXPLAINED = "p1.depends.1 car 1 line 1: needs wheel > 2; nothing in the problem would do\nsolution no\n"
 ANSWERED = "solution yes\n"
@@ -39,6 +42,9 @@ NO_REQUEST = "problem line 1: E13 no request\n"
 MISSING = "problem line 5: E14 declared property missing\n"
 REPEATED = "solution line 6: E15 pair repeated\n"
 NO_VERSION = "solution line 1: E12 no version\n"
+NO_PROPERTY = "E2 not a property, continuation, comment or blank line"
+MISPLACED, GLUED = "E16 property out of place", "a blank line is missing before package"
+PERHAPS = ", a blank line may be missing before it"
 SCORED = "removed 1\nnew 1\nchanged 2\nnotuptodate 0\nunsat_recommends 0\nparanoid 1 2\ntrendy 1 0 0 1\nsolution yes\n"
 LISTED = "-removed 1\n+new 1\n-changed 2\n+notuptodate 0\n-unsat_recommends 0\n+touched 2\nsolution yes\n"
 
@@ -68,7 +74,36 @@ USAGES = {
 FILES = {
     "p": PROBLEM, "good": GOOD, "bad": BAD, "fail": "FAIL\n", "faulty": "?\n", "empty": "", "both": PROBLEM + "\n" + BAD,
     "sized": SIZED, "twice": GOOD + "\n" + GOOD, "cut": "package: a\n", "--criteria": GOOD,
-    " p": PROBLEM, "p ": "?\n", " p ": "", " ": BAD, "b\tad\n": BAD,
+    " p": PROBLEM, "p ": "?\n", " p ": "", " ": BAD, "b\tad\n": BAD, "-H": "?\n",
+    "instal": "package: car\nversion: 1\n\nrequest:\ninstal: wheel\n",
+    "glued": DECLARES + BAD + "keep: version\n\npackage: wheel\nversion: 2\n\nrequest:\ninstall: wheel\n",
+    "glued-answer": DECLARES + GOOD,
+}
+# names in a preamble and in a request of a problem, and then of an answer: which fault they have with --strict
+PLACES = {
+    "version depends conflicts provides installed was-installed keep package": ("E16", "E16", "E16", "E16"),
+    "preamble": ("E7", "E16", "", "E16"), "request": ("E16", "E7", "E16", ""),
+    "instal maker univ-checksum": ("", "E16", "", ""), "install remove upgrade": ("", "", "", ""),
+}
+# a problem and an answer, each of which ends with one line end
+CROWD = "package: a\nversion: 1\n\npackage: b\nversion: 1\nconflicts: a\n\nrequest: r\ninstall: a\n"
+BOTH = "package: b\nversion: 1\ninstalled: true\n\npackage: a\nversion: 1\ninstalled: true\n"
+# answers behind a problem of ten lines: the line of the fault in the answer, its text, and a line that is told behind it
+FAULTS_BEHIND = (
+    (b"package: a\nversion: 1\nversion: 2\n", 3, "E7 property repeated; version stands on line {}", 2),
+    (b"package: a\nversion: 1\npackage: b\n", 3, "E7 property repeated; package stands on line {}" + PERHAPS, 1),
+    (b"# a\ninstalled: true\n", 2, "E4 stanza without postmark; it begins with installed", 0),
+    (b"package: a b\n", 1, "E9 value is not of its type; package is no pkgname: a b", 0),
+    (b"\xef\xbb\xbfpackage: a\n", 1, NO_PROPERTY + "; it begins with a byte order mark", 0),
+    (b"# a\n\xef\xbb\xbfpackage: a\n", 2, NO_PROPERTY, 0), (b"\x1f\x8b\x08", 1, "E1 not UTF-8; it is a gzip file", 0),
+    (b"FAIL\nab\xc3", 2, "E1 not UTF-8; byte 3 of the line is C3", 0),
+    (b"request: s\npackage: a\n", 2, f"{MISPLACED}; {GLUED}", 0),
+    (b"package: a\nversion: 1\n\npackage: a\nversion: 01\n", 5, "E15 pair repeated; a 1 stands on line {}", 1),
+)
+# names of files, and how lines show them
+SHOWN_NAMES = {
+    "a\nb": r"a\u{A}b", "\x01\t\x1b[31m\x7f\x80\x9f\xa0\\": "\\u{1}\\u{9}\\u{1B}[31m\\u{7F}\\u{80}\\u{9F}\xa0\\",
+    "a" * 70: "a" * 70, " fail ": " fail ", "./fail": "./fail",
 }
 NO_LISTS = (
     "", "- new", " -new", "-new ", "-new, +removed", "-new\t", "-new,,+removed", ",-new", "-new,", ",", "-size",
@@ -428,10 +463,93 @@ def standard_input(trial):
             trial.expect(words, 5, "", told, stdin=source)
 
 
+def names_out_of_place(trial):
+    """Each name in each place."""
+    for names, kinds in PLACES.items():
+        for name in names.split():
+            is_mark = name in ("package", "preamble", "request")
+            told = {
+                "E7": f"E7 property repeated; {name} stands on line 1" + PERHAPS,
+                "E16": f"{MISPLACED}; " + (f"a blank line is missing before {name}" if is_mark else f"{name} has no meaning here"),
+            }
+            for (words, whose, text, right), kind in zip((
+                ("lint -", "problem", f"preamble:\n{name}: x\n\nrequest:\n", "problem ok\n"),
+                ("lint -", "problem", f"request:\n{name}: x\n", "problem ok\n"),
+                ("check p -", "solution", f"preamble:\n{name}: x\n", ANSWERED),
+                ("check p -", "solution", f"request:\n{name}: x\n", ANSWERED),
+            ), kinds):
+                wanted = (2, f"{whose} line 2: {told[kind]}\n") if kind else (0, right)
+                trial.expect(words + " --strict --explain", *wanted, stdin=held(text))
+
+
+def glued_stanzas(trial):
+    """A blank line is missing behind a preamble, or where an answer is put behind a problem; and a misspelt `install`."""
+    misspelt, preamble, crowd = (f"problem line {line}: {MISPLACED}" for line in (5, 3, 10))
+    for words, data, status, output in (
+        ("lint instal", "", 0, "problem ok\n"), ("lint instal --explain", "", 0, "problem ok\n"),
+        ("lint instal --strict", "", 2, misspelt + "\n"), ("check instal bad --strict", "", 2, misspelt + "\n"),
+        ("lint instal --strict --explain", "", 2, misspelt + "; instal has no meaning here\n"),
+        ("lint glued --explain", "", 0, "problem ok\n"), ("lint glued --strict", "", 2, preamble + "\n"),
+        ("lint glued --strict --explain", "", 2, f"{preamble}; {GLUED}\n"),
+        ("check glued good --explain", "", 0, ANSWERED), ("check glued good --strict", "", 2, preamble + "\n"),
+        ("check glued fail --strict", "", 2, preamble + "\n"), ("score glued good --strict", "", 2, preamble + "\n"),
+        ("rank --criteria=-new glued good --strict", "", 2, preamble + "\n"), ("cnf glued --strict", "", 2, preamble + "\n"),
+        ("refute glued empty --strict --explain", "", 2, f"{preamble}; {GLUED}\n"),
+        ("check p glued-answer --explain", "", 0, ANSWERED),
+        ("score p glued-answer --strict", "", 2, f"solution line 3: {MISPLACED}\n"),
+        ("check p glued-answer --strict --explain", "", 2, f"solution line 3: {MISPLACED}; {GLUED}\n"),
+        ("rank --criteria=-new p good glued-answer --strict", "", 2, f"solution 2 line 3: {MISPLACED}\n"),
+        ("rank --criteria=-new p good glued-answer --strict -H", "", 2, f"glued-answer:3: solution: {MISPLACED}\n"),
+        ("check p - --strict", "FAIL\n\nrequest: r\npackage: a\n", 3, "solution FAIL\n"),
+        ("check - --explain", CROWD + BOTH, 0, ANSWERED), ("check - --strict", CROWD + BOTH, 2, crowd + "\n"),
+        ("check - --strict --explain", CROWD + BOTH, 2, f"{crowd}; {GLUED}\n"),
+        ("check - -H --strict --explain", CROWD + BOTH, 2, f"(standard input):10: problem: {MISPLACED}; {GLUED}\n"),
+        ("check - -H --explain", CROWD + "\n" + BOTH, 1,
+         "(standard input):4: p2.conflicts.1 b 1: conflicts with a, met by a 1; line 1, needed by nothing installed\nsolution no\n"),
+    ):
+        trial.expect(words, status, output, stdin=held(data))
+
+
+def named_lines(trial):
+    """Lines begin with the word of their file and count in it; those of the listing behind `;` are the problem's."""
+    newer, needs = GOOD.replace("2", "3"), "p1.depends.1 car 1: needs wheel > 2"
+    unknown = "s.unknown.1 wheel 3: not in the universe; the problem has wheel 2 line 6"
+    for words, data, status, output in (
+        ("check both -H", "", 1, f"both:1: {needs}\nsolution no\n"), ("lint -H -- -H", "", 2, f"-H:1: problem: {NO_PROPERTY}\n"),
+        ("check -H ./p bad --explain", "", 1, f"./p:1: {needs}; nothing in the problem would do\nsolution no\n"),
+        ("lint both --explain -H", "", 2, "both:11: problem: E6 stanza after the request; the request stands on line 9\n"),
+        ("score p cut -H", "", 2, "cut:1: solution: E12 no version\n"), ("score p fail -H", "", 3, "solution FAIL\n"),
+        ("score faulty fail --with-filename", "", 2, f"faulty:1: problem: {NO_PROPERTY}\n"), ("score p good -H", "", 0, SCORED),
+        ("lint - -H", "?\n", 2, f"(standard input):1: problem: {NO_PROPERTY}\n"), ("lint - -H", PROBLEM, 0, "problem ok\n"),
+        ("lint -H -- -", "", 2, "(standard input):1: problem: E13 no request\n"),
+        ("check - -H bad", PROBLEM, 1, f"(standard input):1: {needs}\nsolution no\n"),
+        ("check - -H", FILES["both"], 1, f"(standard input):1: {needs}\nsolution no\n"),
+        ("check p - -H --explain", newer, 1, f"(standard input):1: {unknown}\nsolution no\n"),
+        ("check - -H --explain", PROBLEM + "\n" + newer, 1, f"(standard input):11: {unknown}\nsolution no\n"),
+        ("rank -H --criteria=-removed - bad good fail", PROBLEM, 0, ranked("good yes -removed 1", "bad no", "fail FAIL")),
+        ("rank p bad - --criteria=-removed -H", GOOD, 0, ranked("(standard input) yes -removed 1", "bad no")),
+        ("rank p good good --criteria=-removed -H", "", 0, ranked("good yes -removed 1", "good yes -removed 1")),
+        ("rank p fail - cut --criteria=-new -H", "?\n", 2, f"(standard input):1: solution: {NO_PROPERTY}\n"),
+        ("rank -H --criteria=-new - good", "?\n", 2, f"(standard input):1: problem: {NO_PROPERTY}\n"),
+    ):
+        trial.expect(words, status, output, stdin=held(data))
+    for answer, line, text, told in FAULTS_BEHIND:
+        for words, output in (
+            ("check - --strict --explain", f"solution line {line}: {text.format(told)}\n"),
+            ("check - --strict --explain -H", f"(standard input):{line + 10}: solution: {text.format(told + 10)}\n"),
+        ):
+            trial.expect(words, 2, output, stdin=held(PROBLEM.encode() + b"\n" + answer))
+    for name, shown in SHOWN_NAMES.items():
+        with open(name, "w", encoding="ascii") as file:
+            file.write("FAIL\n")
+        trial.expect(["lint", "-H", name], 2, f"{shown}:1: problem: {NO_PROPERTY}\n")
+        trial.expect(["rank", "--criteria=-new", "p", name, "-H"], 3, ranked(f"{shown} FAIL"))
+
+
 def held(data):
     """A pipe that holds the data."""
     reader, writer = os.pipe()
-    os.write(writer, data.encode())
+    os.write(writer, data if isinstance(data, bytes) else data.encode())
     os.close(writer)
     return os.fdopen(reader)
 
@@ -531,7 +649,8 @@ def little_memory(trial):
 
 ROWS = (
     statuses, helps, scores_by_lists, rankings, faults_in_rankings, first_refusals, refused_lists, refused_rankings, unopened,
-    too_many_files, names_with_blanks, other_names, closed_input, standard_input, empty_words, many_solutions, little_memory, texts,
+    too_many_files, names_with_blanks, other_names, closed_input, standard_input, empty_words, names_out_of_place, glued_stanzas,
+    named_lines, many_solutions, little_memory, texts,
 )
 
 
