@@ -233,9 +233,10 @@ fn after<'w>(alloc: Global) -> Arg<'w>
     ensures rule { rule_of result ≡ after_option }
     ensures local { result.global ≡ false }
 {
-    Arg::new(alloc, AFTER).long(AFTER).value_name("KEY").help(
-        "Prints only the violated rules whose keys come after KEY",
-    )
+    Arg::new(alloc, AFTER)
+        .long(AFTER)
+        .value_name("KEY")
+        .help("Prints only the violated rules whose keys come after KEY")
 }
 
 fn limit<'w>(alloc: Global) -> Arg<'w>
@@ -304,9 +305,7 @@ fn explain_fault<'w>(alloc: Global) -> Arg<'w>
     Arg::new(alloc, EXPLAIN)
         .long(EXPLAIN)
         .action(ArgAction::SetTrue)
-        .help(
-            "Adds the cause to the line of a fault, as the name that nothing declares",
-        )
+        .help("Adds the cause to the line of a fault, as the name that nothing declares")
 }
 
 fn with_filename<'w>(alloc: Global) -> Arg<'w>

@@ -1,4 +1,5 @@
 pub mod Errors
 pub mod Faults
 pub mod Laws
+pub mod NameRooms
 pub mod Views

@@ -4,8 +4,8 @@ use cudf_check::{Device, Job, RunError, run};
 use cudf_referee::{Explainer, Key, Referee, read_criterion};
 use cudf_text::{Fault, Room, TextError, cut_joined, is_fail, read, stanzas};
 use cudf_universe::{
-    Index, Mode, NameRoom, Problem, ReadError, first_fault, initial, problem_of, proposed_of, read_problem,
-    read_solution, solution_of,
+    Index, Mode, NameRoom, Problem, ReadError, first_fault, initial, problem_of, proposed_of,
+    read_problem, read_solution, solution_of,
 };
 use cudf_value::{ValueType, fits, read_declarations, read_posint, read_vpkg};
 use std::alloc::{AllocError, Global};

@@ -2,8 +2,8 @@
 use crate::shown::{agreed, push_clauses, push_list, push_vpkgs};
 use crate::texts::shown_fault;
 use cudf_document::{
-    Keep, Mode, NameRoom, Package, Problem, ReadError, Request, Solution, Status, Unknown, first_fault,
-    problem_of, proposed_of, read_problem, read_solution, solution_of,
+    Keep, Mode, NameRoom, Package, Problem, ReadError, Request, Solution, Status, Unknown,
+    first_fault, problem_of, proposed_of, read_problem, read_solution, solution_of,
 };
 use cudf_text::{Fault, Room, TextError, cut_joined, is_fail, read, stanzas};
 use cudf_value::{Formula, VpkgList};

@@ -16,8 +16,13 @@ pub struct NameRoom {
 }
 
 impl NameRoom {
+    ghost use Rattle.std.specs.Prelude.{◌≡◌, []};
+    ghost use Rattle.cudf_document.specs.Promises.NameRooms.{first_block};
+
     /// Without names (own). Takes no memory.
-    pub fn new(alloc: Global) -> Self {
+    pub fn new(alloc: Global) -> Self
+        ensures { first_block result ≡ [] }
+    {
         NameRoom {
             bytes: Vec::new(alloc),
             more: None,
