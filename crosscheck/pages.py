@@ -110,7 +110,7 @@ TOTALS = (
     ("mccs-lpsolve", "126", "0", "0", "1", "1", "2", "2", "-"),
 )
 # Names that can't stand in a line of words or in raw/.
-BAD_NAMES = ("v l c.cudf", "-x", "a.err", "a&b", "two\nlines", "caf\u00e9", "*")
+BAD_NAMES = ("v l c.cudf", "-x", "a.err", "a&b", "two\nlines", "caf\u00e9", "*", "a\\cb")
 # The stanza on line 1 has no version.
 LINTED = "problems/faulty.cudf: problem line 1: E12 no version\n"
 
@@ -309,6 +309,11 @@ def bad_names(trial):
             status, output, errors = trial.run(f"sh {words}", folder)
             given = status, output, f"{place}/{name}: a name has" in errors, os.path.exists(os.path.join(folder, "jobs"))
             trial.note(f"{words} with {place}/{name!r}", given, (1, "", True, False))
+    for lacking, left in (("solvers", {}), ("problems", {"solvers/ash": ""})):
+        with competition({"p": CARS} if lacking == "solvers" else {}, **left) as folder:
+            for shell in SHELLS:
+                told = trial.run("sh jobs.sh", folder, shell)
+                trial.note(f"jobs.sh without {lacking}, {shell}", told, (1, "", f"names.sh: {lacking} is empty or isn't there\n"))
 
 
 def of_run(line, begun):
