@@ -498,6 +498,18 @@ def pages(trial):
             trial.note(f"page.sh without times, {shell}", (told[0], "times are unknown" in told[1]), (0, True))
 
 
+def numbered_axes(trial):
+    """Both axes of the scatter plot have two numbers at least, also if all times lie between two powers of ten."""
+    if not shutil.which("gnuplot"):
+        return
+    rows = (("problem", "ash", "elm"), ("p", "1", "1"), ("q", "1", "2"))
+    ended = "".join(f"{solver} {name} 0 1 0.{time} - - -\n" for solver, time in (("ash", 2), ("elm", 4)) for name in "pq")
+    with competition({}, table=table(rows), ended=ended) as folder:
+        for shell in SHELLS:
+            output = trial.run("sh page.sh T D", folder, shell)[1].partition("<title>scatter<")[2]
+            trial.note(f"numbers of the scatter plot, {shell}", re.findall(r"<text> *([\d.]+)<", output), ["0.1", "1"] * 2)
+
+
 def rows_of(text):
     """The cells of each row of a page's tables, without the lines below the heads; `\\|` is a bar in a cell."""
     for line in text.splitlines():
@@ -546,7 +558,9 @@ def differences(trial):
 def main(path):
     with tempfile.TemporaryDirectory() as folder:
         trial = Trial(path, folder)
-        for part in (links, scripts, shown, by_pages, odd_answers, bad_names, many_runs, other_runs, pages, differences):
+        for part in (
+            links, scripts, shown, by_pages, odd_answers, bad_names, many_runs, other_runs, pages, numbered_axes, differences,
+        ):
             part(trial)
     print(f"{trial.passed} passed, {trial.failed} failed")
     return 1 if trial.failed else 0
