@@ -179,6 +179,11 @@ def folder_of_answers(trial, shell, places, answers):
                 [shell, "fails.sh"], cwd=folder, env={**surroundings, **more}, capture_output=True, timeout=120, check=False,
             )
             trial.note(f"fails.sh, {shell}, {more}", (ran.returncode, ran.stdout.decode(), ran.stderr.decode()), wanted)
+        ran = subprocess.run(
+            [shutil.which(shell), "fails.sh"], cwd=folder, env={"PATH": "/nowhere"}, capture_output=True, timeout=120, check=False,
+        )
+        given = ran.returncode, ran.stdout, b"cudf_check" in ran.stderr
+        trial.note(f"fails.sh, {shell}, no cudf_check", given, (127, b"", True))
         trial.note(f"its report, {shell}", read(folder, "judged/shop"), SHOP_CORE)
         trial.note(f"its witness, {shell}", read(folder, "judged/two.witness"), ROWS[1][4])
 

@@ -1,4 +1,5 @@
 # fails.sh: is FAIL right, where a solver answered so? The status is 5 if fail.sh couldn't tell because of an error
+cudf_check --version > /dev/null || exit
 mkdir -p judged
 status=0
 for problem in $(ls problems); do
