@@ -4,10 +4,10 @@
 usage: fails.py PROGRAM
 
 - fail.sh with a stand-in for cadical, which answers each CNF that it knows, by its checksum, with a stored proof or model: FAIL that
-  is right, and wrong; an empty clause; a faulty problem; a solver that was stopped, one that writes a wrong proof or a wrong model;
-  no cadical; wrong arguments; names with blanks. No file is left over but the witness.
-- The same problems with cadical itself, where it is installed.
-- fails.sh on a folder of answers.
+  is right, and wrong; an empty clause; a faulty problem; a solver that was stopped, one that writes a wrong proof or a wrong model,
+  one that fails; no cadical; wrong arguments; names with blanks. No file is left over but the witness.
+- The same problems with cadical itself, where it is installed and writes LRAT.
+- fails.sh on a folder of answers, also with a solver that fails.
 
 Scripts are run by dash and bash where these are installed. Each row that isn't as wanted is printed, and then how many there were. The
 status is 1 where one is wrong, and 2 where there is no program. Python's standard library alone.
@@ -22,13 +22,13 @@ import tempfile
 from pages import CARS, ROOT, SHELLS, Trial, competition, packages, script
 from refutations import A, SHOP, SHOP_CORE, SHOP_PROOF
 
-# the last two words are the CNF and the proof
+# the last two words are the CNF and the proof; it ends with $ENDS (0) where it has no answer
 STAND_IN = """#!/bin/sh
 while [ $# -gt 2 ]; do shift; done
 answer=$ANSWERS/$(sha256sum < "$1" | cut -d ' ' -f 1)
 [ -e "$answer.proof" ] && { cp "$answer.proof" "$2"; echo "s UNSATISFIABLE"; exit 20; }
 [ -e "$answer.model" ] && { cat "$answer.model"; exit 10; }
-exit 0
+exit ${ENDS:-0}
 """
 # what fail.sh calls beside cudf_check and cadical
 TOOLS = ("awk", "cat", "cp", "cut", "mktemp", "rm", "sha256sum", "sh")
@@ -52,6 +52,9 @@ KNOWN = {
     "p cnf 0 0\n": ("model", "s SATISFIABLE\nv 0\n"), SERVER_CNF: ("model", "s SATISFIABLE\nv -1 -2 -3 -4 5 0\n"),
 }
 UNKNOWN = "not decided\n"
+# of cadical before 1.7, which ends with 1, and of one that crashes or is killed
+BROKEN = "fail.sh: cadical failed; version 1.7 or later is needed\n"
+ENDS = ("1", "2", "134", "137", "143")
 LACKS_B = "r.install.2 line 4: needs b\nno solution exists\n"
 FAULTY = "problem line 1: E12 no version\n"
 # name, problem, status, output, witness
@@ -144,8 +147,12 @@ def rejected(trial, shell, places, folder):
         answers = stored(os.path.join(folder, f"wrong-{shell}-{place}"), {cnf: answer})
         given = fails.run("p", problem, places=places, ANSWERS=answers)
         trial.note(f"{shell}, {answer}", given, (3, told + UNKNOWN, "", {}, []))
-    given = fails.run("p", SHOP, places=places, ANSWERS=os.path.join(folder, "nothing"))
+    nothing = os.path.join(folder, "nothing")
+    given = fails.run("p", SHOP, places=places, ANSWERS=nothing)
     trial.note(f"{shell}, stopped", given, (3, UNKNOWN, "", {}, []))
+    for ends in ENDS:
+        given = fails.run("p", SHOP, places=places, ANSWERS=nothing, ENDS=ends)
+        trial.note(f"{shell}, cadical ends with {ends}", given, (5, "", BROKEN, {}, []))
     status, output, errors, left, scratch = fails.run("p", None, places=places)
     trial.note(f"{shell}, no problem", (status, output, "p can't be opened" in errors, left, scratch), (5, "", True, {}, []))
     for words in ((), ("p", "q", "r")):
@@ -163,9 +170,20 @@ def folder_of_answers(trial, shell, places, answers):
     left["answers/ash/quiet"] = packages(("car", 1))
     with competition(problems, **left) as folder:
         surroundings = {**trial.surroundings, "PATH": places + os.pathsep + os.environ["PATH"], "ANSWERS": answers}
-        ran = subprocess.run([shell, "fails.sh"], cwd=folder, env=surroundings, capture_output=True, timeout=120, check=False)
         # the stand-in doesn't know `open`, and FAIL to a faulty problem isn't status 3
-        trial.note(f"fails.sh, {shell}", (ran.stdout.decode(), ran.stderr.decode()), ("open not decided\nshop right\ntwo wrong\n", ""))
+        for more, wanted in (
+            ({"ENDS": "1"}, (5, "shop right\ntwo wrong\n", f"open: {BROKEN}")),
+            ({}, (0, "open not decided\nshop right\ntwo wrong\n", "")),
+        ):
+            ran = subprocess.run(
+                [shell, "fails.sh"], cwd=folder, env={**surroundings, **more}, capture_output=True, timeout=120, check=False,
+            )
+            trial.note(f"fails.sh, {shell}, {more}", (ran.returncode, ran.stdout.decode(), ran.stderr.decode()), wanted)
+        ran = subprocess.run(
+            [shutil.which(shell), "fails.sh"], cwd=folder, env={"PATH": "/nowhere"}, capture_output=True, timeout=120, check=False,
+        )
+        given = ran.returncode, ran.stdout, b"cudf_check" in ran.stderr
+        trial.note(f"fails.sh, {shell}, no cudf_check", given, (127, b"", True))
         trial.note(f"its report, {shell}", read(folder, "judged/shop"), SHOP_CORE)
         trial.note(f"its witness, {shell}", read(folder, "judged/two.witness"), ROWS[1][4])
 
@@ -189,6 +207,8 @@ def main(path):
         write(solver, "cadical", STAND_IN)
         os.chmod(os.path.join(solver, "cadical"), 0o755)
         answers, places = stored(os.path.join(folder, "answers"), KNOWN), solver + os.pathsep + bare
+        cadical = shutil.which("cadical")
+        has_lrat = cadical and b"--lrat" in subprocess.run([cadical, "--help"], capture_output=True, check=False).stdout
         for shell in SHELLS:
             rows(trial, shell, places, "stand-in", ANSWERS=answers)
             rejected(trial, shell, places, folder)
@@ -196,10 +216,10 @@ def main(path):
             trial.note(f"{shell}, no cadical", given, (127, "", "fail.sh: cadical isn't installed\n", {}, []))
             folder_of_answers(trial, shell, places, answers)
             own_answers(trial, shell, places, answers)
-            if shutil.which("cadical"):
-                rows(trial, shell, os.path.dirname(shutil.which("cadical")) + os.pathsep + bare, "cadical")
-        if not shutil.which("cadical"):
-            print("cadical isn't installed here: it was tried with its stand-in alone")
+            if has_lrat:
+                rows(trial, shell, os.path.dirname(cadical) + os.pathsep + bare, "cadical")
+        if not has_lrat:
+            print(f"cadical {'is too old' if cadical else 'is not installed'} here: its stand-in alone was tried")
     print(f"{trial.passed} passed, {trial.failed} failed")
     return 1 if trial.failed else 0
 

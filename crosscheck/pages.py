@@ -110,7 +110,7 @@ TOTALS = (
     ("mccs-lpsolve", "126", "0", "0", "1", "1", "2", "2", "-"),
 )
 # Names that can't stand in a line of words or in raw/.
-BAD_NAMES = ("v l c.cudf", "-x", "a.err", "a&b", "two\nlines", "caf\u00e9", "*")
+BAD_NAMES = ("v l c.cudf", "-x", "a.err", "a&b", "two\nlines", "caf\u00e9", "*", "a\\cb")
 # The stanza on line 1 has no version.
 LINTED = "problems/faulty.cudf: problem line 1: E12 no version\n"
 
@@ -309,6 +309,11 @@ def bad_names(trial):
             status, output, errors = trial.run(f"sh {words}", folder)
             given = status, output, f"{place}/{name}: a name has" in errors, os.path.exists(os.path.join(folder, "jobs"))
             trial.note(f"{words} with {place}/{name!r}", given, (1, "", True, False))
+    for lacking, left in (("solvers", {}), ("problems", {"solvers/ash": ""})):
+        with competition({"p": CARS} if lacking == "solvers" else {}, **left) as folder:
+            for shell in SHELLS:
+                told = trial.run("sh jobs.sh", folder, shell)
+                trial.note(f"jobs.sh without {lacking}, {shell}", told, (1, "", f"names.sh: {lacking} is empty or isn't there\n"))
 
 
 def of_run(line, begun):
@@ -493,6 +498,18 @@ def pages(trial):
             trial.note(f"page.sh without times, {shell}", (told[0], "times are unknown" in told[1]), (0, True))
 
 
+def numbered_axes(trial):
+    """Both axes of the scatter plot have two numbers at least, also if all times lie between two powers of ten."""
+    if not shutil.which("gnuplot"):
+        return
+    rows = (("problem", "ash", "elm"), ("p", "1", "1"), ("q", "1", "2"))
+    ended = "".join(f"{solver} {name} 0 1 0.{time} - - -\n" for solver, time in (("ash", 2), ("elm", 4)) for name in "pq")
+    with competition({}, table=table(rows), ended=ended) as folder:
+        for shell in SHELLS:
+            output = trial.run("sh page.sh T D", folder, shell)[1].partition("<title>scatter<")[2]
+            trial.note(f"numbers of the scatter plot, {shell}", re.findall(r"<text> *([\d.]+)<", output), ["0.1", "1"] * 2)
+
+
 def rows_of(text):
     """The cells of each row of a page's tables, without the lines below the heads; `\\|` is a bar in a cell."""
     for line in text.splitlines():
@@ -541,7 +558,9 @@ def differences(trial):
 def main(path):
     with tempfile.TemporaryDirectory() as folder:
         trial = Trial(path, folder)
-        for part in (links, scripts, shown, by_pages, odd_answers, bad_names, many_runs, other_runs, pages, differences):
+        for part in (
+            links, scripts, shown, by_pages, odd_answers, bad_names, many_runs, other_runs, pages, numbered_axes, differences,
+        ):
             part(trial)
     print(f"{trial.passed} passed, {trial.failed} failed")
     return 1 if trial.failed else 0

@@ -2,7 +2,8 @@
 #   no solution exists   0   FAIL is right; the lines before say why
 #   solution yes         1   FAIL is wrong; the file WITNESS (default: witness) is a solution
 #   not decided          3   cadical had no answer within $seconds (300), or one that cudf_check rejects
-# Any other status is an error: 2 the problem is faulty, 4 wrong arguments, 5 and 6 as of cudf_check, 127 cadical isn't installed
+# Any other status is an error: 2 the problem is faulty, 4 wrong arguments, 5 cadical failed, 5 and 6 as of cudf_check,
+# 127 cadical isn't installed
 case $# in
   1 | 2) ;;
   *) echo "usage: fail.sh PROBLEM [WITNESS]" >&2; exit 4 ;;
@@ -25,6 +26,8 @@ case $? in
       cp -- "$folder/witness" "${2:-witness}" || exit 5
       exit 1
     fi ;;
+  0) ;;
+  *) echo "fail.sh: cadical failed; version 1.7 or later is needed" >&2; exit 5 ;;
 esac
 echo "not decided"
 exit 3

@@ -1,11 +1,16 @@
-# names.sh FOLDER..: refuses names that the other scripts can't handle; the status is then 1
+# names.sh FOLDER..: refuses names that the other scripts can't handle, and folders without files; the status is then 1
 export LC_ALL=C
 status=0
 for folder in "$@"; do
   for path in "$folder"/*; do
+    if [ ! -e "$path" ] && [ ! -L "$path" ]; then
+      echo "names.sh: $folder is empty or isn't there" >&2
+      status=1
+      continue
+    fi
     case ${path##*/} in
       [!A-Za-z0-9]* | *[!A-Za-z0-9._+-]* | *.err)
-        echo "names.sh: $path: a name has letters, digits, . _ + - only, begins with a letter or digit, and doesn't end in .err" >&2
+        printf "names.sh: %s: a name has letters, digits, . _ + - only, begins with a letter or digit, and doesn't end in .err\n" "$path" >&2
         status=1 ;;
     esac
   done

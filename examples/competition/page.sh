@@ -66,11 +66,14 @@ END
     !seen[$3]++ { problem[++n] = $3 }
     { name[$1] = $2; at[$1, $3] = $5 ? $4 : 0 }
     $5 { if ($4 > most) most = $4; if (!least || $4 < least) least = $4 }
-    END { print name[1], name[2], least / 2, most * 2
+    # axes end at powers of ten, the only numbers that gnuplot writes at them
+    END { low = 0.001; while (low * 10 <= least / 1.2) low *= 10
+      high = 0.1; while (high < most * 1.2) high *= 10
+      print name[1], name[2], low, high
       for (i = 1; i <= n; i++) {
         p = problem[i]
         if (((1, p) in at) && ((2, p) in at) && at[1, p] + at[2, p])
-          print at[1, p] ? at[1, p] : most * 2, at[2, p] ? at[2, p] : most * 2
+          print at[1, p] ? at[1, p] : high, at[2, p] ? at[2, p] : high
       } }' "$folder/runs" > "$folder/scatter"
   read -r one two least most < "$folder/scatter"
   if [ "$(wc -l < "$folder/scatter")" -eq 1 ]; then return; fi
