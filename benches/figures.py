@@ -14,7 +14,7 @@ as it is, with the commit that it is of:
 
 In place of minutes.py `time` will do, both outputs in one file: then the minutes by crate are missing. Each table stands
 in the page between `<!-- figures: NAME -->` and `<!-- end of figures -->`, where NAME is gate, crates, instructions, times
-or trials, and its first cell names the commit. Python's standard library alone.
+or trials, and its first cell names the commit. One without these lines is left out. Python's standard library alone.
 """
 import re
 import sys
@@ -140,7 +140,8 @@ def main(folder, commit):
         begin = BLOCK[0].format(name)
         before, found, rest = page.partition(begin)
         if not found:
-            sys.exit(f"docs/FIGURES.md has no line '{begin.strip()}'")
+            print(f"docs/FIGURES.md has no line '{begin.strip()}': this table is left out", file=sys.stderr)
+            continue
         page = before + begin + text.replace(" |", f", of {commit} |", 1) + BLOCK[1] + rest.partition(BLOCK[1])[2]
     PAGE.write_text(page, encoding="utf-8")
 

@@ -6,8 +6,8 @@ usage: refusals.py PROGRAM [TESTS]
 PROGRAM runs on the documents of examples/, on a package that gives 80 entries, and with `--explain` on a document with each
 fault to which this adds something. Growth 1, growth 2 and so on is
 refused, until none is: each in two runs of its own, in the second one with all later ones. Where a growth is refused the
-program has to end with status 6 and nothing on standard output; where memory that was to be given back is refused alone,
-the report is right as well.
+program has to end with status 6, nothing on standard output and no further read; where memory that was to be given back is
+refused alone, the report is right as well.
 
 TESTS is the executable of the tests of cudf_run_tests (`rt test` leaves it in out/). Its tests in `memory` make the calls
 that take memory, and say where one told that a growth was refused; the same is done with them, and printed for each of them
@@ -93,7 +93,8 @@ REPORTED = range(4)
 NO_MEMORY = (6, b"")
 IN_CALL = b"refused in the call"
 NO_MEMORY_TAKEN = "memory::none"
-ALWAYS = 10**6
+READ = b"r"
+NEVER = 10**6
 
 
 class Refuser:
@@ -147,12 +148,12 @@ def programs(refuser, program, folder):
             file.write(text)
     for job in JOBS:
         words = [program, job[0]] + [word_of(word, folder) for word in job[1:]]
-        ample = refuser.run(words, ALWAYS, "0")[:2]
+        ample = refuser.run(words, NEVER, "0")[:2]
         growths = 0
-        if ample[0] not in REPORTED:
+        if ample[0] not in REPORTED or READ not in refuser.run(words, 0, "0")[3]:
             refuser.note([job, "with ample memory", *ample], False, False)
         for growth, later, (status, output, _, marks) in in_turn(refuser, words):
-            is_answered = (status, output) == NO_MEMORY
+            is_answered = (status, output) == NO_MEMORY and READ not in marks
             is_fine = is_answered or b"g" not in marks and (status, output) == ample
             refuser.note([job, growth, later, status, output[-200:]], is_answered, is_fine)
             growths = growth - 1

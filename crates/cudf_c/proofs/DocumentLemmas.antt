@@ -1,8 +1,9 @@
 -- What became of documents in memory that a run has read.
-use Rattle.std.proofs.Common.{◌≡◌, ◌++◌, ℕ, List, [], ◌∷◌, None, Some, map, length, suc, refl, sym, ap, ◌∙◌, arith, append-nil}
+use Rattle.std.proofs.Common.{◌≡◌, ◌++◌, ℕ, List, [], ◌∷◌, Option, None, Some, Result, Ok, map, length, suc, refl, sym, ap, ◌∙◌, arith, append-nil}
 use Rattle.std.proofs.lemmas.List.Elements.{All-head, All-tail}
 use Rattle.std.specs.List.{All, AllZip}
 use Rattle.cudf_check.specs.Device.{SourceState}
+use Rattle.cudf_check.specs.declared.device.Trouble.{Trouble}
 use Rattle.cudf_check.specs.ManyRuns.{LeavesBehind}
 use Rattle.cudf_check.specs.Naming.{names_of}
 use Rattle.cudf_check.specs.Readers.{Change, change, ReadsAll, changes}
@@ -17,15 +18,15 @@ pub record OfDocument (text : List ℕ) (reader : Change SourceState) : Type 0 w
   pub nameless : reader.before.name ≡ None
 
 -- a document of which nothing was read, and what it is then
-pub of_read : (text : List ℕ) (old : Document) (rest : List ℕ) (calls failures ends given : ℕ) → IsUnread text old
-    → OfDocument text (record { before = document_state old; after = record { name = None; remaining = Some rest; calls = calls; failures = failures; ends = ends; given = given } })
-of_read text old rest calls failures ends given unread = record {
+pub of_read : (text : List ℕ) (old : Document) (rest : List ℕ) (calls failures ends given : ℕ) (last : Option (Result ℕ Trouble)) → IsUnread text old
+    → OfDocument text (record { before = document_state old; after = record { name = None; remaining = Some rest; calls = calls; failures = failures; ends = ends; given = given; last = last } })
+of_read text old rest calls failures ends given last unread = record {
   whole = λ bytes read. sym (append-nil bytes) ∙ ap (λ left. bytes ++ left) (sym read.at_end) ∙ sym read.consumed ∙ unread.rest;
   nameless = refl;
 }
 
 pub of_document : (text : List ℕ) (old new : Document) → IsUnread text old → OfDocument text (change document_state old new)
-of_document text old new unread = of_read text old new.rest.now new.calls 0 new.ends (given_before new.rest.now) unread
+of_document text old new unread = of_read text old new.rest.now new.calls 0 new.ends (given_before new.rest.now) (Some (Ok new.last)) unread
 
 -- as many are returned as were lent
 same_length : {D : Type 0} (P : D → D → Type 0) (olds news : List D) → LeavesBehind P olds news → length news ≡ length olds

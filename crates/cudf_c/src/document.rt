@@ -12,6 +12,8 @@ pub(crate) struct Document<'t> {
     pub(crate) rest: &'t [u8],
     pub(crate) calls: Steps,
     pub(crate) ends: Steps,
+    /// How many bytes the last call gave.
+    pub(crate) last: usize,
     // each call gave a byte or told the end
     ghost counted: { calls ≤ ends + given_before rest.now },
 }
@@ -30,6 +32,7 @@ impl<'t> Document<'t> {
             rest: text,
             calls,
             ends: Steps::new(),
+            last: 0,
         }
     }
 }
@@ -52,6 +55,7 @@ impl<'t> Source for Document<'t> {
         if count == 0 {
             self.ends.tick();
         }
+        self.last = count;
         Ok(count)
     }
 }

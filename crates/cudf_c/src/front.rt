@@ -37,6 +37,8 @@ pub(crate) struct Front<'r> {
     pub(crate) room: &'r mut [u8],
     /// How long the report is so far, or 18446744073709551615 where it is longer.
     pub(crate) length: usize,
+    /// How many bytes the last call took.
+    pub(crate) last: usize,
     pub(crate) seen: &'r mut Seen,
     ghost filled: { IsFilled room.now length seen.now.before seen.now.report },
 }
@@ -56,6 +58,7 @@ impl<'r> Front<'r> {
         Front {
             room,
             length: 0,
+            last: 0,
             seen,
         }
     }
@@ -77,6 +80,7 @@ impl Sink for Front<'_> {
         put(self.room, self.length, bytes);
         self.length = self.length.saturating_add(bytes.len());
         self.seen.report.append(bytes);
+        self.last = bytes.len();
         Ok(bytes.len())
     }
 }

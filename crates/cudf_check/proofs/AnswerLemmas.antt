@@ -5,10 +5,11 @@ use Rattle.std.proofs.KnownBytes.{Keeps-refl}
 use Rattle.cudf_check.specs.declared.outcome.Outcome.{Outcome}
 use Rattle.cudf_check.specs.declared.outcome.RunError.{RunError}
 use Rattle.cudf_check.specs.declared.outcome.RunError.TheVariants.{Write, Memory}
-use Rattle.cudf_check.specs.Device.{SinkState}
-use Rattle.cudf_check.specs.Runs.{AppendsPrefix}
+use Rattle.cudf_check.specs.Device.{SinkState, failed_writes}
+use Rattle.cudf_check.specs.Runs.{AppendsPrefix, StopsWriting}
 use Rattle.cudf_check.specs.Report.{Report}
 use Rattle.cudf_check.specs.Working.Answering.{Answers}
+use Rattle.cudf_check.proofs.CallLemmas.{none_more, calm_writes}
 use Rattle.cudf_check.proofs.CommonLemmas.{none_below}
 
 -- memory ran out before the first byte
@@ -18,16 +19,19 @@ memory_first a report = record {
   leaves = Keeps-refl a.contents;
   failed = (λ e. absurd (cc e), λ below. absurd (none_below a.failures a.failures refl below));
   calm = tt;
+  stops = none_more failed_writes a.failures a.last;
   only = tt;
 }
 
 -- a write failed
-pub write_failed : (a b : SinkState) (report : Report) → AppendsPrefix a.contents b.contents report.text → a.failures < b.failures → Answers a b report (Err Write)
-write_failed a b report prefix below = record {
+pub write_failed : (a b : SinkState) (report : Report) → AppendsPrefix a.contents b.contents report.text → a.failures < b.failures
+    → StopsWriting (record { before = a; after = b }) → Answers a b report (Err Write)
+write_failed a b report prefix below stops = record {
   ok = tt;
   leaves = prefix;
   failed = (λ e. below, λ h. refl);
   calm = tt;
+  stops = stops;
   only = tt;
 }
 
@@ -39,6 +43,7 @@ all_written a b report outcome written calm answered = record {
   leaves = tt;
   failed = (λ e. absurd (cc e), λ below. absurd (none_below a.failures b.failures calm below));
   calm = calm;
+  stops = calm_writes a b calm;
   only = tt;
 }
 

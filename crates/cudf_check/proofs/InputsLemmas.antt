@@ -1,13 +1,15 @@
 -- Readers in a row, read one after another.
 use Rattle.std.proofs.Common.{◌≡◌, ◌↔◌, inl, inr, ℕ, zero, suc, ◌+◌, ◌<◌, ◌≤◌, List, [], ◌∷◌, ◌++◌, length, map, get_or, set, take, drop, Result, Ok, Err, IsErr, IsErrAnd, IsErrOf, refl, sym, ap, ◌∙◌, subst, arith}
 use Rattle.std.specs.List.{All, AllZip}
+use Rattle.std.proofs.lemmas.List.Elements.{All-nil, All-cons}
 use Rattle.cudf_check.specs.declared.outcome.RunError.{RunError}
 use Rattle.cudf_check.specs.declared.outcome.RunError.TheVariants.{Read, TooLong, Write, Memory}
-use Rattle.cudf_check.specs.Device.{SourceState}
+use Rattle.cudf_check.specs.Device.{SourceState, failed_reads, ended_reads}
 use Rattle.cudf_check.specs.ManyRuns.{LeavesBehind}
-use Rattle.cudf_check.specs.Readers.{Change, change, ReadsAll, IsUnfinished, IsTooLong, IsStopped, IsWithinTurns, OfOne, changes}
+use Rattle.cudf_check.specs.Readers.{Change, change, ReadsAll, IsUnfinished, IsTooLong, IsStopped, StopsInTime, OfOne, changes}
 use Rattle.cudf_check.specs.Working.InTurn.{ReadsInTurn}
 use Rattle.cudf_check.specs.Working.Named.{names_in}
+use Rattle.cudf_check.proofs.CallLemmas.{none_more}
 use Rattle.cudf_check.proofs.CommonLemmas.{same_error}
 
 -- the reading was ended, and went well
@@ -15,7 +17,7 @@ pub record WasRead (reader : Change SourceState) (bytes : List ℕ) : Type 0 whe
   pub all : ReadsAll reader bytes
   pub finished : IsUnfinished reader → ⊥
   pub short : IsTooLong reader → ⊥
-  pub turns : IsWithinTurns reader
+  pub calls : StopsInTime reader
 
 -- what holds of no reader that was read, nor of one that wasn't called
 pub record IsFailure {D : Type 0} (state : D → SourceState) (Q : Change SourceState → Type 0) : Type 0 where
@@ -41,32 +43,22 @@ too_long_fails state = record {
     still : (s : SourceState) → IsTooLong (record { before = s; after = s }) → ⊥
     still s h = let below : s.given + 268435456 < s.given = h in omega arith
 
--- the reader had more calls than an input may take
-abbrev pub IsBeyondTurns : Change SourceState → Type 0
-IsBeyondTurns reader = reader.before.calls + 536870912 < reader.after.calls
-
-pub never_both : (reader : Change SourceState) → IsWithinTurns reader → IsBeyondTurns reader → ⊥
-never_both reader within beyond =
-    let most : reader.after.calls ≤ reader.before.calls + 536870912 = within in
-    let more : reader.before.calls + 536870912 < reader.after.calls = beyond in
-    omega arith
-
-pub beyond_turns_fails : {D : Type 0} (state : D → SourceState) → IsFailure state IsBeyondTurns
-beyond_turns_fails state = record {
-  not_read = λ reader bytes w h. never_both reader w.turns h;
-  not_still = λ x h. still (state x) h;
+-- a reader that wasn't called
+pub still_in_time : (s : SourceState) → StopsInTime (record { before = s; after = s })
+still_in_time s = record {
+  turns = omega arith;
+  failed = none_more failed_reads s.failures s.last;
+  ended = none_more ended_reads s.ends s.last;
+  given = λ h. absurd (not_too_long h);
 }
   where
-    still : (s : SourceState) → IsBeyondTurns (record { before = s; after = s }) → ⊥
-    still s h = let more : s.calls + 536870912 < s.calls = h in omega arith
+    not_too_long : s.given + 268435456 < s.given → ⊥
+    not_too_long h = omega arith
 
--- where none had more calls, each is within its turns
-pub each_within : (readers : List (Change SourceState)) → (OfOne IsBeyondTurns readers → ⊥) → All IsWithinTurns readers
-each_within [] none k d below = absurd (omega arith)
-each_within (r ∷ readers) none zero d below =
-    let most : r.before.calls + 536870912 < r.after.calls → ⊥ = λ h. none (inl h) in
-    omega arith
-each_within (r ∷ readers) none (suc k) d below = each_within readers (λ h. none (inr h)) k d (omega arith)
+-- the same of each of several
+pub each_still : {D : Type 0} (state : D → SourceState) (xs : List D) → All StopsInTime (changes state xs xs)
+each_still state [] = All-nil StopsInTime
+each_still state (x ∷ xs) = All-cons StopsInTime (change state x x) (changes state xs xs) (still_in_time (state x)) (each_still state xs)
 
 -- the first readers were read, and the others are as they were lent
 pub record ReadSoFar {D : Type 0} (state : D → SourceState) (olds news : List D) (n : ℕ) (texts : List (List ℕ)) : Type 0 where
@@ -141,6 +133,16 @@ none_stopped state Q f (suc n) (old ∷ olds) (new ∷ news) [] m is h = absurd 
 none_stopped state Q f (suc n) (old ∷ olds) (new ∷ news) (t ∷ texts) m is (inl q) = f.not_read (change state old new) t m.0 q
 none_stopped state Q f (suc n) (old ∷ olds) (new ∷ news) (t ∷ texts) m is (inr h) = none_stopped state Q f n olds news texts m.1 is h
 
+-- each was called no longer than it had to be, where the first ones were read and the others weren't called
+each_in_time : {D : Type 0} (state : D → SourceState) (n : ℕ) (olds news : List D) (texts : List (List ℕ))
+    → AllZip WasRead (changes state (take n olds) (take n news)) texts → drop n news ≡ drop n olds → All StopsInTime (changes state olds news)
+each_in_time state zero olds news texts m is = subst (λ xs. All StopsInTime (changes state olds xs)) (sym is) (each_still state olds)
+each_in_time state (suc n) [] news texts m is = All-nil StopsInTime
+each_in_time state (suc n) (old ∷ olds) [] texts m is = All-nil StopsInTime
+each_in_time state (suc n) (old ∷ olds) (new ∷ news) [] m is = absurd m
+each_in_time state (suc n) (old ∷ olds) (new ∷ news) (t ∷ texts) m is =
+    All-cons StopsInTime (change state old new) (changes state olds news) m.0.calls (each_in_time state n olds news texts m.1 is)
+
 all_read : (readers : List (Change SourceState)) (texts : List (List ℕ)) → AllZip WasRead readers texts → AllZip ReadsAll readers texts
 all_read [] [] m = tt
 all_read [] (t ∷ texts) m = absurd m
@@ -180,7 +182,7 @@ read_to_the_end state n olds news texts v end m =
       all = all_read (changes state olds news) (texts v) all;
       too_long = (λ e. absurd (cc e), λ h. absurd (none_stopped state IsTooLong (too_long_fails state) n olds news (texts v) m.texts_are m.rest h));
       read = (λ e. absurd (cc e), λ h. absurd (none_stopped state IsUnfinished (unfinished_fails state) n olds news (texts v) m.texts_are m.rest h));
-      turns = each_within _ (none_stopped state IsBeyondTurns (beyond_turns_fails state) n olds news (texts v) m.texts_are m.rest);
+      calls = each_in_time state n olds news (texts v) m.texts_are m.rest;
       behind = nothing_left state n olds news (texts v) m.texts_are m.rest m.same_length;
       no_write = λ e. absurd (cc e);
     }
@@ -198,7 +200,7 @@ no_room_left state n olds news read texts m = record {
   all = tt;
   too_long = (λ e. absurd (cc e), λ h. absurd (none_stopped state IsTooLong (too_long_fails state) n olds news read m.texts_are m.rest h));
   read = (λ e. absurd (cc e), λ h. absurd (none_stopped state IsUnfinished (unfinished_fails state) n olds news read m.texts_are m.rest h));
-  turns = each_within _ (none_stopped state IsBeyondTurns (beyond_turns_fails state) n olds news read m.texts_are m.rest);
+  calls = each_in_time state n olds news read m.texts_are m.rest;
   behind = nothing_left state n olds news read m.texts_are m.rest m.same_length;
   no_write = λ e. absurd (cc e);
 }
@@ -240,24 +242,38 @@ left_behind state (suc n) (old ∷ olds) (new ∷ news) [] x below same m is = a
 left_behind state (suc n) (old ∷ olds) (new ∷ news) (t ∷ texts) x below same m is =
     ((λ h. absurd (read_on (change state old new) t m.0 h)), left_behind state n olds news texts x (omega arith) (omega arith) m.1 is)
 
+-- the same, where the reading of one more ended in an error
+all_in_time : {D : Type 0} (state : D → SourceState) (n : ℕ) (olds news : List D) (texts : List (List ℕ)) (x d : D)
+    → n < length olds → length news ≡ length olds → AllZip WasRead (changes state (take n olds) (take n news)) texts → drop n news ≡ drop n olds
+    → StopsInTime (change state (get_or news n d) x) → All StopsInTime (changes state olds (set news n x))
+all_in_time state n [] news texts x d below same m is one = absurd (omega arith)
+all_in_time state n (old ∷ olds) [] texts x d below same m is one = absurd (omega arith)
+all_in_time state zero (old ∷ olds) (new ∷ news) texts x d below same m is one =
+    let first : new ≡ old = cc in
+    let rest : news ≡ olds = cc in
+    All-cons StopsInTime (change state old x) (changes state olds news) (subst (λ y. StopsInTime (change state y x)) first one)
+    (subst (λ xs. All StopsInTime (changes state olds xs)) (sym rest) (each_still state olds))
+all_in_time state (suc n) (old ∷ olds) (new ∷ news) [] x d below same m is one = absurd m
+all_in_time state (suc n) (old ∷ olds) (new ∷ news) (t ∷ texts) x d below same m is one =
+    All-cons StopsInTime (change state old new) (changes state olds (set news n x)) m.0.calls (all_in_time state n olds news texts x d (omega arith) (omega arith) m.1 is one)
+
 -- a reading that ended in an error ends all
 pub stopped : {D T U : Type 0} (state : D → SourceState) (n : ℕ) (olds news : List D) (read : List (List ℕ)) (x d : D) (texts : T → List (List ℕ)) (reading : Result U RunError) (e : RunError) (result : Result T RunError)
     → n < length news → ReadSoFar state olds news n read → reading ≡ Err e
     → (IsErrOf reading TooLong ↔ IsTooLong (change state (get_or news n d) x)) → (IsErrOf reading Read ↔ IsUnfinished (change state (get_or news n d) x))
-    → IsWithinTurns (change state (get_or news n d) x) → (reading ≡ Err Write → ⊥) → IsErr result × IsErrAnd result (λ y. y ≡ e)
+    → StopsInTime (change state (get_or news n d) x) → (reading ≡ Err Write → ⊥) → IsErr result × IsErrAnd result (λ y. y ≡ e)
     → ReadsInTurn state olds (set news n x) texts result
-stopped state n olds news read x d texts reading e (Ok v) below m is too_long unfinished within no_write same = absurd same.1
-stopped state n olds news read x d texts reading e (Err y) below m is too_long unfinished within no_write same =
+stopped state n olds news read x d texts reading e (Ok v) below m is too_long unfinished in_time no_write same = absurd same.1
+stopped state n olds news read x d texts reading e (Err y) below m is too_long unfinished in_time no_write same =
     let below_old : n < length olds = omega (arith, m.same_length) in
     let too_long_one = one_of state IsTooLong (too_long_fails state) n olds news read x d below_old m.same_length m.texts_are m.rest in
     let unfinished_one = one_of state IsUnfinished (unfinished_fails state) n olds news read x d below_old m.same_length m.texts_are m.rest in
-    let beyond_one = one_of state IsBeyondTurns (beyond_turns_fails state) n olds news read x d below_old m.same_length m.texts_are m.rest in
     let error : y ≡ e = same.1 in
     record {
       all = tt;
       too_long = (λ h. too_long_one.1 (too_long.0 (is ∙ ap Err (sym error ∙ same_error h))), λ h. ap Err (error ∙ same_error (sym is ∙ too_long.1 (too_long_one.0 h))));
       read = (λ h. unfinished_one.1 (unfinished.0 (is ∙ ap Err (sym error ∙ same_error h))), λ h. ap Err (error ∙ same_error (sym is ∙ unfinished.1 (unfinished_one.0 h))));
-      turns = each_within _ (λ h. never_both (change state (get_or news n d) x) within (beyond_one.0 h));
+      calls = all_in_time state n olds news read x d below_old m.same_length m.texts_are m.rest in_time;
       behind = left_behind state n olds news read x below_old m.same_length m.texts_are m.rest;
       no_write = λ h. no_write (is ∙ ap Err (sym error ∙ same_error h));
     }

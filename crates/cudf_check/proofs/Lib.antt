@@ -1,4 +1,5 @@
 pub mod AnswerLemmas
+pub mod CallLemmas
 pub mod CommonLemmas
 pub mod CoreLemmas
 pub mod EncodingLemmas

@@ -15,6 +15,7 @@ use Rattle.cudf_check.specs.Working.Answering.{Answers}
 use Rattle.cudf_check.specs.Working.Paper.{IsTaken, IsTorn, IsSaid, Says, Holds}
 use Rattle.cudf_check.specs.Working.Writing.{Writes}
 use Rattle.cudf_check.proofs.AnswerLemmas.{write_failed, all_written}
+use Rattle.cudf_check.proofs.CallLemmas.{stops_later}
 use Rattle.cudf_check.proofs.OutputLemmas.{AppendsPrefix-longer}
 
 -- nothing
@@ -44,7 +45,7 @@ Says-as state a b t u is m = subst (Says state a b) is m
 
 -- a prefix of a text is one of every longer text
 pub torn : (start a : SinkState) (before text : List ℕ) → IsTorn start a before → IsTorn start a (before ++ text)
-torn start a before text m = record { prefix = AppendsPrefix-longer start.contents a.contents before text m.prefix; failed = m.failed }
+torn start a before text m = record { prefix = AppendsPrefix-longer start.contents a.contents before text m.prefix; failed = m.failed; stops = m.stops }
 
 -- whatever comes behind a text counts as printed
 pub Says-torn : {W : Type 0} (state : W → SinkState) (a b : Paper W) (t u : List ℕ) → b.has_failed ≡ true → Says state a b t → Says state a b (t ++ u)
@@ -101,6 +102,7 @@ cut_off start a b p text e w m =
         appended = Appends-trans start.contents a.contents b.contents m.taken w.prefix.taken m.appended w.prefix.appended;
       };
       failed = omega arith;
+      stops = stops_later start a b m.calm w.stops;
     }
 
 -- the same, where a text would have come behind it
@@ -128,7 +130,7 @@ pub stopped : (start a : SinkState) (text : List ℕ) (outcome : Outcome) (e : R
     → Answers start a (record { text = text; outcome = outcome }) (Err e)
 stopped start a text outcome e is m =
     subst (λ x. Answers start a (record { text = text; outcome = outcome }) (Err x)) (sym is)
-    (write_failed start a (record { text = text; outcome = outcome }) m.prefix m.failed)
+    (write_failed start a (record { text = text; outcome = outcome }) m.prefix m.failed m.stops)
 
 -- all was written
 pub finished : (start a : SinkState) (text : List ℕ) (outcome : Outcome) → IsTaken start a [] text → Answers start a (record { text = text; outcome = outcome }) (Ok outcome)

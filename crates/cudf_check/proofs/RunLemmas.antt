@@ -9,12 +9,13 @@ use Rattle.cudf_job.specs.declared.job.Job.TheVariants.{Lint, Check, Score, Cnf,
 use Rattle.cudf_check.specs.declared.outcome.Outcome.{Outcome}
 use Rattle.cudf_check.specs.declared.outcome.RunError.{RunError}
 use Rattle.cudf_check.specs.declared.outcome.RunError.TheVariants.{Read, TooLong, Write, Memory}
-use Rattle.cudf_check.specs.Device.{SourceState, SinkState}
-use Rattle.cudf_check.specs.Readers.{Change, ReadsAll, IsUnfinished, IsTooLong, IsWithinTurns, OfOne}
+use Rattle.cudf_check.specs.Device.{SourceState, SinkState, failed_writes}
+use Rattle.cudf_check.specs.Readers.{Change, ReadsAll, IsUnfinished, IsTooLong, StopsInTime, OfOne}
 use Rattle.cudf_check.specs.Naming.{Names, names_of}
 use Rattle.cudf_check.specs.Report.{Report}
 use Rattle.cudf_check.specs.Runs.{OfReport, Runs, read_for}
 use Rattle.cudf_check.specs.Working.Answering.{Answers}
+use Rattle.cudf_check.proofs.CallLemmas.{none_more}
 use Rattle.cudf_check.proofs.CommonLemmas.{none_below, same_error}
 use Rattle.cudf_check.proofs.InputsLemmas.{WasRead}
 
@@ -37,6 +38,7 @@ first_stopped answer first others out reading e (Err y) none_long none_unfinishe
       read = (λ h. inl (unfinished.0 (is ∙ ap Err (sym error ∙ same_error h))), read_back error);
       too_long = (λ h. inl (too_long.0 (is ∙ ap Err (sym error ∙ same_error h))), long_back error);
       write = (λ h. absurd (no_write (is ∙ ap Err (sym error ∙ same_error h))), λ below. absurd (none_below out.failures out.failures refl below));
+      stops = none_more failed_writes out.failures out.last;
     }
   where
     read_back : y ≡ e → IsUnfinished first ⊎ OfOne IsUnfinished others → IsErrOf {T = Outcome} (Err y) Read
@@ -62,6 +64,7 @@ second_stopped answer first text second out reading e (Err y) was is too_long un
       read = (λ h. inr (inl (unfinished.0 (is ∙ ap Err (sym error ∙ same_error h)))), read_back error);
       too_long = (λ h. inr (inl (too_long.0 (is ∙ ap Err (sym error ∙ same_error h)))), long_back error);
       write = (λ h. absurd (no_write (is ∙ ap Err (sym error ∙ same_error h))), λ below. absurd (none_below out.failures out.failures refl below));
+      stops = none_more failed_writes out.failures out.last;
     }
   where
     read_back : y ≡ e → IsUnfinished first ⊎ OfOne IsUnfinished (second ∷ []) → IsErrOf {T = Outcome} (Err y) Read
@@ -103,6 +106,7 @@ module _ (answer : Names → List ℕ → List (List ℕ) → Report) (first : C
     read = (λ h. absurd (cc h), λ h. absurd (none_unfinished h));
     too_long = (λ h. absurd (cc h), λ h. absurd (none_too_long h));
     write = m.failed;
+    stops = m.stops;
   }
   all_answered before after (Err Read) m = absurd m.only
   all_answered before after (Err TooLong) m = absurd m.only
@@ -113,6 +117,7 @@ module _ (answer : Names → List ℕ → List (List ℕ) → Report) (first : C
     read = (λ h. absurd (cc h), λ h. absurd (none_unfinished h));
     too_long = (λ h. absurd (cc h), λ h. absurd (none_too_long h));
     write = m.failed;
+    stops = m.stops;
   }
   all_answered before after (Err Memory) m = record {
     done = tt;
@@ -121,18 +126,19 @@ module _ (answer : Names → List ℕ → List (List ℕ) → Report) (first : C
     read = (λ h. absurd (cc h), λ h. absurd (none_unfinished h));
     too_long = (λ h. absurd (cc h), λ h. absurd (none_too_long h));
     write = m.failed;
+    stops = m.stops;
   }
 
 -- ---- one reader behind the first
 
 -- a reading that ended well
 pub was_read : {T : Type 0} (reader : Change SourceState) (bytes : List ℕ) (v : T) → ReadsAll reader bytes
-    → (IsErrOf {T = T} {E = RunError} (Ok v) TooLong ↔ IsTooLong reader) → (IsErrOf {T = T} {E = RunError} (Ok v) Read ↔ IsUnfinished reader) → IsWithinTurns reader → WasRead reader bytes
-was_read reader bytes v all too_long unfinished turns = record {
+    → (IsErrOf {T = T} {E = RunError} (Ok v) TooLong ↔ IsTooLong reader) → (IsErrOf {T = T} {E = RunError} (Ok v) Read ↔ IsUnfinished reader) → StopsInTime reader → WasRead reader bytes
+was_read reader bytes v all too_long unfinished calls = record {
   all = all;
   finished = λ h. absurd (cc (unfinished.1 h));
   short = λ h. absurd (cc (too_long.1 h));
-  turns = turns;
+  calls = calls;
 }
 
 -- one stands behind it
@@ -154,6 +160,14 @@ pub reads_it : (job : Job) (solutions : List (Change SourceState))
 reads_it job solutions (inl check) = ap (λ j. read_for j solutions) check.3
 reads_it job solutions (inr (inl score)) = ap (λ j. read_for j solutions) score.1
 reads_it job solutions (inr (inr refute)) = ap (λ j. read_for j solutions) refute.1
+
+-- where there is none, it reads none
+pub reads_none : (job : Job) → read_for job [] ≡ []
+reads_none (Lint explain) = refl
+reads_none (Check after limit explain) = refl
+reads_none (Score aims) = refl
+reads_none Cnf = refl
+reads_none (Refute explain) = refl
 
 -- what holds of none of the readers holds of none that the job reads
 pub none_for : (P : Change SourceState → Type 0) (job : Job) (solutions : List (Change SourceState)) → (OfOne P solutions → ⊥) → OfOne P (read_for job solutions) → ⊥

@@ -4,7 +4,8 @@ use Rattle.cudf_check.specs.declared.device.Trouble.{Trouble}
 use Rattle.cudf_check.specs.declared.device.Trouble.TheVariants.{Failed}
 
 -- a source: its name, where lines name it; the bytes that it will still give, where it tells them; how many calls of
--- `read` it has had, how many of them answered `Failed`, and how many answered 0 bytes; how many bytes it has given
+-- `read` it has had, how many of them answered `Failed`, and how many answered 0 bytes; how many bytes it has given; what
+-- the last call answered
 pub record SourceState : Type 0 where
   pub name : Option (List ℕ)
   pub remaining : Option (List ℕ)
@@ -12,11 +13,14 @@ pub record SourceState : Type 0 where
   pub failures : ℕ
   pub ends : ℕ
   pub given : ℕ
+  pub last : Option (Result ℕ Trouble)
 
--- a sink: the bytes that it has taken, where it tells them; how many calls of `write` answered a trouble or took no byte
+-- a sink: the bytes that it has taken, where it tells them; how many calls of `write` answered a trouble or took no byte;
+-- what the last call answered
 pub record SinkState : Type 0 where
   pub contents : Option (List ℕ)
   pub failures : ℕ
+  pub last : Option (Result ℕ Trouble)
 
 -- one failure where the read failed; an interrupted read is none
 abbrev pub failed_reads : Result ℕ Trouble → ℕ

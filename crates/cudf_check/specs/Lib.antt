@@ -1,8 +1,6 @@
 pub mod Device
-pub mod DeviceInside
 pub mod Explanations
 pub mod ManyRuns
-pub mod NamedInside
 pub mod Naming
 pub mod Promises
 pub mod RankReport

@@ -1,1 +1,3 @@
+pub mod DeviceInside
 pub mod Laws
+pub mod NamedInside

@@ -1,7 +1,9 @@
 -- What became of readers: of one, and of several that are read in turn.
-use Rattle.std.specs.Prelude.{◌≡◌, ◌+◌, ◌<◌, ◌≤◌, ◌⊎◌, ℕ, List, [], ◌∷◌, length}
+use Rattle.std.specs.Prelude.{◌≡◌, ◌+◌, ◌<◌, ◌≤◌, ◌⊎◌, ℕ, List, [], ◌∷◌, length, Option, Result}
+use Rattle.std.specs.Option.{option_map_or}
 use Rattle.std.specs.Io.KnownBytes.{Consumes, IsAtEnd}
-use Rattle.cudf_check.specs.Device.{SourceState}
+use Rattle.cudf_check.specs.Device.{SourceState, failed_reads, ended_reads, bytes_given}
+use Rattle.cudf_check.specs.declared.device.Trouble.{Trouble}
 
 -- ---- before and after
 
@@ -48,11 +50,23 @@ IsUnfinished reader = (reader.before.failures < reader.after.failures)
 abbrev pub IsTooLong : Change SourceState → Type 0
 IsTooLong reader = reader.before.given + most_bytes < reader.after.given
 
--- the reader had no more calls than an input may take
-abbrev pub IsWithinTurns : Change SourceState → Type 0
-IsWithinTurns reader = reader.after.calls ≤ reader.before.calls + most_turns
+-- of the calls that count there was at most one, and no call came after it
+pub record IsLast (count : Result ℕ Trouble → ℕ) (before after : ℕ) (last : Option (Result ℕ Trouble)) : Type 0 where
+  pub once : after ≤ before + 1
+  pub at_last : before < after → option_map_or count last 0 ≡ 1
 
--- the reading ended in an error, whichever it is: where memory ran out, the reader hasn't told its end
+-- the reader wasn't called again once that could tell nothing more
+pub record StopsInTime (reader : Change SourceState) : Type 0 where
+  -- no more calls than an input may take
+  pub turns : reader.after.calls ≤ reader.before.calls + most_turns
+  -- none after one that failed
+  pub failed : IsLast failed_reads reader.before.failures reader.after.failures reader.after.last
+  -- none after one that told the end
+  pub ended : IsLast ended_reads reader.before.ends reader.after.ends reader.after.last
+  -- none after it gave too many bytes: without those of the last call they weren't too many
+  pub given : IsTooLong reader → reader.after.given ≤ reader.before.given + most_bytes + option_map_or bytes_given reader.after.last 0
+
+-- the reader wasn't read whole: it failed, gave too much, or hasn't told its end, as where memory ran out
 abbrev pub IsStopped : Change SourceState → Type 0
 IsStopped reader = IsUnfinished reader ⊎ (IsTooLong reader ⊎ (reader.after.ends ≡ reader.before.ends))
 

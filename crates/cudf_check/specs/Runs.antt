@@ -5,8 +5,8 @@ use Rattle.std.proofs.Common.{inl, inr}
 use Rattle.std.specs.Borrow.{MutBor}
 use Rattle.std.specs.Io.KnownBytes.{Appends, Keeps}
 use Rattle.cudf_problem.specs.declared.mode.Mode.{Mode}
-use Rattle.cudf_check.specs.Device.{SourceState, SinkState}
-use Rattle.cudf_check.specs.Readers.{Change, ReadsAll, IsUnfinished, IsTooLong, IsStopped, OfOne}
+use Rattle.cudf_check.specs.Device.{SourceState, SinkState, failed_writes}
+use Rattle.cudf_check.specs.Readers.{Change, ReadsAll, IsUnfinished, IsTooLong, IsStopped, IsLast, OfOne}
 use Rattle.cudf_check.specs.Naming.{Names, names_of}
 use Rattle.cudf_check.specs.Report.{Report, report}
 use Rattle.cudf_job.specs.declared.job.Job.{Job}
@@ -25,7 +25,11 @@ pub record AppendsPrefix (old new : Option (List ℕ)) (text : List ℕ) : Type 
   pub whole : taken ++ left ≡ text
   pub appended : Appends old new taken
 
--- the first input, and those behind it, were read whole, and this holds of the answer to their names and texts
+-- no write came after one that failed
+abbrev pub StopsWriting : Change SinkState → Type 0
+StopsWriting out = IsLast failed_writes out.before.failures out.after.failures out.after.last
+
+-- the first input and the others were read whole, and this holds of the answer to their names and texts
 pub record OfReport (answer : Names → List ℕ → List (List ℕ) → Report) (first : Change SourceState) (others : List (Change SourceState)) (P : Report → Type 0) : Type 0 where
   pub text : List ℕ
   pub texts : List (List ℕ)
@@ -33,7 +37,7 @@ pub record OfReport (answer : Names → List ℕ → List (List ℕ) → Report)
   pub others_read : AllZip ReadsAll others texts
   pub holds : P (answer (names_of first others) text texts)
 
--- a run on a first input and those behind it, whose report is the answer to their names and texts
+-- a run on a first input and others, whose report is the answer to their names and texts
 pub record Runs (answer : Names → List ℕ → List (List ℕ) → Report) (first : Change SourceState) (others : List (Change SourceState)) (out : Change SinkState) (result : Result Outcome RunError) : Type 0 where
   -- an outcome: the whole report was written, and the outcome is the report's
   pub done : IfOk result (λ outcome. OfReport answer first others (λ r. Appends out.before.contents out.after.contents r.text × (outcome ≡ r.outcome)))
@@ -47,10 +51,11 @@ pub record Runs (answer : Names → List ℕ → List (List ℕ) → Report) (fi
   pub too_long : IsErrOf result TooLong ↔ (IsTooLong first ⊎ OfOne IsTooLong others)
   -- `Write` exactly where a write failed
   pub write : IsErrOf result Write ↔ (out.before.failures < out.after.failures)
+  pub stops : StopsWriting out
 
 -- ---- a job's run
 
--- the report of a job on an input, and on the solution behind it, where there is one
+-- the report of a job on an input, and on the solution, where there is one
 abbrev pub job_report : Job → Mode → Names → List ℕ → List (List ℕ) → Report
 job_report job mode names input solutions = report job mode names input (slice_get solutions 0)
 
@@ -58,15 +63,15 @@ job_report job mode names input solutions = report job mode names input (slice_g
 abbrev pub read_for : Job → List (Change SourceState) → List (Change SourceState)
 read_for (Lint explain) solutions = []
 read_for Cnf solutions = []
-read_for job solutions = solutions
+read_for _ solutions = solutions
 
--- the solution isn't read: the job needs none, or the reading of the first input ended in an error
+-- the solution isn't read: the job needs none, or the first input wasn't read whole
 abbrev pub SkipsSolution : Job → Change SourceState → Type 0
 SkipsSolution (Lint explain) input = Unit {0}
 SkipsSolution Cnf input = Unit {0}
-SkipsSolution job input = IsStopped input
+SkipsSolution _ input = IsStopped input
 
--- the device behind an optional reference, if there is one, as it was lent
+-- the device of an optional reference, if there is one, as it was lent
 abbrev pub lent : {D : Type 0} → Option (MutBor D) → List D
 lent None = []
 lent (Some r) = r.now ∷ []
@@ -74,7 +79,7 @@ lent (Some r) = r.now ∷ []
 -- and as it is returned
 abbrev pub returned : {D : Type 0} → Unit {0} ⊎ ((MutBor D × Unit {0}) ⊎ ⊥) → List D
 returned (inr (inl r)) = r.0.now ∷ []
-returned none = []
+returned _ = []
 
 -- ---- exit statuses
 
@@ -89,4 +94,4 @@ outcome_status TooLarge = 5
 -- the status where there is no whole report
 abbrev pub error_status : RunError → ℕ
 error_status Memory = 6
-error_status error = 5
+error_status _ = 5

@@ -1,11 +1,11 @@
 //! What a run reads from and writes to. Contracts see of each device one state: its bytes, where it tells them, and
 //! always the counts of its calls.
-ghost use Rattle.std.specs.Prelude.{◌≡◌, ℕ, List, Option, Result, option_map, ◌+◌, ◌<◌, ◌≤◌, length, IfOk};
+ghost use Rattle.std.specs.Prelude.{◌≡◌, ℕ, List, Option, Some, Result, option_map, ◌+◌, ◌<◌, ◌≤◌, length, IfOk};
 ghost use Rattle.std.specs.Io.{ReadsAtMost, WritesAtMost};
 ghost use Rattle.std.specs.Io.KnownBytes.{ReadConsumes, WriteAppends};
 ghost use Rattle.std.specs.declared.io.Error.{Error};
 ghost use Rattle.cudf_check.specs.Device.{SourceState, SinkState, failed_reads, ended_reads, bytes_given, failed_writes};
-ghost use Rattle.cudf_check.specs.DeviceInside.{device_answer};
+ghost use Rattle.cudf_check.specs.Promises.DeviceInside.{device_answer};
 
 use cudf_index::Steps;
 use std::io::{self, ErrorKind, Read, Write};
@@ -21,8 +21,8 @@ pub enum Trouble {
 
 /// Something that gives bytes.
 pub trait Source {
-    /// Its name, where it has one, the bytes that it will still give, where it tells them, and the counts of its calls and
-    /// bytes.
+    /// Its name, where it has one, the bytes that it will still give, where it tells them, the counts of its calls and
+    /// bytes, and what its last call answered.
     ghost state: { Self → SourceState };
 
     /// The name of the file that it reads, where lines of reports name it.
@@ -42,12 +42,13 @@ pub trait Source {
         ensures called { (state self.new).calls ≡ (state self.old).calls + 1 }
         ensures failed { (state self.new).failures ≡ (state self.old).failures + failed_reads result }
         ensures ended { (state self.new).ends ≡ (state self.old).ends + ended_reads result }
-        ensures gave { (state self.new).given ≡ (state self.old).given + bytes_given result };
+        ensures gave { (state self.new).given ≡ (state self.old).given + bytes_given result }
+        ensures last { (state self.new).last ≡ Some result };
 }
 
 /// Something that takes bytes.
 pub trait Sink {
-    /// The bytes that it has taken, where it tells them, and the count of its failed calls.
+    /// The bytes that it has taken, where it tells them, the count of its failed calls, and what its last call answered.
     ghost state: { Self → SinkState };
 
     /// Takes bytes from the front of `bytes`, which are one at least, and answers how many: at most as many as there
@@ -57,7 +58,8 @@ pub trait Sink {
 
         ensures bound { IfOk result (λ n. n ≤ length bytes.now) }
         ensures bytes { WriteAppends (state self.old).contents (state self.new).contents result bytes.now }
-        ensures failed { (state self.new).failures ≡ (state self.old).failures + failed_writes result };
+        ensures failed { (state self.new).failures ≡ (state self.old).failures + failed_writes result }
+        ensures last { (state self.new).last ≡ Some result };
 }
 
 /// A reader or a writer of std, as a `Source` or a `Sink`. It tells its bytes where the reader or
@@ -74,10 +76,12 @@ pub struct Device<T> {
     ends: Steps,
     #[derive_where(skip(Debug))]
     given: Steps,
+    #[derive_where(skip(Debug))]
+    last: Option<Result<usize, Trouble>>,
 }
 
 impl<T> Device<T> {
-    ghost use Rattle.cudf_check.specs.DeviceInside.{device_inner, IsUnused};
+    ghost use Rattle.cudf_check.specs.Promises.DeviceInside.{device_inner, IsUnused};
 
     /// A device over `inner` that has had no call.
     pub fn new(inner: T) -> Device<T>
@@ -90,6 +94,7 @@ impl<T> Device<T> {
             failures: Steps::new(),
             ends: Steps::new(),
             given: Steps::new(),
+            last: None,
         }
     }
 
@@ -103,6 +108,7 @@ impl<T> Device<T> {
             failures: _,
             ends: _,
             given: _,
+            last: _,
         } = self;
         inner
     }
@@ -151,7 +157,7 @@ impl<R: Read> Reader for R {
 }
 
 impl<R: Reader> Source for Device<R> {
-    ghost use Rattle.cudf_check.specs.DeviceInside.{device_inner, source_state, IsTold};
+    ghost use Rattle.cudf_check.specs.Promises.DeviceInside.{device_inner, source_state, IsTold};
 
     ghost state = { source_state R.remaining };
 
@@ -173,6 +179,7 @@ impl<R: Reader> Source for Device<R> {
             ≡ (source_state R.remaining self.old).ends + ended_reads result }
         ensures gave { (source_state R.remaining self.new).given
             ≡ (source_state R.remaining self.old).given + bytes_given result }
+        ensures last { (source_state R.remaining self.new).last ≡ Some result }
     {
         self.calls.tick();
         let answer = answer_of(self.inner.read_once(buffer));
@@ -182,6 +189,7 @@ impl<R: Reader> Source for Device<R> {
             Err(Trouble::Failed) => self.failures.tick(),
             Err(Trouble::Interrupted) => {}
         }
+        self.last = Some(answer);
         answer
     }
 }
@@ -213,7 +221,7 @@ impl<W: Write> Writer for W {
 }
 
 impl<W: Writer> Sink for Device<W> {
-    ghost use Rattle.cudf_check.specs.DeviceInside.{device_inner, sink_state, IsHandedDown};
+    ghost use Rattle.cudf_check.specs.Promises.DeviceInside.{device_inner, sink_state, IsHandedDown};
 
     ghost state = { sink_state W.contents };
 
@@ -226,12 +234,14 @@ impl<W: Writer> Sink for Device<W> {
             result bytes.now }
         ensures failed { (sink_state W.contents self.new).failures
             ≡ (sink_state W.contents self.old).failures + failed_writes result }
+        ensures last { (sink_state W.contents self.new).last ≡ Some result }
     {
         let answer = answer_of(self.inner.write_once(bytes));
         match answer {
             Ok(n) if n > 0 => {}
             _ => self.failures.tick(),
         }
+        self.last = Some(answer);
         answer
     }
 }

@@ -1,6 +1,6 @@
 //! Reads an input to its end, within limits on its bytes and on the calls that it takes.
 ghost use Rattle.std.specs.Prelude.{◌≡◌, ◌≢◌, ◌↔◌, IfOk, IfErr, IfSome, IsErrOf};
-ghost use Rattle.cudf_check.specs.Readers.{change, ReadsAll, IsUnfinished, IsTooLong, IsWithinTurns};
+ghost use Rattle.cudf_check.specs.Readers.{change, ReadsAll, IsUnfinished, IsTooLong, StopsInTime};
 
 use crate::device::{Source, Trouble};
 use crate::outcome::RunError;
@@ -24,7 +24,7 @@ pub(crate) fn read_all<R: Source>(alloc: Global, source: &mut R) -> Result<Vec<u
     // Exactly where a read failed, or the last of the turns neither ended the input nor made it too long.
     ensures read { IsErrOf result RunError.Read ↔ IsUnfinished (change R.state source.old source.new) }
 
-    ensures turns { IsWithinTurns (change R.state source.old source.new) }
+    ensures calls { StopsInTime (change R.state source.old source.new) }
     ensures named { (R.state source.new).name ≡ (R.state source.old).name }
     ensures no_write { result ≢ Err RunError.Write }
 {

@@ -6,7 +6,7 @@ ghost use Rattle.std.specs.Prelude.{◌≡◌, IfOk, option_map};
 ghost use Rattle.std.specs.List.{All};
 ghost use Rattle.cudf_check.specs.ManyRuns.{LeavesBehind};
 ghost use Rattle.cudf_check.specs.RankReport.{rank_report};
-ghost use Rattle.cudf_check.specs.Readers.{change, IsStopped, IsWithinTurns, changes};
+ghost use Rattle.cudf_check.specs.Readers.{change, IsStopped, StopsInTime, changes};
 ghost use Rattle.cudf_check.specs.Refutations.{HasRefutedIfYes};
 ghost use Rattle.cudf_check.specs.Runs.{job_report, lent, read_for, returned, Runs, SkipsSolution};
 
@@ -56,10 +56,11 @@ use std::alloc::Global;
 /// # Errors
 ///
 /// - `Read`: a read failed, or turn 536870912 of a reader neither ended its input nor made it too
-///   long. A turn is one call of `read`; an interrupted one is tried again. No reader has more turns.
+///   long. A turn is one call of `read`; an interrupted one is tried again. No reader has more turns,
+///   nor is one called again after it failed, told its end or gave too much.
 /// - `TooLong`: a reader gave more than 268435456 bytes (256 MiB).
-/// - `Write`: a call of `write` answered a trouble or took no byte. What was taken before is a
-///   prefix of the report.
+/// - `Write`: a call of `write` answered a trouble or took no byte, and was the last one. What was
+///   taken before is a prefix of the report.
 /// - `Memory`: a growth was refused.
 ///
 /// After `Read`, `TooLong` and `Memory` nothing was written.
@@ -79,9 +80,9 @@ pub fn run<R: Source, S: Source, W: Sink>(
     // of a written reason.
     ensures refuted { IfOk result (λ outcome. HasRefutedIfYes job.now outcome (change R.state input.old input.new) (change W.state out.old out.new)) }
 
-    // No reader is called more often than an input may take.
-    ensures turns { IsWithinTurns (change R.state input.old input.new) }
-    ensures solution_turns { All IsWithinTurns (changes S.state (lent solution.entry) (returned solution.exit)) }
+    // No reader is called more often than an input may take, nor after a call that failed, told the end or gave too much.
+    ensures calls { StopsInTime (change R.state input.old input.new) }
+    ensures solution_calls { All StopsInTime (changes S.state (lent solution.entry) (returned solution.exit)) }
 
     // Where the solution isn't read, it is returned as it was lent.
     ensures unread { SkipsSolution job.now (change R.state input.old input.new)
@@ -121,10 +122,11 @@ pub fn run<R: Source, S: Source, W: Sink>(
 /// # Errors
 ///
 /// - `Read`: a read failed, or turn 536870912 of a reader neither ended its input nor made it too
-///   long. A turn is one call of `read`; an interrupted one is tried again. No reader has more turns.
+///   long. A turn is one call of `read`; an interrupted one is tried again. No reader has more turns,
+///   nor is one called again after it failed, told its end or gave too much.
 /// - `TooLong`: a reader gave more than 268435456 bytes (256 MiB).
-/// - `Write`: a call of `write` answered a trouble or took no byte. What was taken before is a
-///   prefix of the report.
+/// - `Write`: a call of `write` answered a trouble or took no byte, and was the last one. What was
+///   taken before is a prefix of the report.
 /// - `Memory`: a growth was refused.
 ///
 /// After `Read`, `TooLong` and `Memory` nothing was written. The readers behind one whose reading ended in an error
@@ -140,9 +142,9 @@ pub fn rank<R: Source, S: Source, W: Sink>(
     ensures runs { Runs (rank_report aims.now mode) (change R.state problem.old problem.new)
         (changes S.state solutions.old solutions.new) (change W.state out.old out.new) result }
 
-    // No reader is called more often than an input may take.
-    ensures turns { IsWithinTurns (change R.state problem.old problem.new) }
-    ensures solutions_turns { All IsWithinTurns (changes S.state solutions.old solutions.new) }
+    // No reader is called more often than an input may take, nor after a call that failed, told the end or gave too much.
+    ensures calls { StopsInTime (change R.state problem.old problem.new) }
+    ensures solutions_calls { All StopsInTime (changes S.state solutions.old solutions.new) }
 
     // Where the problem's reading ended in an error, the solutions are as they were lent; where a solution's did, those
     // behind it.

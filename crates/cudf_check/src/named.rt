@@ -11,7 +11,7 @@ pub struct Named<'n, S> {
 
 impl<'n, S> Named<'n, S> {
     ghost use Rattle.std.specs.Prelude.{◌≡◌, option_map};
-    ghost use Rattle.cudf_check.specs.NamedInside.{named_source, name_of};
+    ghost use Rattle.cudf_check.specs.Promises.NamedInside.{named_source, name_of};
 
     /// The source with this name, or without one.
     pub fn new(source: S, name: Option<&'n str>) -> Named<'n, S>
@@ -30,7 +30,7 @@ impl<'n, S> Named<'n, S> {
 }
 
 impl<'n, S: Source> Source for Named<'n, S> {
-    ghost use Rattle.cudf_check.specs.NamedInside.{named_state};
+    ghost use Rattle.cudf_check.specs.Promises.NamedInside.{named_state};
 
     ghost state = { named_state S.state };
 

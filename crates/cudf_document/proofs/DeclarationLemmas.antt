@@ -6,7 +6,7 @@ use Rattle.std.proofs.lemmas.List.Elements.{filter_map-append}
 use Rattle.std.proofs.lemmas.List.Folds.{list_all-append}
 use Rattle.std.specs.List.{list_all}
 use Rattle.cudf_value.specs.Declarations.{PlainDeclaration}
-use Rattle.cudf_problem.specs.Values.{declared_test}
+use Rattle.cudf_document.specs.Working.Tests.{declared_test}
 use Rattle.cudf_value.specs.Parts.{look_up}
 use Rattle.cudf_problem.specs.Documents.{with_earlier}
 use Rattle.cudf_problem.specs.Preamble.{is_declarable}

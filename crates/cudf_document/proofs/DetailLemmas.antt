@@ -2,6 +2,7 @@
 use Rattle.std.proofs.Common.{◌≡◌, ℕ, ◌==◌, nat_le, Bool, true, false, not, List, [], ◌∷◌, ◌++◌, ◌+◌, map, Option, Some, None, Result, Ok, Err, IfOk, find, bytes_eq, refl, sym, ap, ◌∙◌, if◌then◌else◌, option_map, option_and_then}
 use Rattle.std.proofs.lemmas.List.Folds.{find-append}
 use Rattle.std.specs.List.{list_any}
+use mathlib.Core.List.{map-map}
 use Rattle.std.specs.Option.{option_or, option_map_or}
 use Rattle.std.specs.Str.{IsUtf8, is_utf8}
 use Rattle.std.proofs.lemmas.Str.{IsUtf8-from_is_utf8, is_utf8-from_IsUtf8}
@@ -18,13 +19,13 @@ use Rattle.cudf_value.specs.Misfits.{type_word}
 use Rattle.cudf_problem.specs.declared.postmark.Postmark.TheVariants.{Package}
 use Rattle.cudf_problem.specs.declared.mode.Mode.TheVariants.{Strict}
 use Rattle.cudf_document.specs.declared.details.found.Passed.{Passed}
-use Rattle.cudf_document.specs.Details.{PlainDetail, request_on, package_on, undeclared, misdeclared, lacking, misplaced, stanza_on, property_on, package_words, words, bad_piece, package_detail, repeated_detail, misdeclared_detail, property_detail, stanza_detail, text_detail, byte_detail, source_detail, fault_detail}
+use Rattle.cudf_document.specs.Details.{PlainDetail, request_on, package_on, undeclared, misdeclared, lacking, misplaced, stanza_on, property_on, words, bad_piece, package_detail, repeated_detail, misdeclared_detail, property_detail, stanza_detail, text_detail, byte_detail, source_detail, fault_detail}
 use Rattle.cudf_problem.specs.Documents.{is_empty, with_earlier, is_request, has_name}
 use Rattle.cudf_problem.specs.Ids.{Id, id_of, is_known}
 use Rattle.cudf_problem.specs.Preamble.{is_declarable, added_by, declared_after, declared}
 use Rattle.cudf_document.specs.ProblemFaults.{required_names}
 use Rattle.cudf_document.specs.Working.SeenNames.{AreNames}
-use Rattle.cudf_document.specs.Working.Details.{nothing_passed, passed_with, passed_of, found_in, property_at, misdeclared_in, mistyped_after, lacking_after, is_of_pair, is_of_stanza, found_detail, pair_line}
+use Rattle.cudf_document.specs.Working.Details.{nothing_passed, passed_with, passed_of, found_in, property_at, misdeclared_in, package_words, mistyped_after, lacking_after, is_of_pair, is_of_stanza, found_detail, pair_line}
 use Rattle.cudf_problem.proofs.ListLemmas.{is_empty-push, option_map-option_map}
 use Rattle.cudf_document.proofs.NameLemmas.{any_named}
 use Rattle.cudf_document.proofs.PreambleLemmas.{declared_after-push}
@@ -312,10 +313,13 @@ word_of-declared name (d ∷ ds) = by (bytes_eq name d.name) (word_of-declared n
     by true rest = refl
     by false rest = rest
 
+words_are : (ds : List PlainDeclaration) → words ds (Some Package) ≡ package_words ++ map (λ d. (d.name, type_word d.kind)) ds
+words_are ds = ap (λ rows. package_words ++ rows) (map-map (λ known. (known.0, type_word known.1)) (λ d. (d.name, d.kind)) ds)
+
 -- the word of the type of a name that each package knows
 pub known_word : (name : List ℕ) (ds : List PlainDeclaration) (word : List ℕ) → Some word ≡ look_up name package_words → Some word ≡ look_up name (words ds (Some Package))
 known_word name ds word known =
-    sym (look_up-append name package_words (map (λ d. (d.name, type_word d.kind)) ds)
+    sym (ap (look_up name) (words_are ds) ∙ look_up-append name package_words (map (λ d. (d.name, type_word d.kind)) ds)
     ∙ ap (λ x. option_or x (look_up name (map (λ d. (d.name, type_word d.kind)) ds))) (sym known))
 
 -- and of another
@@ -324,4 +328,4 @@ pub declared_word : (name : List ℕ) (ds : List PlainDeclaration) (kind : Optio
 declared_word name ds kind unknown is =
     ap (option_map type_word) is ∙ sym (word_of-declared name ds)
     ∙ ap (λ x. option_or x (look_up name (map (λ d. (d.name, type_word d.kind)) ds))) unknown
-    ∙ sym (look_up-append name package_words (map (λ d. (d.name, type_word d.kind)) ds))
+    ∙ sym (ap (look_up name) (words_are ds) ∙ look_up-append name package_words (map (λ d. (d.name, type_word d.kind)) ds))

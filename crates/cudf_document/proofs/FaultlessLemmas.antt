@@ -27,6 +27,8 @@ use Rattle.cudf_problem.specs.Values.{Test, name_value}
 use Rattle.cudf_document.specs.Working.Reads.{version_value}
 use Rattle.cudf_value.specs.Parts.{look_up}
 use Rattle.cudf_problem.specs.Preamble.{declared}
+use Rattle.cudf_document.specs.Working.Tests.{package_tests}
+use Rattle.cudf_document.proofs.TestLemmas.{package_tests-are}
 use Rattle.cudf_document.specs.ProblemFaults.{tests, place_faults, property_faults, repeated_faults, undeclared_faults, mistyped_faults, misdeclared_faults, version_property, repeated_package_faults, unversioned_faults, required_names, missing_faults, problem_misplaces, misplaced_faults, inner_faults, stanza_faults, requestless_faults, problem_faults}
 use Rattle.cudf_problem.specs.Universe.{PlainPackage, package_id, package_with, package_of}
 use Rattle.cudf_document.specs.Promises.Laws.{IsSound}
@@ -241,9 +243,10 @@ both_there _ _ a b = absurd cc
 id_there : (before : List PlainStanza) (s : PlainStanza) (mark : Option Postmark) → postmark s ≡ mark → IsClean before s
     → (not (marks_package mark) || is_some (id_under mark s.properties)) ≡ true
 id_there before s (Some Package) marked c =
-    let known = tests (declared before) (Some Package) in
+    let known = package_tests (declared before) in
     let typed : list_all (λ p. not (fails (look_up p.name known) p.value)) s.properties ≡ true =
-    ap (λ m. list_all (λ p. not (fails (look_up p.name (tests (declared before) m)) p.value)) s.properties) (sym marked) ∙ c.well_typed in
+    ap (λ tests. list_all (λ p. not (fails (look_up p.name tests) p.value)) s.properties) (sym (package_tests-are (declared before)))
+    ∙ ap (λ m. list_all (λ p. not (fails (look_up p.name (tests (declared before) m)) p.value)) s.properties) (sym marked) ∙ c.well_typed in
     let version : is_none (version_property s) ≡ false = ap (λ m. marks_package m && is_none (version_property s)) (sym marked) ∙ c.versioned in
     both_there (value_of name_value (codes "package") s.properties) (value_of version_value (codes "version") s.properties)
     (value_there name_value (codes "package") known s.properties refl typed (named_package s.properties marked))

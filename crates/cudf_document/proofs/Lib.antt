@@ -2,6 +2,7 @@ pub mod FaultLemmas
 pub mod DeclarationLemmas
 pub mod NameLemmas
 pub mod EnumLemmas
+pub mod TestLemmas
 mod IdentityLemmas
 pub mod PropertyLemmas
 pub mod PackageLemmas
@@ -9,6 +10,8 @@ pub mod RequestLemmas
 pub mod PreambleLemmas
 pub mod BuilderLemmas
 pub mod FaultlessLemmas
+pub mod FoundLemmas
+mod FoundFaultLemmas
 pub mod LawLemmas
 pub mod MisplacedLemmas
 mod ModeLemmas

@@ -15,10 +15,9 @@ use Rattle.cudf_problem.specs.Documents.{is_empty, with_earlier, postmark, marks
 use Rattle.cudf_document.specs.Working.Judging.{same_name, fails, faults_or, properties_faults}
 use Rattle.cudf_problem.specs.Ids.{id_of, is_known}
 use Rattle.cudf_problem.specs.Preamble.{declared, declared_by, declared_after}
-use Rattle.cudf_problem.specs.Values.{solution_tests}
 use Rattle.cudf_value.specs.Parts.{look_up}
 use Rattle.cudf_document.specs.ProblemFaults.{unmarked_faults, tests, declares, property_faults, place_faults, version_property, repeated_package_faults, unversioned_faults, required_names, lacks_one, missing_faults, problem_misplaces, misplaced_faults, inner_faults, stanza_faults, requestless_faults, problem_faults}
-use Rattle.cudf_document.specs.SolutionFaults.{value_faults, values_faults, solution_misplaces, solution_stanza_faults, repeated_pair_faults, repeated_pairs_faults, solution_faults}
+use Rattle.cudf_document.specs.SolutionFaults.{solution_tests, value_faults, values_faults, solution_misplaces, solution_stanza_faults, repeated_pair_faults, repeated_pairs_faults, solution_faults}
 use Rattle.cudf_document.specs.Promises.Laws.{is_strict_of_problem, is_strict_of_solution, is_strict, StrictAdds, StrictAddsTwoKinds}
 use Rattle.cudf_document.proofs.LawLemmas.{head_or_after, none_in_nil, at_head}
 

@@ -7,7 +7,7 @@ use Rattle.cudf_problem.specs.declared.postmark.Postmark.TheVariants.{Request as
 use Rattle.cudf_document.specs.Faults.{least}
 use Rattle.cudf_problem.specs.Documents.{value_of}
 use Rattle.cudf_document.specs.Working.Judging.{same_name, fails}
-use Rattle.cudf_problem.specs.Values.{request_tests}
+use Rattle.cudf_document.specs.Working.Tests.{request_tests}
 use Rattle.cudf_document.specs.Working.Reads.{list_value}
 use Rattle.cudf_value.specs.Parts.{look_up}
 use Rattle.cudf_document.specs.ProblemFaults.{property_faults}

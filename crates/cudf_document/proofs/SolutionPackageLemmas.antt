@@ -9,14 +9,18 @@ use Rattle.cudf_text.specs.Stanzas.{PlainProperty}
 use Rattle.cudf_document.specs.Faults.{lesser, least, fault_if}
 use Rattle.cudf_problem.specs.Documents.{with_earlier, has_name, value_of}
 use Rattle.cudf_document.specs.Working.Judging.{same_name}
-use Rattle.cudf_problem.specs.Values.{name_value, truth_value}
+use Rattle.cudf_value.specs.Parts.{look_up}
+use Rattle.cudf_problem.specs.Values.{Test, name_value, truth_value}
 use Rattle.cudf_document.specs.Working.Reads.{version_value}
+use Rattle.cudf_document.specs.ProblemFaults.{repeats, mistyped_faults}
 use Rattle.cudf_document.specs.SolutionFaults.{value_faults}
+use Rattle.cudf_document.specs.Working.Tests.{read_tests}
 use Rattle.cudf_document.specs.Working.PackageFields.{fault_on}
 use Rattle.cudf_document.specs.Working.SolutionPackages.{PlainSolutionPackage, solution_property_named, solution_package_of, with_solution_property, solution_kind}
 use Rattle.cudf_document.proofs.FaultLemmas.{faults-next}
 use Rattle.cudf_document.proofs.NameLemmas.{by_words, bytes_same, has_same_name, value_next, value_of-repeated}
 use Rattle.cudf_document.proofs.PropertyLemmas.{counted_property}
+use Rattle.cudf_document.proofs.TestLemmas.{read_tests-are}
 
 abbrev words : List (List ℕ)
 words = codes "package" ∷ codes "version" ∷ codes "installed" ∷ []
@@ -68,11 +72,15 @@ solution_package_of-next ps p = with_solution_property-says ps p.value p.name �
   installed = value_after truth_value (codes "installed") ps p i;
 })
 
+-- the faults of a property, where the properties that count have to be so
+abbrev faults_by : List (List ℕ × Test) → List PlainProperty → PlainProperty → List Fault
+faults_by known before p = fault_if (repeats before p && is_some (look_up p.name known)) p.line E7 ++ mistyped_faults known p
+
 -- the fault of a property, by what was said before it
-counted_fault : (ps : List PlainProperty) (line : ℕ) (value : List ℕ) (name : List ℕ)
-    → fault_on line (solution_kind (solution_property_named name) value (solution_package_of ps)) ≡ least (value_faults (ps, record { line = line; name = name; value = value }))
-counted_fault ps line value name =
-    by_words (λ n. fault_on line (solution_kind (solution_property_named n) value (solution_package_of ps)) ≡ least (value_faults (ps, record { line = line; name = n; value = value }))) words name
+fault_by : (ps : List PlainProperty) (line : ℕ) (value : List ℕ) (name : List ℕ)
+    → fault_on line (solution_kind (solution_property_named name) value (solution_package_of ps)) ≡ least (faults_by read_tests ps (record { line = line; name = name; value = value }))
+fault_by ps line value name =
+    by_words (λ n. fault_on line (solution_kind (solution_property_named n) value (solution_package_of ps)) ≡ least (faults_by read_tests ps (record { line = line; name = n; value = value }))) words name
     (known (codes "package") (is_some (name_value value))) (known (codes "version") (is_some (version_value value))) (known (codes "installed") (is_some (truth_value value)))
     (λ a b c. simp (a, b, c, and-false))
   where
@@ -81,6 +89,11 @@ counted_fault ps line value name =
     known word fits =
         let p : PlainProperty = record { line = line; name = word; value = value } in
         rw (← has_same_name word p ps (bytes_same word)) (sym (counted_property line (list_any (same_name p) ps) fits))
+
+counted_fault : (ps : List PlainProperty) (line : ℕ) (value : List ℕ) (name : List ℕ)
+    → fault_on line (solution_kind (solution_property_named name) value (solution_package_of ps)) ≡ least (value_faults (ps, record { line = line; name = name; value = value }))
+counted_fault ps line value name =
+    fault_by ps line value name ∙ ap (λ known. least (faults_by known ps (record { line = line; name = name; value = value }))) (sym read_tests-are)
 
 -- what is known of the properties so far
 pub record IsEnteredTo (ps : List PlainProperty) (first : Option Fault) (entry : PlainSolutionPackage) : Type 0 where

@@ -16,11 +16,10 @@ use Rattle.cudf_value.specs.Spots.{pieces}
 use Rattle.cudf_value.specs.Declarations.{PlainDeclaration, declaration}
 use Rattle.cudf_problem.specs.declared.mode.Mode.TheVariants.{Strict}
 use Rattle.cudf_problem.specs.declared.postmark.Postmark.{Postmark}
-use Rattle.cudf_problem.specs.declared.postmark.Postmark.TheVariants.{Package, Request}
 use Rattle.cudf_problem.specs.Documents.{with_earlier, postmark, is_request, has_name}
 use Rattle.cudf_problem.specs.Ids.{Id, id_of, is_known}
 use Rattle.cudf_problem.specs.Preamble.{is_declarable, declared_after, declared}
-use Rattle.cudf_document.specs.ProblemFaults.{required_names}
+use Rattle.cudf_document.specs.ProblemFaults.{types_in, required_names}
 use Rattle.cudf_document.specs.declared.details.Format.{Format}
 use Rattle.cudf_document.specs.declared.details.Format.TheVariants.{Gzip, Bzip2, Xz, Zstandard, Utf16}
 
@@ -97,7 +96,8 @@ mark_detail text line = if line == 1 && starts_with nat_eq text mark_bytes then 
 
 -- ---- where the fault is
 
--- the stanza of a line, which is the first that doesn't end before it, behind those before it
+-- the stanza of a line: the first that doesn't end before it, after those before it. It is the one that has the fault of
+-- the line (Laws: FaultsAreFound)
 abbrev pub stanza_on : ℕ → List PlainStanza → Option (List PlainStanza × PlainStanza)
 stanza_on line stanzas = find (λ (before, s). nat_le line s.last) (with_earlier [] stanzas)
 
@@ -107,26 +107,9 @@ property_on line s = find (λ (earlier, p). p.line == line) (with_earlier [] s.p
 
 -- ---- types
 
--- the words of the types of a package's properties, and those of a request's
-abbrev pub package_words : List (List ℕ × List ℕ)
-package_words =
-    (codes "package", codes "pkgname")
-    ∷ (codes "version", codes "posint")
-    ∷ (codes "depends", codes "vpkgformula")
-    ∷ (codes "conflicts", codes "vpkglist")
-    ∷ (codes "provides", codes "veqpkglist")
-    ∷ (codes "installed", codes "bool")
-    ∷ (codes "keep", codes "enum")
-    ∷ []
-
-abbrev pub request_words : List (List ℕ × List ℕ)
-request_words = (codes "install", codes "vpkglist") ∷ (codes "remove", codes "vpkglist") ∷ (codes "upgrade", codes "vpkglist") ∷ []
-
 -- the names that are known in a stanza, and the words of their types
 abbrev pub words : List PlainDeclaration → Option Postmark → List (List ℕ × List ℕ)
-words ds (Some Package) = package_words ++ map (λ d. (d.name, type_word d.kind)) ds
-words ds (Some Request) = request_words
-words ds _ = []
+words ds mark = map (λ known. (known.0, type_word known.1)) (types_in ds mark)
 
 -- the entry of this number from 1, without blanks round it, or else the whole value
 abbrev pub misfit_text : Option ℕ → List ℕ → List ℕ

@@ -8,6 +8,7 @@ use Rattle.cudf_text.specs.declared.fault.Fault.{Fault}
 use Rattle.cudf_text.specs.declared.fault.Kind.TheVariants.{E4, E5, E6, E7, E8, E9, E10, E11, E12, E13, E14, E16}
 use Rattle.cudf_text.specs.Stanzas.{PlainProperty, PlainStanza, PlainText}
 use Rattle.cudf_value.specs.Parts.{some_if, look_up}
+use Rattle.cudf_value.specs.Types.{PlainType}
 use Rattle.cudf_value.specs.Declarations.{PlainDeclaration}
 use Rattle.cudf_problem.specs.declared.mode.Mode.{Mode}
 use Rattle.cudf_problem.specs.declared.mode.Mode.TheVariants.{Lenient, Strict}
@@ -16,7 +17,7 @@ use Rattle.cudf_problem.specs.declared.postmark.Postmark.TheVariants.{Preamble, 
 use Rattle.cudf_document.specs.Faults.{fault_if}
 use Rattle.cudf_problem.specs.Documents.{is_empty, with_earlier, postmark, marks_preamble, marks_package, is_request, has_name, line_of}
 use Rattle.cudf_problem.specs.Ids.{Id, id_of, is_known}
-use Rattle.cudf_problem.specs.Values.{Test, package_tests, request_tests, declared_test}
+use Rattle.cudf_problem.specs.Values.{Test, package_types, request_types, test_of}
 use Rattle.cudf_problem.specs.Preamble.{reserved_names, declared_by, declared_after, declared}
 
 -- ---- where a stanza stands
@@ -42,11 +43,15 @@ place_faults before s = unmarked_faults s ++ late_preamble_faults before s ++ la
 abbrev pub declares : Option Postmark → PlainProperty → Bool
 declares mark p = marks_preamble mark && has_name (codes "property") p
 
--- the names that are known in a stanza, and what each has to be
+-- the names that are known in a stanza, each with its type
+abbrev pub types_in : List PlainDeclaration → Option Postmark → List (List ℕ × PlainType)
+types_in ds (Some Package) = package_types ++ map (λ d. (d.name, d.kind)) ds
+types_in ds (Some Request) = request_types
+types_in ds _ = []
+
+-- and what each has to be
 abbrev pub tests : List PlainDeclaration → Option Postmark → List (List ℕ × Test)
-tests ds (Some Package) = package_tests ++ map declared_test ds
-tests ds (Some Request) = request_tests
-tests ds _ = []
+tests ds mark = map test_of (types_in ds mark)
 
 -- an earlier property of the stanza has its name
 abbrev pub repeats : List PlainProperty → PlainProperty → Bool

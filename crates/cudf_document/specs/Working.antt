@@ -12,5 +12,6 @@ pub mod Reads
 pub mod RequestFields
 pub mod SeenNames
 pub mod SolutionPackages
+pub mod Tests
 pub mod Walks
 pub mod Judging

@@ -3,7 +3,7 @@ ghost use Rattle.std.specs.Prelude.{◌≡◌, false, not, ◌&&◌, ◌||◌, [
 ghost use Rattle.std.specs.List.{list_any};
 ghost use Rattle.cudf_value.specs.Promises.Views.{formula_view};
 ghost use Rattle.cudf_value.specs.Promises.Types.{type_view, declaration_view};
-ghost use Rattle.cudf_problem.specs.Values.{declared_test};
+ghost use Rattle.cudf_document.specs.Working.Tests.{declared_test};
 ghost use Rattle.cudf_value.specs.Parts.{look_up};
 ghost use Rattle.cudf_document.specs.ProblemFaults.{required_names};
 ghost use Rattle.cudf_document.specs.Working.Judging.{name_without_default, all_declarable};

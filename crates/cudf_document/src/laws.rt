@@ -1,5 +1,5 @@
 //! What follows from the definitions alone. Each law is the contract of a function without effect.
-ghost use Rattle.cudf_document.specs.Promises.Laws.{LeastIsFirst, FaultlessIsSound, StrictAddsTwoKinds};
+ghost use Rattle.cudf_document.specs.Promises.Laws.{LeastIsFirst, FaultlessIsSound, FaultsAreFound, StrictAddsTwoKinds};
 
 /// The fault that a reader answers is one of the document's faults and precedes every other one,
 /// and no other fault does.
@@ -18,4 +18,10 @@ pub fn sound()
 /// that has no fault strictly has none leniently.
 pub fn lenient()
     ensures { StrictAddsTwoKinds }
+{}
+
+/// The stanza on the line of a stanza's fault is the one that has the fault, and the property on the line of a
+/// property is that property. So what a document says beside a fault is said of those that have it.
+pub fn found()
+    ensures { FaultsAreFound }
 {}

@@ -7,7 +7,7 @@ pub(crate) mod stanza;
 use cudf_problem::Unknown;
 use std::marker::Model;
 
-/// What a solution without fault proposes, whatever the problem is.
+/// What a well-formed solution proposes, whatever the problem is.
 #[derive(Debug, Drop)]
 pub struct Proposed<'t> {
     pub(crate) installed: Vec<Unknown<'t>>,

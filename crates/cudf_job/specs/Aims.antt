@@ -25,7 +25,7 @@ sign_text Most = codes "+"
 abbrev pub aim_text : Aim → List ℕ
 aim_text aim = sign_text aim.sign ++ count_text aim.count
 
--- ---- comparing
+-- ---- counts
 
 abbrev pub count_of : Criteria → Count → ℕ
 count_of c Removed = c.removed

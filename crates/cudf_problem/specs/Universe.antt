@@ -1,5 +1,5 @@
 -- The packages and the request that a problem describes: CUDF 2.0, universes, package and request properties with their defaults.
--- What these words say counts for a problem without fault; of any other they say something too.
+-- These definitions mean something only for a well-formed problem; for any other they have a value that nothing uses.
 use Rattle.std.specs.Prelude.{ℕ, ◌-◌, ◌==◌, Bool, false, List, [], Option, None, is_some, find, filter_map, slice_get, unwrap_or, option_map, codes, if◌then◌else◌}
 use Rattle.cudf_text.specs.Stanzas.{PlainProperty, PlainStanza, PlainText}
 use Rattle.cudf_value.specs.Parts.{trimmed}

@@ -6,6 +6,6 @@ pub enum Mode {
     /// A package may leave out a declared property that has no default, a solution may give a pair of name and
     /// version twice: then both mean the same pair, and a property that has no meaning in its stanza is skipped.
     Lenient,
-    /// The first of these is E14, the second E15, the third E16. A document without fault says the same in both modes.
+    /// The first of these is E14, the second E15, the third E16. A document without errors says the same in both modes.
     Strict,
 }

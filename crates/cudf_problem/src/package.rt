@@ -4,6 +4,7 @@ ghost use Rattle.cudf_problem.specs.Values.{keep_value};
 
 pub(crate) mod ids;
 
+use cudf_text::trim;
 use cudf_value::{Formula, VpkgList};
 
 /// What a solution has to keep of an installed package.
@@ -46,7 +47,7 @@ pub struct Package<'t> {
 pub fn read_keep(text: &str) -> Option<Keep>
     ensures { result ≡ keep_value text.now }
 {
-    match text {
+    match trim(text) {
         "version" => Some(Keep::Version),
         "package" => Some(Keep::Package),
         "feature" => Some(Keep::Feature),

@@ -6,7 +6,7 @@ use cudf_value::Formula;
 use std::fmt;
 use std::marker::Model;
 
-/// The packages and the request of a document without fault (CUDF 2.0, universes).
+/// The packages and the request of a well-formed document (CUDF 2.0, universes).
 #[derive(Drop)]
 pub struct Problem<'t> {
     packages: Vec<Package<'t>>,

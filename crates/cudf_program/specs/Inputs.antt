@@ -3,8 +3,8 @@ use Rattle.std.specs.Prelude.{◌≡◌, ◌⊎◌, ℕ, Bool, List, [], ◌∷�
 use Rattle.std.specs.Io.KnownBytes.{Keeps}
 use Rattle.std.specs.IoError.{error_kind}
 use Rattle.std.specs.declared.io.Error.{Error}
-use Rattle.cudf_check.specs.DeviceInside.{device_inner}
-use Rattle.cudf_check.specs.NamedInside.{named_source}
+use Rattle.cudf_check.specs.Promises.DeviceInside.{device_inner}
+use Rattle.cudf_check.specs.Promises.NamedInside.{named_source}
 use Rattle.cudf_check.specs.declared.device.Device.{Device}
 use Rattle.cudf_check.specs.declared.named.Named.{Named}
 use Rattle.cudf_command_line.specs.Command.{file_label, takes_standard, takes_standard_twice}

@@ -7,7 +7,7 @@ use Rattle.std.specs.declared.io.Error.{Error}
 use Rattle.std.specs.declared.io.ErrorKind.TheVariants.{OutOfMemory}
 use Rattle.cudf_problem.specs.declared.mode.Mode.{Mode}
 use Rattle.cudf_check.specs.Device.{SinkState, SourceState}
-use Rattle.cudf_check.specs.NamedInside.{name_of}
+use Rattle.cudf_check.specs.Promises.NamedInside.{name_of}
 use Rattle.cudf_check.specs.Naming.{Names}
 use Rattle.cudf_check.specs.Readers.{Change, most_bytes}
 use Rattle.cudf_check.specs.Runs.{AppendsPrefix, job_report, read_for}

@@ -7,7 +7,7 @@ ghost use Rattle.std.specs.Option.{option_to_list};
 ghost use Rattle.std.specs.IoError.{error_kind};
 ghost use Rattle.std.specs.Vec.Iter.{into_iter_items};
 ghost use Rattle.std.specs.declared.io.ErrorKind.TheVariants.{OutOfMemory};
-ghost use Rattle.cudf_check.specs.NamedInside.{name_of};
+ghost use Rattle.cudf_check.specs.Promises.NamedInside.{name_of};
 ghost use Rattle.cudf_check.specs.Readers.{change, changes};
 ghost use Rattle.cudf_check.specs.Runs.{job_report, read_for, Runs};
 ghost use Rattle.cudf_command_line.specs.Command.{is_standard};

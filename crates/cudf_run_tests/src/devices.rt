@@ -27,6 +27,7 @@ pub(crate) struct Giver<'a> {
     failures: Steps,
     ends: Steps,
     given: Steps,
+    last: Option<Result<usize, Trouble>>,
 }
 
 impl<'a> Giver<'a> {
@@ -44,6 +45,7 @@ impl<'a> Giver<'a> {
             failures: Steps::new(),
             ends: Steps::new(),
             given: Steps::new(),
+            last: None,
         }
     }
 }
@@ -70,6 +72,7 @@ impl Source for Giver<'_> {
       failures = g.failures;
       ends = g.ends;
       given = g.given;
+      last = g.last;
     } };
 
     fn name(&self) -> Option<&str> {
@@ -81,9 +84,11 @@ impl Source for Giver<'_> {
         self.turn = self.turn.saturating_add(1);
         if self.failing_call == self.turn {
             self.failures.tick();
+            self.last = Some(Err(Trouble::Failed));
             return Err(Trouble::Failed);
         }
         if self.turn <= self.interruptions || self.is_restless && self.turn % 2 == 1 {
+            self.last = Some(Err(Trouble::Interrupted));
             return Err(Trouble::Interrupted);
         }
         let left = self.length.saturating_sub(self.position);
@@ -94,6 +99,7 @@ impl Source for Giver<'_> {
             self.ends.tick();
         }
         self.given.grow_by(count);
+        self.last = Some(Ok(count));
         Ok(count)
     }
 }
@@ -114,6 +120,7 @@ pub(crate) struct Taker {
     pub(crate) room: usize,
     pub(crate) refusal: Refusal,
     failures: Steps,
+    last: Option<Result<usize, Trouble>>,
 }
 
 impl Taker {
@@ -125,24 +132,28 @@ impl Taker {
             room,
             refusal,
             failures: Steps::new(),
+            last: None,
         }
     }
 }
 
 impl Sink for Taker {
-    ghost state = { λ t. record { contents = None; failures = t.failures } };
+    ghost state = { λ t. record { contents = None; failures = t.failures; last = t.last } };
 
     fn write(&mut self, bytes: &[u8]) -> Result<usize, Trouble> {
         let left = self.room.saturating_sub(self.taken.len());
         let count = bytes.len().min(self.per_call).min(left);
         if count > 0 && self.taken.extend_from_slice(&bytes[..count]).is_ok() {
+            self.last = Some(Ok(count));
             return Ok(count);
         }
         self.failures.tick();
-        match self.refusal {
+        let answer = match self.refusal {
             Refusal::Failed => Err(Trouble::Failed),
             Refusal::Interrupted => Err(Trouble::Interrupted),
             Refusal::NoByte => Ok(0),
-        }
+        };
+        self.last = Some(answer);
+        answer
     }
 }

@@ -1,5 +1,5 @@
 -- A document in memory as a run sees it, for proofs.
-use Rattle.std.specs.Prelude.{◌≡◌, ℕ, List, None, Some}
+use Rattle.std.specs.Prelude.{◌≡◌, ℕ, List, None, Some, Ok}
 use Rattle.cudf_check.specs.Device.{SourceState}
 use Rattle.cudf_c.specs.Working.Given.{given_before}
 use Rattle.cudf_c.specs.declared.document.Document.{Document}
@@ -13,6 +13,7 @@ document_state d = record {
   failures = 0;
   ends = d.ends;
   given = given_before d.rest.now;
+  last = Some (Ok d.last);
 }
 
 -- the whole text is left

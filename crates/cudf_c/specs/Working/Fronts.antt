@@ -1,5 +1,5 @@
 -- A front as a run sees it, for proofs.
-use Rattle.std.specs.Prelude.{◌≡◌, ℕ, List, ◌∷◌, ◌++◌, Some, length, min}
+use Rattle.std.specs.Prelude.{◌≡◌, ℕ, List, ◌∷◌, ◌++◌, Some, Ok, length, min}
 use Rattle.cudf_check.specs.Device.{SinkState}
 use Rattle.cudf_check.specs.Report.{Report}
 use Rattle.cudf_check.specs.declared.outcome.Outcome.{Outcome}
@@ -13,6 +13,7 @@ abbrev pub front_state : Front → SinkState
 front_state f = record {
   contents = Some (f.room.ghost_name ∷ length f.seen.now.before ∷ f.seen.now.before ++ f.seen.now.report);
   failures = 0;
+  last = Some (Ok f.last);
 }
 
 -- the whole report was written to a front that had nothing of it, and its outcome is this

@@ -2,7 +2,7 @@ use Rattle.std.proofs.Common.{◌∙◌, map, subst, sym}
 use Rattle.cudf_check.specs.RankReport.{rank_report}
 use Rattle.cudf_check.specs.Readers.{ReadsAll, change, changes}
 use Rattle.cudf_check.specs.Working.Answering.{Answers}
-use Rattle.cudf_check.proofs.InputsLemmas.{IsBeyondTurns, behind_still, beyond_turns_fails, each_within, names-before, none_still, too_long_fails, unfinished_fails}
+use Rattle.cudf_check.proofs.InputsLemmas.{behind_still, each_still, names-before, none_still, too_long_fails, unfinished_fails}
 use Rattle.cudf_check.proofs.RunLemmas.{all_answered, first_stopped, was_read}
 use Rattle.cudf_check.proofs.rank.Goals as goal
 
@@ -15,9 +15,8 @@ returns-in_err-first-clause-runs g c =
 pub returns-in_err-first-clause-behind : goal.returns-in_err-first-clause-behind
 returns-in_err-first-clause-behind g c = behind_still g.S.Source.state _
 
-pub returns-in_err-first-clause-solutions_turns : goal.returns-in_err-first-clause-solutions_turns
-returns-in_err-first-clause-solutions_turns g c =
-    each_within _ (none_still g.S.Source.state IsBeyondTurns (beyond_turns_fails g.S.Source.state) _)
+pub returns-in_err-first-clause-solutions_calls : goal.returns-in_err-first-clause-solutions_calls
+returns-in_err-first-clause-solutions_calls g c = each_still g.S.Source.state _
 
 pub returns-clause-runs : goal.returns-clause-runs
 returns-clause-runs g c =
@@ -35,7 +34,7 @@ returns-clause-runs g c =
     let name = c.given.ensures.name ∙ read.named in
     let names = c.in_ok-others.ensures.named ∙ sym (names-before state c.args.solutions.now c.read_each.new.sources ReadsAll texts reads.all c.read_each.auto.sources) in
     all_answered (rank_report aims mode) first text others texts
-    (was_read first text c.in_ok-first.first read.all read.too_long read.read read.turns)
+    (was_read first text c.in_ok-first.first read.all read.too_long read.read read.calls)
     (record { all = reads.all; finished = λ h. absurd (cc (reads.read.1 h)); short = λ h. absurd (cc (reads.too_long.1 h)) })
     before after c.answer_ranking.result
     (subst (λ r. Answers before after r c.answer_ranking.result)

@@ -2,7 +2,7 @@
 use Rattle.std.specs.Prelude.{◌≡◌, ◌<◌, ◌↔◌, ℕ, List, Option, Result, IfOk, IfErr, IsErrOf}
 use Rattle.std.specs.Io.KnownBytes.{Keeps, Appends}
 use Rattle.cudf_check.specs.Device.{SinkState}
-use Rattle.cudf_check.specs.Runs.{AppendsPrefix}
+use Rattle.cudf_check.specs.Runs.{AppendsPrefix, StopsWriting}
 use Rattle.cudf_check.specs.Report.{Report}
 use Rattle.cudf_check.specs.declared.outcome.Outcome.{Outcome}
 use Rattle.cudf_check.specs.declared.outcome.RunError.{RunError}
@@ -33,4 +33,5 @@ pub record Answers (old new : SinkState) (report : Report) (result : Result Outc
   pub leaves : IfErr result (Leaves old.contents new.contents report.text)
   pub failed : IsErrOf result Write ↔ (old.failures < new.failures)
   pub calm : IfOk result (λ outcome. old.failures ≡ new.failures)
+  pub stops : StopsWriting (record { before = old; after = new })
   pub only : IfErr result IsMemoryOrWrite

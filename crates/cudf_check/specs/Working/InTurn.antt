@@ -3,7 +3,7 @@ use Rattle.std.specs.Prelude.{◌≢◌, ◌↔◌, ℕ, List, Result, Err, IfOk
 use Rattle.std.specs.List.{All, AllZip}
 use Rattle.cudf_check.specs.Device.{SourceState}
 use Rattle.cudf_check.specs.ManyRuns.{LeavesBehind}
-use Rattle.cudf_check.specs.Readers.{change, ReadsAll, IsUnfinished, IsTooLong, IsStopped, IsWithinTurns, OfOne, changes}
+use Rattle.cudf_check.specs.Readers.{change, ReadsAll, IsUnfinished, IsTooLong, IsStopped, StopsInTime, OfOne, changes}
 use Rattle.cudf_check.specs.declared.outcome.RunError.{RunError}
 use Rattle.cudf_check.specs.declared.outcome.RunError.TheVariants.{Read, TooLong, Write}
 
@@ -12,6 +12,6 @@ pub record ReadsInTurn {D T : Type 0} (state : D → SourceState) (olds news : L
   pub all : IfOk result (λ v. AllZip ReadsAll (changes state olds news) (texts v))
   pub too_long : IsErrOf result TooLong ↔ OfOne IsTooLong (changes state olds news)
   pub read : IsErrOf result Read ↔ OfOne IsUnfinished (changes state olds news)
-  pub turns : All IsWithinTurns (changes state olds news)
+  pub calls : All StopsInTime (changes state olds news)
   pub behind : LeavesBehind (λ old new. IsStopped (change state old new)) olds news
   pub no_write : result ≢ Err Write

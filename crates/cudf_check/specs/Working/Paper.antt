@@ -2,7 +2,7 @@
 use Rattle.std.specs.Prelude.{◌≡◌, ◌<◌, ℕ, Bool, true, false, List, ◌++◌}
 use Rattle.std.specs.Io.KnownBytes.{Appends}
 use Rattle.cudf_check.specs.Device.{SinkState}
-use Rattle.cudf_check.specs.Runs.{AppendsPrefix}
+use Rattle.cudf_check.specs.Runs.{AppendsPrefix, StopsWriting}
 use Rattle.cudf_check.specs.declared.paper.Paper.{Paper}
 
 -- the sink has taken all of the text but what waits
@@ -12,10 +12,11 @@ pub record IsTaken (old new : SinkState) (waits text : List ℕ) : Type 0 where
   pub appended : Appends old.contents new.contents taken
   pub calm : old.failures ≡ new.failures
 
--- a write failed, and the sink has taken a prefix of the text
+-- a write failed, the last one, and the sink has taken a prefix of the text
 pub record IsTorn (old new : SinkState) (text : List ℕ) : Type 0 where
   pub prefix : AppendsPrefix old.contents new.contents text
   pub failed : old.failures < new.failures
+  pub stops : StopsWriting (record { before = old; after = new })
 
 -- this text was printed since the sink was in the old state
 abbrev pub IsSaid : Bool → SinkState → SinkState → List ℕ → List ℕ → Type 0

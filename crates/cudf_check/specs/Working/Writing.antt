@@ -2,7 +2,7 @@
 use Rattle.std.specs.Prelude.{◌≡◌, ◌<◌, ◌↔◌, ℕ, List, Result, OnOk, IsErrOf, IsOkUnless}
 use Rattle.std.specs.Io.KnownBytes.{Appends}
 use Rattle.cudf_check.specs.Device.{SinkState}
-use Rattle.cudf_check.specs.Runs.{AppendsPrefix}
+use Rattle.cudf_check.specs.Runs.{AppendsPrefix, StopsWriting}
 use Rattle.cudf_check.specs.declared.outcome.RunError.{RunError}
 use Rattle.cudf_check.specs.declared.outcome.RunError.TheVariants.{Write}
 
@@ -12,4 +12,5 @@ pub record Writes {T : Type 0} (old new : SinkState) (result : Result T RunError
   pub prefix : AppendsPrefix old.contents new.contents text
   pub failed : IsErrOf result Write ↔ (old.failures < new.failures)
   pub calm : OnOk result (old.failures ≡ new.failures)
+  pub stops : StopsWriting (record { before = old; after = new })
   pub only : IsOkUnless result Write

@@ -1,18 +1,19 @@
 -- What follows from the definitions alone.
-use Rattle.std.specs.Prelude.{◌≡◌, ◌≢◌, ◌⊎◌, Bool, true, false, not, ◌||◌, List, [], Option, Some, is_some, IsTrue, Contains, AllPairs, count_by}
-use Rattle.std.specs.List.{list_all}
+use Rattle.std.specs.Prelude.{◌≡◌, ◌≢◌, ◌⊎◌, Bool, true, false, not, ◌||◌, ℕ, List, [], ◌++◌, Option, Some, is_some, IsTrue, Contains, AllPairs, count_by}
+use Rattle.std.specs.List.{All, list_all}
 use Rattle.cudf_text.specs.declared.fault.Fault.{Fault}
 use Rattle.cudf_text.specs.declared.fault.Kind.{Kind}
 use Rattle.cudf_text.specs.declared.fault.Kind.TheVariants.{E14, E15, E16}
-use Rattle.cudf_text.specs.Stanzas.{PlainText}
+use Rattle.cudf_text.specs.Stanzas.{PlainStanza, PlainText, plain_text}
 use Rattle.cudf_problem.specs.declared.mode.Mode.{Mode}
 use Rattle.cudf_problem.specs.declared.mode.Mode.TheVariants.{Lenient, Strict}
 use Rattle.cudf_document.specs.Faults.{precedes, least}
 use Rattle.cudf_problem.specs.Promises.Packages.{is_package, packages_in}
-use Rattle.cudf_problem.specs.Documents.{is_request}
+use Rattle.cudf_problem.specs.Documents.{with_earlier, is_request}
 use Rattle.cudf_problem.specs.Preamble.{declared}
-use Rattle.cudf_document.specs.ProblemFaults.{problem_faults}
-use Rattle.cudf_document.specs.SolutionFaults.{solution_faults}
+use Rattle.cudf_document.specs.ProblemFaults.{stanza_faults, problem_faults}
+use Rattle.cudf_document.specs.SolutionFaults.{solution_stanza_faults, repeated_pair_faults, solution_faults}
+use Rattle.cudf_document.specs.Details.{stanza_on, property_on}
 use Rattle.cudf_problem.specs.Universe.{package_id, package_of}
 
 -- f is one of the faults, and precedes every other one
@@ -29,7 +30,7 @@ pub record IsSound (text : PlainText) : Type 0 where
   pub distinct : AllPairs (λ p q. package_id p ≢ package_id q) (packages_in text.stanzas)
   pub requested : count_by is_request text.stanzas ≡ 1
 
--- a problem without fault has a universe and a request
+-- a well-formed problem has a universe and a request
 abbrev pub FaultlessIsSound : Type 0
 FaultlessIsSound = (text : PlainText) (mode : Mode) → problem_faults text mode ≡ [] → IsSound text
 
@@ -63,3 +64,20 @@ pub record StrictAdds (is_added : Kind → Bool) (line : Option Fault) (lenient 
 abbrev pub StrictAddsTwoKinds : Type 0
 StrictAddsTwoKinds = (text : PlainText) → StrictAdds is_strict_of_problem text.fault (problem_faults text Lenient) (problem_faults text Strict)
     × StrictAdds is_strict_of_solution text.fault (solution_faults text Lenient) (solution_faults text Strict)
+
+-- ---- details
+
+-- the stanza of the fault's line is this one, after those before it
+abbrev pub IsFoundAt : List PlainStanza → List PlainStanza × PlainStanza → Fault → Type 0
+IsFoundAt stanzas x f = stanza_on f.line stanzas ≡ Some x
+
+-- the stanza of the line of a stanza's fault is that stanza, in a problem and in a solution, and the property of a
+-- property's line is that property
+pub record AllAreFound (stanzas : List PlainStanza) : Type 0 where
+  pub problem : (mode : Mode) → All (λ x. All (IsFoundAt stanzas x) (stanza_faults mode x)) (with_earlier [] stanzas)
+  pub solution : (mode : Mode) → All (λ x. All (IsFoundAt stanzas x) (solution_stanza_faults mode x.1 ++ repeated_pair_faults x)) (with_earlier [] stanzas)
+  pub property : All (λ x. All (λ y. property_on y.1.line x.1 ≡ Some y) (with_earlier [] x.1.properties)) (with_earlier [] stanzas)
+
+-- so what a document says beside a fault is said of the stanza and of the property that have the fault
+abbrev pub FaultsAreFound : Type 0
+FaultsAreFound = (source : List ℕ) → AllAreFound (plain_text source).stanzas

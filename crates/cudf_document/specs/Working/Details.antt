@@ -1,5 +1,5 @@
 -- What a document says beside its first fault, while its stanzas are read one after the other.
-use Rattle.std.specs.Prelude.{ℕ, ◌==◌, nat_le, Bool, true, false, not, List, [], ◌∷◌, ◌++◌, find, Option, Some, None, option_map, option_and_then, if◌then◌else◌}
+use Rattle.std.specs.Prelude.{ℕ, ◌==◌, nat_le, Bool, true, false, not, List, [], ◌∷◌, ◌++◌, codes, find, Option, Some, None, option_map, option_and_then, if◌then◌else◌}
 use Rattle.std.specs.List.{list_any}
 use Rattle.std.specs.Option.{option_or}
 use Rattle.cudf_text.specs.Chars.{trim}
@@ -47,6 +47,24 @@ found_in p line (s ∷ ss) = if nat_le line s.last then Some (p, s) else found_i
 
 abbrev pub found_view : Found → Passed × PlainStanza
 found_view f = (f.passed, stanza_view f.stanza)
+
+-- ---- types
+
+-- the words of the types of a package's properties, and those of a request's
+abbrev pub package_words : List (List ℕ × List ℕ)
+package_words =
+    (codes "package", codes "pkgname")
+    ∷ (codes "version", codes "posint")
+    ∷ (codes "depends", codes "vpkgformula")
+    ∷ (codes "conflicts", codes "vpkglist")
+    ∷ (codes "provides", codes "veqpkglist")
+    ∷ (codes "installed", codes "bool")
+    ∷ (codes "keep", codes "enum")
+    ∷ (codes "was-installed", codes "string")
+    ∷ []
+
+abbrev pub request_words : List (List ℕ × List ℕ)
+request_words = (codes "install", codes "vpkglist") ∷ (codes "remove", codes "vpkglist") ∷ (codes "upgrade", codes "vpkglist") ∷ []
 
 -- ---- properties
 

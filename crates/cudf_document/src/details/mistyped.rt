@@ -5,9 +5,9 @@ ghost use Rattle.cudf_text.specs.Promises.Views.{property_view, stanza_view};
 ghost use Rattle.cudf_value.specs.Misfits.{type_word};
 ghost use Rattle.cudf_value.specs.Parts.{look_up, parts};
 ghost use Rattle.cudf_value.specs.Promises.Types.{type_view};
-ghost use Rattle.cudf_document.specs.Details.{misfit_text, mistyped_as, package_words, request_words, words};
+ghost use Rattle.cudf_document.specs.Details.{misfit_text, mistyped_as, words};
 ghost use Rattle.cudf_document.specs.Promises.Views.{detail_view};
-ghost use Rattle.cudf_document.specs.Working.Details.{property_at, mistyped_after};
+ghost use Rattle.cudf_document.specs.Working.Details.{property_at, mistyped_after, package_words, request_words};
 ghost use Rattle.cudf_problem.specs.declared.postmark.Postmark.TheVariants.{Package as PackageMark, Request as RequestMark};
 
 use crate::declarations::Declarations;
@@ -125,6 +125,7 @@ fn package_type(alloc: Global, name: &str) -> Option<ValueType<'static>>
         "provides" => Some(ValueType::ExactList),
         "installed" => Some(ValueType::Truth),
         "keep" => Some(ValueType::Choice(Vec::new(alloc))),
+        "was-installed" => Some(ValueType::Words),
         _ => None,
     }
 }

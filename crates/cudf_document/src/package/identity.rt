@@ -5,7 +5,7 @@ ghost use Rattle.cudf_problem.specs.Documents.{value_of};
 ghost use Rattle.cudf_problem.specs.Values.{name_value};
 
 use crate::names::first_named;
-use cudf_text::StanzaRef;
+use cudf_text::{StanzaRef, trim};
 use cudf_value::{is_pkgname, read_posint};
 
 /// What a package stanza says of its name and version, read once.
@@ -60,9 +60,10 @@ fn package_name<'a>(stanza: &StanzaRef<'a>) -> Option<&'a str>
     }
 }
 
-/// The text, where it is a package's name.
+/// The text without the blanks round it, where that is a package's name.
 pub(crate) fn read_name(text: &str) -> Option<&str>
     ensures { option_copied result ≡ name_value text.now }
 {
-    if is_pkgname(text) { Some(text) } else { None }
+    let name = trim(text);
+    if is_pkgname(name) { Some(name) } else { None }
 }

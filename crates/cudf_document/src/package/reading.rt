@@ -6,7 +6,8 @@ ghost use Rattle.cudf_text.specs.Promises.Views.{property_view, stanza_view};
 ghost use Rattle.cudf_document.specs.Faults.{least};
 ghost use Rattle.cudf_problem.specs.Documents.{has_name};
 ghost use Rattle.cudf_value.specs.Parts.{look_up};
-ghost use Rattle.cudf_document.specs.ProblemFaults.{tests, property_faults};
+ghost use Rattle.cudf_document.specs.ProblemFaults.{property_faults};
+ghost use Rattle.cudf_document.specs.Working.Tests.{package_tests};
 ghost use Rattle.cudf_document.specs.Working.Judging.{properties_faults};
 ghost use Rattle.cudf_document.specs.Working.Identities.{IsIdentity};
 ghost use Rattle.cudf_document.specs.Working.PackageFields.{fault_on, package_fields_of, package_fields_view, package_property_named, with_package_property, wrong_kind};
@@ -89,7 +90,7 @@ fn read_first<'a>(
         IsIdentity identity.entry all →
         find (has_name property.now.name.now) all ≡ Some (property_view property.now) →
         result
-        ≡ wrong_kind (look_up property.now.name.now (tests declarations.now (Some PackageMark))) (property_view property.now).value }
+        ≡ wrong_kind (look_up property.now.name.now (package_tests declarations.now)) (property_view property.now).value }
     ensures read { package_fields_view fields.new
         ≡ with_package_property declarations.now (package_property_named property.now.name.now) (property_view property.now).value (package_fields_view fields.old) }
 {

@@ -139,7 +139,7 @@ impl<'a> Parts<'a> {
         }
     }
 
-    /// The problem, once a walk without fault is over.
+    /// The problem, after a walk that found no error.
     pub(crate) fn into_problem(self, walk: Walk<'a>) -> Problem<'a>
         requires { IsReady walk self }
         ensures { result ≡ problem_of (gathered_of walk.entry self.entry) }

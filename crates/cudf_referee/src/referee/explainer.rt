@@ -109,8 +109,8 @@ impl<'r, 'p, 't> Explainer<'r, 'p, 't> {
 
     /// The place (from 1) of the first package of the proposed status that needs the one at this place: it is another
     /// one, and has a clause of `depends` that this one alone satisfies, and that no other package of the status does,
-    /// itself included. `None` where no package needs it, and for places of no package of the status. It is known of
-    /// packages that meet an entry of `conflicts` or `remove`; for others all clauses are gone through.
+    /// itself included. `None` where no package needs it, and for places of no package of the status. For packages that
+    /// meet an entry of `conflicts` or `remove` it is stored; for any other all clauses are searched.
     pub fn needed_by(&self, place: u64) -> Option<u64>
         ensures { result ≡ needed_by self.now.proposed place }
     {

@@ -26,8 +26,8 @@ fn mark_each(
     }
 }
 
-/// The packages of a status that lines name as meeting an entry. Nothing rests on these being all: what others are
-/// needed by is searched anew.
+/// The packages of a status that lines name as meeting an entry. Correctness doesn't rest on these being all: for any
+/// other package, what needs it is searched when asked.
 pub(super) fn partners_of(
     alloc: Global,
     problem: &Problem<'_>,

@@ -1,6 +1,6 @@
 use Rattle.std.proofs.Common.{sym, ap, ◌∙◌, option_map, Some, None, if◌then◌else◌}
 use Rattle.cudf_text.specs.declared.fault.Kind.TheVariants.{E9}
-use Rattle.cudf_problem.specs.Values.{declared_test}
+use Rattle.cudf_document.specs.Working.Tests.{declared_test}
 use Rattle.cudf_document.specs.Working.PackageFields.{wrong_kind}
 use Rattle.cudf_document.proofs.DeclarationLemmas.{test_of-declared}
 use Rattle.cudf_document.proofs.declarations.Declarations.wrong_kind.Goals as goal

@@ -19,4 +19,5 @@ named_state state n = record {
   failures = (state n.source).failures;
   ends = (state n.source).ends;
   given = (state n.source).given;
+  last = (state n.source).last;
 }

@@ -13,12 +13,13 @@ use Rattle.cudf_check.specs.declared.device.Trouble.TheVariants.{Interrupted, Fa
 abbrev pub device_inner : {T : Type 0} → Device T → T
 device_inner d = d.inner
 
--- all counts are 0
+-- it has had no call
 pub record IsUnused {T : Type 0} (d : Device T) : Type 0 where
   pub calls : d.calls ≡ 0
   pub failures : d.failures ≡ 0
   pub ends : d.ends ≡ 0
   pub given : d.given ≡ 0
+  pub last : d.last ≡ None
 
 -- what contracts see of a device over a reader that will still give these bytes; it has no name
 abbrev pub source_state : {T : Type 0} → (T → Option (List ℕ)) → Device T → SourceState
@@ -29,11 +30,12 @@ source_state remaining d = record {
   failures = d.failures;
   ends = d.ends;
   given = d.given;
+  last = d.last;
 }
 
 -- what contracts see of a device over a writer that has taken these bytes
 abbrev pub sink_state : {T : Type 0} → (T → Option (List ℕ)) → Device T → SinkState
-sink_state contents d = record { contents = contents d.inner; failures = d.failures }
+sink_state contents d = record { contents = contents d.inner; failures = d.failures; last = d.last }
 
 -- an error of a std reader or writer, by its kind
 abbrev pub trouble_of : ErrorKind → Trouble
