@@ -1,10 +1,11 @@
 -- What is wrong with a proposed solution (own): of its packages three properties count, and stanzas may stand in any order.
-use Rattle.std.specs.Prelude.{ℕ, Bool, false, List, [], ◌++◌, ◌&&◌, is_some, map, Option, Some, filter_map, option_to_list, if◌then◌else◌, codes}
+use Rattle.std.specs.Prelude.{ℕ, Bool, false, List, [], ◌∷◌, ◌++◌, ◌&&◌, is_some, map, filter, Option, Some, filter_map, option_to_list, if◌then◌else◌, codes}
 use Rattle.std.specs.List.{flat_map}
 use Rattle.cudf_text.specs.declared.fault.Fault.{Fault}
 use Rattle.cudf_text.specs.declared.fault.Kind.TheVariants.{E7, E15}
 use Rattle.cudf_text.specs.Stanzas.{PlainProperty, PlainStanza, PlainText}
 use Rattle.cudf_value.specs.Parts.{look_up}
+use Rattle.cudf_value.specs.Types.{is_one_of}
 use Rattle.cudf_problem.specs.declared.mode.Mode.{Mode}
 use Rattle.cudf_problem.specs.declared.mode.Mode.TheVariants.{Lenient, Strict}
 use Rattle.cudf_problem.specs.declared.postmark.Postmark.{Postmark}
@@ -12,12 +13,12 @@ use Rattle.cudf_problem.specs.declared.postmark.Postmark.TheVariants.{Preamble, 
 use Rattle.cudf_document.specs.Faults.{fault_if}
 use Rattle.cudf_problem.specs.Documents.{with_earlier, postmark, marks_package, line_of}
 use Rattle.cudf_problem.specs.Ids.{id_of, is_known}
-use Rattle.cudf_problem.specs.Values.{Test, solution_types, test_of}
+use Rattle.cudf_problem.specs.Values.{Test, package_types, test_of}
 use Rattle.cudf_document.specs.ProblemFaults.{unmarked_faults, repeats, mistyped_faults, unversioned_faults, version_property, is_reserved_but, misplaced_faults}
 
--- what the properties that count have to be
+-- the properties of packages that count, and what each has to be
 abbrev pub solution_tests : List (List ℕ × Test)
-solution_tests = map test_of solution_types
+solution_tests = map test_of (filter (λ known. is_one_of (codes "package" ∷ codes "version" ∷ codes "installed" ∷ []) known.0) package_types)
 
 -- the faults of a property after those before it: E7, where its name counts, and E9
 abbrev pub value_faults : List PlainProperty × PlainProperty → List Fault

@@ -1,9 +1,9 @@
 -- The types of the properties that CUDF knows: CUDF 2.0, package and request properties.
-use Rattle.std.specs.Prelude.{ℕ, Bool, List, [], ◌∷◌, map, filter, Option, codes}
+use Rattle.std.specs.Prelude.{ℕ, Bool, List, [], ◌∷◌, map, Option, codes}
 use Rattle.cudf_text.specs.Chars.{trim}
 use Rattle.cudf_value.specs.Parts.{some_if, trimmed, look_up}
 use Rattle.cudf_value.specs.Words.{truth, is_pkgname}
-use Rattle.cudf_value.specs.Types.{PlainType, word_type, enum_type, is_one_of, is_of_type}
+use Rattle.cudf_value.specs.Types.{PlainType, word_type, enum_type, is_of_type}
 use Rattle.cudf_problem.specs.declared.package.Keep.{Keep}
 use Rattle.cudf_problem.specs.declared.package.Keep.TheVariants.{Version, Package, Feature, Nothing}
 
@@ -36,10 +36,6 @@ package_types =
 -- the properties of a request that count
 abbrev pub request_types : List (List ℕ × PlainType)
 request_types = map (λ name. (name, word_type (codes "vpkglist"))) (codes "install" ∷ codes "remove" ∷ codes "upgrade" ∷ [])
-
--- the properties of a solution's package that count
-abbrev pub solution_types : List (List ℕ × PlainType)
-solution_types = filter (λ known. is_one_of (codes "package" ∷ codes "version" ∷ codes "installed" ∷ []) known.0) package_types
 
 -- the values of a type
 abbrev pub Test : Type 0
