@@ -98,6 +98,12 @@ def versions(numbers):
     return check(problem, installed(numbers, **names))
 
 
+def upgrades(count):
+    """Many installed packages, each of which is to be upgraded."""
+    each = installed(range(1, count + 1))
+    return check(f"{each}request:\nupgrade: {entries(count, 'p{}')}\n", each)
+
+
 def versions_beside_a_user(count):
     """All versions of one name, and a package that needs others of them: the last one, one below 1, and a later one."""
     user = f"package: user\nversion: 1\ndepends: a > {count - 1}, a < 1, a > {count}\n\nrequest: r\n"
@@ -413,6 +419,7 @@ CASES = (
     Case("versions of one name, ascending", 20_000, lambda n: versions(range(1, n + 1))),
     Case("versions of one name, descending", 20_000, lambda n: versions(range(n, 0, -1))),
     Case("versions of one name, beside a user", 20_000, versions_beside_a_user),
+    Case("upgrades of many", 20_000, upgrades),
     Case("a package repeated behind many", 50_000, repeated),
     Case("a property repeated behind many", 50_000, property_repeated),
     Case("the last page of a long line", 100_000, last_page),
