@@ -295,7 +295,7 @@ const NOTHING: [DetailRow; 14] = [
     ("package: a\nversion: 1\n", 1, Kind::E6, "None"),
     ("package: a\n x\nversion: 1\n", 2, Kind::E7, "None"),
     (
-        "package: a\nversion: 1\nwas-installed: x\n",
+        "package: a\nversion: 1\nsize: x\n",
         3,
         Kind::E9,
         "None",
