@@ -294,12 +294,7 @@ const NOTHING: [DetailRow; 14] = [
     ("package: a\nversion: 1\n", 3, Kind::E4, "None"),
     ("package: a\nversion: 1\n", 1, Kind::E6, "None"),
     ("package: a\n x\nversion: 1\n", 2, Kind::E7, "None"),
-    (
-        "package: a\nversion: 1\nsize: x\n",
-        3,
-        Kind::E9,
-        "None",
-    ),
+    ("package: a\nversion: 1\nsize: x\n", 3, Kind::E9, "None"),
     ("package: a\nversion: 1\n", 2, Kind::E11, "None"),
     ("package: a\nversion: 1\n", 2, Kind::E14, "None"),
     ("request: r\n# x\ninstal: a\n", 2, Kind::E16, "None"),
