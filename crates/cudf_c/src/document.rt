@@ -5,7 +5,7 @@ ghost use Rattle.cudf_c.specs.Working.Given.{given_before};
 use cudf_check::{Source, Trouble};
 use cudf_index::Steps;
 
-/// What is left of a document in memory. No call fails, and each gives a byte or tells the end: so only want of memory ends
+/// What is left of a document in memory. No call fails, and each gives a byte or reaches the end: so only want of memory ends
 /// the reading of one that isn't too long in an error.
 #[derive(Drop)]
 pub(crate) struct Document<'t> {
@@ -14,7 +14,7 @@ pub(crate) struct Document<'t> {
     pub(crate) ends: Steps,
     /// How many bytes the last call gave.
     pub(crate) last: usize,
-    // each call gave a byte or told the end
+    // each call gave a byte or reached the end
     ghost counted: { calls ≤ ends + given_before rest.now },
 }
 

@@ -61,12 +61,12 @@ pub record StopsInTime (reader : Change SourceState) : Type 0 where
   pub turns : reader.after.calls ≤ reader.before.calls + most_turns
   -- none after one that failed
   pub failed : IsLast failed_reads reader.before.failures reader.after.failures reader.after.last
-  -- none after one that told the end
+  -- none after one that reached the end
   pub ended : IsLast ended_reads reader.before.ends reader.after.ends reader.after.last
   -- none after it gave too many bytes: without those of the last call they weren't too many
   pub given : IsTooLong reader → reader.after.given ≤ reader.before.given + most_bytes + option_map_or bytes_given reader.after.last 0
 
--- the reader wasn't read whole: it failed, gave too much, or hasn't told its end, as where memory ran out
+-- the reader wasn't read whole: it failed, gave too much, or hasn't reached its end, as where memory ran out
 abbrev pub IsStopped : Change SourceState → Type 0
 IsStopped reader = IsUnfinished reader ⊎ (IsTooLong reader ⊎ (reader.after.ends ≡ reader.before.ends))
 

@@ -57,7 +57,7 @@ use std::alloc::Global;
 ///
 /// - `Read`: a read failed, or turn 536870912 of a reader neither ended its input nor made it too
 ///   long. A turn is one call of `read`; an interrupted one is tried again. No reader has more turns,
-///   nor is one called again after it failed, told its end or gave too much.
+///   nor is one called again after it failed, reached its end or gave too much.
 /// - `TooLong`: a reader gave more than 268435456 bytes (256 MiB).
 /// - `Write`: a call of `write` answered a trouble or took no byte, and was the last one. What was
 ///   taken before is a prefix of the report.
@@ -80,7 +80,7 @@ pub fn run<R: Source, S: Source, W: Sink>(
     // of a written reason.
     ensures refuted { IfOk result (λ outcome. HasRefutedIfYes job.now outcome (change R.state input.old input.new) (change W.state out.old out.new)) }
 
-    // No reader is called more often than an input may take, nor after a call that failed, told the end or gave too much.
+    // No reader is called more often than an input may take, nor after a call that failed, reached the end or gave too much.
     ensures calls { StopsInTime (change R.state input.old input.new) }
     ensures solution_calls { All StopsInTime (changes S.state (lent solution.entry) (returned solution.exit)) }
 
@@ -123,7 +123,7 @@ pub fn run<R: Source, S: Source, W: Sink>(
 ///
 /// - `Read`: a read failed, or turn 536870912 of a reader neither ended its input nor made it too
 ///   long. A turn is one call of `read`; an interrupted one is tried again. No reader has more turns,
-///   nor is one called again after it failed, told its end or gave too much.
+///   nor is one called again after it failed, reached its end or gave too much.
 /// - `TooLong`: a reader gave more than 268435456 bytes (256 MiB).
 /// - `Write`: a call of `write` answered a trouble or took no byte, and was the last one. What was
 ///   taken before is a prefix of the report.
@@ -142,7 +142,7 @@ pub fn rank<R: Source, S: Source, W: Sink>(
     ensures runs { Runs (rank_report aims.now mode) (change R.state problem.old problem.new)
         (changes S.state solutions.old solutions.new) (change W.state out.old out.new) result }
 
-    // No reader is called more often than an input may take, nor after a call that failed, told the end or gave too much.
+    // No reader is called more often than an input may take, nor after a call that failed, reached the end or gave too much.
     ensures calls { StopsInTime (change R.state problem.old problem.new) }
     ensures solutions_calls { All StopsInTime (changes S.state solutions.old solutions.new) }
 

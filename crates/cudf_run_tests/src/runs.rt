@@ -31,7 +31,7 @@ fn answers(
     answer == want && out.taken.as_slice() == report
 }
 
-/// The most bytes of a read, whether each is given after an interrupted call, and the call that tells the end.
+/// The most bytes of a read, whether each is given after an interrupted call, and the call that reaches the end.
 const READS: [(usize, bool, u32); 4] = [
     (1, false, 156),
     (6, false, 27),
