@@ -24,11 +24,11 @@ import shutil
 import sys
 import tempfile
 
-from cnf import Rules, statuses
-from judge import violated_packages, violated_request
-from lrat import Proof
+from second.cnf import Rules, statuses
+from second.judge import violated_packages, violated_request
+from second.lrat import Proof
 from programs import ended, write
-from reasons import Reasons
+from second.reasons import Reasons
 from refutations import KINDS, Small, spoilt
 
 MOST = 8

@@ -28,11 +28,11 @@ import re
 import sys
 import tempfile
 
-import documents
-import explained
-import named
+from second import documents
+from second import explained
+from second import named
 import programs
-import reports
+from second import reports
 from inputs import Inputs
 
 SIZES = (1, 2, 3)

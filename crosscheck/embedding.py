@@ -40,9 +40,9 @@ from calls import (
     BAD, CALLS, FAIL, FAULTY, GONE, GOOD, GREATEST, GREATEST_INPUT, MANY, MEMORY, MISTYPED, NO, PROBLEM, REFUSED, SHOP,
     SHOP_PROOF, USAGE, YES, Nothing, Request, answers, by_hand, lengths,
 )
-from cnf import Rules
+from second.cnf import Rules
 from inputs import Inputs
-from lrat import Prover
+from second.lrat import Prover
 from refutations import Small, spoilt
 
 HERE = os.path.dirname(os.path.abspath(__file__))

@@ -1,7 +1,7 @@
 """Faults put into documents on purpose, so that each kind comes about with each thing that can be said of it. Python's
 standard library alone.
 """
-from values import BLANKS
+from second.values import BLANKS
 
 # wrong values by the word of the type; what is wrong in a list is an entry
 WRONG = {

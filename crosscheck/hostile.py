@@ -31,7 +31,7 @@ import tempfile
 import threading
 
 import programs
-import reports
+from second import reports
 import spoilt
 
 ONE_INPUT = (

@@ -1,10 +1,10 @@
 """Random problems, solutions and words of the command line, for comparing. Python's standard library alone."""
 import random
 
-import keys
-from criteria import COUNTS
+from second import keys
+from second.criteria import COUNTS
 from faulty import Faults
-from values import OPERATORS
+from second.values import OPERATORS
 
 NAMES = ("a", "b", "c", "f")
 UNKNOWN = ("a", "c", "f", "z")

@@ -18,13 +18,13 @@ import subprocess
 import sys
 import tempfile
 
-import documents
-import reports
-from cnf import Rules, is_satisfied, statuses
+from second import documents
+from second import reports
+from second.cnf import Rules, is_satisfied, statuses
 from inputs import Inputs
-from judge import Judgement
-from lrat import KINDS, Proof, Prover
-from reasons import Reasons
+from second.judge import Judgement
+from second.lrat import KINDS, Proof, Prover
+from second.reasons import Reasons
 
 LIMIT_SECONDS = 120
 SHOP = (

@@ -1,10 +1,10 @@
 """Spoilt documents: mutations of problems and solutions, and random bytes. Python's standard library alone."""
 import os
 
-import documents
-import reports
+from second import documents
+from second import reports
 from inputs import Inputs
-from universe import universe_of
+from second.universe import universe_of
 
 EXAMPLES = os.path.join(os.path.dirname(os.path.dirname(os.path.abspath(__file__))), "examples")
 GENERATED = 40

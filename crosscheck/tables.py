@@ -3,8 +3,8 @@ Python's standard library alone."""
 import re
 from pathlib import Path
 
-from documents import KINDS, lines_of
-from values import BLANKS, IDENT
+from second.documents import KINDS, lines_of
+from second.values import BLANKS, IDENT
 
 LIST = Path(__file__).with_name("tables.txt")
 DOCUMENTS = ("fault", "strict_fault", "problem", "solution", "strict_solution")

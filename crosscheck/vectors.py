@@ -12,14 +12,14 @@ import re
 import sys
 from pathlib import Path
 
-import criteria
-import documents
-import keys
+from second import criteria
+from second import documents
+from second import keys
 import tables
-import values
-from documents import package_id, read_stanzas
-from judge import clause_text, installed_stanzas, vpkg_text
-from universe import COMPARISONS, numbers, satisfies, satisfies_clause, universe_of
+from second import values
+from second.documents import package_id, read_stanzas
+from second.judge import clause_text, installed_stanzas, vpkg_text
+from second.universe import COMPARISONS, numbers, satisfies, satisfies_clause, universe_of
 
 ROOT = Path(__file__).resolve().parent.parent
 VECTORS = ROOT / "crates" / "cudf_vectors"

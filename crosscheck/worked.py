@@ -12,12 +12,12 @@ import re
 import sys
 import tempfile
 
-import criteria
-import documents
-import keys
-import named
+from second import criteria
+from second import documents
+from second import keys
+from second import named
 import programs
-import reports
+from second import reports
 import rows
 
 SHOWN = "crosscheck/shown.txt"

@@ -1,7 +1,7 @@
 """Keys of instances as docs/FORMAT.md tells them: their texts and their order. Python's standard library alone."""
 import re
 
-from values import GREATEST
+from second.values import GREATEST
 
 PACKAGE_RULES = ("depends", "conflicts", "keep")
 REQUEST_RULES = ("install", "remove", "upgrade")

@@ -2,8 +2,8 @@
 standard library alone."""
 from dataclasses import dataclass
 
-from documents import declared_by
-from values import read_formula, read_posint, read_veqpkglist, read_vpkglist
+from second.documents import declared_by
+from second.values import read_formula, read_posint, read_veqpkglist, read_vpkglist
 
 COMPARISONS = {
     "=": int.__eq__, "!=": int.__ne__, ">=": int.__ge__, ">": int.__gt__, "<=": int.__le__, "<": int.__lt__,

@@ -3,9 +3,9 @@ alone.
 """
 import re
 
-from documents import POSTMARKS, declared_by, package_id, read_stanzas
-from universe import satisfies, satisfies_clause
-from values import BLANKS, ENTRIES, WORDS, read_declarations, wrong_declaration, wrong_entry
+from second.documents import POSTMARKS, declared_by, package_id, read_stanzas
+from second.universe import satisfies, satisfies_clause
+from second.values import BLANKS, ENTRIES, WORDS, read_declarations, wrong_declaration, wrong_entry
 
 
 def behind(line, added):

@@ -2,7 +2,7 @@
 import re
 from dataclasses import dataclass, field
 
-from values import BLANKS, BUILT_IN, IDENT, RESERVED, is_pkgname, read_declarations, read_posint, read_vpkglist
+from second.values import BLANKS, BUILT_IN, IDENT, RESERVED, is_pkgname, read_declarations, read_posint, read_vpkglist
 
 POSTMARKS = ("preamble", "package", "request")
 KINDS = {

@@ -1,7 +1,7 @@
 """The core of a refutation as a list of lines, as docs/FORMAT.md tells it. Python's standard library alone."""
-import explained
-import keys
-from judge import clause_text, vpkg_text
+from second import explained
+from second import keys
+from second.judge import clause_text, vpkg_text
 
 KEEPS = {"version": "keep version", "package": "keep package"}
 

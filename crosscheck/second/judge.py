@@ -1,10 +1,10 @@
 """A second judge of CUDF solutions, as docs/RULES.md tells it: what is violated. Python's standard library alone."""
-import criteria
-import explained
-import keys
-from documents import package_id, read_stanzas
-from universe import meeting, numbers, satisfies, satisfies_clause, universe_of
-from values import read_vpkglist
+from second import criteria
+from second import explained
+from second import keys
+from second.documents import package_id, read_stanzas
+from second.universe import meeting, numbers, satisfies, satisfies_clause, universe_of
+from second.values import read_vpkglist
 
 
 # ---- instances

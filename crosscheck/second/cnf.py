@@ -4,9 +4,9 @@ A clause is a list of places, negative where the package isn't installed.
 """
 from itertools import combinations
 
-from documents import read_stanzas
-from universe import numbers, satisfies, satisfies_clause, universe_of
-from values import read_vpkglist
+from second.documents import read_stanzas
+from second.universe import numbers, satisfies, satisfies_clause, universe_of
+from second.values import read_vpkglist
 
 
 class Rules:

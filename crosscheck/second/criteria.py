@@ -2,7 +2,7 @@
 import re
 from dataclasses import dataclass
 
-from universe import satisfies_clause
+from second.universe import satisfies_clause
 
 COUNTS = ("removed", "new", "changed", "notuptodate", "unsat_recommends", "touched")
 AIM = re.compile(rf"([-+])({'|'.join(COUNTS)})")

@@ -4,12 +4,12 @@ An answer is the report's lines and the exit status.
 """
 import functools
 
-import criteria
-import documents
-import explained
-import keys
-from judge import Judgement
-from values import read_posint
+from second import criteria
+from second import documents
+from second import explained
+from second import keys
+from second.judge import Judgement
+from second.values import read_posint
 
 YES, NO, FAULTY, FAIL, USAGE, TROUBLE, NO_MEMORY = range(7)
 GREATEST_INPUT = 268435456
