@@ -28,7 +28,7 @@ module _ (p : ℕ) (status : List Placed) where
   pub passes_never : passes_at (λ q. false) p status ≡ false
   passes_never = any_never (λ (q : Placed). (q.0 == p) && false) (λ q. left_out (q.0 == p)) status
 
-  -- whether an atom is the one that is met, or one behind it
+  -- whether an atom is the one that is met, or one after it
   pub atom_met : (all rest : List PlainAtom) (a : PlainAtom) (target : Bool) → all ≡ a ∷ rest → passes_at (meets_clause_alone all) p status ≡ target → true ≡ passes_at (meets_atom_alone a) p status → true ≡ target
   atom_met all rest a target is told met =
       ap (λ b. b || passes_at (meets_clause_alone rest) p status) met ∙ sym (passes_first a rest) ∙ ap (λ as'. passes_at (meets_clause_alone as') p status) (sym is) ∙ told

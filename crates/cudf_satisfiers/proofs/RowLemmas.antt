@@ -46,7 +46,7 @@ module _ (p : ℕ) where
   fold_more xs g [] at all = refl
   fold_more xs g (h ∷ hs) at all = ap (λ ys. fold grown ys hs) (grown_joined xs g h (at.1 ∙ sym all.0.1)) ∙ fold_more xs (join g h) hs (join_at p g h at all.0) all.1
 
-  -- the givers of a package are joined behind those of the packages before it
+  -- the givers of a package are joined after those of the packages before it
   fold_fresh : (xs gs : List Giver) → Each (λ (x : Giver). x.last < p) xs → AreAt p gs → fold grown xs gs ≡ xs ++ option_to_list (joined gs)
   fold_fresh xs [] before all = sym (append-nil xs)
   fold_fresh xs (g ∷ gs) before all = ap (λ ys. fold grown ys gs) (grown_other xs g (at_last xs before)) ∙ fold_more xs g gs all.0 all.1

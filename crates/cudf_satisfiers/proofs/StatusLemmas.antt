@@ -55,12 +55,12 @@ or_nothing : (b : Bool) → (b || false) ≡ b
 or_nothing true = refl
 or_nothing false = refl
 
--- the packages behind a place don't stand at it
+-- the packages after a place aren't at it
 none_behind : (t : Placed → Bool) (s : ℕ) (xs : List Placed) → Each (λ (q : Placed). s < q.0) xs → list_any (λ x. t x && (nat_le s x.0 && nat_le x.0 s)) xs ≡ false
 none_behind t s [] far = refl
 none_behind t s (x ∷ xs) far = ap (λ b. (t x && b) || list_any (λ y. t y && (nat_le s y.0 && nat_le y.0 s)) xs) (apart s x.0 far.0) ∙ ap (λ b. b || list_any (λ y. t y && (nat_le s y.0 && nat_le y.0 s)) xs) (never_and (t x)) ∙ none_behind t s xs far.1
 
--- no other package stands at the place of a package
+-- no other package is at the place of a package
 pub alone_there : (t : Placed → Bool) (s : ℕ) (ps : List PlainPackage) → Each (λ (q : Placed). list_any (λ x. t x && (nat_le q.0 x.0 && nat_le x.0 q.0)) (enumerate_from s ps) ≡ t q) (enumerate_from s ps)
 alone_there t s [] = tt
 alone_there t s (p ∷ ps) = (
@@ -73,7 +73,7 @@ alone_there t s (p ∷ ps) = (
       (enumerate_from (s + 1) ps) (places_behind s (s + 1) ps (omega arith)) (alone_there t (s + 1) ps),
 )
 
--- ---- what is told of each
+-- ---- what is reported of each
 
 module _ (f : List ℕ) (w : Wanted) where
   -- the number that is asked for alone is among those of the package

@@ -56,7 +56,7 @@ module _ (pairs : List Pair) (w : Wanted) where
         kept None some = absurd (some refl)
         kept (Some g) some = refl
 
--- what stands before both searches stays
+-- what is before both searches stays
 pub kept_twice : (old mid new : List ℕ) → take (length old) mid ≡ old → take (length mid) new ≡ mid → take (length old) new ≡ old
 kept_twice old mid new first then =
     let count : length old ≤ length mid = omega (arith, length-take (length old) mid, ap length first) in

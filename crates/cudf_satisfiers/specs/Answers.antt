@@ -39,6 +39,6 @@ differ name p q = list_any (λ m. list_any (λ n. not (m == n)) (numbers_by name
 abbrev pub passes_at : (Placed → Bool) → ℕ → List Placed → Bool
 passes_at test place status = list_any (λ q. (q.0 == place) && test q) status
 
--- the package stands after the place, and differs from the package that the status has there
+-- the package comes after the place, and differs from the package that the status has there
 abbrev pub differs_after : List ℕ → ℕ → List Placed → Placed → Bool
 differs_after name place status q = nat_lt place q.0 && passes_at (λ p. differ name p q) place status

@@ -23,6 +23,8 @@ pub(crate) struct GiverTree {
 #[cycle(tree)]
 #[derive(Drop)]
 enum Node {
+    /// Most names have one: it is read without a look at further memory.
+    One(Giver),
     Few(Vec<Giver>),
     /// What both halves give together, and the halves.
     Halves(Giver, Box<GiverTree>, Box<GiverTree>),
@@ -48,10 +50,15 @@ impl Model for GiverTree {
 }
 
 impl GiverTree {
-    /// The tree of a row, which stays as it is where it is short.
+    /// The tree of a row, which is kept as it is where it is short.
     pub(crate) fn of_row(alloc: Global, row: Vec<Giver>) -> Result<Self, AllocError>
         ensures { IfOk result (λ tree. tree ≡ row.items) }
     {
+        if let [giver] = row.as_slice() {
+            return Ok(GiverTree {
+                node: Node::One(*giver),
+            });
+        }
         if row.len() <= FEW {
             return Ok(GiverTree {
                 node: Node::Few(row),
@@ -80,7 +87,7 @@ impl GiverTree {
         })
     }
 
-    /// Puts the places of all that pass after those in `places`; what stands there before stays.
+    /// Puts the places of all that pass after those in `places`; what is there before stays.
     ///
     /// Its cost is that of a look at each answer, times the binary digits of the number of givers: what a half gives
     /// together passes only where one of its givers does, but for a half that has places on both sides of the one that
@@ -95,6 +102,7 @@ impl GiverTree {
         ensures kept { take (length places.old.items) places.new.items ≡ places.old.items }
     {
         match &self.node {
+            Node::One(giver) => push_if(places, giver.first, wanted.passes(*giver, pairs)),
             Node::Few(few) => search_each(few, wanted, pairs, places),
             Node::Halves(joint, front, back) => {
                 if !wanted.passes(*joint, pairs) {
@@ -111,6 +119,7 @@ impl GiverTree {
         ensures { result ≡ find (passes pairs.now wanted.now) self.now }
     {
         match &self.node {
+            Node::One(giver) => Some(*giver).filter(|giver| wanted.passes(*giver, pairs)),
             Node::Few(few) => find_each(few, wanted, pairs),
             Node::Halves(joint, front, back) => {
                 if !wanted.passes(*joint, pairs) {

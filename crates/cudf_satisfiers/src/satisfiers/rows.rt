@@ -38,7 +38,7 @@ impl Row {
         })
     }
 
-    /// Puts the places of all packages that are asked for after those in `places`; what stands there before stays.
+    /// Puts the places of all packages that are asked for after those in `places`; what is there before stays.
     pub(crate) fn search(&self, wanted: &Wanted, places: &mut Vec<u64>) -> Result<(), AllocError>
         ensures added { OnOk result (places.new.items ≡ places.old.items ++ found_places self.now.pairs wanted.now self.now.givers) }
         ensures kept { take (length places.old.items) places.new.items ≡ places.old.items }

@@ -7,4 +7,4 @@ pub returns-then-not-passes-clause-added : goal.returns-then-not-passes-clause-a
 returns-then-not-passes-clause-added t c =
     sym (append-nil c.args.places.now.items)
     ∙ ap (λ xs. c.args.places.now.items ++ xs)
-    (sym (none_searched c.args.pairs.now c.args.wanted.now c.self.inside.node c.args.self.now c.in-Halves.joint c.in-Halves.front c.in-Halves.back c.self.view_is c.self.invariant c.in-Halves.is (sym c.passes.ensures ∙ c.if-not-passes.true)))
+    (sym (none_searched c.args.pairs.now c.args.wanted.now c.self.inside.node c.args.self.now c.in-Halves.joint c.in-Halves.front c.in-Halves.back c.self.view_is c.self.invariant c.in-Halves.is (sym c.passes-in-Halves.ensures ∙ c.if-not-passes.true)))
