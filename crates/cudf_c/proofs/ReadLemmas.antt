@@ -27,7 +27,7 @@ use Rattle.cudf_c.proofs.RoomLemmas.{over-none, taken, untaken}
 
 -- ---- fronts
 
--- a front holds what it had taken, and this text behind it
+-- a front holds what it had taken, and this text after it
 shows : (old new : Front) (text : List ℕ) → old.seen.now.report ≡ [] → new.seen.now.before ≡ old.seen.now.before → new.seen.now.report ≡ text
     → (new.length ≡ min (length text) 18446744073709551615) × (new.room.now ≡ over old.room.now text)
 shows old new text none before report =

@@ -16,7 +16,7 @@ length-over [] text = refl
 length-over (old ∷ room) [] = refl
 length-over (old ∷ room) (byte ∷ text) = ap suc (length-over room text)
 
--- its front, and behind it what was there
+-- its front, and after it what was there
 pub over-is : (room text : List ℕ) → over room text ≡ take (length room) text ++ drop (length text) room
 over-is [] text = sym (drop_all (length text) [] (omega arith))
 over-is (old ∷ room) [] = refl
@@ -30,7 +30,7 @@ at_end room at text part inside is =
     let shown : part ≡ over (take (length room - at) (drop at room)) text = is ∙ sym (over-is (take (length room - at) (drop at room)) text) in
     rw (shown, take_rest room at, drop_all (length room - at) (drop at room) (omega (arith, inside, length-drop at room))) (rw (append-nil (over (drop at room) text)) refl)
 
--- ---- one text behind another
+-- ---- one text after another
 
 -- a buffer that is full shows no more
 full : (room text more : List ℕ) → length room ≤ length text → over room (text ++ more) ≡ over room text
@@ -71,7 +71,7 @@ written room before report bytes counted room' report' counted' is few put add m
   counts = rw (more, add, is.counts, length-append report bytes) (omega arith);
 }
 
--- ---- what a front has taken, behind the name of the buffer's reference and what the buffer held before
+-- ---- what a front has taken, after the name of the buffer's reference and what the buffer held before
 
 first : List ℕ → ℕ
 first [] = 0

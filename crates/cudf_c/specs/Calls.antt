@@ -12,7 +12,7 @@ use Rattle.cudf_problem.specs.declared.mode.Mode.TheVariants.{Lenient, Strict}
 abbrev pub mode_of : Bool → Mode
 mode_of strict = if strict then Strict else Lenient
 
--- what a call leaves: the bytes of the caller's buffer before and behind it, the length that it tells, and its status
+-- what a call leaves: the bytes of the caller's buffer before and after it, the length that it tells, and its status
 pub record Left : Type 0 where
   pub old : List ℕ
   pub new : List ℕ
@@ -22,7 +22,7 @@ pub record Left : Type 0 where
 abbrev pub left : List ℕ → List ℕ → ℕ → ℕ → Left
 left old new told status = record { old = old; new = new; told = told; status = status }
 
--- the whole text's length is told, or 18446744073709551615 where it is longer; its front stands in the buffer, as far as there is room, and what lies behind it is as before
+-- the whole text's length is reported, or 18446744073709551615 where it is longer; its front is in the buffer, as far as there is room, and what follows it is as before
 pub record Shows (text : List ℕ) (call : Left) : Type 0 where
   pub length_is : call.told ≡ min (length text) 18446744073709551615
   pub shown : call.new ≡ take (length call.old) text ++ drop (length text) call.old
@@ -32,7 +32,7 @@ pub record Tells (answer : Report) (call : Left) : Type 0 where
   pub status_is : call.status ≡ outcome_status answer.outcome
   pub shows : Shows answer.text call
 
--- there is no report, but this status: no length is told, and the buffer is as before
+-- there is no report, but this status: no length is reported, and the buffer is as before
 pub record BreaksOff (status : ℕ) (call : Left) : Type 0 where
   pub status_is : call.status ≡ status
   pub length_is : call.told ≡ 0

@@ -44,7 +44,7 @@ abbrev pub IsAims : List ℕ → List Aim → Type 0
 IsAims [] aims = aims ≡ []
 IsAims (byte ∷ bytes) aims = criterion (byte ∷ bytes) ≡ Some aims
 
--- the page behind this key that has so many lines at most, explained or not
+-- the page after this key that has so many lines at most, explained or not
 abbrev pub IsPage : List ℕ → ℕ → Bool → Job → Type 0
 IsPage after limit told (Lint explain) = ⊥
 IsPage after limit told (Check key number explain) = IsKey after key × (number ≡ limit_of limit) × (explain ≡ told)

@@ -85,7 +85,7 @@ impl Sink for Front<'_> {
     }
 }
 
-/// Copies a text to the room from the place `at` on, as far as it fits. What lies before and behind it stays.
+/// Copies a text to the room from the place `at` on, as far as it fits. What lies before and after it stays.
 fn put(room: &mut [u8], at: usize, text: &[u8])
     ensures written { room.new ≡ take at room.old ++ over (drop at room.old) text.now }
     ensures few { length room.old ≤ usize.MAX }
@@ -95,7 +95,7 @@ fn put(room: &mut [u8], at: usize, text: &[u8])
     }
 }
 
-/// Copies a text to the front of the room, as far as it fits. What lies behind it stays.
+/// Copies a text to the front of the room, as far as it fits. What follows it stays.
 pub(crate) fn copy_front(text: &[u8], room: &mut [u8])
     ensures { room.new ≡ take (length room.old) text.now ++ drop (length text.now) room.old }
 {

@@ -1,4 +1,4 @@
-//! Which documents are too long: told by their lengths alone, before a byte of one is read.
+//! Which documents are too long: known from their lengths alone, before a byte of one is read.
 ghost use Rattle.std.specs.Prelude.{◌<◌, ◌≤◌, map, MatchBool};
 ghost use Rattle.std.specs.List.{All};
 ghost use Rattle.cudf_check.specs.Readers.{OfOne, most_bytes};

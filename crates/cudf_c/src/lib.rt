@@ -2,10 +2,10 @@
 //!
 //! A call answers the exit status that the program has for the same documents. Its report goes to the front of the
 //! caller's buffer as far as there is room, and the rest is only counted: no more of a report is held in memory. The
-//! length of the whole report is told: where that is more than the buffer has, a second call with a larger one gives all
+//! length of the whole report is given: where that is more than the buffer has, a second call with a larger one gives all
 //! of it. With status 4, 5 and 6 nothing is written, and the length is 0.
 //!
-//! Status 4, of words that ask for nothing, comes before 5. Status 5 is told by the lengths of the documents alone, before a
+//! Status 4, of words that ask for nothing, comes before 5. Status 5 is known from the lengths of the documents alone, before a
 //! byte of one is read. Nothing is kept between calls, so any number of threads may call at once. Own.
 #![tactic(auto)]
 

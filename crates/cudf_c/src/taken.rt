@@ -43,7 +43,7 @@ impl Taken {
     }
 }
 
-/// Bytes as contracts see them, each behind those before it. A snapshot has no bytes at run time.
+/// Bytes as contracts see them, each after those before it. A snapshot has no bytes at run time.
 #[derive(Drop)]
 enum Bytes {
     /// No byte.

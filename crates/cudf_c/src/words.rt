@@ -8,7 +8,7 @@ use crate::stop::Stop;
 use cudf_check::{Aim, Job, Key, read_criterion};
 use std::alloc::Global;
 
-/// The page of a check behind the key that `after` says, of `limit` lines at most, explained or not.
+/// The page of a check after the key that `after` says, of `limit` lines at most, explained or not.
 pub(crate) fn page(after: &[u8], limit: u64, explain: bool) -> Result<Job, Stop>
     ensures judges { IfOk result Judges }
     ensures asked { MatchResult result (IsPage after.now limit explain) (λ stop. (stop ≡ Refused) × IsNoKey after.now) }

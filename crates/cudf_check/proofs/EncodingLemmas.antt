@@ -26,7 +26,7 @@ pub finds_none : (more : Bool) (old : PlainEncoder) (held put : PlainKeyedClause
 finds_none true old held put is tells = absurd (cc is)
 finds_none false old held put is tells = tells
 
--- an entry behind the first one
+-- an entry after the first one
 pub later_entry : {A : Type 0} (x : A) (xs : List A) (n : ℕ) → 0 < n → slice_get (x ∷ xs) n ≡ slice_get xs (n - 1)
 later_entry x xs zero h = absurd (omega arith)
 later_entry x xs (suc n) h = let less : suc n - 1 ≡ n = omega arith in ap (slice_get xs) (sym less)

@@ -193,7 +193,7 @@ read_to_the_end state n olds news texts v end m =
     take-all (x ∷ xs) zero h = absurd (omega arith)
     take-all (x ∷ xs) (suc n) h = ap (λ ys. x ∷ ys) (take-all xs n (omega arith))
 
--- memory ran out behind a reader
+-- memory ran out after a reader
 pub no_room_left : {D T : Type 0} (state : D → SourceState) (n : ℕ) (olds news : List D) (read : List (List ℕ)) (texts : T → List (List ℕ))
     → ReadSoFar state olds news n read → ReadsInTurn state olds news texts (Err Memory)
 no_room_left state n olds news read texts m = record {

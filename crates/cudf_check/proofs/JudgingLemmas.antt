@@ -27,7 +27,7 @@ pub none_judged : {A : Type 0} (mode : Mode) (problem : PlainProblem) (view : A 
 none_judged mode problem view xs = record { found = refl; sound = refl }
 
 module _ {A : Type 0} (mode : Mode) (problem : PlainProblem) (view : A → List ℕ) (xs : List A) (n : ℕ) (d : A) (ss : List Entrant) (below : n < length xs) (m : JudgedSoFar mode problem view xs n ss) where
-  -- the one at the turn, and those behind it
+  -- the one at the turn, and those after it
   behind : left view xs n ≡ (n + 1, view (get_or xs n d)) ∷ left view xs (n + 1)
   behind = ap (λ ys. enumerate_from (n + 1) (map view ys)) (left_is xs n d below ∙ (λ k. get_or xs n d ∷ drop (next k) xs))
     where

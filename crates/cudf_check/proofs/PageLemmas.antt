@@ -1,4 +1,4 @@
--- What of the listing lies behind the last key of a page.
+-- What of the listing lies after the last key of a page.
 use Rattle.std.proofs.Common.{◌≡◌, inl, inr, ℕ, zero, suc, ◌+◌, Bool, true, false, ◌&&◌, cond, List, [], ◌∷◌, ◌++◌, map, filter, length, get_or, take, drop, ◌-◌, ◌<◌, ◌≤◌, arith, drop-cons, Option, Some, None, option_map, refl, sym, ap, ◌∙◌, append_assoc, append-nil, add-one, take-append-drop, codes, if◌then◌else◌}
 use Rattle.std.specs.List.{flat_map, last_or}
 use Rattle.std.specs.Ordering.{is_lt, ordering_reverse}
@@ -25,7 +25,7 @@ use Rattle.cudf_check.proofs.CommonLemmas.{and_left, and_right, is_less}
 abbrev pub precedes : PlainKey → PlainKey → Bool
 precedes a b = is_lt (key_cmp a b)
 
--- the instances whose keys come behind this one
+-- the instances whose keys come after this one
 abbrev pub behind : PlainKey → List PlainInstance → List PlainInstance
 behind key is = filter (λ i. is_lt (key_cmp key i.key)) is
 
@@ -53,7 +53,7 @@ precedes-itself a = itself_case a (precedes a a) refl
 
 -- ---- ascending lists
 
--- all come behind a key that precedes them
+-- all come after a key that precedes them
 behind-all : (key : PlainKey) (is : List PlainInstance) → precedes_all key (map (λ i. i.key) is) ≡ true → behind key is ≡ is
 behind-all key [] h = refl
 behind-all key (i ∷ is) h =
@@ -69,7 +69,7 @@ before_last first key i [] back h last =
 before_last first key i (j ∷ front) back h last =
     before_last first key j front back (and_right (precedes first i.key) (precedes_all first (map (λ k. k.key) ((j ∷ front) ++ back))) h) last
 
--- behind the last key of a front lies what follows the front
+-- after the last key of a front lies what follows the front
 pub behind-front : (key : PlainKey) (front back : List PlainInstance) → ascend (map (λ i. i.key) (front ++ back)) ≡ true → end_key front ≡ Some key
     → behind key (front ++ back) ≡ back
 behind-front key [] back h last = absurd (none_is_some last)
@@ -84,9 +84,9 @@ behind-front key (i ∷ j ∷ front) back h last =
     ap (λ b. cond b (i ∷ behind key rest) (behind key rest)) (precedes-back i.key key before)
     ∙ behind-front key (j ∷ front) back (and_right (precedes_all i.key (map (λ k. k.key) rest)) (ascend (map (λ k. k.key) rest)) h) last
 
--- ---- behind a key, and behind a later one
+-- ---- after a key, and after a later one
 
--- where one comes behind a key, so do all that follow it
+-- where one comes after a key, so do all that follow it
 follows_case : (key : PlainKey) (i : PlainInstance) (is : List PlainInstance) → precedes key i.key ≡ true → precedes_all i.key (map (λ j. j.key) is) ≡ true
     → precedes_all key (map (λ j. j.key) is) ≡ true
 follows_case key i [] h k = refl
@@ -95,7 +95,7 @@ follows_case key i (j ∷ is) h k =
     let others = follows_case key i is h (and_right (precedes i.key j.key) (precedes_all i.key (map (λ l. l.key) is)) k) in
     ap (λ b. b && precedes_all key (map (λ l. l.key) is)) here ∙ others
 
--- an ascending list is a front and what lies behind a key
+-- an ascending list is a front and what follows a key
 pub record IsCut (key : PlainKey) (is : List PlainInstance) : Type 0 where
   pub front : List PlainInstance
   pub whole : front ++ behind key is ≡ is
@@ -124,7 +124,7 @@ last_of_both (i ∷ []) [] key h = absurd (none_is_some h)
 last_of_both (i ∷ []) (j ∷ is) key h = h
 last_of_both (i ∷ j ∷ front) is key h = last_of_both (j ∷ front) is key h
 
--- behind the last key of a page of what lies behind a key is what follows the page
+-- after the last key of a page of what follows a key is what follows the page
 pub behind-page : (after key : PlainKey) (is page left : List PlainInstance) → ascend (map (λ i. i.key) is) ≡ true → behind after is ≡ page ++ left
     → end_key page ≡ Some key → behind key is ≡ left
 behind-page after key is page left up parts last =
@@ -135,7 +135,7 @@ behind-page after key is page left up parts last =
 
 -- ---- one instance more
 
--- the last key behind one instance more
+-- the last key after one instance more
 pub last_of_more : (is : List PlainInstance) (i : PlainInstance) → end_key (is ++ i ∷ []) ≡ Some i.key
 last_of_more [] i = refl
 last_of_more (j ∷ []) i = refl
@@ -207,7 +207,7 @@ left_of : (s : Proposal) (after : Option PlainKey) (key : PlainKey) (page left :
 left_of s None key page left up parts last = ap (behind key) parts ∙ behind-front key page left (ap (λ js. ascend (map (λ i. i.key) js)) (sym parts) ∙ up) last
 left_of s (Some after) key page left up parts last = behind-page after key (listing s) page left up parts last
 
--- it is told of the last instance as of its key
+-- it is reported of the last instance as of its key
 more_of : (s : Proposal) (last : Option PlainInstance) → more_text s last ≡ more_after s (option_map (λ i. i.key) last)
 more_of s None = refl
 more_of s (Some i) = refl
@@ -229,12 +229,12 @@ chosen : (new : List PlainInstance) (last : Option Key) → (if is_empty new the
 chosen [] last = refl
 chosen (i ∷ new) last = refl
 
--- without a key none is told
+-- without a key none is reported
 pub more-no-key : (new : List PlainInstance) → more_line (option_map key_view (if is_empty new then None else None)) ≡ []
 more-no-key [] = refl
 more-no-key (i ∷ new) = refl
 
--- the line behind a page is that of the key after which the next page begins
+-- the line after a page is that of the key after which the next page begins
 pub more-line : (s : Proposal) (after : Option PlainKey) (limit : ℕ) (new : List PlainInstance) (last : Option Key) → Ascends s
     → IsPageEnd limit (listed after s) new last
     → more_text s (last_or None (take limit (listed after s))) ≡ more_line (option_map key_view (if is_empty new then None else last))
@@ -248,12 +248,12 @@ more-line s after limit new None up (inr left) =
     let parts : listed after s ≡ take limit (listed after s) ++ [] = sym (take-append-drop limit (listed after s)) ∙ ap (λ is. take limit (listed after s) ++ is) left in
     more_of s (last_or None (take limit (listed after s))) ∙ none_more s after (take limit (listed after s)) (end_key (take limit (listed after s))) up parts refl ∙ sym (more-no-key new)
 
--- with the key of the last instance it is told where one is left
+-- with the key of the last instance it is reported where one is left
 pub more-key : (new : List PlainInstance) (key : Key) → more_line (option_map key_view (if is_empty new then None else Some key)) ≡ more_behind new (key_view key)
 more-key [] key = refl
 more-key (i ∷ new) key = refl
 
--- at the start, or behind a key, the rest of the listing is left
+-- at the start, or after a key, the rest of the listing is left
 listed_at : (s : Proposal) (after : Option PlainKey) → pages.left_at (pages.behind after) s ≡ listed after s
 listed_at s None = refl
 listed_at s (Some key) = refl

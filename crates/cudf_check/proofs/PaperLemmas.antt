@@ -47,7 +47,7 @@ Says-as state a b t u is m = subst (Says state a b) is m
 pub torn : (start a : SinkState) (before text : List ℕ) → IsTorn start a before → IsTorn start a (before ++ text)
 torn start a before text m = record { prefix = AppendsPrefix-longer start.contents a.contents before text m.prefix; failed = m.failed; stops = m.stops }
 
--- whatever comes behind a text counts as printed
+-- whatever comes after a text counts as printed
 pub Says-torn : {W : Type 0} (state : W → SinkState) (a b : Paper W) (t u : List ℕ) → b.has_failed ≡ true → Says state a b t → Says state a b (t ++ u)
 Says-torn state a b t u failed m = record {
   same = m.same;
@@ -58,7 +58,7 @@ Says-torn state a b t u failed m = record {
       (subst (λ f. IsSaid f start now b.waiting.now ((before ++ t) ++ u)) (sym failed) (torn start now (before ++ t) u one));
 }
 
--- a text, and nothing behind it, unless a write failed
+-- a text, and nothing after it, unless a write failed
 pub Says-end : {W : Type 0} (state : W → SinkState) (a b : Paper W) (t u : List ℕ) (has_failed : Bool) → b.has_failed ≡ has_failed
     → (has_failed ≡ false → u ≡ []) → Says state a b t → Says state a b (t ++ u)
 Says-end state a b t u true failed none m = Says-torn state a b t u failed m
@@ -70,7 +70,7 @@ Says-end state a b t u false failed none m = Says-as state a b t (t ++ u) (sym (
 pub blank : (start : SinkState) (p : List ℕ) → p ≡ [] → IsTaken start start p []
 blank start p is = record { taken = []; whole = is; appended = Appends-nil start.contents; calm = refl }
 
--- a text waits behind what waited
+-- a text waits after what waited
 pub added : (start a : SinkState) (p q before text : List ℕ) → q ≡ p ++ text → IsTaken start a p before → IsTaken start a q (before ++ text)
 added start a p q before text is m = record {
   taken = m.taken;
@@ -105,7 +105,7 @@ cut_off start a b p text e w m =
       stops = stops_later start a b m.calm w.stops;
     }
 
--- the same, where a text would have come behind it
+-- the same, where a text would have come after it
 pub broke : (start a b : SinkState) (p before text : List ℕ) (result : Result (Unit {0}) RunError) → is_err result ≡ true → Writes a b result p
     → IsTaken start a p before → IsTorn start b (before ++ text)
 broke start a b p before text (Ok x) failed w m = absurd (cc failed)
@@ -147,7 +147,7 @@ texts-more f xs i d below = sym (ap (flat_map f) (take_more xs i d below) ∙ fl
 pub texts-step : {A : Type 0} (f : A → List ℕ) (xs ys : List A) (x : A) → ys ≡ xs ++ x ∷ [] → flat_map f xs ++ f x ≡ flat_map f ys
 texts-step f xs ys x is = sym (ap (flat_map f) is ∙ flat_map-append f xs (x ∷ []) ∙ ap (λ t. flat_map f xs ++ t) (append-nil (f x)))
 
--- the elements behind the first ones
+-- the elements after the first ones
 pub record IsFront {A : Type 0} (f : A → List ℕ) (xs : List A) (m n : ℕ) : Type 0 where
   pub behind : List ℕ
   pub whole : flat_map f (take m xs) ++ behind ≡ flat_map f (take n xs)
@@ -160,7 +160,7 @@ front f (x ∷ xs) (suc m) (suc n) h =
     let one = front f xs m n (omega arith) in
     record { behind = one.behind; whole = append_assoc (f x) (flat_map f (take m xs)) one.behind ∙ ap (λ t. f x ++ t) one.whole }
 
--- where a write failed behind the first ones, all count as printed
+-- where a write failed after the first ones, all count as printed
 pub Says-front : {W A : Type 0} (state : W → SinkState) (a b : Paper W) (f : A → List ℕ) (xs : List A) (m n : ℕ) → m ≤ n → b.has_failed ≡ true
     → Says state a b (flat_map f (take m xs)) → Says state a b (flat_map f (take n xs))
 Says-front state a b f xs m n h failed said =

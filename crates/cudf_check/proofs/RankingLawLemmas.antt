@@ -222,12 +222,12 @@ none_before (x ∷ xs) = none_before xs
 
 -- ---- no other list
 
--- it stands in the list
+-- it is in the list
 abbrev Among : Entrant → List Entrant → Type 0
 Among w [] = ⊥
 Among w (x ∷ xs) = (w ≡ x) ⊎ Among w xs
 
--- all of these stand in the list
+-- all of these are in the list
 abbrev Within : List Entrant → List Entrant → Type 0
 Within ys zs = AllByRecursion (λ w. Among w zs) ys
 
@@ -239,7 +239,7 @@ within_itself : (xs : List Entrant) → Within xs xs
 within_itself [] = tt
 within_itself (x ∷ xs) = (inl refl, further x xs xs (within_itself xs))
 
--- lists of the same entrants stand in each other
+-- lists of the same entrants contain each other
 permuted_within : (xs ys : List Entrant) → IsPermutation xs ys → Within ys xs
 permuted_within xs ys h = recursion_from_All (λ w. Among w xs) ys (All-permutation (λ w. Among w xs) xs ys h (All-from_recursion (λ w. Among w xs) xs (within_itself xs)))
 
@@ -260,7 +260,7 @@ first_same aims y z ys zs (inl same) b h k = same
 first_same aims y z ys zs (inr a) (inl same) h k = sym same
 first_same aims y z ys zs (inr a) (inr b) h k = absurd (not_itself aims y (precedes_on aims y z y (among_all (precedes aims y) z ys h b) (among_all (precedes aims z) y zs k a)))
 
--- those behind the first are among the others behind the first
+-- those after the first are among the others after the first
 rest_within : (aims : List Aim) (y z : Entrant) (ys zs : List Entrant) → y ≡ z → list_all (precedes aims y) ys ≡ true → Within ys (z ∷ zs) → Within ys zs
 rest_within aims y z [] zs same h a = tt
 rest_within aims y z (w ∷ ys) zs same h a = (behind a.0, rest_within aims y z ys zs same (and_right (precedes aims y w) (list_all (precedes aims y) ys) h) a.1)
@@ -302,7 +302,7 @@ ranking_alone aims xs ys own same h =
 pub precedes_weak : (aims : List Aim) → IsStrictWeakOrder (precedes aims)
 precedes_weak aims = subst IsStrictWeakOrder (λ i x y. sym (precedes_is aims x y) i) (ranks_by (rank_total aims) (λ s. s))
 
--- none precedes one that stands before it
+-- none precedes one that comes before it
 none_back : (aims : List Aim) (ys : List Entrant) → IsSortedBy (precedes aims) ys → (j i : ℕ) (d : Entrant) → i < j → j < length ys → precedes aims (get_or ys j d) (get_or ys i d) ≡ false
 none_back aims ys sorted zero i d below within = absurd (omega arith)
 none_back aims ys sorted (suc j) i d below within = by (λ before. none_back aims ys sorted j i d before (omega arith)) (cases_lt i j)

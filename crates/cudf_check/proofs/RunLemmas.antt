@@ -129,7 +129,7 @@ module _ (answer : Names → List ℕ → List (List ℕ) → Report) (first : C
     stops = m.stops;
   }
 
--- ---- one reader behind the first
+-- ---- one reader after the first
 
 -- a reading that ended well
 pub was_read : {T : Type 0} (reader : Change SourceState) (bytes : List ℕ) (v : T) → ReadsAll reader bytes
@@ -141,7 +141,7 @@ was_read reader bytes v all too_long unfinished calls = record {
   calls = calls;
 }
 
--- one stands behind it
+-- one comes after it
 pub one_behind : (reader : Change SourceState) (bytes : List ℕ) → WasRead reader bytes → WereRead (reader ∷ []) (bytes ∷ [])
 one_behind reader bytes was = record { all = (was.all, tt); finished = finished; short = short }
   where

@@ -67,7 +67,7 @@ pub shown-next : (printed before escaped after left whole : List ℕ) → left �
 shown-next printed before escaped after left whole parts so_far =
     append_assoc (printed ++ before) escaped after ∙ append_assoc printed before (escaped ++ after) ∙ ap (λ t. printed ++ t) (sym (append_assoc before escaped after) ∙ sym parts) ∙ so_far
 
--- ---- the front of a text, and what stands behind as many characters
+-- ---- the front of a text, and what follows as many characters
 
 -- one character more
 pub behind_next : (text rest next : List ℕ) (i c : ℕ) → IsUtf8 rest → chars rest ≡ drop i (chars text) → rest ≡ encode_utf8 c ++ next → chars next ≡ drop (i + 1) (chars text)
@@ -117,7 +117,7 @@ module _ (text rest : List ℕ) (i n : ℕ) (utf8 : IsUtf8 text) (rest_utf8 : Is
 no_chars : (bs : List ℕ) → IsUtf8 bs → chars bs ≡ [] → bs ≡ []
 no_chars bs utf8 none = sym (encodes-chars bs utf8) ∙ ap encode_utf8_all none
 
--- something is left behind 60 characters where there are more
+-- something is left after 60 characters where there are more
 pub is_left : (text rest : List ℕ) → IsUtf8 rest → chars rest ≡ drop 60 (chars text) → not (length rest == 0) ≡ nat_lt 60 (length (chars text))
 is_left text rest utf8 is = by rest refl (chars rest) refl
   where

@@ -122,11 +122,11 @@ entry_added (Some n) = codes ", entry " ++ decimal n
 abbrev pub value_added : List ℕ → List ℕ
 value_added text = if length text == 0 then [] else codes ": " ++ clipped text
 
--- behind the name of a postmark, which may be that of the next stanza
+-- after the name of a postmark, which may be that of the next stanza
 abbrev pub unparted_added : List ℕ → List ℕ
 unparted_added name = if is_some (postmark_named name) then codes ", a blank line may be missing before it" else []
 
--- what is said of a name that has no meaning where it stands
+-- what is said of a name that has no meaning where it is
 abbrev pub misplaced_text : List ℕ → List ℕ
 misplaced_text name = if is_some (postmark_named name) then codes "a blank line is missing before " ++ name else name ++ codes " has no meaning here"
 

@@ -114,6 +114,6 @@ rank_report aims mode names problem solutions =
 
 -- ---- what makes the laws over rankings hold of it
 
--- among the solutions of a problem no place stands twice
+-- among the solutions of a problem no place occurs twice
 abbrev pub EntrantsHaveOwnPlaces : Type 0
 EntrantsHaveOwnPlaces = (problem : PlainProblem) (solutions : List (List ℕ)) → IsTrue (have_own_places (entrants problem solutions))

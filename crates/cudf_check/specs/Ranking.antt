@@ -46,7 +46,7 @@ ranking aims entrants = put_all aims [] entrants
 
 -- ---- what makes it the ranking
 
--- no place stands twice
+-- no place occurs twice
 abbrev pub have_own_places : List Entrant → Bool
 have_own_places [] = true
 have_own_places (x ∷ xs) = list_all (λ y. not (x.place == y.place)) xs && have_own_places xs
@@ -56,11 +56,11 @@ abbrev pub ascend : List Aim → List Entrant → Bool
 ascend aims [] = true
 ascend aims (x ∷ xs) = list_all (precedes aims x) xs && ascend aims xs
 
--- the ranking is its list in another order: none is left out, and none stands twice
+-- the ranking is its list in another order: none is left out, and none occurs twice
 abbrev pub RankingPermutes : Type 0
 RankingPermutes = (aims : List Aim) (xs : List Entrant) → IsPermutation xs (ranking aims xs)
 
--- where no place stands twice, each precedes all that are ranked behind it
+-- where no place occurs twice, each precedes all that are ranked after it
 abbrev pub RankingAscends : Type 0
 RankingAscends = (aims : List Aim) (xs : List Entrant) → IsTrue (have_own_places xs) → IsTrue (ascend aims (ranking aims xs))
 

@@ -69,7 +69,7 @@ alone text outcome = record { text = line text; outcome = outcome }
 
 -- ---- faulty documents
 
--- `problem line 3: E9 value is not of its type`, or `P:3: problem: E9 ..`, and what the document says beside it, if that is told
+-- `problem line 3: E9 value is not of its type`, or `P:3: problem: E9 ..`, and what the document says beside it, if that is reported
 abbrev pub faulty : Option PlainOrigin → List ℕ → Fault → Option PlainDetail → Report
 faulty origin whose f detail = record {
   text = named_before origin f.line ++ whose ++ numbered origin f.line ++ codes ": " ++ fault_text f.kind ++ line (detail_added origin detail);
@@ -80,7 +80,7 @@ faulty origin whose f detail = record {
 abbrev pub told : Bool → List ℕ → Fault → Option PlainDetail
 told explain bytes f = if explain then fault_detail bytes f else None
 
--- the fault, if there is one, with what is told of it, or else the report
+-- the fault, if there is one, with what is reported of it, or else the report
 abbrev pub faulty_or : Option PlainOrigin → List ℕ → (Fault → Option PlainDetail) → Option Fault → Report → Report
 faulty_or origin whose tell None report = report
 faulty_or origin whose tell (Some f) report = faulty origin whose f (tell f)
@@ -191,7 +191,7 @@ scored_text (Some aims) s = flat_map (aim_line (criteria s)) aims
 abbrev pub verdict : Bool → Report
 verdict is_yes = if is_yes then alone (codes "solution yes") Yes else alone (codes "solution no") No
 
--- what was found, and the verdict behind it
+-- what was found, and the verdict after it
 abbrev pub judged_report : (Proposal → List ℕ) → Proposal → Report
 judged_report found s = record { text = found s ++ (verdict (is_solution s)).text; outcome = (verdict (is_solution s)).outcome }
 

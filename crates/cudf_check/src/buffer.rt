@@ -36,7 +36,7 @@ impl ReportBuffer {
         }
     }
 
-    /// Puts `text` behind what waits, where there is room for it.
+    /// Puts `text` after what waits, where there is room for it.
     #[inline(always)]
     pub(crate) fn add(&mut self, text: &[u8]) -> bool
         ensures { self.new ≡ (if result then self.old ++ text.now else self.old) }

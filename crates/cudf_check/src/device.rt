@@ -166,7 +166,7 @@ impl<R: Reader> Source for Device<R> {
     }
 
     fn read(&mut self, buffer: &mut [u8]) -> Result<usize, Trouble>
-        // What the reader answered is told, and nothing else.
+        // What the reader answered is reported, and nothing else.
         ensures told { IsTold R.gives (device_inner self.old) result buffer.new (device_inner self.new) }
 
         ensures bound { IfOk result (λ n. n ≤ length buffer.new) }
@@ -226,7 +226,7 @@ impl<W: Writer> Sink for Device<W> {
     ghost state = { sink_state W.contents };
 
     fn write(&mut self, bytes: &[u8]) -> Result<usize, Trouble>
-        // One call of the writer was given all of the bytes, and what it answered is told.
+        // One call of the writer was given all of the bytes, and what it answered is reported.
         ensures told { IsHandedDown W.takes (device_inner self.old) bytes.now result (device_inner self.new) }
 
         ensures bound { IfOk result (λ n. n ≤ length bytes.now) }

@@ -8,7 +8,7 @@ use crate::input::read_all;
 use crate::outcome::RunError;
 use std::alloc::Global;
 
-/// The bytes of each source up to its end. The sources behind one whose reading ended in an error aren't read.
+/// The bytes of each source up to its end. The sources after one whose reading ended in an error aren't read.
 pub(crate) fn read_each<S: Source>(
     alloc: Global,
     sources: &mut [S],

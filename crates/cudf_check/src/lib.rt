@@ -50,7 +50,7 @@ use std::alloc::Global;
 /// mode, answers the job and writes its report to `out`.
 ///
 /// Without a `solution` a job that judges one takes both documents from `input`: the problem goes through the first
-/// blank line behind the line that begins with `request:`, and the rest is the solution. For `Lint`, `Cnf` and `Refute`
+/// blank line after the line that begins with `request:`, and the rest is the solution. For `Lint`, `Cnf` and `Refute`
 /// the whole `input` is the problem; for `Refute` the second input is a proof.
 ///
 /// # Errors
@@ -129,7 +129,7 @@ pub fn run<R: Source, S: Source, W: Sink>(
 ///   taken before is a prefix of the report.
 /// - `Memory`: a growth was refused.
 ///
-/// After `Read`, `TooLong` and `Memory` nothing was written. The readers behind one whose reading ended in an error
+/// After `Read`, `TooLong` and `Memory` nothing was written. The readers after one whose reading ended in an error
 /// aren't called.
 pub fn rank<R: Source, S: Source, W: Sink>(
     alloc: Global,
@@ -147,7 +147,7 @@ pub fn rank<R: Source, S: Source, W: Sink>(
     ensures solutions_calls { All StopsInTime (changes S.state solutions.old solutions.new) }
 
     // Where the problem's reading ended in an error, the solutions are as they were lent; where a solution's did, those
-    // behind it.
+    // after it.
     ensures unread { IsStopped (change R.state problem.old problem.new) → solutions.new ≡ solutions.old }
     ensures behind { LeavesBehind (λ old new. IsStopped (change S.state old new)) solutions.old solutions.new }
 {

@@ -51,7 +51,7 @@ pub(crate) fn own_file(name: Option<&str>) -> Option<Origin<'_>>
     }
 }
 
-/// The file of this name, where there is one, as that of a solution behind its problem.
+/// The file of this name, where there is one, as that of a solution after its problem.
 pub(crate) fn file_behind<'n>(problem: &[u8], name: Option<&'n str>) -> Option<Origin<'n>>
     ensures { option_map origin_view result ≡ option_map (λ n. record { file = n.now; before = ended_lines problem.now }) name.entry }
 {

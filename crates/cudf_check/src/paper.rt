@@ -1,4 +1,4 @@
-//! The paper on which a report is printed. A failed write doesn't end the printing: it is told at the end.
+//! The paper on which a report is printed. A failed write doesn't end the printing: it is reported at the end.
 ghost use Rattle.std.specs.Prelude.{◌≡◌, ℕ, List, [], decimal};
 ghost use Rattle.cudf_check.specs.Device.{SinkState};
 ghost use Rattle.cudf_check.specs.Working.Answering.{Answers};
@@ -34,7 +34,7 @@ impl<'w, W: Sink> Paper<'w, W> {
         }
     }
 
-    /// Prints a text. It stands in each caller, so that a short one is put into the buffer without a call.
+    /// Prints a text. It is in each caller, so that a short one is put into the buffer without a call.
     #[inline(always)]
     pub(crate) fn text(&mut self, text: &str)
         ensures { Says W.state self.old self.new text.now }

@@ -25,7 +25,7 @@ use cudf_job::Job;
 use cudf_text::{Fault, Room, cut_joined};
 use std::alloc::{AllocError, Global};
 
-/// A document whose faults are told.
+/// A document whose faults are reported.
 #[derive(Clone, Copy)]
 pub(crate) struct Document<'t, 'n> {
     /// Whose a fault of it is, in reports.
@@ -33,11 +33,11 @@ pub(crate) struct Document<'t, 'n> {
     /// Its file, where lines name it.
     pub(crate) origin: Option<Origin<'n>>,
     pub(crate) bytes: &'t [u8],
-    /// Whether it is told what the document says beside the fault.
+    /// Whether it is reported what the document says beside the fault.
     pub(crate) explain: bool,
 }
 
-/// What a document says beside its fault, where that is told.
+/// What a document says beside its fault, where that is reported.
 fn told<'t>(
     alloc: Global,
     document: Document<'t, '_>,

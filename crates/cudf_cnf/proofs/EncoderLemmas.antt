@@ -56,7 +56,7 @@ pub joined : (more : Bool) (old new : List Keyed) (held put : PlainKeyedClauses)
 joined true old new held put goes = goes.0
 joined false old new held put goes = (λ i. (ap (λ (h : PlainKeyedClauses). h.clauses) goes.2) i ++ (goes.1 ∙ sym goes.0) i)
 
--- with something behind it
+-- with something after it
 pub put_in : (put held new old rest : List Keyed) → put ++ new ≡ held ++ old → put ++ (new ++ rest) ≡ held ++ (old ++ rest)
 put_in put held new old rest h = sym (append_assoc put new rest) ∙ ap (λ xs. xs ++ rest) h ∙ append_assoc held old rest
 
@@ -75,11 +75,11 @@ second true first first' old new start held put none goes = (
 second false first first' old new start held put none goes =
     ((λ i. none.0 i ++ goes.0 i), (λ i. none.1 i ++ goes.1 i), goes.2 ∙ none.2)
 
--- where the first part goes on, something is behind it
+-- where the first part goes on, something is after it
 pub first : (old new rest : List Keyed) (held put : PlainKeyedClauses) → Goes true old held new put → Goes true (old ++ rest) held (new ++ rest) put
 first old new rest held put goes = (put_in put.clauses held.clauses new old rest goes.0, goes.1)
 
--- where nothing is behind the first part
+-- where nothing is after the first part
 pub tells : {E : Type 0} (r : Result Bool E) (old new : List Keyed) (e : PlainEncoder) (held put : PlainKeyedClauses) → old ≡ e.left → IfOk r (λ more. Goes more old held new put) → IfOk r (λ more. Tells more e held put)
 tells (Ok true) old new e held put is goes = goes.1
 tells (Ok false) old new e held put is goes = (sym is ∙ goes.0, goes.2)

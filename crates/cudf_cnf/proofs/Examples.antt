@@ -52,7 +52,7 @@ constants : cnf (problem («package» (codes "a") 1 ((truth_atom ∷ []) ∷ (na
 unfolding cnf
 constants = refl
 
--- a conflict with itself is none; declared on both sides it stands under both keys
+-- a conflict with itself is none; declared on both sides it is under both keys
 conflicts : cnf (problem («package» (codes "a") 1 [] (any (codes "f") ∷ any (codes "a") ∷ []) (any (codes "f") ∷ []) None ∷ «package» (codes "b") 1 [] (any (codes "f") ∷ []) (any (codes "f") ∷ []) None ∷ []) [] [] [])
     ≡ (package_key 1 rule.Conflicts 1, is_out 1 ∷ is_out 2 ∷ []) ∷ (package_key 2 rule.Conflicts 1, is_out 2 ∷ is_out 1 ∷ []) ∷ []
 unfolding cnf
@@ -72,7 +72,7 @@ kept : cnf (problem (
 unfolding cnf
 kept = refl
 
--- what nothing gives can't be installed, and needs no removal; nothing meets `f < 1`; equal entries stand under their keys
+-- what nothing gives can't be installed, and needs no removal; nothing meets `f < 1`; equal entries are under their keys
 unmet : cnf (problem («package» (codes "a") 1 [] [] (any (codes "f") ∷ []) None ∷ []) (any (codes "b") ∷ bound (codes "f") Lt 1 ∷ []) (any (codes "b") ∷ any (codes "f") ∷ any (codes "f") ∷ []) [])
     ≡ (request_key rule.Install 1 None, [])
     ∷ (request_key rule.Install 2 None, [])

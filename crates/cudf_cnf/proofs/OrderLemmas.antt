@@ -44,7 +44,7 @@ same_first n xs ys h = ap (λ o. is_gt (ordering_then o (slice_cmp nat_cmp xs ys
 next_first : (n : ℕ) (xs ys : List ℕ) → UpTo (n ∷ xs) ((n + 1) ∷ ys)
 next_first n xs ys = ap (λ o. is_gt (ordering_then o (slice_cmp nat_cmp xs ys))) (sym (nat_cmp_is n (n + 1) Less (omega arith)))
 
--- behind a common part, place and rule
+-- after a common part, place and rule
 within : (part place : ℕ) (xs ys : List ℕ) → UpTo xs ys → UpTo (part ∷ place ∷ xs) (part ∷ place ∷ ys)
 within part place xs ys h = same_first part (place ∷ xs) (place ∷ ys) (same_first place xs ys h)
 

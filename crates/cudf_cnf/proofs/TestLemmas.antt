@@ -65,7 +65,7 @@ none : {A : Type 0} (xs : List A) → list_any (λ x. false) xs ≡ false
 none [] = refl
 none (x ∷ xs) = none xs
 
--- what doesn't depend on the element stands before
+-- what doesn't depend on the element comes before
 pub list_any-and : {A : Type 0} (b : Bool) (p : A → Bool) (xs : List A) → list_any (λ x. b && p x) xs ≡ (b && list_any p xs)
 list_any-and true p xs = refl
 list_any-and false p xs = none xs

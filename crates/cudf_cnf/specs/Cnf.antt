@@ -1,5 +1,5 @@
 -- The rules of a problem as a CNF, over the places of its packages: a place is true where its package is installed. Own.
--- A CNF clause rules out one instance of a rule, whose key stands beside it. No variable is needed beside the packages: a
+-- A CNF clause rules out one instance of a rule, whose key is next to it. No variable is needed beside the packages: a
 -- status satisfies a vpkg or a clause of `depends` where one of its packages alone does, `true!` apart.
 use Rattle.std.specs.Prelude.{ℕ, Bool, true, false, ◌&&◌, nat_lt, List, [], ◌∷◌, ◌++◌, map, filter, Some, None, if◌then◌else◌}
 use Rattle.std.specs.List.{flat_map, enumerate_from}

@@ -84,7 +84,7 @@ impl<'p, 't> Encoder<'p, 't> {
     ///
     /// # Errors
     ///
-    /// `AllocError` where memory is refused. What was put and what is left aren't told then, so neither is of use.
+    /// `AllocError` where memory is refused. What was put and what is left aren't reported then, so neither is of use.
     pub fn next(&mut self, clauses: &mut KeyedClauses) -> Result<bool, AllocError>
         requires { self.old.places ≤ clauses.old.places }
         ensures put { OnOk result (clauses.new.clauses ++ self.new.left ≡ clauses.old.clauses ++ self.old.left) }

@@ -53,7 +53,7 @@ asked f (Some b) name found result is_name is_rows asks =
     (subst (λ w. Asks name w result) (words-rows found ∙ ap (λ (o : Option (List Row)). words_in (unwrap_or o (rows_of found))) is_rows) asks)
 asked f None name found result is_name is_rows asks = absurd cc
 
--- what the command asks for or refuses, where no list stands apart
+-- what the command asks for or refuses, where no list is separate
 pub by_words : (words : List (List ℕ)) (met : Option (List ℕ × List Row)) (result : Result Order Refusal) → has_list_apart (arguments words) ≡ false → AsksOf met result
     → MatchResult result (IsAskedBy words met) (IsRefusedBy words met)
 by_words words met (Ok order) together asks = record { together = together; asks = asks }

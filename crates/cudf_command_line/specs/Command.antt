@@ -117,7 +117,7 @@ RefusesList given refusal = ⊥
 abbrev pub HasList : Option (List ℕ) → Type 0
 HasList given = (aims : Option (List Aim)) × IsList given aims
 
--- `--criteria` is one of the arguments, without its list; behind `--` all words are files
+-- `--criteria` is one of the arguments, without its list; after `--` all words are files
 abbrev pub has_list_apart : List (List ℕ) → Bool
 has_list_apart [] = false
 has_list_apart (word ∷ words) = if bytes_eq word (codes "--") then false else (bytes_eq word (codes "--criteria") || has_list_apart words)
@@ -127,7 +127,7 @@ abbrev pub takes_list : List (List ℕ) → Bool
 takes_list [] = false
 takes_list (word ∷ words) = bytes_eq word (codes "score") || bytes_eq word (codes "rank")
 
--- of such a command, the list stands apart
+-- of such a command, the list is separate
 abbrev pub takes_list_apart : List (List ℕ) → Bool
 takes_list_apart words = takes_list words && has_list_apart words
 
@@ -227,7 +227,7 @@ abbrev pub are_standard_twice : Option (List ℕ) → Option (List (List ℕ)) �
 are_standard_twice problem solutions = nat_lt 1 (count_by (λ word. bytes_eq word (codes "-")) (file_words problem solutions))
 
 -- What is judged of the words of a command, in this order: the key, the limit, the list, whether all is there, and `-`. The first that is
--- wrong is told. Memory can run out where a list or the names of files are kept.
+-- wrong is reported. Memory can run out where a list or the names of files are kept.
 abbrev pub Refuses : Taken → Refusal → Type 0
 Refuses taken (NoKey word) = RefusesKey taken.after (NoKey word)
 Refuses taken (NoNumber word) = HasAfter taken.after × RefusesLimit taken.limit (NoNumber word)
@@ -316,15 +316,15 @@ abbrev pub AsksOf : Option (List ℕ × List Row) → Result Order Refusal → T
 AsksOf None result = IsErrAnd result (λ refusal. refusal ≡ Missing)
 AsksOf (Some met) result = Asks met.0 (words_in met.1) result
 
--- the words behind the first one, which is the program's own name
+-- the words after the first one, which is the program's own name
 abbrev pub arguments : List (List ℕ) → List (List ℕ)
 arguments words = drop 1 words
 
--- each list stands in the word of its `--criteria`, and the order is what the command asks for
+-- each list is in the word of its `--criteria`, and the order is what the command asks for
 pub record IsAskedBy (words : List (List ℕ)) (met : Option (List ℕ × List Row)) (order : Order) : Type 0 where
   pub together : has_list_apart (arguments words) ≡ false
   pub asks : AsksOf met (Ok order)
 
--- a list stands apart, or else what the command asks for is refused
+-- a list is separate, or else what the command asks for is refused
 abbrev pub IsRefusedBy : List (List ℕ) → Option (List ℕ × List Row) → Refusal → Type 0
 IsRefusedBy words met refusal = ((refusal ≡ Apart) × (has_list_apart (arguments words) ≡ true)) ⊎ ((has_list_apart (arguments words) ≡ false) × AsksOf met (Err refusal))

@@ -73,7 +73,7 @@ pub struct Order<'w> {
     pub mode: Mode,
     /// Whether lines of the report name the files.
     pub names_files: bool,
-    /// The file of the problem, or of the problem and the solution behind it.
+    /// The file of the problem, or of the problem and the solution after it.
     pub problem: FileName<'w>,
     /// The files of the solutions, where they have some of their own: one of a run at most.
     pub solutions: Vec<FileName<'w>>,
@@ -123,7 +123,7 @@ fn asked_order<'w>(
     }
 }
 
-/// The words behind the program's own name.
+/// The words after the program's own name.
 pub(crate) fn arguments(words: &[String]) -> &[String]
     ensures { map (λ word. string_bytes word) result.now ≡ drop 1 (map (λ word. string_bytes word) words.now) }
 {
@@ -133,7 +133,7 @@ pub(crate) fn arguments(words: &[String]) -> &[String]
     }
 }
 
-/// Whether a list stands apart from the `--criteria` of a command that takes one.
+/// Whether a list is separate from the `--criteria` of a command that takes one.
 pub(crate) fn takes_list_apart(arguments: &[String]) -> bool
     ensures { result ≡ takes_list_apart (map (λ word. string_bytes word) arguments.now) }
 {
@@ -150,7 +150,7 @@ fn takes_list(arguments: &[String]) -> bool
     }
 }
 
-/// Whether `--criteria` is a word without its list. Behind `--` all words are files.
+/// Whether `--criteria` is a word without its list. After `--` all words are files.
 fn has_list_apart(words: &[String]) -> bool
     ensures { result ≡ has_list_apart (map (λ word. string_bytes word) words.now) }
 {

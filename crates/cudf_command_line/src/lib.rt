@@ -1,4 +1,4 @@
-//! The command line of `cudf_check`: its grammar, what its words ask for, and what is told of words that ask for nothing.
+//! The command line of `cudf_check`: its grammar, what its words ask for, and what is reported of words that ask for nothing.
 #![tactic(auto)]
 
 pub mod command;

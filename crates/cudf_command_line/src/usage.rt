@@ -40,7 +40,7 @@ impl Usage<'_> {
         }
     }
 
-    /// Says why on standard error. Help and the version are no fault, and aren't told there.
+    /// Says why on standard error. Help and the version are no fault, and aren't reported there.
     pub fn tell<E: Write>(&self, errors: &mut E) -> io::Result<()> {
         match self {
             Usage::Told(_) => Ok(()),
@@ -86,8 +86,8 @@ pub(crate) fn unparsed<'w>(
     }
 }
 
-/// What is told of a fault that the parse found in these arguments. Where their command takes a list that stands apart,
-/// this is told: the parse speaks of the list as of an unknown option, or as of a file too many.
+/// What is reported of a fault that the parse found in these arguments. Where their command takes a list that is separate,
+/// this is reported: the parse speaks of the list as of an unknown option, or as of a file too many.
 fn fault<'w>(
     alloc: Global,
     arguments: &[String],

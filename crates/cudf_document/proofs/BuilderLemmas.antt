@@ -178,7 +178,7 @@ module _ (g : PlainBuilder) (before : List PlainStanza) (s : PlainStanza) (so_fa
       ++ fault_if (marks_package (postmark s) && is_none (version_property s)) s.last E12)
       (is_known-along g.ids (filter_map id_of before) (id_of s) so_far.ids_are)
 
-  -- a stanza's first fault, by where it stands or else inside it, and a property out of place
+  -- a stanza's first fault, by where it is or else inside it, and a property out of place
   pub stanza_least : (mode : Mode) (mark : Option Postmark) (is_first : Bool) (place inside stray : Option Fault) → postmark s ≡ mark → is_first ≡ is_empty before
       → place ≡ least (placed_faults is_first (is_some g.request) mark s.line) → inside ≡ least (faults_inside mark (required_names mode (declared before)) g s)
       → stray ≡ least (misplaced_faults mode (problem_misplaces mark) s.properties)
@@ -225,7 +225,7 @@ pub listed_next : (mark : Option Postmark) (is_first : Bool) (s : PlainStanza) (
 listed_next (Some Package) is_first s g so_far = listed_more g.ids g.packages (id_under (Some Package) s.properties) _ (λ i. refl) so_far
 listed_next _ is_first s g so_far = so_far
 
--- pairs of which none stands twice are all there
+-- pairs of which none occurs twice are all there
 first_ids-distinct : (before xs : List Id) → list_all (λ x. not (is_among x.0 x.1)) (with_earlier before xs) ≡ true → first_ids before xs ≡ before ++ xs
 first_ids-distinct before [] all = sym (append-nil before)
 first_ids-distinct before (x ∷ xs) all =

@@ -38,7 +38,7 @@ pub record Added (before now ds : List PlainDeclaration) (all : Bool) : Type 0 w
   pub added : all ≡ true → now ≡ before ++ ds
   pub kept : take (length before) now ≡ before
 
--- one more, where it can stand after those that are there
+-- one more, where it is allowed after those that are there
 pub Added-next : (before now ds : List PlainDeclaration) (d : PlainDeclaration) (all is_added : Bool) (new : List PlainDeclaration)
     → Added before now ds all → is_added ≡ is_declarable (now, d) → new ≡ (if is_added then now ++ d ∷ [] else now)
     → Added before new (ds ++ d ∷ []) (all && is_added)

@@ -32,7 +32,7 @@ use Rattle.cudf_document.proofs.PreambleLemmas.{declared_after-push}
 
 -- ---- lists and options
 
--- what is found behind those before it, without these
+-- what is found after those before it, without these
 find_later : {A : Type 0} (test : A → Bool) (before xs : List A) → option_map (λ q. q.1) (find (λ q. test q.1) (with_earlier before xs)) ≡ find test xs
 find_later test before [] = refl
 find_later {A} test before (x ∷ xs) = by (test x) (find_later test (before ++ x ∷ []) xs)

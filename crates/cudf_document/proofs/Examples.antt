@@ -107,7 +107,7 @@ missing_repeated : least (problem_faults (plain_text (sized (codes "package: a" 
 unfolding problem_faults plain_text is_pkgname truth positive natural declarations is_ident
 missing_repeated = refl
 
--- ---- strictly a name has to have a meaning where it stands
+-- ---- strictly a name has to have a meaning where it is
 
 -- a list that is misspelt, and a package with no blank line before it
 stray : problem_faults (plain_text (text_of (codes "request: r" ∷ codes "instal: a" ∷ codes "package: a" ∷ []))) Strict
@@ -119,7 +119,7 @@ stray_leniently : problem_faults (plain_text (text_of (codes "request: r" ∷ co
 unfolding problem_faults plain_text is_ident
 stray_leniently = refl
 
--- in a preamble the reserved names, but its own; where a name stands again, that is told too
+-- in a preamble the reserved names, but its own; where a name occurs again, that is reported too
 stray_repeated : problem_faults (plain_text (text_of (codes "preamble:" ∷ codes "maker: x" ∷ codes "preamble: x" ∷ codes "keep: x" ∷ codes "keep: y" ∷ [] ∷ codes "request:" ∷ []))) Strict
     ≡ record { line = 3; kind = E7 } ∷ record { line = 5; kind = E7 } ∷ record { line = 4; kind = E16 } ∷ record { line = 5; kind = E16 } ∷ []
 unfolding problem_faults plain_text is_ident
@@ -144,7 +144,7 @@ value_repeated : least (solution_faults (plain_text (text_of (codes "package: a"
 unfolding solution_faults plain_text is_pkgname positive natural truth is_ident
 value_repeated = refl
 
--- ---- strictly a pair of name and version stands once
+-- ---- strictly a pair of name and version occurs once
 
 -- it isn't installed before, has its version written otherwise, and no universe is asked for it
 pair_repeated : least (solution_faults (plain_text (text_of (codes "package: a" ∷ codes "version: 1" ∷ codes "installed: false" ∷ [] ∷ codes "package: a" ∷ codes "version: 01" ∷ codes "installed: true" ∷ []))) Strict) ≡ on 6 E15
@@ -167,12 +167,12 @@ pair_beside_others : solution_faults (plain_text (text_of (codes "package: a" �
 unfolding solution_faults plain_text is_pkgname positive natural truth is_ident
 pair_beside_others = refl
 
--- the name alone, or the version alone, may stand again
+-- the name alone, or the version alone, may occur again
 pair_other : solution_faults (plain_text (text_of (codes "package: a" ∷ codes "version: 1" ∷ [] ∷ codes "package: a" ∷ codes "version: 2" ∷ [] ∷ codes "package: b" ∷ codes "version: 1" ∷ []))) Strict ≡ []
 unfolding solution_faults plain_text is_pkgname positive natural is_ident
 pair_other = refl
 
--- ---- and a name has to have a meaning where it stands
+-- ---- and a name has to have a meaning where it is
 
 -- in a preamble or a request the reserved names, but its own; a pair that no package has isn't repeated
 stray_proposed : solution_faults (plain_text (text_of (codes "preamble:" ∷ codes "preamble: x" ∷ codes "version: 1" ∷ [] ∷ codes "request:" ∷ codes "request: r" ∷ codes "instal: a" ∷ codes "package: a" ∷ codes "version: 1" ∷ [] ∷ codes "package: a" ∷ codes "version: 1" ∷ codes "request: r" ∷ []))) Strict

@@ -58,7 +58,7 @@ pub least-none : (fs : List Fault) → least fs ≡ None → fs ≡ []
 least-none [] h = refl
 least-none (f ∷ fs) h = absurd (lesser_is_some f (least fs) h)
 
--- what stands in a wrong place has no other fault
+-- what is in a wrong place has no other fault
 pub least-faults_or : (place inner : List Fault) → least (faults_or place inner) ≡ option_or (least place) (least inner)
 least-faults_or [] inner = refl
 least-faults_or (f ∷ fs) inner = by (least fs)
@@ -78,7 +78,7 @@ faults-next faults xs x first fault before here =
     ∙ sym (flat_map-append faults (with_earlier [] xs) ((xs, x) ∷ []))
     ∙ ap (flat_map faults) (sym (with_earlier-push [] xs x)))
 
--- the same, whatever stands before it
+-- the same, whatever is before it
 pub faults-push : {A : Type 0} (faults : A → List Fault) (xs : List A) (x : A) (first fault : Option Fault)
     → first ≡ least (flat_map faults xs) → fault ≡ least (faults x) → lesser first fault ≡ least (flat_map faults (xs ++ x ∷ []))
 faults-push faults xs x first fault before here =

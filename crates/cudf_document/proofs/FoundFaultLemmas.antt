@@ -1,4 +1,4 @@
--- A fault of a stanza stands on one of its lines, and so the stanza is found by it.
+-- A fault of a stanza is on one of its lines, and so the stanza is found by it.
 use Rattle.std.proofs.Common.{◌≡◌, ℕ, ◌≤◌, Bool, true, false, not, ◌&&◌, List, [], ◌∷◌, ◌++◌, Option, None, Some, All, find, filter_map, refl, ap, subst, arith, is_none, is_some, option_and_then, if◌then◌else◌, codes}
 use Rattle.std.proofs.lemmas.List.Elements.{All-nil, All-cons, All-append, All-head, All-tail}
 use Rattle.std.specs.List.{list_any, flat_map}

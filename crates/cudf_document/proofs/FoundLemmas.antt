@@ -123,7 +123,7 @@ within first last n (p ∷ ps) le a up = let below : n < p.line = a.0 in ((omega
 
 -- ---- stanzas
 
--- the properties of a stanza stand in their order on its lines
+-- the properties of a stanza are in their order on its lines
 pub record IsOrdered (s : PlainStanza) : Type 0 where
   pub ends : s.line ≤ s.last
   pub within : Within s.line s.last s.properties
@@ -163,7 +163,7 @@ is_up_to line last le = grind (arith, nat_tests)
 is_beyond : (line last : ℕ) → last < line → nat_le line last ≡ false
 is_beyond line last below = grind (arith, nat_tests)
 
--- the stanza of a line, behind those before it, is the one that has the line
+-- the stanza of a line, after those before it, is the one that has the line
 pub record IsFound (stanzas : List PlainStanza) (x : List PlainStanza × PlainStanza) : Type 0 where
   pub ordered : IsOrdered x.1
   pub found : (line : ℕ) → x.1.line ≤ line → line ≤ x.1.last → stanza_on line stanzas ≡ Some x

@@ -59,7 +59,7 @@ Adds-kind is_added kind adds true line = record {
   ];
 }
 
--- properties out of place, where none is told
+-- properties out of place, where none is reported
 Adds-misplaced : (is_added : Kind → Bool) → IsTrue (is_added E16) → (misplaces : List ℕ → Bool) (ps : List PlainProperty) → Adds is_added [] (misplaced_faults Strict misplaces ps)
 Adds-misplaced is_added adds misplaces [] = Adds-same is_added []
 Adds-misplaced is_added adds misplaces (p ∷ ps) =
@@ -70,9 +70,9 @@ Adds-faults_or : (is_added : Kind → Bool) (place fs gs : List Fault) → Adds 
 Adds-faults_or is_added [] fs gs adds = adds
 Adds-faults_or is_added (f ∷ place) fs gs adds = Adds-same is_added (f ∷ place)
 
--- ---- faults that are told in both modes
+-- ---- faults that are reported in both modes
 
--- the fault of the line, or one of a kind that is told in both modes
+-- the fault of the line, or one of a kind that is reported in both modes
 abbrev IsTold : Option Fault → Fault → Type 0
 IsTold line f = (line ≡ Some f) ⊎ (is_strict f.kind ≡ false)
 
@@ -136,7 +136,7 @@ module _ (line : Option Fault) where
 
 -- ---- a document
 
--- what is told in both modes, with faults of some kinds besides
+-- what is reported in both modes, with faults of some kinds besides
 adds-told : (is_added : Kind → Bool) (line : Option Fault) (lenient strict : List Fault) → Adds is_added lenient strict → All (IsTold line) lenient
     → StrictAdds is_added line lenient strict
 adds-told is_added line lenient strict adds told = record {
@@ -175,7 +175,7 @@ problem_adds text =
     (both_told text.fault _ _ (both_told text.fault _ _ (line_told text.fault) (told-flat_map text.fault (stanza_faults Lenient) (stanza_told text.fault) each))
     (told_if text.fault E13 refl (not (list_any is_request text.stanzas)) (max 1 text.lines)))
 
--- a pair that stands again, where none counts
+-- a pair that occurs again, where none counts
 pairs_add : (xs : List (List PlainStanza × PlainStanza)) → Adds is_strict_of_solution [] (flat_map repeated_pair_faults xs)
 pairs_add [] = Adds-same is_strict_of_solution []
 pairs_add ((before, s) ∷ xs) =

@@ -38,7 +38,7 @@ bytes_eq-sym xs ys = by (bytes_eq xs ys) (bytes_eq ys xs) refl refl
 
 -- ---- a name is one of some words, or another
 
--- the rest, behind what holds at each of the words
+-- the rest, after what holds at each of the words
 abbrev pub Each : (List ℕ → Type 0) → List (List ℕ) → Type 0 → Type 0
 Each P [] rest = rest
 Each P (word ∷ words) rest = P word → Each P words rest

@@ -111,7 +111,7 @@ none_behind None y h = h
 none_behind (Some f) None h = absurd cc
 none_behind (Some f) (Some g) h = absurd cc
 
--- nothing is left behind these stanzas
+-- nothing is left after these stanzas
 all_known : (mode : Mode) (Kept : List PlainStanza → Type 0) (old new : Walk) (now : List PlainStanza) (left text : PlainText) (fault : Option Fault) (lines : ℕ)
     → old.declarations ≡ declared now → IsKnown mode old now → (old.first ≡ None → Kept now)
     → ◌≡◌ {A = PlainText} (record left { stanzas = now ++ left.stanzas }) text → ◌≡◌ {A = PlainText} left (record { stanzas = []; fault = fault; lines = lines })
@@ -177,7 +177,7 @@ IsSoFar-end mode Kept old new text so_far first same_ds same_ids =
     so_far.declared_are so_far.known so_far.kept
     (λ i. let t : PlainText = record text { stanzas = append-nil text.stanzas i } in t) refl first same_ds same_ids
 
--- what is required by these stanzas, behind one more
+-- what is required by these stanzas, after one more
 pub required_next : (mode : Mode) (is_first : Bool) (old new : List (List ℕ)) (k : Walk) (before : List PlainStanza) (s : PlainStanza) → is_first ≡ is_empty before
     → k.declarations ≡ declared (before ++ s ∷ []) → old ≡ required_names mode (declared before)
     → (IsTrue is_first → new ≡ required_names mode k.declarations) → (IsTrue (not is_first) → new ≡ old) → new ≡ required_names mode (declared (before ++ s ∷ []))

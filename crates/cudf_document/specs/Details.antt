@@ -41,13 +41,13 @@ pub data PlainDetail : Type 0 where
   undeclared : List ℕ → PlainDetail
   -- a property's name, the word of its type, in a list the number of the first entry that is none, and the text of this entry, or else the value
   mistyped : List ℕ → List ℕ → Option ℕ → List ℕ → PlainDetail
-  -- the number of the first declaration that is none, or can't stand there
+  -- the number of the first declaration that is none, or isn't allowed there
   misdeclared : ℕ → PlainDetail
   -- a package's name, its version, and the line of the first stanza that has them
   package_on : List ℕ → ℕ → ℕ → PlainDetail
   -- the first name that a package has to have, and lacks
   lacking : List ℕ → PlainDetail
-  -- a name that has no meaning where it stands
+  -- a name that has no meaning where it is
   misplaced : List ℕ → PlainDetail
 
 -- ---- bytes that are no text
@@ -67,11 +67,11 @@ signatures =
 abbrev pub format_of : List ℕ → Option Format
 format_of bytes = option_map (λ s. s.1) (find (λ s. starts_with nat_eq bytes s.0) signatures)
 
--- how many bytes stand behind the last LF
+-- how many bytes come after the last LF
 abbrev pub last_line_len : List ℕ → ℕ
 last_line_len bytes = suffix_len (λ b. not (is_lf b)) bytes
 
--- the first byte behind the longest part of the document that is UTF-8
+-- the first byte after the longest part of the document that is UTF-8
 abbrev pub first_invalid : List ℕ → PlainDetail
 first_invalid bytes = let n = utf8_valid_len bytes in invalid_byte (last_line_len (take n bytes) + 1) (slice_index bytes n)
 
@@ -101,7 +101,7 @@ mark_detail text line = if line == 1 && starts_with nat_eq text mark_bytes then 
 abbrev pub stanza_on : ℕ → List PlainStanza → Option (List PlainStanza × PlainStanza)
 stanza_on line stanzas = find (λ (before, s). nat_le line s.last) (with_earlier [] stanzas)
 
--- the property of a line, behind those before it in its stanza
+-- the property of a line, after those before it in its stanza
 abbrev pub property_on : ℕ → PlainStanza → Option (List PlainProperty × PlainProperty)
 property_on line s = find (λ (earlier, p). p.line == line) (with_earlier [] s.properties)
 
@@ -122,13 +122,13 @@ mistyped_as name value word = let entry = misfit word (trim value) in mistyped n
 
 -- ---- declarations
 
--- counted from n, the first piece that is no declaration, or one that can't stand after these and those in the pieces before it
+-- counted from n, the first piece that is no declaration, or one that isn't allowed after these and those in the pieces before it
 abbrev pub bad_piece : ℕ → List PlainDeclaration → List (List ℕ) → Option ℕ
 bad_piece n before [] = None
 bad_piece n before (piece ∷ ps) =
     option_map_or (λ d. if is_declarable (before, d) then bad_piece (n + 1) (before ++ d ∷ []) ps else Some n) (declaration (trim piece)) (Some n)
 
--- ---- what is said of a stanza, behind those before it
+-- ---- what is said of a stanza, after those before it
 
 -- E4: its first property
 abbrev pub first_detail : PlainStanza → Option PlainDetail
@@ -146,7 +146,7 @@ package_detail before (name, version) = option_map (λ s. package_on name versio
 abbrev pub lacking_detail : List PlainStanza → PlainStanza → Option PlainDetail
 lacking_detail before s = option_map lacking (find (λ name. not (list_any (has_name name) s.properties)) (required_names Strict (declared before)))
 
--- ---- and of one of its properties, behind those before it
+-- ---- and of one of its properties, after those before it
 
 -- E7: the first of its name
 abbrev pub repeated_detail : PlainStanza → PlainProperty → Option PlainDetail

@@ -20,7 +20,7 @@ use Rattle.cudf_problem.specs.Ids.{Id, id_of, is_known}
 use Rattle.cudf_problem.specs.Values.{Test, package_types, request_types, test_of}
 use Rattle.cudf_problem.specs.Preamble.{reserved_names, declared_by, declared_after, declared}
 
--- ---- where a stanza stands
+-- ---- where a stanza is
 
 -- E4, stanza without postmark
 abbrev pub unmarked_faults : PlainStanza → List Fault
@@ -107,7 +107,7 @@ lacks_one names ps = list_any (λ name. not (list_any (has_name name) ps)) names
 abbrev pub missing_faults : List (List ℕ) → PlainStanza → List Fault
 missing_faults required s = fault_if (lacks_one required s.properties && marks_package (postmark s)) s.last E14
 
--- ---- strictly, what has no meaning where it stands
+-- ---- strictly, what has no meaning where it is
 
 -- a reserved name, other than this one
 abbrev pub is_reserved_but : List ℕ → List ℕ → Bool

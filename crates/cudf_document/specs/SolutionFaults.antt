@@ -1,4 +1,4 @@
--- What is wrong with a proposed solution (own): of its packages three properties count, and stanzas may stand in any order.
+-- What is wrong with a proposed solution (own): of its packages three properties count, and stanzas may be in any order.
 use Rattle.std.specs.Prelude.{ℕ, Bool, false, List, [], ◌∷◌, ◌++◌, ◌&&◌, is_some, map, filter, Option, Some, filter_map, option_to_list, if◌then◌else◌, codes}
 use Rattle.std.specs.List.{flat_map}
 use Rattle.cudf_text.specs.declared.fault.Fault.{Fault}
@@ -44,7 +44,7 @@ solution_stanza_faults mode s =
 abbrev pub repeated_pair_faults : List PlainStanza × PlainStanza → List Fault
 repeated_pair_faults (before, s) = fault_if (is_known (filter_map id_of before) (id_of s)) (line_of (version_property s)) E15
 
--- only strictly a pair has to stand once
+-- only strictly a pair has to occur once
 abbrev pub repeated_pairs_faults : Mode → List PlainStanza → List Fault
 repeated_pairs_faults Lenient ss = []
 repeated_pairs_faults Strict ss = flat_map repeated_pair_faults (with_earlier [] ss)

@@ -156,7 +156,7 @@ impl<'t> Declarations<'t> {
         }
     }
 
-    /// Adds all of them and answers true, or adds none where one of them can't stand here.
+    /// Adds all of them and answers true, or adds none where one of them isn't allowed here.
     fn add_all(
         &mut self,
         alloc: Global,
@@ -188,7 +188,7 @@ impl<'t> Declarations<'t> {
         self.known.truncate(n);
     }
 
-    /// Adds those that can stand here, and says whether all can.
+    /// Adds those that are allowed here, and says whether all are.
     fn insert_all(
         &mut self,
         alloc: Global,
@@ -208,7 +208,7 @@ impl<'t> Declarations<'t> {
         Ok(are_all)
     }
 
-    /// Adds the declaration and answers true, if it can stand here.
+    /// Adds the declaration and answers true, if it is allowed here.
     pub(crate) fn insert(
         &mut self,
         alloc: Global,

@@ -47,7 +47,7 @@ pub enum Detail<'t> {
         entry: Option<u64>,
         text: &'t str,
     },
-    /// Of E10: the number of the first declaration of the value that is none or that can't stand there. It
+    /// Of E10: the number of the first declaration of the value that is none or that isn't allowed there. It
     /// counts from 1.
     Misdeclared {
         declaration: u64,

@@ -15,7 +15,7 @@ const DECLARED: &str =
 const EARLIER: &str =
     "preamble: 1\nproperty: a: int\nproperty: b: int, c\nproperty: b: nat, c: nat, a: nat\nproperty: b: nat,\n s: string = [\"x, y\"],\n b: int\n";
 
-/// Three packages of one pair, behind another of the name.
+/// Three packages of one pair, after another of the name.
 const PAIRS: &str =
     "package: a\nversion: 2\n\npackage: a\nversion: 1\n\npackage: a\nversion: 01\n\npackage: a\ninstalled: true\nversion: 001\n";
 
@@ -277,7 +277,7 @@ const BYTES: [ByteRow; 17] = [
     (b"\xEF\xBB\xBEpreamble:\n", 1, Kind::E2, "None"),
 ];
 
-/// Kinds of which nothing is told, and faults that the document hasn't.
+/// Kinds of which nothing is reported, and faults that the document hasn't.
 const NOTHING: [DetailRow; 14] = [
     (DECLARED, 9, Kind::E14, "None"),
     ("request r\n", 1, Kind::E1, "None"),

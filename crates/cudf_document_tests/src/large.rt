@@ -148,7 +148,7 @@ fn entries(rt: HostRuntime) {
     }
 }
 
-/// How many packages a problem has, and what stands in each behind its name and version.
+/// How many packages a problem has, and what is in each after its name and version.
 type Packages = (u64, &'static str);
 
 /// Packages of so many names, each with these lines, and then `tail`.

@@ -6,7 +6,7 @@ use cudf_text::{Room, stanzas};
 use std::alloc::Global;
 use std::io::{self, Write};
 
-/// Prints what is wrong with an answer, behind the key `after` where it is given, and the verdict.
+/// Prints what is wrong with an answer, after the key `after` where it is given, and the verdict.
 pub(crate) fn print_violations<W: Write>(
     alloc: Global,
     problem: &Problem<'_>,
@@ -27,7 +27,7 @@ pub(crate) fn print_violations<W: Write>(
     Ok(())
 }
 
-/// The walk over what is wrong, behind a key where it is given.
+/// The walk over what is wrong, after a key where it is given.
 fn walk<'r, 'p, 't>(referee: &'r Referee<'p, 't>, after: Option<Key>) -> Instances<'r, 'p, 't> {
     match after {
         Some(key) => referee.after(key),

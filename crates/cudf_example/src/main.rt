@@ -81,7 +81,7 @@ fn main(rt: HostRuntime) -> ExitCode {
     }
 }
 
-/// Prints what is wrong with the bare answer, all of it and behind its first line, and which of the others is better.
+/// Prints what is wrong with the bare answer, all of it and after its first line, and which of the others is better.
 fn show<W: Write>(alloc: Global, out: &mut W) -> Result<(), ExampleError> {
     let mut room = Room::new(alloc);
     let mut names = NameRoom::new(alloc);

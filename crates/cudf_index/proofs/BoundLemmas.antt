@@ -14,7 +14,7 @@ use Rattle.cudf_value.specs.Vpkgs.{meets}
 use Rattle.cudf_index.proofs.CountLemmas.{any-count}
 use Rattle.cudf_index.specs.Working.Ends.{StandsUnder}
 
--- a bound that isn't met by one number alone is met by an end of what stands round a number that meets it
+-- a bound that isn't met by one number alone is met by an end of what is around a number that meets it
 end_met : (bound : Option (Relop × ℕ)) (least n greatest : ℕ) → ((n : ℕ) → bound ≡ Some (Eq, n) → ⊥) → least ≤ n → n ≤ greatest → meets bound n ≡ true → (meets bound least || meets bound greatest) ≡ true
 end_met None least n greatest several l g met = refl
 end_met (Some (Eq, m)) least n greatest several l g met = absurd (several m refl)
@@ -44,7 +44,7 @@ pub all_less : (xs : List ℕ) (n : ℕ) → ((k : ℕ) → k < length xs → ge
 all_less xs n less = both_ways false _ (λ e. absurd (true≢false (sym e))) (λ any. let at = Any-from_list_any (λ m. m == n) xs any in
     absurd (omega (arith, less at.0 at.2, get_or_default xs at.0 at.1 0 at.2, at.3, eqb-true at.1 n at.4))) ∙ any-count (λ m. m == n) xs
 
--- one is one of them where it stands at its place
+-- one is one of them where it is at its place
 pub found_at : (xs : List ℕ) (n high place found : ℕ) → IsNonDecreasing xs → StandsUnder xs n high place → place < length xs → ((d : ℕ) → found ≡ get_or xs place d) → (found == n) ≡ nat_lt 0 (count_by (λ m. m == n) xs)
 found_at xs n high place found ordered stands inside is =
     both_ways _ _ (λ same. list_any_at (λ m. m == n) xs place 0 inside (ap (λ m. m == n) (sym (is 0)) ∙ same)) back ∙ any-count (λ m. m == n) xs

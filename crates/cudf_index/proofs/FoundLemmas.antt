@@ -20,7 +20,7 @@ module _ {K R : Type 0} (test : K → Bool) where
   nothing None = refl
   nothing (Some i) = refl
 
-  -- what stands at the place of the key
+  -- what is at the place of the key
   pub found_at : (keys : List K) (rows : List R) → found test keys rows ≡ option_and_then (slice_get rows) (position test keys)
   found_at [] rows = refl
   found_at (k ∷ ks) [] = nothing (position test (k ∷ ks))

@@ -1,4 +1,4 @@
--- The place of the first provision that passes a test, in one row behind another, and in the halves of a node.
+-- The place of the first provision that passes a test, in one row after another, and in the halves of a node.
 use Rattle.std.proofs.Common.{◌≡◌, ℕ, Bool, List, ◌++◌, Option, Some, None, refl, sym, ap, ◌∙◌, subst, Box}
 use Rattle.std.specs.Prelude.{find, option_map}
 use Rattle.std.specs.Option.{option_or}

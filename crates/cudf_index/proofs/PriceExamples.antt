@@ -72,7 +72,7 @@ clause : clause_cost both (truth_atom ∷ named (record { name = g; bound = Some
 unfolding digits digits_within
 clause = refl
 
--- no vpkg stands before `true!`: `true! | g > 2`
+-- no vpkg comes before `true!`: `true! | g > 2`
 lookups_before_truth : clause_lookups both (truth_atom ∷ named (record { name = g; bound = Some (Gt, 2) }) ∷ []) ≡ 0
 lookups_before_truth = refl
 

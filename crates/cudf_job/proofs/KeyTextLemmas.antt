@@ -28,7 +28,7 @@ and_right false b h = absurd (cc h)
 abbrev pub is_point : ℕ → Bool
 is_point b = b == 46
 
--- the first point stands behind a text without one
+-- the first point comes after a text without one
 pub first_point : (first rest : List ℕ) → has_no_point first ≡ true → position_or_len is_point (first ++ 46 ∷ rest) ≡ length first
 first_point [] rest none = refl
 first_point (b ∷ first) rest none = by (is_point b) refl (first_point first rest)
@@ -39,7 +39,7 @@ first_point (b ∷ first) rest none = by (is_point b) refl (first_point first re
     by false here below = ap (λ test. cond (not test) (1 + position_or_len is_point (first ++ 46 ∷ rest)) 0) here
         ∙ ap (λ n. 1 + n) (below (and_right (not (is_point b)) (has_no_point first) none)) ∙ omega arith
 
--- what stands before a place and behind it
+-- what is before a place and after it
 pub before_place : (xs ys : List ℕ) → take (length xs) (xs ++ ys) ≡ xs
 before_place [] ys = refl
 before_place (x ∷ xs) ys = ap (λ zs. x ∷ zs) (before_place xs ys)
@@ -113,7 +113,7 @@ rule_plain Remove = refl
 rule_plain Upgrade = refl
 rule_plain Unknown = refl
 
--- what stands behind the part, and behind the rule
+-- what follows the part, and after the rule
 abbrev pub behind_rule : PlainKey → List ℕ
 behind_rule k = decimal k.place ++ aspect_text k.aspect
 

@@ -21,7 +21,7 @@ abbrev pub sign_text : Sign → List ℕ
 sign_text Least = codes "-"
 sign_text Most = codes "+"
 
--- the sign, and directly behind it the name of the count, as `-removed`
+-- the sign, and directly after it the name of the count, as `-removed`
 abbrev pub aim_text : Aim → List ℕ
 aim_text aim = sign_text aim.sign ++ count_text aim.count
 

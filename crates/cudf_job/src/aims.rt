@@ -31,7 +31,7 @@ pub struct Aim {
 }
 
 impl Sign {
-    /// The sign as it stands before the count's name: `-` or `+`.
+    /// The sign as it comes before the count's name: `-` or `+`.
     pub fn text(self) -> &'static str
         ensures { result.now ≡ sign_text self }
     {

@@ -12,7 +12,7 @@ pub enum Job {
         /// E12 and E13, and of E2 only of a byte order mark. All other bytes are as without it.
         explain: bool,
     },
-    /// Judge the solution and list the violated instances: those whose keys come behind `after`, where
+    /// Judge the solution and list the violated instances: those whose keys come after `after`, where
     /// it is given, and at most `limit` of them; with 0 the page is empty. The verdict is of all instances.
     Check {
         after: Option<Key>,

@@ -1,4 +1,4 @@
--- Lists that stand one after the other.
+-- Lists that are one after the other.
 use Rattle.std.specs.Prelude.{List, map, slice_range}
 use Rattle.cudf_lrat.specs.declared.lists.Lists.{Lists}
 

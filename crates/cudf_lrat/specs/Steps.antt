@@ -49,7 +49,7 @@ pub data Reading : Type 0 where
   -- two different ones or more aren't
   several : Reading
 
--- by the literals that aren't known to be false; a clause is a set, so one may stand more than once
+-- by the literals that aren't known to be false; a clause is a set, so one may occur more than once
 abbrev pub reading_of : List Literal → Reading
 reading_of [] = falsified
 reading_of (literal ∷ others) = if list_all (is_same literal) others then unit literal else several

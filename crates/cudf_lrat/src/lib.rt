@@ -1,5 +1,5 @@
 //! Proofs that no assignment satisfies some clauses, checked: LRAT's text form, steps by reverse
-//! unit propagation alone. It stands on the lines of `cudf_text` and on nothing else of CUDF.
+//! unit propagation alone. It rests on the lines of `cudf_text` and on nothing else of CUDF.
 #![tactic(auto)]
 
 mod checker;

@@ -39,7 +39,7 @@ pub(crate) fn read_number(word: &[u8]) -> Option<u64>
     Some(value)
 }
 
-/// Whether a minus stands first.
+/// Whether a minus is first.
 #[inline(always)]
 fn has_minus(word: &[u8]) -> bool
     ensures value { result ≡ starts_with_minus word.now }
@@ -51,7 +51,7 @@ fn has_minus(word: &[u8]) -> bool
     word[0] == b'-'
 }
 
-/// The number that the word is, where a minus may stand before a number of at least 1.
+/// The number that the word is, where a minus may be before a number of at least 1.
 #[inline(always)]
 pub(crate) fn read_signed(word: &[u8]) -> Option<Signed>
     ensures { result ≡ signed word.now }

@@ -25,7 +25,7 @@ pub enum Answer {
 /// form).
 ///
 /// A line is blank, a comment (its first word is `c`), a deletion (a number, `d`, numbers, `0`), or
-/// a step: a number, literals, `0`, hints, `0`. Words stand between spaces and tabs, and numbers
+/// a step: a number, literals, `0`, hints, `0`. Words are between spaces and tabs, and numbers
 /// are digits up to 2^64 - 1. Comments and deletions are passed over. A step's number is above
 /// all before it, and those of the clauses before all steps'. Its literals are taken to be false; then
 /// a hint's clause whose literals are all false makes the step a clause under its number, and one

@@ -33,7 +33,7 @@ pub(crate) fn has_negative(numbers: &[Signed]) -> bool
     numbers.iter().any(|number| number.negative)
 }
 
-/// Reads numbers up to a zero into the list, in place of what was there. Gives what stands after the
+/// Reads numbers up to a zero into the list, in place of what was there. Gives what follows the
 /// zero, where there is one and all words before it are numbers.
 fn read_numbers<'t>(
     text: &'t [u8],

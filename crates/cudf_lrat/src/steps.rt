@@ -21,7 +21,7 @@ pub(crate) struct Steps {
 }
 
 /// The place of a number. Most steps have the number after that of the step before, so it is
-/// looked for first where it stands if all after it do.
+/// looked for first where it is if all after it do.
 #[inline(always)]
 fn place_of(numbers: &[u64], number: u64) -> Option<usize>
     requires { (j k : ℕ) → j < k → k < length numbers.now → slice_index numbers.now j < slice_index numbers.now k }

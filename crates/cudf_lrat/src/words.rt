@@ -40,7 +40,7 @@ fn word_len(text: &[u8]) -> usize
     text.len()
 }
 
-/// The first word, and what stands after it.
+/// The first word, and what follows it.
 #[inline(always)]
 pub(crate) fn next_word(text: &[u8]) -> Option<(&[u8], &[u8])>
     ensures words { MatchOption result (words text.now ≡ []) (λ p. words text.now ≡ p.0.now ∷ words p.1.now) }

@@ -1,4 +1,4 @@
--- Pairs of which none stands twice.
+-- Pairs of which none occurs twice.
 use Rattle.std.proofs.Common.{◌≡◌, ℕ, zero, suc, ◌<◌, true, false, not, List, [], ◌∷◌, ◌++◌, take, length, get_or, sym, ap, ◌∙◌, arith}
 use Rattle.std.proofs.lemmas.Bool.{true≢false, and_parts, not-true, false_from_ne_true}
 use Rattle.std.proofs.lemmas.List.{append-nil, append_assoc, get_or-take, length-take-le}
@@ -8,7 +8,7 @@ use Rattle.cudf_problem.specs.Documents.{with_earlier}
 use Rattle.cudf_problem.specs.Ids.{Id, is_id, is_among}
 use Rattle.cudf_problem.specs.Promises.Packages.{are_distinct}
 
--- of pairs of which none stands twice, each isn't among those before it
+-- of pairs of which none occurs twice, each isn't among those before it
 pub distinct-at : (ids : List Id) (i : ℕ) (d : Id) → are_distinct ids ≡ true → i < length ids → is_among (take i ids) (get_or ids i d) ≡ false
 distinct-at ids i d all within = at [] ids i all within
   where

@@ -18,11 +18,11 @@ reserved_names = codes "package" ∷ codes "version" ∷ codes "depends" ∷ cod
 abbrev pub is_declared : List PlainDeclaration → List ℕ → Bool
 is_declared ds name = list_any (λ d. bytes_eq name d.name) ds
 
--- a declaration that may stand after these: of a name that is neither reserved nor declared before
+-- a declaration that is allowed after these: of a name that is neither reserved nor declared before
 abbrev pub is_declarable : List PlainDeclaration × PlainDeclaration → Bool
 is_declarable (before, d) = not (list_any (bytes_eq d.name) reserved_names || is_declared before d.name)
 
--- what a `property` value declares after those before, where each may stand after those and after the ones before it in the value
+-- what a `property` value declares after those before, where each is allowed after those and after the ones before it in the value
 abbrev pub declared_by : List PlainDeclaration → List ℕ → Option (List PlainDeclaration)
 declared_by before text = option_and_then (λ ds. some_if (list_all is_declarable (with_earlier before ds)) ds) (declarations (trim text))
 

@@ -31,7 +31,7 @@ pub struct Package<'t> {
     pub version: u64,
     /// What it needs; by default no clauses.
     pub depends: Formula<'t>,
-    /// What it can't stand beside; by default no entries.
+    /// What it can't be installed beside; by default no entries.
     pub conflicts: VpkgList<'t>,
     /// The features that it gives; by default no entries.
     pub provides: VpkgList<'t>,

@@ -204,7 +204,7 @@ pub held_anyway : (opens : Opens) (standard : Option (Option (List ℕ))) (name 
 held_anyway opens standard (Path path) known h = h
 held_anyway opens standard Standard known h = absurd h
 
--- what is held of what a file left behind is held of what was there before
+-- what is held of what a file left after is held of what was there before
 pub held_behind : {S : Type 0} (opens : Opens) (left : S → Option (List ℕ)) (first : FileName) (standard : Option S) (name : FileName) (known : Option (List ℕ))
     → IsHeldBy opens (option_map left (left_behind first standard)) name known → IsHeldBy opens (option_map left standard) name known
 held_behind opens left (Path path) standard name known h = h
@@ -271,7 +271,7 @@ first_unopened opens standard left (name ∷ names) (suc i) d (device ∷ device
 abbrev one_if : Bool → ℕ
 one_if b = cond b 1 0
 
--- at a place of a list, those from there on are it and those behind it
+-- at a place of a list, those from there on are it and those after it
 pub counted : (names : List FileName) (i : ℕ) (d : FileName) → i < length names
     → count_by is_standard (drop i names) ≡ one_if (is_standard (get_or names i d)) + count_by is_standard (drop (i + 1) names)
 counted names i d below = sum_by-drop_more (λ name. one_if (is_standard name)) names i d below
@@ -282,7 +282,7 @@ there (Path path) standard n enough = tt
 there Standard None n enough = absurd (omega arith)
 there Standard (Some given) n enough = tt
 
--- and behind it there is enough for the others
+-- and after it there is enough for the others
 pub enough_behind : {S : Type 0} (name : FileName) (standard : Option S) (n : ℕ) → one_if (is_standard name) + n ≤ length (option_to_list standard)
     → n ≤ length (option_to_list (left_behind name standard))
 enough_behind (Path path) standard n enough = omega arith
@@ -322,7 +322,7 @@ done opens standard left order task out status order_is problem_is solutions_are
   status_is = finished.status_is;
 }
 
--- what is told of a failure
+-- what is reported of a failure
 pub told : {W : Type 0} (state : W → SinkState) (P : Failure → Type 0) (failure : Failure) (old new : W) (status : ℕ)
     → P failure → IsStatusOf failure (state old) (state new) status → Prints failure (state old) (state new) status → (failure_status failure ≢ 0 → new ≡ old)
     → Fails P (change state old new) status

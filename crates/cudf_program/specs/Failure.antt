@@ -21,12 +21,12 @@ failure_status (Usage usage) = usage_status usage
 failure_status (Open name error) = 5
 failure_status Memory = 6
 
--- why the words can't be had: out of memory is told as such
+-- why the words can't be had: out of memory is reported as such
 abbrev pub words_failure : ErrorKind → Error → Failure
 words_failure OutOfMemory error = Usage usage.Memory
 words_failure _ error = Words error
 
--- why the file can't be opened: out of memory is told as such, and anything else names the file
+-- why the file can't be opened: out of memory is reported as such, and anything else names the file
 abbrev pub open_failure : ErrorKind → FileName → Error → Failure
 open_failure OutOfMemory name error = Memory
 open_failure _ name error = Open name error

@@ -84,7 +84,7 @@ abbrev pub IsClosed : Failure → Type 0
 IsClosed failure = (error : Error) × (failure ≡ open_failure (error_kind error) Standard error)
 
 -- why an order's files aren't open: standard input is one of them, and can't be read; or one can't be opened, of which
--- the first is told; or memory ran out
+-- the first is reported; or memory ran out
 abbrev pub IsOfFiles : Opens → Order → Failure → Type 0
 IsOfFiles opens order failure =
     (IsTrue (takes_standard order) × IsClosed failure) ⊎ (IsFirstUnopened opens (order.problem ∷ order.solutions.items) failure ⊎ (failure ≡ Memory))
@@ -97,7 +97,7 @@ IsThere (Path path) standard = Unit {0}
 IsThere Standard None = ⊥
 IsThere Standard (Some given) = Unit {0}
 
--- what is left of it behind a file of this name: the one that is named `-` takes it
+-- what is left of it after a file of this name: the one that is named `-` takes it
 abbrev pub left_behind : {S : Type 0} → FileName → Option S → Option S
 left_behind (Path path) standard = standard
 left_behind Standard standard = None

@@ -139,7 +139,7 @@ IsOfWords words failure = (usage : Usage) × (failure ≡ reason.Usage usage) ×
 abbrev pub Follows : List (List ℕ) → Opens → Change (Option (List ℕ)) → Change SinkState → ℕ → Type 0
 Follows words opens standard out status = Obeys words opens standard out status ⊎ Declines (IsOfWords words) standard out status
 
--- the words can't be had, for this error, and that is told
+-- the words can't be had, for this error, and that is reported
 abbrev pub IsOfError : Error → Failure → Type 0
 IsOfError error failure = failure ≡ words_failure (error_kind error) error
 

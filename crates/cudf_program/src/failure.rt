@@ -31,7 +31,7 @@ impl Failure<'_> {
         }
     }
 
-    /// Says why on standard error. Help and the version are no fault, and aren't told there.
+    /// Says why on standard error. Help and the version are no fault, and aren't reported there.
     pub(crate) fn tell<E: Write>(&self, errors: &mut E) -> io::Result<()> {
         match self {
             Failure::Words(error) => writeln!(

@@ -21,7 +21,7 @@ shop =
     (package_key 3 Conflicts 1, out 3 ∷ out 4 ∷ []) ∷
     (request_key Install 1 None, in' 1 ∷ []) ∷ []
 
--- each behind the one that brings in its package
+-- each after the one that brings in its package
 shop_told : map told_as (reasons_of shop) ≡
     (request_key Install 1 None, []) ∷
     (package_key 1 Depends 1, []) ∷

@@ -66,7 +66,7 @@ apart_dropped key [] (suc count) other = tt
 apart_dropped key (n ∷ ks) zero other = other (omega arith)
 apart_dropped key (n ∷ ks) (suc count) other = apart_dropped key ks count (λ h. other (omega arith))
 
--- the first instance, and those behind it
+-- the first instance, and those after it
 pub core_run : (key : PlainKey) (ks : List Keyed) (count : ℕ) → 0 < count → count ≤ length ks → ((k : ℕ) → k < count → same_key key (get_or (keys_of ks) k (unknown_key 0)) ≡ true)
     → (count < length ks → same_key key (get_or (keys_of ks) count (unknown_key 0)) ≡ false) → core_of ks ≡ reason_of (record { key = key; clauses = clauses_of (take count ks) }) ∷ core_of (drop count ks)
 core_run key ks zero some within same other = absurd (omega arith)

@@ -17,7 +17,7 @@ only needed = record { key = needed.0; clauses = needed.1 ∷ [] }
 
 -- ---- one instance in front
 
--- none of those behind has the key of the first of them
+-- none of those after has the key of the first of them
 abbrev pub StartsApart : PlainKey → List Keyed → Type 0
 StartsApart key [] = Unit {0}
 StartsApart key (next ∷ later) = same_key key next.0 ≡ false

@@ -36,7 +36,7 @@ less_from_le Less h e = refl
 less_from_le Equal h e = absurd (cc e)
 less_from_le Greater h e = absurd (cc h)
 
--- the one before and the one behind aren't the same
+-- the one before and the one after aren't the same
 apart : (a b : PlainKey) → key_cmp a b ≡ Less → same_key a b ≡ false
 apart a b less = ap is_eq less
 

@@ -48,11 +48,11 @@ module _ {X : Type 0} where
       by true false e later = absurd (cc e)
       by false true e later = absurd (cc e)
 
--- those told, and those that are left
+-- those reported, and those that are left
 abbrev Whole : Reasons → Reasons → Type 0
 Whole core told = IsPermutation core (told ++ filter (is_new told) core)
 
--- one more is told
+-- one more is reported
 whole_more : (core told : Reasons) (r : PlainReason) → IsTrue (keys_ascend core) → Contains core r → is_new told r ≡ true → Whole core told → Whole core (told ++ r ∷ [])
 whole_more core told r up there new whole =
     let i : ℕ = there.0 in
@@ -93,7 +93,7 @@ each_told_once needed up =
 
 -- ---- the steps are enough
 
--- told already, or among those that wait
+-- reported already, or among those that wait
 abbrev Covered : Reasons → Reasons → PlainReason → Type 0
 Covered told waiting r = (is_new told r ≡ false) ⊎ Contains waiting r
 
@@ -144,21 +144,21 @@ covered_end told waiting r none (inr there) = by (is_new told r) refl
     by true new = absurd (omega (arith, (subst (λ (xs : Reasons). Contains xs r) none (kept_in (is_new told) waiting r there new)).1))
     by false old = old
 
--- where as many are told as there are, all are told
+-- where as many are reported as there are, all are reported
 all_told : (core told : Reasons) (r : PlainReason) → Whole core told → length told ≡ length core → Contains core r → IsTold told r
 all_told core told r whole full there =
     let left : filter (is_new told) core ≡ [] =
     nil_from_length (filter (is_new told) core) (omega (arith, length_permutation core (told ++ filter (is_new told) core) whole, length-append told (filter (is_new told) core))) in
     covered_end told core r left (inr there)
 
--- what is told, with all that it brings in
+-- what is reported, with all that it brings in
 abbrev Closed : Reasons → Reasons → Reasons → Type 0
 Closed core told waiting = All (λ r. All (Covered told waiting) (brings core r)) told
 
 abbrev IsClosed : Reasons → Reasons → Type 0
 IsClosed core told = All (λ r. All (IsTold told) (brings core r)) told
 
--- the walk ends where all that it covers is told, and all that it brings in
+-- the walk ends where all that it covers is reported, and all that it brings in
 record Ends (core first told : Reasons) : Type 0 where
   covers : All (IsTold told) first
   closed : IsClosed core told

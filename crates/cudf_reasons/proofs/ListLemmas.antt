@@ -24,7 +24,7 @@ module _ {X : Type 0} where
       by false true ha hb later = absurd (true≢false (sym (stronger x hb) ∙ ha))
       by false false ha hb later = rw (ha, hb) later
 
-  -- one filter behind the other
+  -- one filter after the other
   pub filter_joined : (p q : X → Bool) (xs : List X) → filter q (filter p xs) ≡ filter (λ x. p x && q x) xs
   filter_joined p q [] = refl
   filter_joined p q (x ∷ xs) = by (p x) refl (filter_joined p q xs)

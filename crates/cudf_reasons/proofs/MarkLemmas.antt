@@ -1,4 +1,4 @@
--- The marks of those that were told.
+-- The marks of those that were reported.
 use Rattle.std.proofs.Common.{◌≡◌, ◌≢◌, ℕ, ◌+◌, ◌<◌, ◌≤◌, zero, suc, Bool, true, false, not, cond, ◌&&◌, List, [], ◌∷◌, ◌++◌, length, get_or, set, map, filter, ◌⊎◌, inl, inr, refl, sym, ap, ap₂, ◌∙◌, arith, nat_lt, nat_le, max, replicate, add-zero, zero-add}
 use Rattle.std.specs.Prelude.{All, IsTrue, count_by, if◌then◌else◌}
 use Rattle.std.proofs.lemmas.Bool.{not-true, lt-ltb, le-ltb, le-leb, lt-leb, and_left, and_right, and_from, cases_eq, cases_lt, cond-true, cond-false}
@@ -17,7 +17,7 @@ use Rattle.cudf_reasons.proofs.WalkLemmas.{new_as_before, told_itself}
 abbrev Reasons : Type 0
 Reasons = List PlainReason
 
--- ---- one more is told
+-- ---- one more is reported
 
 count_set : (marks : List Bool) (i : ℕ) → i < length marks → get_or marks i false ≡ false → count_by (λ m. m) (set marks i true) ≡ count_by (λ m. m) marks + 1
 count_set [] i within left = absurd (omega arith)
@@ -70,7 +70,7 @@ told_marked core order is_told passed i is within new =
 
 -- ---- a package's reasons
 
--- from the start of the run on all are told that were passed, or were found told now
+-- from the start of the run on all are reported that were passed, or were found reported now
 pub passed_marked : (core : Reasons) (order : List ℕ) (is_told : List Bool) (passed : List ℕ) (start from index : ℕ) → IsMarked core order is_told passed → start < length core → from ≤ max (get_or passed start 0) start
     → ((k : ℕ) → from ≤ k → k < index → get_or is_told k false ≡ true) → IsMarked core order is_told (set passed start index)
 passed_marked core order is_told passed start from index is within begins found = record {
@@ -94,7 +94,7 @@ passed_marked core order is_told passed start from index is within begins found 
         here k (omega arith) (omega arith) (cases_lt k from)
     by s k h upto (inr other) = is.passed_by s k h (omega (arith, get_or-set_other passed start s index 0 other))
 
--- all from the start of the run up to there are told
+-- all from the start of the run up to there are reported
 pub run_told : (core : Reasons) (order : List ℕ) (is_told : List Bool) (passed : List ℕ) (start from index : ℕ) → IsMarked core order is_told passed → from ≤ max (get_or passed start 0) start
     → ((k : ℕ) → from ≤ k → k < index → get_or is_told k false ≡ true) → (k : ℕ) → start ≤ k → k < index → get_or is_told k false ≡ true
 run_told core order is_told passed start from index is begins found k h upto = by (cases_lt k from)
@@ -115,7 +115,7 @@ outside core told place run k is h (inr behind) =
 inside_told : (core told : Reasons) (place k : ℕ) → is_new told (reason_at core k) ≡ false → wanted told place (reason_at core k) ≡ false
 inside_told core told place k old = and_right (is_brought_by place (reason_at core k)) (is_new told (reason_at core k)) old
 
--- none is left where all of the run are told
+-- none is left where all of the run are reported
 pub none_left : (p : Progress) (place : ℕ) (run : Run) → IsRunOf p.core place run → ((k : ℕ) → run.start ≤ k → k < run.end → is_new p.told (reason_at p.core k) ≡ false) → left_of p place ≡ []
 none_left p place run is told =
     filter_joined (is_brought_by place) (is_new p.told) p.core
@@ -126,7 +126,7 @@ none_left p place run is told =
     by k h (inr from) (inr behind) = outside p.core p.told place run k is h (inr behind)
     by k h (inr from) (inl upto) = inside_told p.core p.told place k (told k from upto)
 
--- the first of the run that isn't told is the first that is left
+-- the first of the run that isn't reported is the first that is left
 pub first_left : (p : Progress) (place : ℕ) (run : Run) (index : ℕ) → IsRunOf p.core place run → run.start ≤ index → index < run.end
     → ((k : ℕ) → run.start ≤ k → k < index → is_new p.told (reason_at p.core k) ≡ false) → is_new p.told (reason_at p.core index) ≡ true → IsFirstLeft p place index
 first_left p place run index is from upto told new =

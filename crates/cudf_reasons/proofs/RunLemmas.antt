@@ -1,4 +1,4 @@
--- Where a package's reasons stand among all.
+-- Where a package's reasons are among all.
 use Rattle.std.proofs.Common.{◌≡◌, ◌≢◌, ℕ, ◌<◌, ◌≤◌, ◌==◌, Bool, true, false, ◌&&◌, ◌||◌, List, [], ◌∷◌, length, get_or, map, ◌⊎◌, inl, inr, refl, sym, ap, ap₂, ◌∙◌, arith, nat_lt, nat_le}
 use Rattle.std.specs.Prelude.{IsTrue}
 use Rattle.std.specs.List.Sorted.{IsPartitionedBy, IsPartitionPoint}

@@ -18,7 +18,7 @@ range_kept xs ys a b below inside =
     let rest : b - a ≤ length (drop a xs) = omega (arith, length-drop a xs) in
     ap (take (b - a)) (drop-append-le a xs ys first) ∙ take-append-le (b - a) (drop a xs) ys rest
 
--- what stands between two lengths
+-- what is between two lengths
 range_new : (xs ys zs : List ℕ) (a b : ℕ) → a ≡ length xs → b ≡ length (xs ++ ys) → slice_range ((xs ++ ys) ++ zs) a b ≡ ys
 range_new xs ys zs a b start end =
     let rest : drop a ((xs ++ ys) ++ zs) ≡ ys ++ zs = ap (drop a) (append_assoc xs ys zs) ∙ drop_at xs (ys ++ zs) a (sym start) in
@@ -34,7 +34,7 @@ kept xs ys (row ∷ rows) inside =
     ap (λ w. reason (key_view row.key) w (slice_range (xs ++ ys) row.middle row.end)) named ∙ ap (λ w. reason (key_view row.key) (slice_range xs row.start row.middle) w) met in
     ap₂ (λ (r : PlainReason) (rs : List PlainReason). r ∷ rs) first (kept xs ys rows (All-tail (IsInside xs) row rows inside))
 
--- a row of what was put behind the places
+-- a row of what was put after the places
 pub pushed : (xs named met ys zs : List ℕ) (rows more : List Row) (row : Row) → All (IsInside xs) rows → ys ≡ xs ++ named → zs ≡ ys ++ met → more ≡ rows ++ row ∷ []
     → row.start ≡ length xs → row.middle ≡ length ys → row.end ≡ length zs → map (reason_in zs) more ≡ map (reason_in xs) rows ++ reason (key_view row.key) named met ∷ []
 pushed xs named met ys zs rows more row inside first second all start middle end =

@@ -33,7 +33,7 @@ less_work told t r = by (is_new (told ++ t ∷ []) r) refl
     by true h = omega (arith, cond-true (is_new (told ++ t ∷ []) r) (1 + length r.named) 0 h, cond-true (is_new told r) (1 + length r.named) 0 (new_before told t r h))
     by false h = omega (arith, cond-false (is_new (told ++ t ∷ []) r) (1 + length r.named) 0 h)
 
--- what waits once a reason of the package is told
+-- what waits once a reason of the package is reported
 waits_next : (core : Reasons) (named rest : List ℕ) (place : ℕ) (later : Reasons)
     → flat_map (brought core) (named ++ place ∷ rest) ++ later ≡ flat_map (brought core) named ++ (brought core place ++ (flat_map (brought core) rest ++ later))
 waits_next core named rest place later =
@@ -83,7 +83,7 @@ goes_further old mid new first second = record { core = second.core ∙ first.co
 pub tours_none : (p : Progress) → p.waiting ≡ [] → Tours p p []
 tours_none p rests = record { core = refl; rests = rests; end = λ later. refl }
 
--- one that was told
+-- one that was reported
 pub tours_past : (p : Progress) (r : PlainReason) → p.waiting ≡ [] → is_new p.told r ≡ false → Tours p p (r ∷ [])
 tours_past p r rests told = record {
   core = refl;
@@ -91,7 +91,7 @@ tours_past p r rests told = record {
   end = λ later. walk_on_past p.core (r ∷ []) later p.told (cond-false (is_new p.told r) (r ∷ []) [] told);
 }
 
--- one that is told now, and all that it brings in
+-- one that is reported now, and all that it brings in
 pub tours_one : (old mid new : Progress) (r : PlainReason) → old.waiting ≡ [] → is_new old.told r ≡ true → Tells old mid r → Follows mid new → Tours old new (r ∷ [])
 tours_one old mid new r rests left tells follows = record {
   core = follows.goes.core ∙ tells.core;
@@ -105,7 +105,7 @@ tours_one old mid new r rests left tells follows = record {
       ∙ ap (λ ws. walk_on new.core (flat_map (brought new.core) ws ++ later) new.told) follows.rests;
 }
 
--- one behind the other
+-- one after the other
 pub tours_both : (old mid new : Progress) (xs ys : Reasons) → Tours old mid xs → Tours mid new ys → Tours old new (xs ++ ys)
 tours_both old mid new xs ys first second = record {
   core = second.core ∙ first.core;
@@ -136,7 +136,7 @@ told_in_order core asked kept order first second all =
     let is : kept.told ≡ walk (length core) core (filter is_asked core ++ filter is_kept core) [] = told ∙ ap (λ n. walk n core (filter is_asked core ++ filter is_kept core) []) steps in
     all ∙ ap (λ c. kept.told ++ filter (is_new kept.told) c) same ∙ ap (λ t. t ++ filter (is_new t) core) is
 
--- told as keys and places
+-- reported as keys and places
 pub told_listed : (core : Reasons) (needed : List Keyed) (order : List ℕ) → core ≡ core_of needed → map (reason_at core) order ≡ in_order core → map (told_at core) order ≡ map told_as (reasons_of needed)
 told_listed core needed order is told = apart order ∙ ap (map told_as) (told ∙ ap in_order is)
   where

@@ -13,7 +13,7 @@ use Rattle.cudf_reasons.proofs.ListLemmas.{filter_both}
 abbrev Reasons : Type 0
 Reasons = List PlainReason
 
--- ---- what is new once one more is told
+-- ---- what is new once one more is reported
 
 abbrev is_earlier : PlainReason → PlainReason → Bool
 is_earlier reason earlier = same_key earlier.key reason.key
@@ -44,7 +44,7 @@ new_as_before told t r other = new_push told t r ∙ ap not (ap (λ b. list_any 
 abbrev new_with : Reasons → PlainReason → PlainReason → Bool
 new_with told r = is_new (told ++ r ∷ [])
 
--- what is told doesn't count among those that wait
+-- what is reported doesn't count among those that wait
 walk_same : (n : ℕ) (core xs ys told : Reasons) → filter (is_new told) xs ≡ filter (is_new told) ys → walk n core xs told ≡ walk n core ys told
 walk_same zero core xs ys told same = refl
 walk_same (suc n) core xs ys told same = ap (tell_first (walk n core) core told) same
@@ -64,21 +64,21 @@ walk_on_tells core xs zs told rest r room first same =
     let steps : length core - length told ≡ suc (length core - length (told ++ r ∷ [])) = omega (arith, length_push told r) in
     ap (λ n. walk n core xs told) steps ∙ walk_tells (length core - length (told ++ r ∷ [])) core xs zs told rest r first same
 
--- what was still new behind it
+-- what was still new after it
 rest_is_new : (told xs rest : Reasons) (r : PlainReason) → filter (is_new told) xs ≡ r ∷ rest → filter (is_new (told ++ r ∷ [])) rest ≡ filter (is_new (told ++ r ∷ [])) xs
 rest_is_new told xs rest r first =
     sym (cond-false (is_new (told ++ r ∷ []) r) (r ∷ filter (is_new (told ++ r ∷ [])) rest) (filter (is_new (told ++ r ∷ [])) rest) (told_itself told r))
     ∙ ap (filter (is_new (told ++ r ∷ []))) (sym first)
     ∙ filter_both (is_new told) (is_new (told ++ r ∷ [])) xs (new_before told r)
 
--- the first new one of these is told, and they wait on
+-- the first new one of these is reported, and they wait on
 pub walk_on_first : (core xs later told rest : Reasons) (r : PlainReason) → length told < length core → filter (is_new told) xs ≡ r ∷ rest
     → walk_on core (xs ++ later) told ≡ walk_on core (brings core r ++ (xs ++ later)) (told ++ r ∷ [])
 walk_on_first core xs later told rest r room first =
     let all : filter (is_new told) (xs ++ later) ≡ r ∷ (rest ++ filter (is_new told) later) = filter-append (is_new told) xs later ∙ ap (λ ys. ys ++ filter (is_new told) later) first in
     walk_on_tells core (xs ++ later) (xs ++ later) told (rest ++ filter (is_new told) later) r room all (rest_is_new told (xs ++ later) (rest ++ filter (is_new told) later) r all)
 
--- one that waits is told
+-- one that waits is reported
 pub walk_on_one : (core later told : Reasons) (r : PlainReason) → length told < length core → is_new told r ≡ true
     → walk_on core (r ∷ later) told ≡ walk_on core (brings core r ++ later) (told ++ r ∷ [])
 walk_on_one core later told r room new =

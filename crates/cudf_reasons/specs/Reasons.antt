@@ -45,7 +45,7 @@ abbrev pub grouped : List Keyed → List Instance
 grouped [] = []
 grouped (needed ∷ more) = with_clause needed (grouped more)
 
--- ---- what is told of an instance
+-- ---- what is reported of an instance
 
 -- its key, the packages that its CNF clauses name positively, and those that it is met by; packages by place
 pub record PlainReason : Type 0 where
@@ -130,17 +130,17 @@ brought core place = filter (is_brought_by place) core
 abbrev pub brings : List PlainReason → PlainReason → List PlainReason
 brings core reason = flat_map (brought core) reason.named
 
--- none of those that were told has its key
+-- none of those that were reported has its key
 abbrev pub is_new : List PlainReason → PlainReason → Bool
 is_new told reason = not (list_any (λ earlier. same_key earlier.key reason.key) told)
 
--- The first of those that wait is told, and those that it brings in wait before the others: depth first. `more` goes on
--- from there with those that wait and those that were told.
+-- The first of those that wait is reported, and those that it brings in wait before the others: depth first. `more` goes on
+-- from there with those that wait and those that were reported.
 abbrev pub tell_first : (List PlainReason → List PlainReason → List PlainReason) → List PlainReason → List PlainReason → List PlainReason → List PlainReason
 tell_first more core told [] = told
 tell_first more core told (reason ∷ waiting) = more (brings core reason ++ waiting) (told ++ reason ∷ [])
 
--- Reasons one behind the other: those that were told, and behind them all that wait and all that these bring in, each once.
+-- Reasons one after the other: those that were reported, and after them all that wait and all that these bring in, each once.
 -- A step tells one more of the core, so as many steps as the core has reasons are enough (Laws: StepsAreEnough).
 abbrev pub walk : ℕ → List PlainReason → List PlainReason → List PlainReason → List PlainReason
 walk zero core waiting told = told
@@ -150,7 +150,7 @@ walk (suc steps) core waiting told = tell_first (walk steps core) core told (fil
 abbrev pub roots_of : List PlainReason → List PlainReason
 roots_of core = filter is_asked core ++ filter is_kept core
 
--- these, and behind each of them what it brings in
+-- these, and after each of them what it brings in
 abbrev pub told_of : List PlainReason → List PlainReason
 told_of core = walk (length core) core (roots_of core) []
 

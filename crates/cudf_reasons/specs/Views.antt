@@ -1,4 +1,4 @@
--- What contracts see of a needed CNF clause and of what is told.
+-- What contracts see of a needed CNF clause and of what is reported.
 use Rattle.std.specs.Prelude.{ℕ, List}
 use Rattle.cudf_job.specs.Keys.{PlainKey}
 use Rattle.cudf_job.specs.KeyViews.{key_view}

@@ -11,7 +11,7 @@ use cudf_job::{Key, Part};
 use cudf_lrat::Literal;
 use std::alloc::{AllocError, Global};
 
-/// The reasons of these CNF clauses, of which those of one key stand one behind the other.
+/// The reasons of these CNF clauses, of which those of one key are one after the other.
 pub(crate) fn tabulate(alloc: Global, needed: &[Needed<'_>]) -> Result<Table, AllocError>
     ensures { IfOk result (λ table. table ≡ core_of (map needed_view needed.now)) }
 {
@@ -59,7 +59,7 @@ impl Places {
         Ok(())
     }
 
-    /// Puts the places of one CNF clause behind the others: those of positive literals, and those of negative ones that
+    /// Puts the places of one CNF clause after the others: those of positive literals, and those of negative ones that
     /// aren't the part's own.
     fn add(&mut self, part: Part, literals: &[Literal]) -> Result<(), AllocError>
         ensures named { OnOk result (self.new.named.items ≡ self.old.named.items ++ positive_places literals.now) }

@@ -1,4 +1,4 @@
-//! The core of a refutation as a list to be read: the instances of the needed CNF clauses, each once, each behind the one
+//! The core of a refutation as a list to be read: the instances of the needed CNF clauses, each once, each after the one
 //! that brings in its package, with the packages that it is met by.
 #![tactic(auto)]
 

@@ -1,4 +1,4 @@
-//! The order in which reasons are told.
+//! The order in which reasons are reported.
 ghost use Rattle.std.specs.Prelude.{◌≡◌, ◌<◌, All, IsTrue, IfOk, length, map};
 ghost use Rattle.cudf_reasons.specs.Reasons.{in_order, keys_of, never_descend, reasons_of};
 ghost use Rattle.cudf_reasons.specs.Views.{needed_view, told_as};
@@ -12,11 +12,11 @@ use crate::told::Reasons;
 use crate::walk::Walk;
 use std::alloc::{AllocError, Global};
 
-/// The instances of the needed CNF clauses, in the order in which they are told: those of the request that are met by none,
-/// then those of `keep`, each by key; behind each of them, depth first, those of `depends` and `conflicts` of the packages
-/// that it names positively, by place and key; then what is left, by key. Each is told once. Own.
+/// The instances of the needed CNF clauses, in the order in which they are reported: those of the request that are met by none,
+/// then those of `keep`, each by key; after each of them, depth first, those of `depends` and `conflicts` of the packages
+/// that it names positively, by place and key; then what is left, by key. Each is reported once. Own.
 ///
-/// The clauses come by key: those of one instance stand one behind the other. The only error is that memory is refused.
+/// The clauses come by key: those of one instance are one after the other. The only error is that memory is refused.
 pub fn reasons(alloc: Global, needed: &[Needed<'_>]) -> Result<Reasons, AllocError>
     requires { IsTrue (never_descend (keys_of (map needed_view needed.now))) }
     ensures { IfOk result (λ reasons. reasons ≡ map told_as (reasons_of (map needed_view needed.now))) }
@@ -26,7 +26,7 @@ pub fn reasons(alloc: Global, needed: &[Needed<'_>]) -> Result<Reasons, AllocErr
     Ok(Reasons { table, order })
 }
 
-/// Where the reasons stand in the table, in the order in which they are told.
+/// Where the reasons are in the table, in the order in which they are reported.
 fn order_of(alloc: Global, table: &Table) -> Result<Vec<usize>, AllocError>
     requires { IsTrue (keys_ascend table.now) }
     ensures within { IfOk result (λ order. All (λ index. index < length table.now) order.items) }

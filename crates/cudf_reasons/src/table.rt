@@ -7,7 +7,7 @@ use cudf_job::{Key, Part, Rule};
 use std::alloc::{AllocError, Global};
 use std::marker::Model;
 
-/// A reason: its key, and where its places stand: first those that it names, and behind them those that it is met by.
+/// A reason: its key, and where its places are: first those that it names, and after them those that it is met by.
 #[derive(Clone, Copy)]
 pub(crate) struct Row {
     key: Key,
@@ -62,7 +62,7 @@ impl Model for Table {
     ghost invariant = { λ t. All (IsInside t.places.items) t.rows.items };
 }
 
-/// Which reasons are asked for, to be told first.
+/// Which reasons are asked for, to be reported first.
 #[derive(Clone, Copy)]
 pub(crate) enum Root {
     /// Those of the request that are met by none.
@@ -71,7 +71,7 @@ pub(crate) enum Root {
     Kept,
 }
 
-/// Reasons that stand one behind the other: from the first to before the end.
+/// Reasons that are one after the other: from the first to before the end.
 #[derive(Clone, Copy)]
 pub(crate) struct Run {
     pub(crate) start: usize,
@@ -152,7 +152,7 @@ impl Table {
         Run { start, end }
     }
 
-    /// Puts a reason behind the others.
+    /// Puts a reason after the others.
     pub(crate) fn push(&mut self, key: Key, named: &[u32], met: &[u32]) -> Result<(), AllocError>
         ensures ok { OnOk result (self.new ≡ self.old ++ record { key = key_view key; named = named.now; met = met.now } ∷ []) }
     {

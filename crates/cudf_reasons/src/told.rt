@@ -1,4 +1,4 @@
-//! Reasons in the order in which they are told.
+//! Reasons in the order in which they are reported.
 ghost use Rattle.std.specs.Prelude.{◌≡◌, ◌<◌, length};
 ghost use Rattle.std.specs.List.{HoldsAt};
 ghost use Rattle.cudf_job.specs.KeyViews.{key_view};
@@ -7,12 +7,12 @@ use crate::table::Table;
 use cudf_job::Key;
 use std::marker::Model;
 
-/// Instances of rules, one behind the other, with the packages that each is met by. Contracts see the list of their keys,
+/// Instances of rules, one after the other, with the packages that each is met by. Contracts see the list of their keys,
 /// each beside those packages' places, from 1.
 #[derive(Drop)]
 pub struct Reasons {
     pub(crate) table: Table,
-    /// Where they stand in the table.
+    /// Where they are in the table.
     pub(crate) order: Vec<usize>,
 }
 

@@ -8,19 +8,19 @@ use crate::table::{Root, Table};
 use std::alloc::{AllocError, Global};
 use std::marker::Model;
 
-/// A walk over the reasons of a table. Contracts see these, those that were told, in order, and the packages whose reasons
+/// A walk over the reasons of a table. Contracts see these, those that were reported, in order, and the packages whose reasons
 /// wait, the next one first.
 ///
-/// A package's reasons are told by key, one after the other, however many reasons name it: from where the last one of
-/// them stands the search goes on. So the walk looks a place up once for each time that it is named, and once for each
+/// A package's reasons are reported by key, one after the other, however many reasons name it: from where the last one of
+/// them is, the search goes on. So the walk looks a place up once for each time that it is named, and once for each
 /// reason that it brings in, and passes each reason once.
 #[derive(Drop)]
 pub(crate) struct Walk<'w> {
     table: &'w Table,
     order: Vec<usize>,
-    /// Of each reason, whether it was told.
+    /// Of each reason, whether it was reported.
     is_told: Vec<bool>,
-    /// At the first reason of a package: all from there up to this one were told.
+    /// At the first reason of a package: all from there up to this one were reported.
     passed: Vec<usize>,
     /// The packages whose reasons wait, the next one last.
     waiting: Vec<u32>,
@@ -39,7 +39,7 @@ impl<'w> Model for Walk<'w> {
 }
 
 impl<'w> Walk<'w> {
-    /// Nothing is told yet, and nothing waits.
+    /// Nothing is reported yet, and nothing waits.
     pub(crate) fn new(alloc: Global, table: &'w Table) -> Result<Self, AllocError>
         requires { IsTrue (keys_ascend table.now) }
         ensures { IfOk result (λ walk. walk ≡ record { core = table.now; told = []; waiting = [] }) }
@@ -56,7 +56,7 @@ impl<'w> Walk<'w> {
         })
     }
 
-    /// Tells those that are asked for so, by key, and behind each of them all that it brings in.
+    /// Tells those that are asked for so, by key, and after each of them all that it brings in.
     pub(crate) fn tell_roots(&mut self, root: Root) -> Result<(), AllocError>
         requires { self.old.waiting ≡ [] }
         ensures { OnOk result (Tours self.old self.new (filter (is_root root) self.old.core)) }
@@ -69,7 +69,7 @@ impl<'w> Walk<'w> {
         Ok(())
     }
 
-    /// Where they stand that were told, and behind them those that are left, by key.
+    /// Where those are that were reported, and after them those that are left, by key.
     pub(crate) fn finish(self) -> Result<Vec<usize>, AllocError>
         ensures within { IfOk result (λ order. All (λ index. index < length self.entry.core) order.items) }
         ensures order { IfOk result (λ order. map (reason_at self.entry.core) order.items
@@ -96,7 +96,7 @@ impl<'w> Walk<'w> {
         table.has_root(root, index)
     }
 
-    /// Whether the reason at this index is to be told yet.
+    /// Whether the reason at this index is to be reported yet.
     fn is_left(&self, index: usize) -> bool
         requires { index < length self.now.core }
         ensures { result ≡ is_new self.now.told (reason_at self.now.core index) }
@@ -104,7 +104,7 @@ impl<'w> Walk<'w> {
         !self.is_told[index]
     }
 
-    /// Tells the reason at this index, unless it was told, and behind it all that it brings in.
+    /// Tells the reason at this index, unless it was reported, and after it all that it brings in.
     fn visit(&mut self, index: usize) -> Result<(), AllocError>
         requires within { index < length self.old.core }
         requires rests { self.old.waiting ≡ [] }
@@ -197,7 +197,7 @@ fn first_unmarked(marks: &[bool], from: usize, end: usize) -> usize
     index
 }
 
-/// Puts places behind the others, the first one last.
+/// Puts places after the others, the first one last.
 fn push_reversed(waiting: &mut Vec<u32>, places: &[u32]) -> Result<(), AllocError>
     ensures { OnOk result (waiting.new.items ≡ waiting.old.items ++ reverse places.now) }
 {
@@ -207,7 +207,7 @@ fn push_reversed(waiting: &mut Vec<u32>, places: &[u32]) -> Result<(), AllocErro
     Ok(())
 }
 
-/// Puts the indices that aren't marked behind the others.
+/// Puts the indices that aren't marked after the others.
 fn add_unmarked(marks: &[bool], order: &mut Vec<usize>) -> Result<(), AllocError>
     ensures { OnOk result (order.new.items ≡ order.old.items ++ unmarked_from 0 marks.now) }
 {

@@ -1,4 +1,4 @@
--- The stops of the walk that come after a key: those behind the number of places that the key has passed.
+-- The stops of the walk that come after a key: those after the number of places that the key has passed.
 use Rattle.std.proofs.Common.{◌≡◌, ℕ, zero, suc, ◌==◌, ◌+◌, ◌<◌, Bool, true, false, nat_lt, nat_le, List, [], ◌∷◌, ◌++◌, map, filter, drop, cond, arith, refl, ap, sym, ◌∙◌, subst, Option, Some, None}
 use Rattle.std.specs.Prelude.{slice_get}
 use Rattle.std.proofs.lemmas.Bool.{ltb-true}
@@ -75,7 +75,7 @@ pub ranks_of : (key : PlainKey) (p : Part) → key.part ≡ p → (part_rank p �
 ranks_of key p of = ap (λ q. part_rank q ∷ part_place q ∷ rule_rank key.rule ∷ key.place ∷ aspect_rank key.aspect ∷ []) (sym of)
 
 module _ (s : Proposal) (key : PlainKey) where
-  -- a key's ranks behind its package
+  -- a key's ranks after its package
   abbrev more : List ℕ
   more = rule_rank key.rule ∷ key.place ∷ aspect_rank key.aspect ∷ []
 

@@ -1,4 +1,4 @@
--- What is left behind a stop that a search has come to.
+-- What is left after a stop that a search has come to.
 use Rattle.std.proofs.Common.{◌≡◌, ℕ, true, List, [], ◌∷◌, ◌++◌, Option, Some, None, refl, ap, sym, ◌∙◌, append_assoc, ◌+◌, drop, map, length, subst, arith}
 use Rattle.std.proofs.lemmas.List.{length-map}
 use Rattle.std.proofs.lemmas.List.FromFn.{length-enumerate_from}
@@ -29,7 +29,7 @@ use Rattle.cudf_referee.proofs.ListLemmas.{none_kept}
 use Rattle.cudf_referee.proofs.MoveLemmas.{ahead-left}
 use Rattle.cudf_referee.proofs.SiteLemmas.{key_at}
 
--- the rest is what stands behind some of them
+-- the rest is what follows some of them
 pub record IsTail (all rest : List Stop) : Type 0 where
   pub before : List Stop
   pub is : all ≡ before ++ rest
@@ -91,7 +91,7 @@ module _ (s : Proposal) (old new : Cursor) where
       subst (λ (l : List Stop). Comes (stops_from s old) i l) (λ k. sym none k ++ (request_rest new.request ++ unknown_rest s (sym same k)))
       (comes-in (stops_from s old) (request_rest old.request) (unknown_rest s old.unknown) i (request_rest new.request) (record { before = P old; is = refl }) comes)
 
-  -- found behind both
+  -- found after both
   pub in-unknown : (i : PlainInstance) → P new ≡ [] → request_rest new.request ≡ [] → Comes (unknown_rest s old.unknown) i (unknown_rest s new.unknown) → Comes (stops_from s old) i (stops_from s new)
   in-unknown i none none' comes =
       subst (λ (l : List Stop). Comes (stops_from s old) i l) (λ k. sym none k ++ (sym none' k ++ unknown_rest s new.unknown))
@@ -103,12 +103,12 @@ module _ (s : Proposal) (old new : Cursor) where
         key = comes.key;
       })
 
-  -- found behind both, or nowhere
+  -- found after both, or nowhere
   pub in-last : (found : Option PlainInstance) → P new ≡ [] → request_rest new.request ≡ [] → ComesTo (unknown_rest s old.unknown) found (unknown_rest s new.unknown) → ComesTo (stops_from s old) found (stops_from s new)
   in-last None none none' left = λ k. none k ++ (none' k ++ left k)
   in-last (Some i) none none' comes = in-unknown i none none' comes
 
--- behind all packages none is left
+-- after all packages none is left
 pub packages-none : (s : Proposal) (ys : List Package) → map package_view ys ≡ s.problem.packages → packages_rest s None (drop (length ys) (enumerate_from 1 s.problem.packages)) ≡ []
 packages-none s ys same = ap (packages_rest s None) (drop_of_length-le (enumerate_from 1 s.problem.packages) (omega (arith, length-enumerate_from 1 s.problem.packages, ap length same, length-map ys package_view)))
 

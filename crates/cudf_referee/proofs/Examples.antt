@@ -1,4 +1,4 @@
--- The definitions of the counts, of lists of aims and of the rest behind a key, at inputs that were reckoned by hand.
+-- The definitions of the counts, of lists of aims and of the rest after a key, at inputs that were reckoned by hand.
 use Rattle.std.proofs.Common.{◌≡◌, ℕ, Bool, false, ◌==◌, ◌||◌, List, [], ◌∷◌, Option, Some, None, map, codes, refl}
 use Rattle.std.specs.declared.cmp.Ordering.TheVariants.{Less, Equal, Greater}
 use Rattle.cudf_value.specs.Vpkgs.{PlainVpkg}
@@ -247,7 +247,7 @@ as_many_new = refl
 without_aims : compare [] (counts 0 1 2 0 0 3) (counts 0 0 0 1 0 0) ≡ Equal
 without_aims = refl
 
--- ---- what is left behind a key
+-- ---- what is left after a key
 
 abbrev keys_behind : PlainKey → Proposal → List PlainKey
 keys_behind key s = map (λ i. i.key) (rest key s)
@@ -267,7 +267,7 @@ behind_last : keys_behind (depends_key 2) twice ≡ []
 unfolding listing
 behind_last = refl
 
--- behind a key that names no instance
+-- after a key that names no instance
 abbrev unwanted : Proposal
 unwanted = proposal (problem_with (plain (codes "car") 1 ∷ []) None (request_of (vpkg (codes "x") ∷ vpkg (codes "y") ∷ []) (vpkg (codes "car") ∷ []))) (one 1) (one 1) []
 

@@ -19,7 +19,7 @@ always (falsehood_atom ∷ atoms) e status = always atoms e status
 always (named v ∷ atoms) e status = or_right (satisfies status v) (satisfies_clause status atoms) (always atoms e status)
 
 module _ (place : ℕ) where
-  -- those that pass stand at the place or elsewhere
+  -- those that pass are at the place or elsewhere
   parted : (test : Placed → Bool) (status : List Placed)
       → list_any test status ≡ (list_any (λ p. p.0 == place && test p) status || list_any test (without place status))
   parted test status =

@@ -50,14 +50,14 @@ first_above s low (x ∷ xs) high i h k = by (given_at s x) refl (first_above s 
     by None e later = chained low (stop_ranks x) (key_ranks i.key) h.0 (later (sym (first_case s x xs None e) ∙ k))
     by (Some j) e later = subst (λ (r : List ℕ). Below low r) (given_ranks s x i (e ∙ sym (first_case s x xs (Some j) e) ∙ k)) h.0
 
--- a stop doesn't come after the key of its instance, nor after that of an instance behind it
+-- a stop doesn't come after the key of its instance, nor after that of an instance after it
 not_after : (key : PlainKey) (x : Stop) → Below (stop_ranks x) (key_ranks key) → is_after key x ≡ false
 not_after key x h = is_after-ranks key x ∙ not_below (stop_ranks x) (key_ranks key) h
 
 not_after_own : (key : PlainKey) (x : Stop) → stop_ranks x ≡ key_ranks key → is_after key x ≡ false
 not_after_own key x same = is_after-ranks key x ∙ ap (λ r. is_lt (slice_cmp nat_cmp (key_ranks key) r)) same ∙ ap is_lt (tied_itself nat_list_cmp_total (key_ranks key))
 
--- the stops behind a key come after it
+-- the stops after a key come after it
 all_after : (key : PlainKey) (xs : List Stop) (high : List ℕ) → Climbs stop_ranks (key_ranks key) xs high → filter (is_after key) xs ≡ xs
 all_after key xs high h = after-ranks key xs ∙ kept_above stop_ranks (key_ranks key) xs high h
 
@@ -135,7 +135,7 @@ none_given s (x ∷ xs) h = by (given_at s x) refl (none_given s xs)
     by (Some i) e more = absurd (cc (sym (first_case s x xs (Some i) e) ∙ h))
 
 module _ (s : Proposal) (i : PlainInstance) (high : List ℕ) where
-  -- the first instance, and then what the stops behind it give
+  -- the first instance, and then what the stops after it give
   abbrev Splits : List Stop → Type 0
   Splits xs = all_given s xs ≡ i ∷ all_given s (filter (is_after i.key) xs)
 
@@ -179,7 +179,7 @@ found_later s at_start i h = later-start (at_key i.key)
 found_later s (at_key key) i h = later-key key i.key (found_after s key i (walk s) h)
 found_later s at_end i h = absurd (cc (sym (ap (first_given s) (none_kept (is_ahead at_end) (λ x. refl) (walk s))) ∙ h))
 
--- the stops behind the instance lie ahead
+-- the stops after the instance lie ahead
 ahead_there : (s : Proposal) (old : PlainPosition) (i : PlainInstance) → first_given s (ahead s old) ≡ Some i → filter (is_after i.key) (ahead s old) ≡ filter (is_after i.key) (walk s)
 ahead_there s old i h =
     sym (filter-both (is_ahead old) (is_after i.key) (walk s))
@@ -212,7 +212,7 @@ moves old there found h searches =
 
 -- ---- moves
 
--- a search of the stops ahead, and then the position behind what it found, is a move
+-- a search of the stops ahead, and then the position after what it found, is a move
 pub searched : (old there new : Walking) (found : Option PlainInstance) → ascend_above 0 old.judged.unknown ≡ true → Searches old (ahead old.judged old.position) found there
     → new ≡ walking there.judged (at_instance found) there.steps → Moves old found new
 searched old there new found h searches is =
@@ -239,14 +239,14 @@ moved-none old None new false moves h = absurd (cc h)
 moved-none old (Some i) new true moves h = absurd (cc h)
 moved-none old (Some i) new false moves h = ap is_empty (sym moves.gives)
 
--- ---- what is left behind a stop that was come to
+-- ---- what is left after a stop that was come to
 
 -- a stop of a list that climbs comes after its lower bound
 below-later : (a : List ℕ) (pre : List Stop) (x : Stop) (left : List Stop) (high : List ℕ) → Climbs stop_ranks a (pre ++ x ∷ left) high → Below a (stop_ranks x)
 below-later a [] x left high h = h.0
 below-later a (y ∷ pre) x left high h = chained a (stop_ranks y) (stop_ranks x) h.0 (below-later (stop_ranks y) pre x left high h.1)
 
--- of stops that climb those that come after one's key are those behind it
+-- of stops that climb those that come after one's key are those after it
 pub behind-stop : (key : PlainKey) (low : List ℕ) (pre : List Stop) (x : Stop) (left : List Stop) (high : List ℕ) → Climbs stop_ranks low (pre ++ x ∷ left) high
     → stop_ranks x ≡ key_ranks key → filter (is_after key) (pre ++ x ∷ left) ≡ left
 behind-stop key low [] x left high h same =

@@ -1,4 +1,4 @@
--- Names that stand once each, and what is kept of each of them.
+-- Names that occur once each, and what is kept of each of them.
 use Rattle.std.proofs.Common.{◌≡◌, ◌≢◌, ℕ, Bool, true, false, not, ◌&&◌, cond, List, [], ◌∷◌, ◌++◌, map, filter, Bor, bytes_eq, Some, refl, ap, sym, ◌∙◌, arith}
 use Rattle.std.specs.List.{list_any, count_by, AllByRecursion, IsDistinct}
 use Rattle.std.specs.Map.{keys_of, values_of, lookup, set_value}
@@ -50,7 +50,7 @@ pub any_once : (f : Name) (xs : List Name) → list_any (bytes_eq f) (each_once 
 any_once f [] = refl
 any_once f (x ∷ xs) = grind (arith, common_steps, any_once f xs, any_filtered f x (each_once xs))
 
--- no name stands twice
+-- no name occurs twice
 distinct-filter : (t : Name → Bool) (xs : List Name) → IsDistinct bytes_eq xs → IsDistinct bytes_eq (filter t xs)
 distinct-filter t xs apart = IsDistinct-from_AllPairs bytes_eq-Decides (filter t xs) (AllPairs-filter (λ x y. x ≢ y) t xs (AllPairs-from_IsDistinct bytes_eq-Decides xs apart))
 
@@ -70,7 +70,7 @@ unfolding IsDistinct
 distinct-once [] = tt
 distinct-once (x ∷ xs) = (others x (each_once xs), distinct-filter (λ o. not (bytes_eq x o)) (each_once xs) (distinct-once xs))
 
--- names that stand once each are as many as others of which the same ones pass
+-- names that occur once each are as many as others of which the same ones pass
 pub same_count : (t : Name → Bool) (xs ys : List Name) → ((f : Name) → t f ≡ true → list_any (bytes_eq f) (each_once xs) ≡ list_any (bytes_eq f) (each_once ys))
     → count_by t (each_once xs) ≡ count_by t (each_once ys)
 same_count t xs ys same =

@@ -78,7 +78,7 @@ nothing_passes (p ∷ ps) = nothing_passes ps
 
 -- ---- the first that passes
 
--- it stands at its place, and passes
+-- it is at its place, and passes
 found_at : (test : Placed → Bool) (ps : List Placed) (m : ℕ) → first_passing test ps ≡ Some m → list_any (λ p. p.0 == m && test p) ps ≡ true
 found_at test [] m found = absurd cc
 found_at test (p ∷ ps) m found = by (test p) refl found (found_at test ps m)
@@ -95,7 +95,7 @@ found_at test (p ∷ ps) m found = by (test p) refl found (found_at test ps m)
 none_found : (test : Placed → Bool) (ps : List Placed) → first_passing test ps ≡ None → list_any test ps ≡ false
 none_found test ps none = sym (is_some-find test ps) ∙ ap is_some (option_map-none (λ (p : Placed). p.0) (find test ps) none)
 
--- one that stands at another place isn't left out
+-- one that is at another place isn't left out
 elsewhere : (test : Placed → Bool) (m place : ℕ) (ps : List Placed) → (m == place) ≡ false → list_any (λ p. p.0 == m && test p) ps ≡ true → list_any test (without place ps) ≡ true
 elsewhere test m place ps apart there =
     list_any-filter test (λ (p : Placed). not (p.0 == place)) ps

@@ -32,7 +32,7 @@ behind_all key (i ∷ is) h =
     kept : List PlainInstance
     kept = filter (λ i. precedes key i.key) is
 
--- the key of an instance behind others comes after theirs
+-- the key of an instance after others comes after theirs
 among : (key : PlainKey) (front : List PlainInstance) (i : PlainInstance) (back : List PlainInstance) → precedes_all key (keys_of (front ++ i ∷ back)) ≡ true → precedes key i.key ≡ true
 among key [] i back h = and_left (precedes key i.key) (precedes_all key (keys_of back)) h
 among key (x ∷ front) i back h = among key front i back (and_right (precedes key x.key) (precedes_all key (keys_of (front ++ i ∷ back))) h)
@@ -116,7 +116,7 @@ pages-joined read reads s sizes all ascends = joined_from read reads s None size
 
 -- ---- the price of a page
 
--- each position lies behind the one before
+-- each position lies after the one before
 abbrev Climbing : PlainPosition → List PlainInstance → Type 0
 Climbing old [] = Unit {0}
 Climbing old (i ∷ is) = IsLater old (at_key i.key) × Climbing (at_key i.key) is

@@ -1,4 +1,4 @@
--- Where the unknown stanzas begin that are left behind an instance.
+-- Where the unknown stanzas begin that are left after an instance.
 use Rattle.std.proofs.Common.{◌≡◌, ℕ, zero, suc, ◌<◌, ◌≤◌, true, nat_lt, List, [], ◌∷◌, ◌++◌, length, map, filter, drop, cond, refl, ap, sym, ◌∙◌, subst, arith, Option, Some, None, append_assoc, add-one}
 use Rattle.std.proofs.lemmas.Bool.{ltb-true, lt-ltb, le-ltb}
 use Rattle.std.proofs.lemmas.List.{map-append, length-drop}
@@ -50,7 +50,7 @@ behind_first m (x ∷ us) zero u more ascends h =
 behind_first m (x ∷ us) (suc n) u more ascends h =
     omega (arith, ltb-true m x.stanza (and_left (nat_lt m x.stanza) (ascend_above x.stanza us) ascends), behind_first x.stanza us n u more (and_right (nat_lt m x.stanza) (ascend_above x.stanza us) ascends) h)
 
--- behind the first from a place on those are left that begin at the next place
+-- after the first from a place on those are left that begin at the next place
 left_behind : (m n : ℕ) (unknown : List PlainUnknown) (u : PlainUnknown) (more : List PlainUnknown) → ascend_above m unknown ≡ true → drop n unknown ≡ u ∷ more
     → unknown_left u.stanza unknown ≡ drop (suc n) unknown
 left_behind m zero [] u more ascends h = absurd (cc h)
@@ -119,9 +119,9 @@ ahead_unknown at_start unknown fits = all_kept (is_ahead at_start) (λ x. refl) 
 ahead_unknown (at_key key) unknown fits = behind_key key.part key.rule key.place key.aspect unknown fits
 ahead_unknown at_end unknown fits = none_kept (is_ahead at_end) (λ x. refl) (unknown_stops unknown)
 
--- ---- behind an instance
+-- ---- after an instance
 
--- behind a key that isn't of the solution all are left
+-- after a key that isn't of the solution all are left
 all_behind : (p : Part) (r : Rule) (place : ℕ) (aspect : Option Aspect) (n : ℕ) (unknown : List PlainUnknown) → Below (key_ranks (key_of p r place aspect)) (3 ∷ [])
     → (unknown_behind p place unknown ≡ unknown) × (place_behind p n ≡ n)
 all_behind (part.Package m) r place aspect n unknown h = (refl, refl)
@@ -167,7 +167,7 @@ module _ (s : Proposal) where
       ∙ first_given-append s (filter (is_ahead old) (known_stops s)) (filter (is_ahead old) (unknown_stops s.unknown))
       ∙ ap (λ xs. or_later (first_given s (filter (is_ahead old) (known_stops s))) (first_given s xs)) (ahead_unknown old s.unknown fits ∙ ap unknown_stops begins.begins)
 
-  -- the unknown stanzas that are left behind what a search finds begin at the next place, if it is one of them
+  -- the unknown stanzas that are left after what a search finds begin at the next place, if it is one of them
   pub place-moves : (old : PlainPosition) (n : ℕ) (found : Option PlainInstance) → ascend_above 0 s.unknown ≡ true → IsFitting old → BeginsAt old s.unknown n
       → found ≡ first_given s (ahead s old) → BeginsAt (at_instance found) s.unknown (next_place found n)
   place-moves old n found ascends fits begins first = by (first_given s (filter (is_ahead old) (known_stops s))) refl

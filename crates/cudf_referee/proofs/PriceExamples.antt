@@ -210,7 +210,7 @@ twice_least : least_between twice at_start at_end ≡ 5
 unfolding walk
 twice_least = refl
 
--- behind the first one: 2 + 1
+-- after the first one: 2 + 1
 twice_left : least_between twice (at_key (package_key 1 rule.Depends 1)) at_end ≡ 3
 unfolding walk
 twice_left = refl

@@ -200,7 +200,7 @@ module _ (holds : ℕ → Bool) where
       by true none more = absurd (omega (arith, ap length none))
       by false none more = more none
 
-  -- the one behind those that aren't is the first
+  -- the one after those that aren't is the first
   first_is : (n i : ℕ) (xs : List PlainPackage) → i < length xs → holds (n + i) ≡ true → held_from n (take i xs) ≡ [] → Some (n + i) ≡ first_of (λ p. true) (held_from n xs)
   first_is n i [] inside holds_it none = absurd (omega (arith, inside))
   first_is n zero (x ∷ xs) inside holds_it none =

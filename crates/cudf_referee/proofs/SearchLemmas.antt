@@ -63,7 +63,7 @@ least-append s xs ys = sum-append (least_cost s.proposed) s xs ys
 pub goes-start : (old : Walking) (all : List Stop) → Goes old all None all old
 goes-start old all = record { judged = refl; position = refl; given = refl; price = omega arith; grows = omega arith }
 
--- behind stops that gave nothing others are searched, with what is judged from the start
+-- after stops that gave nothing others are searched, with what is judged from the start
 goes-by : (old now new : Walking) (all xs left : List Stop) (found : Option PlainInstance)
     → Goes old all None (xs ++ left) now → Searches (record now { judged = old.judged }) xs found new → Goes old all found left new
 goes-by old now new all xs left found goes searches =

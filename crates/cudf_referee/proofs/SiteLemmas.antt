@@ -109,7 +109,7 @@ walk-sites s =
 
 -- ---- what is left after a position
 
--- the instance that may stand at a site has its key
+-- the instance that may be at a site has its key
 pub key_at : (s : Proposal) (site : Site) → (instance_at s site).key ≡ site_key site
 key_at s (conjunct p place clause) = refl
 key_at s (conflicts_entry p place v) = refl

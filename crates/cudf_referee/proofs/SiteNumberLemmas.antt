@@ -58,7 +58,7 @@ whole-sites c xs ys zs h h' h'' =
     ++ numbered (kept_feature (placed_view c)) 0 (h'' i))
     ∙ end-sites (numbered (conjunct (placed_view c)) 0 (depends_of c) ++ numbered (conflicts_entry (placed_view c)) 0 (conflicts_of c)) c.package.now.installed c.package.now.keep (placed_view c)
 
--- ---- the places behind a key
+-- ---- the places after a key
 
 -- of all those come after the key that do of the rest, and the rest climbs
 pub record IsBehind (key : PlainKey) (high : List ℕ) (all rest : List Site) : Type 0 where
@@ -106,7 +106,7 @@ within-entries r f kept (Remove n v) same stands = tt
 within-entries r f kept (Upgrade n v aspect) same stands =
     (stands.0, omega (arith, stands.0, slice_get_within r.upgrade (n - 1) (vpkg_view v) stands.1, ap length same, length-map r.upgrade f))
 
--- the next entry is the one behind so many
+-- the next entry is the one after so many
 pub next-entry : {A : Type 0} (n : ℕ) (xs : List A) (v : A) (vs : List A) → drop n xs ≡ v ∷ vs → slice_get xs n ≡ Some v
 next-entry zero [] v vs is = absurd (cc is)
 next-entry (suc n) [] v vs is = absurd (cc is)

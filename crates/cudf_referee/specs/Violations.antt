@@ -119,7 +119,7 @@ listing s =
     ++ request_instances s
     ++ map unknown_instance s.unknown
 
--- the violated instances whose keys come behind this one, which needn't be the key of an instance
+-- the violated instances whose keys come after this one, which needn't be the key of an instance
 abbrev pub rest : PlainKey → Proposal → List PlainInstance
 rest key s = filter (λ i. is_lt (key_cmp key i.key)) (listing s)
 

@@ -23,7 +23,7 @@ pub fn order(left: Key, right: Key)
 {}
 
 /// The keys of the violated instances ascend strictly, where the numbers of the unknown stanzas do: each
-/// instance stands once, in key order.
+/// instance occurs once, in key order.
 pub fn ascending()
     ensures { ListingAscends }
 {}

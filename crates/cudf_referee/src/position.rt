@@ -1,4 +1,4 @@
-//! Where a walk over the violated instances stands. (own)
+//! Where a walk over the violated instances is. (own)
 ghost use Rattle.std.specs.Prelude.{◌≡◌, ◌≤◌, ◌<◌, ◌+◌, ℕ, ◌^◌, IsTrue, map, drop, length, slice_index_or, option_map};
 ghost use Rattle.cudf_problem.specs.Promises.Views.{unknown_view};
 ghost use Rattle.cudf_problem.specs.Statuses.{ascend_above};
@@ -22,13 +22,13 @@ use cudf_problem::Unknown;
 pub(crate) enum Position {
     /// Before all instances.
     Start,
-    /// Behind this key, whether or not an instance has it.
+    /// After this key, whether or not an instance has it.
     At(Key),
-    /// Behind all instances.
+    /// After all instances.
     End,
 }
 
-/// Behind an instance that was found, or behind all where none was.
+/// After an instance that was found, or after all where none was.
 pub(crate) fn position_behind(found: Option<Instance<'_>>) -> Position
     ensures position { position_view result ≡ at_instance (option_map instance_view found.entry) }
     ensures fits { IsFitting (at_instance (option_map instance_view found.entry)) }

@@ -241,7 +241,7 @@ impl<'p, 't> Referee<'p, 't> {
         Instances::new(problem, solution, now, before, named)
     }
 
-    /// The walk over the violated instances whose keys come behind this one, in key order. The key needn't be that
+    /// The walk over the violated instances whose keys come after this one, in key order. The key needn't be that
     /// of an instance. It costs at most the binary digits of the number of unknown stanzas.
     pub fn after(&self, key: Key) -> Instances<'_, 'p, 't>
         ensures judged { result.judged ≡ self.entry.now }

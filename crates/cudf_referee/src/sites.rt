@@ -1,4 +1,4 @@
-//! Places where an instance may stand, gone through in the order of their keys.
+//! Places where an instance may be, gone through in the order of their keys.
 
 mod candidate;
 mod request_sites;

@@ -20,7 +20,7 @@ const CRITERIA: [CriterionRow; 3] = [
         "+touched,-changed",
         &[(Sign::Most, Count::Touched), (Sign::Least, Count::Changed)],
     ),
-    // A count may stand in several aims.
+    // A count may be in several aims.
     (
         "+new,-new",
         &[(Sign::Most, Count::New), (Sign::Least, Count::New)],

@@ -29,7 +29,7 @@ pub(crate) fn answers(
     Ok((status, report))
 }
 
-/// The problem with a comment behind its last line.
+/// The problem with a comment after its last line.
 fn with_comment(alloc: Global, problem: &[u8]) -> Result<Vec<u8>, AllocError> {
     let dots = vec![in alloc; b'.'; COMMENT]?;
     let mut bytes = Vec::from_slice(alloc, problem)?;

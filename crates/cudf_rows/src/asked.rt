@@ -18,7 +18,7 @@ pub(crate) struct Asked {
     pub(crate) mode: Mode,
     /// Whether lines name the files: `P`, and `S1` and so on.
     pub(crate) names_files: bool,
-    /// A row's own: a second run has a long comment behind the problem's last line.
+    /// A row's own: a second run has a long comment after the problem's last line.
     pub(crate) is_also_long: bool,
 }
 

@@ -4,7 +4,7 @@ use std::alloc::{AllocError, Global};
 /// The line between two documents.
 const BETWEEN: &str = "--";
 
-/// The line that stands in a problem for that of the row before.
+/// The line that is in a problem for that of the row before.
 const SAME: &str = "..";
 
 /// The documents of a row: its problem, or one input that holds both, and its solutions.
@@ -77,7 +77,7 @@ fn push_bytes(document: &mut Vec<u8>, line: &str) -> Result<(), AllocError> {
     }
 }
 
-/// Adds the bytes of a text. What stands in braces and is no byte is left out.
+/// Adds the bytes of a text. What is in braces and is no byte is left out.
 fn push_text(document: &mut Vec<u8>, text: &str) -> Result<(), AllocError> {
     let mut pieces = text.split("{");
     if let Some(plain) = pieces.next() {

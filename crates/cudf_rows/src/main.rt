@@ -1,7 +1,7 @@
 //! Rows of data, each a job with its documents: prints what each of them writes, and how it ends.
 //!
-//! A row begins with a line `== NAME: JOB`. The lines behind it are the problem, or one input that holds both documents;
-//! behind each line `--` stands a solution. What is printed is `== NAME: STATUS`, and the report. What stands before the
+//! A row begins with a line `== NAME: JOB`. The lines after it are the problem, or one input that holds both documents;
+//! after each line `--` is a solution. What is printed is `== NAME: STATUS`, and the report. What is before the
 //! first row is no row.
 //!
 //! In a document a line `..` is the problem of the row before, and `<car 1>` the three lines of an installed package. In
@@ -28,7 +28,7 @@ fn main(rt: HostRuntime) -> io::Result<()> {
     out.flush()
 }
 
-/// Prints the answer to the row that stands behind `== `, and gives its problem. `before` is that of the row before.
+/// Prints the answer to the row that comes after `== `, and gives its problem. `before` is that of the row before.
 fn print_row<W: Write>(
     alloc: Global,
     row: &str,

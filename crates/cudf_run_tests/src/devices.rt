@@ -1,4 +1,4 @@
-//! A source and a sink that fail as they are told to. They tell no bytes, as a device of the
+//! A source and a sink that fail as they are asked to. They tell no bytes, as a device of the
 //! system.
 ghost use Rattle.std.specs.Prelude.{None};
 

@@ -145,7 +145,7 @@ fn is_judged(alloc: Global, problem: &Problem<'_>) -> Result<bool, Ended> {
     Ok(answers(&referee) && !referee.is_solution() && is_explained(alloc, &referee)?)
 }
 
-/// Whether what is told beside its instances is right.
+/// Whether what is reported beside its instances is right.
 fn is_explained(alloc: Global, referee: &Referee<'_, '_>) -> Result<bool, Ended> {
     let explainer = Explainer::new(alloc, referee)?;
     Ok(
@@ -154,7 +154,7 @@ fn is_explained(alloc: Global, referee: &Referee<'_, '_>) -> Result<bool, Ended>
     )
 }
 
-/// Whether its listing from the start and behind a key, and its counts are right.
+/// Whether its listing from the start and after a key, and its counts are right.
 fn answers(referee: &Referee<'_, '_>) -> bool {
     let behind = match Key::parse("p1.conflicts.2") {
         Some(key) => referee.after(key).take(9).count(),

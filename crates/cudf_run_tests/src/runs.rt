@@ -39,7 +39,7 @@ const READS: [(usize, bool, u32); 4] = [
     (1, true, 312),
 ];
 
-/// Whether the run is broken off where this call fails, and not where it is the first one behind the end.
+/// Whether the run is broken off where this call fails, and not where it is the first one after the end.
 fn fails_at(alloc: Global, row: &(usize, bool, u32), call: u32) -> bool {
     let mut input = Giver::new(JOINED);
     input.per_call = row.0;
@@ -145,7 +145,7 @@ fn limits(rt: HostRuntime) {
     }
 }
 
-/// The most bytes of a write, and how the one behind the last is refused.
+/// The most bytes of a write, and how the one after the last is refused.
 const WRITES: [(usize, Refusal); 5] = [
     (usize::MAX, Refusal::Failed),
     (5, Refusal::Interrupted),

@@ -22,7 +22,7 @@ type Row = (
     Outcome,
 );
 
-/// What stands in a job behind this beginning of a word.
+/// What is in a job after this beginning of a word.
 fn option<'a>(job: &'a str, name: &str) -> Option<&'a str> {
     for word in job.split(" ") {
         if let Some(value) = word.strip_prefix(name) {

@@ -36,7 +36,7 @@ pub solution-is : (text mid rest : List ℕ) → raw_lines mid ≡ behind begins
 unfolding solution_part
 solution-is text mid rest e f = sym (concat-raw_lines rest) ∙ ap concat (f ∙ ap (behind is_blank_text) e)
 
--- the problem is what stands before the solution
+-- the problem is what is before the solution
 pub problem-is : (text problem : List ℕ) → problem ++ solution_part text ≡ text → problem ≡ problem_part text
 unfolding problem_part
 problem-is text problem e =

@@ -22,7 +22,7 @@ ident_no_colon b is = false_from_ne_true (is_colon b) (λ h. true≢false (sym i
 one_more : (n : ℕ) → 1 + n ≡ suc n
 one_more n = omega arith
 
--- a colon after the characters at the front is the first, and only they stand before it
+-- a colon after the characters at the front is the first, and only they come before it
 record Found (line : List ℕ) : Type 0 where
   first : first_colon line ≡ name_end line
   all : list_all is_ident_char (take (first_colon line) line) ≡ true
@@ -45,7 +45,7 @@ found (b ∷ line) h = by (is_ident_char b) refl (found line)
         let colon : is_colon b ≡ true = rw e at h in
         record { first = rw (e, colon) refl; all = rw colon refl; inside = rw colon (omega arith) }
 
--- where another character stands there, the text before the first colon has it
+-- where another character is there, the text before the first colon has it
 lost : (line : List ℕ) → is_colon (slice_index line (name_end line)) ≡ false → first_colon line < length line → list_all is_ident_char (take (first_colon line) line) ≡ false
 lost [] h inside = absurd (omega (arith, inside))
 lost (b ∷ line) h inside = by (is_ident_char b) refl (lost line)
@@ -80,7 +80,7 @@ first_letter line zero colon letter = absurd (true≢false (sym letter ∙ ap is
 first_letter [] (suc n) colon letter = absurd cc
 first_letter (b ∷ line) (suc n) colon letter = letter
 
--- the class of a line whose first colon stands here
+-- the class of a line whose first colon is here
 class_at : (line : List ℕ) (n : ℕ) (ident : Bool) → first_colon line ≡ n → first_colon line < length line → is_ident (take n line) ≡ ident
     → class_by_colon line (position is_colon line) ≡ (if ident then named (take n line) (trim (drop (n + 1) line)) else faulty)
 class_at line n ident at inside is = rw (lt-ltb (first_colon line) (length line) inside, at, is) refl

@@ -39,7 +39,7 @@ on n kind = record { line = n; kind = kind }
 abbrev faulty_in : List NumberedLine → Option Fault
 faulty_in ls = option_map (λ l. on l.0 E2) (find is_faulty ls)
 
--- the first fault of the parts, where the first part goes on behind a line of this class
+-- the first fault of the parts, where the first part goes on after a line of this class
 abbrev fault_of : Bool → List (List NumberedLine) → Option Fault
 fault_of opens [] = None
 fault_of opens (part ∷ parts) = option_or (if opens then faulty_in part else fault_in part) (slice_get (filter_map fault_in parts) 0)
@@ -48,7 +48,7 @@ or_first : (fault : Option Fault) (faults : List Fault) → slice_get (cons_opti
 or_first None faults = refl
 or_first (Some f) faults = refl
 
--- behind a blank line the first part is one as all others
+-- after a blank line the first part is one as all others
 behind_blank : (parts : List (List NumberedLine)) → fault_of false parts ≡ slice_get (filter_map fault_in parts) 0
 behind_blank [] = refl
 behind_blank (part ∷ parts) = sym (or_first (fault_in part) (filter_map fault_in parts))

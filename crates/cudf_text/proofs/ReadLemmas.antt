@@ -27,7 +27,7 @@ SoFar-start place ps none = record {
   bound = omega arith;
 }
 
--- a line has ended a stanza, which stands before what is left
+-- a line has ended a stanza, which comes before what is left
 pub SoFar-stanza : (start place : Place) (s : State) (line rest : List ℕ) (st : TrackedStanza) (last : ℕ) → SoFar start s place → place.fault ≡ None → lines place.rest.now ≡ line ∷ lines rest
     → ◌≡◌ {A = State × Option Fault} (step s (place.lines + 1) (class line)) (state (st ∷ []) [] last, None)
     → let t : TrackedText = record { stanzas = st ∷ (left place.fault (numbered_from (place.lines + 1 + 1) rest)).0; fault = (left place.fault (numbered_from (place.lines + 1 + 1) rest)).1; lines = place.lines + 1 + length (lines rest) } in

@@ -82,7 +82,7 @@ properties-push_faulty ls n = properties-push_other ls (n, faulty) refl ∙ appe
 
 -- ---- one more continuation
 
--- it follows the name line directly, where no other name line stands between
+-- it follows the name line directly, where no other name line is between
 continuations-push_none : (ls : List NumberedLine) (n : ℕ) (text : List ℕ) → AllOpen ls → properties ls ≡ []
     → continuations (ls ++ (n, continuation text) ∷ []) ≡ continuations ls ++ text ∷ []
 continuations-push_none [] n text opens none = refl

@@ -59,7 +59,7 @@ owned-stanzas (part ∷ parts) =
     ∙ ap (λ bs. bs ++ flat_map (λ s. owned_of s.properties) (filter_map stanza_of parts)) (owned-properties part)
     ∙ ap (λ bs. joins part ++ bs) (owned-stanzas parts)
 
--- what follows a blank line doesn't change what stands before it
+-- what follows a blank line doesn't change what is before it
 abbrev JoinsIn : List NumberedLine → List (List NumberedLine) → Type 0
 JoinsIn ls [] = ⊥
 JoinsIn ls (part ∷ parts) = (joins ls ≡ joins part ++ flat_map joins parts) × (continuations ls ≡ continuations part)
@@ -136,7 +136,7 @@ nothing_kept [] [] (p ∷ kept) none e = absurd cc
 nothing_kept [] (q ∷ others) (p ∷ kept) none e = absurd cc
 nothing_kept (q ∷ parts) others (p ∷ kept) none e = absurd cc
 
--- ---- stanzas that are held, and what is left behind them
+-- ---- stanzas that are held, and what is left after them
 
 pub record IsHeld (source : List ℕ) (stanzas : List Stanza) (left : TrackedText) : Type 0 where
   pub text : ◌≡◌ {A = PlainText} (record (plain_of left) { stanzas = map own_stanza_view stanzas ++ map plain_stanza left.stanzas }) (plain_text source)

@@ -11,16 +11,16 @@ use Rattle.cudf_text.specs.Lines.{is_comment_text, raw_lines, line_text, lines}
 abbrev pub begins_request : List ℕ → Bool
 begins_request line = starts_with nat_eq line (codes "request:")
 
--- the lines behind the first that passes; where none passes, none
+-- the lines after the first that passes; where none passes, none
 abbrev pub behind : (List ℕ → Bool) → List (List ℕ) → List (List ℕ)
 behind test [] = []
 behind test (raw ∷ raws) = if test (line_text raw) then raws else behind test raws
 
--- the lines behind the first blank one behind the first request line, with their ends
+-- the lines after the first blank one after the first request line, with their ends
 unfoldable pub solution_part : List ℕ → List ℕ
 solution_part text = concat (behind is_blank_text (behind begins_request (raw_lines text)))
 
--- what stands before the solution
+-- what is before the solution
 unfoldable pub problem_part : List ℕ → List ℕ
 problem_part text = take (length text - length (solution_part text)) text
 

@@ -38,12 +38,12 @@ pub data Class : Type 0 where
 abbrev pub is_comment_text : List ℕ → Bool
 is_comment_text text = slice_index text 0 == byte "#"
 
--- a line whose first colon stands here: a name line, where all before the colon is an ident
+-- a line whose first colon is here: a name line, where all before the colon is an ident
 abbrev pub class_by_colon : List ℕ → Option ℕ → Class
 class_by_colon line None = faulty
 class_by_colon line (Some colon) = if is_ident (take colon line) then named (take colon line) (trim (drop (colon + 1) line)) else faulty
 
--- the first of these that fits; a comment may stand anywhere (own)
+-- the first of these that fits; a comment is allowed anywhere (own)
 abbrev pub class : List ℕ → Class
 class line =
     if is_comment_text line then comment

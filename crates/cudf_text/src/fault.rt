@@ -18,7 +18,7 @@ pub enum Kind {
     E5,
     /// A stanza after the request.
     E6,
-    /// A property name that stands a second time in a stanza.
+    /// A property name that occurs a second time in a stanza.
     E7,
     /// A property of a package that isn't declared.
     E8,

@@ -38,7 +38,7 @@ fn lend_properties<'t, 'a>(
     Ok(())
 }
 
-/// Moves the properties behind these; a value that is a text of its own goes into the room.
+/// Moves the properties after these; a value that is a text of its own goes into the room.
 pub(crate) fn keep_properties<'t>(
     alloc: Global,
     properties: &mut Vec<Property<'t>>,

@@ -39,7 +39,7 @@ impl fmt::Debug for Room {
 /// as long as the one before it.
 #[derive(Drop)]
 pub(crate) struct Texts<'t> {
-    /// What is behind the last list.
+    /// What is after the last list.
     room: Option<&'t mut Room>,
     /// The places of that list that are empty.
     places: &'t mut [String],

@@ -62,7 +62,7 @@ pub fn are_all(bytes: &[u8], class: Class) -> bool
     bytes.iter().all(|byte| class.has(*byte))
 }
 
-/// How many bytes of the class stand at the front.
+/// How many bytes of the class are at the front.
 pub(crate) fn run_len(bytes: &[u8], class: Class) -> usize
     ensures inside { result ≤ length bytes.now }
     ensures len { result ≡ prefix_len (is_in_class class) bytes.now }

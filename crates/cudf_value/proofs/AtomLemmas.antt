@@ -110,7 +110,7 @@ beyond pre ps all h =
     (ap (map atoms_of) (onto-cons pre (byte "|" ∷ h.first) h.rest)
     ∙ ap (λ qs. map atom_part qs ∷ map atoms_of h.rest) (bar-at pre h.first all))
 
--- the values of a text whose first atom stands before this end
+-- the values of a text whose first atom comes before this end
 pub values_cut : (pre : List ℕ) (end : AtomEnd) → list_all is_inside pre ≡ true → values (pre ++ end_text end) ≡ values_of (atom_part pre) end
 values_cut pre Text all =
     ap values (append-nil pre) ∙ ap (map atoms_of) (comma-none pre all) ∙ ap (λ qs. map atom_part qs ∷ []) (bar-none pre all)
@@ -206,7 +206,7 @@ formula-is text atom end cut = read-values text ∙ ap read cut
 
 -- ---- a clause, atom by atom
 
--- a judged clause begins with an atom, and what is left behind it is judged too
+-- a judged clause begins with an atom, and what is left after it is judged too
 pub record AtomTaken (all : Option (List PlainAtom)) (a : PlainAtom) (left : Option (List PlainAtom)) : Type 0 where
   pub sound : is_some left ≡ true
   pub whole : unwrap_or all [] ≡ a ∷ unwrap_or left []
@@ -256,7 +256,7 @@ atom_step text (Some atom) end cut sound =
       some = refl;
     }
 
--- a clause stands alone in its text, so its atoms are those up to the first comma
+-- a clause is alone in its text, so its atoms are those up to the first comma
 pub alone_atoms : (text : List ℕ) → parts (byte ",") text ≡ text ∷ [] → atoms_in (Some text) ≡ clause text
 alone_atoms text alone = rw alone (first-alone (clause text))
   where

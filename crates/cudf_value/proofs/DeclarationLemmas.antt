@@ -70,7 +70,7 @@ word_start word rest has_type =
     let letters = and_parts (nat_lt 0 (length word)) (list_all is_ascii_alphabetic word) whole.0 in
     none_passes is_blank is_ascii_alphabetic (apart is_blank is_ascii_alphabetic (blank_is is_ascii_alphabetic false refl refl)) word rest (ltb-true 0 (length word) letters.0) letters.1
 
--- a declaration, by the type that stands behind the colon
+-- a declaration, by the type that comes after the colon
 pub declared_by : (name gap space typed : List ℕ) (kind : PlainType) (rest : List ℕ) → is_ident name ≡ true → is_blank_text gap ≡ true → is_blank_text space ≡ true
     → prefix_len is_blank typed ≡ 0 → type_at typed ≡ Some (kind, rest) → declaration (name ++ gap ++ codes ":" ++ space ++ typed) ≡ with_kind name kind (trim_start rest)
 declared_by name gap space typed kind rest is_name gap_blank space_blank begins is_type =

@@ -49,7 +49,7 @@ ident_back i is =
     ap trim (append_assoc i.before i.ident i.behind) ∙ name_trimmed i.before i.ident i.behind s.blank_before named (some_ident i.ident s.is_name) s.blank_behind in
     ap (λ text. some_if (is_ident text) text) trimmed ∙ ap (λ b. some_if b i.ident) s.is_name
 
--- ---- what stands in the brackets has neither commas, but for those between idents, nor a bracket
+-- ---- what is in the brackets has neither commas, but for those between idents, nor a bracket
 
 abbrev lacks : ℕ → List ℕ → Bool
 lacks x text = list_all (λ b. not (b == x)) text

@@ -24,7 +24,7 @@ first_sound {A = A} read first others sound = by (read first) sound
     by None sound = absurd cc
     by (Some value) sound = refl
 
--- what stands before the first separator is one part
+-- what is before the first separator is one part
 pub before_alone : (separator : ℕ) (text : List ℕ) → parts separator (before_first (λ b. b == separator) text) ≡ before_first (λ b. b == separator) text ∷ []
 before_alone separator text =
     slice_split_none (λ b. b == separator) (before_first (λ b. b == separator) text)

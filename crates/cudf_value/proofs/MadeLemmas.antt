@@ -1,4 +1,4 @@
--- A text that has pieces is made of tokens, and one that can stand between quotes of what stands there.
+-- A text that has pieces is made of tokens, and one that may be between quotes of what is there.
 use Rattle.std.proofs.Common.{◌≡◌, ℕ, Bool, true, false, ◌||◌, ◌==◌, List, [], ◌∷◌, ◌++◌, Some, None, refl, sym, ap, subst, ◌∙◌, if◌then◌else◌, map}
 use Rattle.std.specs.Prelude.{IfSome}
 use Rattle.std.specs.List.{fold, slice_split, list_all, flat_map}
@@ -11,7 +11,7 @@ use Rattle.cudf_value.specs.Working.Spots.{is_quotable_from}
 use Rattle.cudf_value.specs.Promises.Tokens.{Inner, plain, escaped, Item, char_item, quoted_item, Token, char, quoted, bracketed, is_inner, is_item, is_token, is_comma, inner_text, quoted_text, item_text, text_of}
 use Rattle.cudf_value.proofs.TokenLemmas.{cut_from, is_cut}
 
--- ---- what stands from a spot on to the end of a text that ends outside
+-- ---- what is from a spot on to the end of a text that ends outside
 
 record Tokens (text : List ℕ) : Type 0 where
   tokens : List Token
@@ -26,7 +26,7 @@ record InBracket (text : List ℕ) : Type 0 where
   whole : flat_map item_text items ++ byte "]" ∷ rest ≡ text
   outside : Tokens rest
 
--- what stands between quotes, up to their end
+-- what is between quotes, up to their end
 record InQuotes (After : List ℕ → Type 0) (text : List ℕ) : Type 0 where
   inner : List Inner
   are : list_all is_inner inner ≡ true

@@ -28,7 +28,7 @@ read_step view read all done x text more so_far is =
     ∙ ap (onto (map view done)) (sym value)
     ∙ so_far
 
--- a separator is found: the first part stands before it
+-- a separator is found: the first part comes before it
 pub split_found : (separator : ℕ) (text : List ℕ) (n : ℕ) → position (λ b. b == separator) text ≡ Some n
     → parts separator text ≡ take n text ∷ parts separator (drop (n + 1) text)
 split_found separator text n found =

@@ -58,7 +58,7 @@ split_at : {X : Type 0} (test : X → Bool) (xs : List X) (n : ℕ) (d : X) → 
     → slice_split test xs ≡ take n xs ∷ slice_split test (drop (n + 1) xs)
 split_at test xs n d inside len = rw len (slice_split_first test xs d (rw len at inside))
 
--- a separator stands at n, the first: the piece before it, and the pieces after it
+-- a separator is at n, the first: the piece before it, and the pieces after it
 pub pieces_more : (text : List ℕ) (n : ℕ) (spot : Spot) → n < length text → n ≡ position_or_len separates (with_spots (unquoted false) text)
     → spot ≡ fold next_spot (unquoted false) (take n text) → separates (spot, get_or text n 0) ≡ true
     → pieces text ≡ option_map (λ ps. take n text ∷ ps) (pieces (drop (n + 1) text))

@@ -57,7 +57,7 @@ chain s t u xs ys first second = record {
   whole = λ rest. ap (cut_from s) (append_assoc xs ys rest) ∙ first.whole (ys ++ rest) ∙ ap (onto xs) (second.whole rest) ∙ sym (onto-append xs ys (cut_from u rest));
 }
 
--- ---- inside quotes, which stand outside or inside brackets
+-- ---- inside quotes, which are outside or inside brackets
 
 -- the spots of a text in quotes
 record AreQuotes (start quotes slash : Spot) : Type 0 where

@@ -90,7 +90,7 @@ all_pass one other passes (b ∷ text) all =
 pub both_pass : (test : ℕ → Bool) (xs ys : List ℕ) → list_all test xs ≡ true → list_all test ys ≡ true → list_all test (xs ++ ys) ≡ true
 both_pass test xs ys all more = list_all-append test xs ys ∙ (λ i. all i && more i)
 
--- the run at the front, and what stands after it
+-- the run at the front, and what follows it
 abbrev run : (ℕ → Bool) → List ℕ → List ℕ
 run test text = take (prefix_len test text) text
 
@@ -101,7 +101,7 @@ run_first test text = sym (take-append-drop (prefix_len test text) text)
 regroup : (a t b rest : List ℕ) → t ≡ b ++ rest → a ++ t ≡ (a ++ b) ++ rest
 regroup a t b rest is = ap (λ x. a ++ x) is ∙ sym (append_assoc a b rest)
 
--- the run is put before what is cut off behind it
+-- the run is put before what is cut off after it
 run_cut : (test : ℕ → Bool) (text part rest : List ℕ) → rest_after test text ≡ part ++ rest → text ≡ (run test text ++ part) ++ rest
 run_cut test text part rest is = run_first test text ∙ regroup (run test text) (rest_after test text) part rest is
 
@@ -169,7 +169,7 @@ named_part : (before name behind : List ℕ) → list_all is_blank before ≡ tr
 named_part before name behind blank_before all some blank_behind =
     ap vpkg (name_trimmed before name behind blank_before all some blank_behind) ∙ named_vpkg name all some
 
--- the name at the front of a text, and what stands after it and blanks
+-- the name at the front of a text, and what follows it and blanks
 abbrev pub name_of : List ℕ → List ℕ
 name_of text = run is_pkgname_char (trim_start text)
 

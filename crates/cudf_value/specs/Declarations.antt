@@ -23,7 +23,7 @@ ident_part part = some_if (is_ident (trim part)) (trim part)
 abbrev pub enum_to : List ℕ → ℕ → Option (PlainType × List ℕ)
 enum_to text n = option_map (λ idents. (enum_type idents, drop (n + 1) text)) (read_parts (byte ",") ident_part (take n text))
 
--- the enum whose idents stand in the brackets at the front, and the text after it
+-- the enum whose idents are in the brackets at the front, and the text after it
 abbrev pub enum_at : List ℕ → Option (PlainType × List ℕ)
 enum_at text = if slice_index text 0 == byte "[" then option_and_then (enum_to (drop 1 text)) (position (λ b. b == byte "]") (drop 1 text)) else None
 
@@ -52,13 +52,13 @@ is_default kind text = if slice_index text 0 == quote_mark
     then option_map_or (λ quoted. is_quotable quoted && takes_quoted kind quoted) (between quote_mark quote_mark text) false
     else not (list_any (λ b. b == quote_mark) text) && is_of_type kind text
 
--- the declaration of a name, a type and what stands after them: nothing, or `=` and a default
+-- the declaration of a name, a type and what follows them: nothing, or `=` and a default
 abbrev pub with_kind : List ℕ → PlainType → List ℕ → Option PlainDeclaration
 with_kind name kind rest = let text = without_brackets (trim (drop 1 rest)) in
     if length rest == 0 then Some (record { name = name; kind = kind; default = None })
     else some_if (slice_index rest 0 == byte "=" && is_default kind text) (record { name = name; kind = kind; default = Some text })
 
--- a declaration: its name, blanks or none, a colon, blanks or none, and its type with what stands after it
+-- a declaration: its name, blanks or none, a colon, blanks or none, and its type with what follows it
 abbrev pub declaration : List ℕ → Option PlainDeclaration
 declaration text = let name = take_while is_ident_char text in let rest = trim_start (rest_after is_ident_char text) in
     if is_ident name && slice_index rest 0 == byte ":"

@@ -15,7 +15,7 @@ abbrev pub atom : List ℕ → Option PlainAtom
 atom text = if bytes_eq text (codes "true!") then Some truth_atom
     else (if bytes_eq text (codes "false!") then Some falsehood_atom else option_map named (vpkg text))
 
--- a clause: atoms between `|`, with blanks or none round each; a constant may stand beside other atoms (own)
+-- a clause: atoms between `|`, with blanks or none round each; a constant may be beside other atoms (own)
 abbrev pub clause : List ℕ → Option (List PlainAtom)
 clause text = read_parts (byte "|") (trimmed atom) text
 

@@ -18,7 +18,7 @@ all_some [] = Some []
 all_some (None ∷ rest) = None
 all_some (Some value ∷ rest) = option_map (λ values. value ∷ values) (all_some rest)
 
--- what stands beside the word in the first of these rows that has it
+-- what is beside the word in the first of these rows that has it
 abbrev pub look_up : {A : Type 0} → List ℕ → List (List ℕ × A) → Option A
 look_up word [] = None
 look_up word ((known, value) ∷ rows) = if bytes_eq word known then Some value else look_up word rows

@@ -31,7 +31,7 @@ relop text = find (λ r. bytes_eq text (relop_text r)) (Eq ∷ Neq ∷ Geq ∷ G
 abbrev pub bound_of : List ℕ → Option (Relop × ℕ)
 bound_of text = option_and_then (λ r. option_map (λ n. (r, n)) (positive (trim_start (rest_after is_operator_char text)))) (relop (take_while is_operator_char text))
 
--- a vpkg: the longest name at the front, and behind it nothing, or a bound, with blanks or none before it
+-- a vpkg: the longest name at the front, and after it nothing, or a bound, with blanks or none before it
 unfoldable pub vpkg : List ℕ → Option PlainVpkg
 vpkg text = let name = take_while is_pkgname_char text in let rest = rest_after is_pkgname_char text in
     if length name == 0 then None else (if length rest == 0 then Some (record { name = name; bound = None })

@@ -20,7 +20,7 @@ pub enum Atom<'t> {
     Is(Vpkg<'t>),
 }
 
-/// What ends an atom, with what stands after it.
+/// What ends an atom, with what follows it.
 #[derive(Clone, Copy)]
 pub(crate) enum AtomEnd<'t> {
     /// The end of the text.
@@ -35,7 +35,7 @@ impl<'t> AtomEnd<'t> {
     ghost use Rattle.std.specs.Prelude.{◌≡◌, option_copied};
     ghost use Rattle.cudf_value.specs.Working.Atoms.{end_rest, bar_rest};
 
-    /// What stands after a comma or a bar.
+    /// What follows a comma or a bar.
     pub(crate) fn rest(self) -> Option<&'t str>
         ensures { option_copied result ≡ end_rest self.entry }
     {
@@ -45,7 +45,7 @@ impl<'t> AtomEnd<'t> {
         }
     }
 
-    /// What stands after a bar: the atoms of the same clause.
+    /// What follows a bar: the atoms of the same clause.
     #[inline(always)]
     pub(crate) fn behind_bar(self) -> Option<&'t str>
         ensures { option_copied result ≡ bar_rest self.entry }
@@ -72,7 +72,7 @@ pub(crate) fn first_atom(text: &str) -> (Option<Atom<'_>>, AtomEnd<'_>)
     other_atom(text)
 }
 
-/// The first atom of a judged clause, and what stands after its bar.
+/// The first atom of a judged clause, and what follows its bar.
 #[inline(always)]
 pub(crate) fn next_atom(text: &str) -> (Atom<'_>, Option<&str>)
     requires sound { IsTrue (is_some (atoms_in (Some text.now))) }
@@ -118,7 +118,7 @@ fn cut_atom(text: &str) -> (&str, AtomEnd<'_>)
     }
 }
 
-/// Where the first comma or bar stands.
+/// Where the first comma or bar is.
 fn find_end(bytes: &[u8]) -> Option<usize>
     ensures value { result ≡ position ends_atom bytes.now }
     ensures here { IfSome result (λ n. (n < length bytes.now) × IsTrue (ends_atom (slice_index bytes.now n))) }
@@ -126,7 +126,7 @@ fn find_end(bytes: &[u8]) -> Option<usize>
     bytes.iter().position(|b| *b == b',' || *b == b'|')
 }
 
-/// The comma or the bar at this place, with what stands after it.
+/// The comma or the bar at this place, with what follows it.
 fn end_from(text: &str, n: usize) -> AtomEnd<'_>
     requires inside { n < length text.now }
     requires end { IsTrue (ends_atom (slice_index text.now n)) }

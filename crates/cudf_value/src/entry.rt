@@ -12,7 +12,7 @@ use crate::vpkg::{Vpkg, is_exact, veqpkg_of, vpkg_at, vpkg_of};
 use cudf_text::scan::{after, first_byte};
 use cudf_text::trim;
 
-/// The first entry, and what stands after its comma, if there is one. A vpkg is read in one pass,
+/// The first entry, and what follows its comma, if there is one. A vpkg is read in one pass,
 /// with the blanks round it.
 #[inline(always)]
 pub(crate) fn first_entry(text: &str, exact: bool) -> (Option<Vpkg<'_>>, Option<&str>)
@@ -46,7 +46,7 @@ fn ends_entry(text: &str) -> bool
     text.is_empty() || first_byte(text) == b','
 }
 
-/// What stands after the comma here, if it isn't the end.
+/// What follows the comma here, if it isn't the end.
 fn after_comma(text: &str) -> Option<&str>
     requires { IsTrue (ends_entry text.now) }
     ensures { text.now ≡ entry_end (option_copied result) }

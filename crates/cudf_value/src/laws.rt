@@ -24,8 +24,8 @@ pub fn spaced(_name: &str, _gap: &str, _relop: Relop, _space: &str, _number: &st
     ensures { IsReadSpaced _name.now _gap.now _relop _space.now _number.now }
 {}
 
-/// An `ident`, a colon and a type's word declare the ident of this type, with blanks or none round the colon; what stands
-/// behind the word is read as nothing or a default.
+/// An `ident`, a colon and a type's word declare the ident of this type, with blanks or none round the colon; what is
+/// after the word is read as nothing or a default.
 pub fn declared(_name: &str, _gap: &str, _space: &str, _word: &str, _rest: &str)
     requires name { IsTrue (is_ident _name.now) }
     requires gap { IsTrue (is_blank_text _gap.now) }
@@ -36,8 +36,8 @@ pub fn declared(_name: &str, _gap: &str, _space: &str, _word: &str, _rest: &str)
 {}
 
 /// An `ident`, a colon, `enum` and `ident`s between commas in brackets, one at least, declare the ident of the enum of
-/// these, in their order, with blanks or none round the colon, before the brackets and round each of them; what stands
-/// behind the brackets is read as nothing or a default.
+/// these, in their order, with blanks or none round the colon, before the brackets and round each of them; what is
+/// after the brackets is read as nothing or a default.
 pub fn declared_enum(_name: &str, _gap: &str, _space: &str, _blanks: &str, _rest: &str)
     requires name { IsTrue (is_ident _name.now) }
     requires gap { IsTrue (is_blank_text _gap.now) }
@@ -48,7 +48,7 @@ pub fn declared_enum(_name: &str, _gap: &str, _space: &str, _blanks: &str, _rest
 
 /// A declaration's pieces, with commas between them, are its text; and a text of characters, quoted texts and texts in
 /// brackets is cut at the commas among its characters, never inside quotes or brackets. No other text has pieces, and
-/// none stands between quotes but one of characters and escapes.
+/// none is between quotes but one of characters and escapes.
 pub fn cut(text: &[u8])
     ensures joined { PiecesJoinToText text.now }
     ensures commas { IsCutAtCommas }

@@ -6,7 +6,7 @@ ghost use Rattle.cudf_value.specs.Working.Rests.{parts_after};
 
 use cudf_text::scan::{after, before};
 
-/// The part before the first separator, and what stands after it, if there is one.
+/// The part before the first separator, and what follows it, if there is one.
 pub(crate) fn cut(text: &str, separator: u8) -> (&str, Option<&str>)
     requires { separator < 128 }
     ensures first { result.0.now ≡ before_first (λ b. b == separator) text.now }
@@ -19,7 +19,7 @@ pub(crate) fn cut(text: &str, separator: u8) -> (&str, Option<&str>)
     }
 }
 
-/// Where the byte first stands.
+/// Where the byte is first.
 pub(crate) fn find(bytes: &[u8], wanted: u8) -> Option<usize>
     ensures value { result ≡ position (λ b. b == wanted) bytes.now }
     ensures here { IfSome result (λ n. (n < length bytes.now) × (slice_index bytes.now n ≡ wanted)) }

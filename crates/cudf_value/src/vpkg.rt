@@ -50,8 +50,8 @@ pub(crate) fn vpkg_of(text: &str) -> Option<Vpkg<'_>>
     }
 }
 
-/// A vpkg at the front, with blanks or none round it, and what stands after them: a name with its
-/// bound, or alone where no bound stands after it. `None` is answered where no name stands there.
+/// A vpkg at the front, with blanks or none round it, and what follows them: a name with its
+/// bound, or alone where no bound comes after it. `None` is answered where no name is there.
 #[inline(always)]
 pub(crate) fn vpkg_at(text: &str) -> Option<(Vpkg<'_>, &str)>
     ensures begins { IfSome result (λ at. BeginsWith (vpkg_view at.0) text.now at.1.now) }
@@ -71,7 +71,7 @@ pub(crate) fn vpkg_at(text: &str) -> Option<(Vpkg<'_>, &str)>
     }
 }
 
-/// The operator and the number at the front, and what stands after them and blanks.
+/// The operator and the number at the front, and what follows them and blanks.
 #[inline(always)]
 fn bound_at(text: &str) -> Option<(Relop, u64, &str)>
     ensures begins { IfSome result (λ at. BoundBegins at.0 at.1 text.now at.2.now) }

@@ -49,7 +49,7 @@ fn fault_of(problem: Result<Problem<'_>, ReadError>) -> Result<Option<Fault>, Al
     }
 }
 
-/// Adds a name and the vpkgs behind it, where there are some.
+/// Adds a name and the vpkgs after it, where there are some.
 fn push_named(out: &mut String, name: &str, list: VpkgList<'_>) -> Result<(), AllocError> {
     if list.len() == 0 {
         return Ok(());

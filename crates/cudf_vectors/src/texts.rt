@@ -21,7 +21,7 @@ pub(crate) fn fail(alloc: Global, text: &str) -> Result<String, AllocError> {
     yes_if(alloc, is_fail(text))
 }
 
-/// Adds a property as `LINE NAME <VALUE>`, with `joined` behind a value that is no part of the source.
+/// Adds a property as `LINE NAME <VALUE>`, with `joined` after a value that is no part of the source.
 fn push_property(out: &mut String, property: &Property<'_>) -> Result<(), AllocError> {
     write!(out, ", {} {} <", property.line, property.name)?;
     push_written(out, property.value.as_str().as_bytes())?;

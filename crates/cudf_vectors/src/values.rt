@@ -51,7 +51,7 @@ fn list(alloc: Global, list: Option<VpkgList<'_>>, is_list: bool) -> Result<Stri
     with_test(shown, is_read, is_list)
 }
 
-/// What was read, and behind it the test where this tells otherwise.
+/// What was read, and after it the test where this tells otherwise.
 fn with_test(shown: String, is_read: bool, is_of_type: bool) -> Result<String, AllocError> {
     let mut shown = shown;
     if is_read != is_of_type {
@@ -98,7 +98,7 @@ fn push_type(out: &mut String, kind: &ValueType<'_>) -> Result<(), AllocError> {
     }
 }
 
-/// Adds a declaration as `NAME: TYPE`, with ` = <DEFAULT>` behind it where there is one.
+/// Adds a declaration as `NAME: TYPE`, with ` = <DEFAULT>` after it where there is one.
 fn push_declaration(out: &mut String, declaration: &Declaration<'_>) -> Result<(), AllocError> {
     write!(out, "{}: ", declaration.name)?;
     push_type(out, &declaration.kind)?;

@@ -8,7 +8,7 @@ use Rattle.cudf_c.specs.declared.front.Front.{Front}
 use Rattle.cudf_c.specs.declared.stop.Stop.{Stop}
 use Rattle.cudf_c.specs.declared.stop.Stop.TheVariants.{Memory}
 
--- what it has taken is the report, behind the name of the reference to the buffer and what the buffer held before: so a run changes neither. It never fails
+-- what it has taken is the report, after the name of the reference to the buffer and what the buffer held before: so a run changes neither. It never fails
 abbrev pub front_state : Front → SinkState
 front_state f = record {
   contents = Some (f.room.ghost_name ∷ length f.seen.now.before ∷ f.seen.now.before ++ f.seen.now.report);

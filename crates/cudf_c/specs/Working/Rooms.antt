@@ -1,7 +1,7 @@
 -- A text in a buffer, for proofs.
 use Rattle.std.specs.Prelude.{◌≡◌, ℕ, List, [], ◌∷◌, length, min}
 
--- the text over the front of what was there: what doesn't fit is left out, and what lies behind the text stays
+-- the text over the front of what was there: what doesn't fit is left out, and what follows the text stays
 abbrev pub over : List ℕ → List ℕ → List ℕ
 over [] text = []
 over (old ∷ room) [] = old ∷ room

@@ -47,10 +47,10 @@ abbrev pub device_answer : Result ℕ Error → Result ℕ Trouble
 device_answer (Ok n) = Ok n
 device_answer (Err error) = Err (trouble_of (error_kind error))
 
--- a call of the reader gave an answer, and it is told as a source answers it
+-- a call of the reader gave an answer, and it is reported as a source answers it
 abbrev pub IsTold : {T : Type 0} → (T → Result ℕ Error → List ℕ → T → Type 0) → T → Result ℕ Trouble → List ℕ → T → Type 0
 IsTold gives before told bytes after = (answer : Result ℕ Error) × gives before answer bytes after × (told ≡ device_answer answer)
 
--- a call of the writer was given all of the bytes, and its answer is told as a sink answers it
+-- a call of the writer was given all of the bytes, and its answer is reported as a sink answers it
 abbrev pub IsHandedDown : {T : Type 0} → (T → List ℕ → Result ℕ Error → T → Type 0) → T → List ℕ → Result ℕ Trouble → T → Type 0
 IsHandedDown takes before bytes told after = (answer : Result ℕ Error) × takes before bytes answer after × (told ≡ device_answer answer)

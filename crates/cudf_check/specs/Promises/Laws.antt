@@ -7,7 +7,7 @@ use Rattle.cudf_referee.specs.Proposals.{Proposal}
 use Rattle.cudf_check.specs.Naming.{PlainOrigin, PlainOrigins}
 use Rattle.cudf_check.specs.Report.{line, faulty, instance_line}
 
--- the explained line is the plain one with something added behind its text
+-- the explained line is the plain one with something added after its text
 pub record AddsBehind (plain explained : List ℕ) : Type 0 where
   pub text : List ℕ
   pub added : List ℕ

@@ -1,4 +1,4 @@
--- What stands before the verdict, and whether lines are explained.
+-- What is before the verdict, and whether lines are explained.
 use Rattle.std.specs.Prelude.{ℕ, Bool, false, List, [], option_map}
 use Rattle.cudf_job.specs.KeyViews.{key_view}
 use Rattle.cudf_referee.specs.Proposals.{Proposal}

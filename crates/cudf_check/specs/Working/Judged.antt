@@ -20,7 +20,7 @@ pub record AreJudged (mode : Mode) (problem : PlainProblem) (solutions : List (L
   pub found : ss ≡ entrants problem solutions
   pub sound : placed_faults mode solutions ≡ []
 
--- the first that has a fault stands at this place, or memory was wanting
+-- the first that has a fault is at this place, or memory was wanting
 abbrev pub IsFaultAt : Mode → List (List ℕ) → ℕ → ReadError → Type 0
 IsFaultAt mode solutions place (Fault f) = slice_get (placed_faults mode solutions) 0 ≡ Some (place, f)
 IsFaultAt mode solutions place (Memory e) = Unit {0}

@@ -1,4 +1,4 @@
--- Where the walk over the instances stands after a page, and what it has spent.
+-- Where the walk over the instances is after a page, and what it has spent.
 use Rattle.std.specs.Prelude.{◌≡◌, ◌≤◌, ◌+◌, ◌⊎◌, ℕ, Bool, true, false, List, [], ◌∷◌, ◌++◌, codes, length, take, drop, map, IsTrue, option_map, Option, Some, None, if◌then◌else◌}
 use Rattle.std.specs.List.{last_or}
 use Rattle.cudf_problem.specs.Documents.{is_empty}
@@ -36,7 +36,7 @@ IsEnded limit old new None false = IsPageEnd limit old new None
 abbrev pub more_behind : List PlainInstance → PlainKey → List ℕ
 more_behind is key = if is_empty is then [] else line (codes "more after " ++ key_text key)
 
--- the same of the listing, behind the key of the last one
+-- the same of the listing, after the key of the last one
 abbrev pub more_after : Proposal → Option PlainKey → List ℕ
 more_after s None = []
 more_after s (Some key) = more_behind (rest key s) key

@@ -26,7 +26,7 @@ IsSaid true old new waits text = IsTorn old new text
 abbrev pub Holds : {W : Type 0} → (W → SinkState) → SinkState → Paper W → List ℕ → Type 0
 Holds state old paper text = IsSaid paper.has_failed old (state paper.out.now) paper.waiting.now text
 
--- a text was printed behind whatever was printed before, for the same sink
+-- a text was printed after whatever was printed before, for the same sink
 pub record Says {W : Type 0} (state : W → SinkState) (old new : Paper W) (text : List ℕ) : Type 0 where
   pub same : new.out.ghost_name ≡ old.out.ghost_name
   pub said : (start : SinkState) → (before : List ℕ) → Holds state start old before → Holds state start new (before ++ text)

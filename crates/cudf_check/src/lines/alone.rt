@@ -37,7 +37,7 @@ pub(crate) fn answer<W: Sink>(
     paper.finish(outcome)
 }
 
-/// Prints, behind whose it is, which fault it is, and ends the line behind the detail.
+/// Prints, after whose it is, which fault it is, and ends the line after the detail.
 pub(crate) fn print_fault<W: Sink>(
     paper: &mut Paper<'_, W>,
     origin: Option<Origin<'_>>,

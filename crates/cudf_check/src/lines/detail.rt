@@ -75,7 +75,7 @@ fn print_invalid<W: Sink>(paper: &mut Paper<'_, W>, place: u64, byte: u8)
     print_byte(paper, byte);
 }
 
-/// What is told of a file that isn't UTF-8.
+/// What is reported of a file that isn't UTF-8.
 fn format_text(format: Format) -> &'static str
     ensures { result.now ≡ format_text format }
 {
@@ -88,7 +88,7 @@ fn format_text(format: Format) -> &'static str
     }
 }
 
-/// Prints where the first package of a name and a version stands.
+/// Prints where the first package of a name and a version is.
 fn print_package<W: Sink>(paper: &mut Paper<'_, W>, name: &str, version: u64, line: u64)
     ensures { Says W.state paper.old paper.new (name.now ++ codes " " ++ decimal version ++ codes " stands on line " ++ decimal line) }
 {
@@ -104,7 +104,7 @@ fn is_postmark(name: &str) -> bool
     matches!(name, "preamble" | "package" | "request")
 }
 
-/// Prints, behind the name of a postmark, that a stanza may begin with it.
+/// Prints, after the name of a postmark, that a stanza may begin with it.
 fn print_unparted<W: Sink>(paper: &mut Paper<'_, W>, name: &str)
     ensures { Says W.state paper.old paper.new (unparted_added name.now) }
 {
@@ -113,7 +113,7 @@ fn print_unparted<W: Sink>(paper: &mut Paper<'_, W>, name: &str)
     }
 }
 
-/// Prints where the first property of a name stands.
+/// Prints where the first property of a name is.
 fn print_name_on<W: Sink>(paper: &mut Paper<'_, W>, name: &str, line: u64)
     ensures { Says W.state paper.old paper.new (detail_text None (name_on name.now line)) }
 {

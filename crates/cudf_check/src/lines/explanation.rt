@@ -12,7 +12,7 @@ use crate::paper::Paper;
 use cudf_document::Package;
 use cudf_referee::{Aspect, Explainer, Instance, Remedies, What};
 
-/// Prints where a package stands.
+/// Prints where a package is.
 fn print_stanza<W: Sink>(paper: &mut Paper<'_, W>, package: &Package<'_>)
     ensures { Says W.state paper.old paper.new (stanza_text (package_view «package».now)) }
 {
@@ -90,7 +90,7 @@ fn print_named<W: Sink>(paper: &mut Paper<'_, W>, name: &str, named: Option<&Pac
     }
 }
 
-/// Prints a number of an entry of `upgrade` that is violated by it, and a text behind it.
+/// Prints a number of an entry of `upgrade` that is violated by it, and a text after it.
 fn print_number<W: Sink>(paper: &mut Paper<'_, W>, number: Option<u64>, behind: &str)
     ensures { Says W.state paper.old paper.new (number_text number ++ behind.now) }
 {
@@ -170,7 +170,7 @@ fn print_needer<W: Sink>(paper: &mut Paper<'_, W>, needer: Option<&Package<'_>>)
     }
 }
 
-/// Prints where the package stands that meets an entry, if there is one, and which one needs it.
+/// Prints where the package is that meets an entry, if there is one, and which one needs it.
 fn print_needed<W: Sink>(
     paper: &mut Paper<'_, W>,
     met: Option<&Package<'_>>,

@@ -100,7 +100,7 @@ fn print_upgrade<W: Sink>(paper: &mut Paper<'_, W>, vpkg: &Vpkg<'_>, aspect: Opt
     }
 }
 
-/// Prints an entry behind a text, and the package that meets it.
+/// Prints an entry after a text, and the package that meets it.
 fn print_met<W: Sink>(
     paper: &mut Paper<'_, W>,
     before: &str,

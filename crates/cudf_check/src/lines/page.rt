@@ -87,7 +87,7 @@ fn print_more<W: Sink>(paper: &mut Paper<'_, W>, key: Key)
     paper.text("\n");
 }
 
-/// Prints where the next page begins, where an instance is left behind the last one of this page.
+/// Prints where the next page begins, where an instance is left after the last one of this page.
 fn print_next<W: Sink>(paper: &mut Paper<'_, W>, instances: &mut Instances<'_, '_, '_>, last: Key)
     ensures printed { Says W.state paper.old paper.new (more_behind (left instances.old) (key_view last)) }
     ensures price { instances.new.steps ≤ instances.old.steps

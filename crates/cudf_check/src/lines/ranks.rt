@@ -21,7 +21,7 @@ use cudf_referee::{Aim, Criteria};
 use cudf_text::Fault;
 use std::alloc::Global;
 
-/// Prints an aim with its count, behind a blank.
+/// Prints an aim with its count, after a blank.
 fn print_aim<W: Sink>(paper: &mut Paper<'_, W>, criteria: &Criteria, aim: Aim)
     ensures { Says W.state paper.old paper.new (aim_count criteria.now aim) }
 {

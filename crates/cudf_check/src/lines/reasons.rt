@@ -42,7 +42,7 @@ fn print_also<W: Sink>(paper: &mut Paper<'_, W>, met: Option<&Package<'_>>)
     }
 }
 
-/// Prints the packages at these places, behind the first one.
+/// Prints the packages at these places, after the first one.
 fn print_others<W: Sink>(paper: &mut Paper<'_, W>, problem: &Problem<'_>, places: &[u32])
     ensures { Says W.state paper.old paper.new (flat_map (λ place. also_text (package_at problem.now place)) places.now) }
 {

@@ -51,7 +51,7 @@ fn print_escaped<W: Sink>(paper: &mut Paper<'_, W>, control: u8)
     paper.text("}");
 }
 
-/// The first control character, with what stands before it and after it.
+/// The first control character, with what is before it and after it.
 fn first_control(text: &str) -> Option<(&str, u8, &str)>
     ensures shown { MatchOption result (shown text.now ≡ text.now) (λ p. shown text.now ≡ p.0.now ++ escaped p.1 ++ shown p.2.now) }
     ensures shorter { IfSome result (λ p. length p.2.now < length text.now) }
@@ -67,7 +67,7 @@ fn first_control(text: &str) -> Option<(&str, u8, &str)>
     }
 }
 
-/// Prints a text with each control character as `\u{H}`. What stands between these is printed in one piece.
+/// Prints a text with each control character as `\u{H}`. What is between these is printed in one piece.
 pub(crate) fn print_shown<W: Sink>(paper: &mut Paper<'_, W>, text: &str)
     ensures { Says W.state paper.old paper.new (shown text.now) }
 {

@@ -36,7 +36,7 @@ FaultlessIsSound = (text : PlainText) (mode : Mode) → problem_faults text mode
 
 -- ---- modes
 
--- the kinds that are told strictly alone, of a problem
+-- the kinds that are reported strictly alone, of a problem
 abbrev pub is_strict_of_problem : Kind → Bool
 is_strict_of_problem E14 = true
 is_strict_of_problem E16 = true
@@ -53,7 +53,7 @@ abbrev pub is_strict : Kind → Bool
 is_strict kind = is_strict_of_problem kind || is_strict_of_solution kind
 
 -- a document's faults in both modes: strictly there are the lenient ones and some of these kinds. Leniently none is of a
--- kind that is told strictly alone, but for the fault of a line, of which the text itself says what it is
+-- kind that is reported strictly alone, but for the fault of a line, of which the text itself says what it is
 pub record StrictAdds (is_added : Kind → Bool) (line : Option Fault) (lenient strict : List Fault) : Type 0 where
   pub kept : (f : Fault) → Contains lenient f → Contains strict f
   pub added : (f : Fault) → Contains strict f → Contains lenient f ⊎ IsTrue (is_added f.kind)

@@ -40,7 +40,7 @@ passed_of before = record {
   declarations = declared before;
 }
 
--- the stanza of a line, behind what was passed before it
+-- the stanza of a line, after what was passed before it
 abbrev pub found_in : Passed → ℕ → List PlainStanza → Option (Passed × PlainStanza)
 found_in p line [] = None
 found_in p line (s ∷ ss) = if nat_le line s.last then Some (p, s) else found_in (passed_with p s) line ss
@@ -72,7 +72,7 @@ request_words = (codes "install", codes "vpkglist") ∷ (codes "remove", codes "
 abbrev pub property_at : ℕ → PlainStanza → Option PlainProperty
 property_at line s = find (λ p. p.line == line) s.properties
 
--- behind these declarations, and what the properties before it declare, the number of the first bad piece of the property of a line
+-- after these declarations, and what the properties before it declare, the number of the first bad piece of the property of a line
 abbrev pub misdeclared_in : List PlainDeclaration → ℕ → List PlainProperty → Option ℕ
 misdeclared_in ds line [] = None
 misdeclared_in ds line (p ∷ ps) = if p.line == line then option_and_then (bad_piece 1 ds) (pieces (trim p.value)) else misdeclared_in (ds ++ added_by ds p) line ps
@@ -91,7 +91,7 @@ is_of_pair E11 = true
 is_of_pair E15 = true
 is_of_pair kind = false
 
--- the other kinds of which something is told
+-- the other kinds of which something is reported
 abbrev pub is_of_stanza : Kind → Bool
 is_of_stanza E4 = true
 is_of_stanza E6 = true
@@ -103,7 +103,7 @@ is_of_stanza E14 = true
 is_of_stanza E16 = true
 is_of_stanza kind = false
 
--- what is told of a stanza, behind what was passed before it
+-- what is reported of a stanza, after what was passed before it
 abbrev pub found_detail : Kind → ℕ → Passed × PlainStanza → Option PlainDetail
 found_detail E4 line (p, s) = first_detail s
 found_detail E6 line (p, s) = option_map request_on p.request

@@ -25,7 +25,7 @@ id_under mark ps = if marks_package mark then option_zip (value_of name_value (c
 abbrev pub properties_faults : List PlainDeclaration → Option Postmark → List PlainProperty → List Fault
 properties_faults ds mark ps = flat_map (property_faults ds mark) (with_earlier [] ps)
 
--- the faults of where a stanza stands
+-- the faults of where a stanza is
 abbrev pub placed_faults : Bool → Bool → Option Postmark → ℕ → List Fault
 placed_faults is_first is_late mark line =
     fault_if (is_none mark) line E4 ++ fault_if (marks_preamble mark && not is_first) line E5 ++ fault_if is_late line E6
@@ -56,6 +56,6 @@ fails test text = option_map_or (λ passes. not (passes text)) test false
 abbrev pub name_without_default : PlainDeclaration → Option (List ℕ)
 name_without_default d = if is_none d.default then Some d.name else None
 
--- each may stand after those before, and after those that stand before it
+-- each is allowed after those before, and after those that come before it
 abbrev pub all_declarable : List PlainDeclaration → List PlainDeclaration → Bool
 all_declarable before ds = list_all is_declarable (with_earlier before ds)

@@ -48,7 +48,7 @@ package_property_test ds (Some WasInstalled) name = Some is_anything
 package_property_test ds (Some Recommends) name = look_up (codes "recommends") (map declared_test ds)
 package_property_test ds None name = look_up name (map declared_test ds)
 
--- what is wrong with a property that stands once: it isn't declared, or its value isn't of its type
+-- what is wrong with a property that occurs once: it isn't declared, or its value isn't of its type
 abbrev pub wrong_kind : Option Test → List ℕ → Option Kind
 wrong_kind None text = Some E8
 wrong_kind (Some test) text = if test text then None else Some E9

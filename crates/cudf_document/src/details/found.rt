@@ -1,4 +1,4 @@
-//! The stanza that a fault stands in, and what stands before it.
+//! The stanza that a fault is in, and what is before it.
 ghost use Rattle.std.specs.Prelude.{◌≡◌, [], ◌∷◌, Some, None, option_map, IfOk, OnOk, if◌then◌else◌};
 ghost use Rattle.cudf_text.specs.Promises.Views.{stanza_view};
 ghost use Rattle.cudf_problem.specs.Documents.{is_request};
@@ -77,7 +77,7 @@ fn request_line(stanza: &StanzaRef<'_>) -> Option<u64>
     }
 }
 
-/// A stanza, behind what was passed before it.
+/// A stanza, after what was passed before it.
 #[derive(Drop)]
 pub(crate) struct Found<'t> {
     pub(crate) passed: Passed<'t>,

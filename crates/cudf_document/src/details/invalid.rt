@@ -1,4 +1,4 @@
-//! What is told of bytes that are no text, and of a text that begins with a byte order mark.
+//! What is reported of bytes that are no text, and of a text that begins with a byte order mark.
 ghost use Rattle.std.specs.Prelude.{◌≡◌, ◌≤◌, length, Some, option_map, IsUtf8};
 ghost use Rattle.cudf_document.specs.Details.{format_of, first_invalid, invalid_detail, last_line_len, mark_detail};
 ghost use Rattle.cudf_document.specs.Promises.Views.{detail_view};
@@ -20,7 +20,7 @@ fn format_of(bytes: &[u8]) -> Option<Format>
     }
 }
 
-/// How many bytes stand behind the last end of a line.
+/// How many bytes come after the last end of a line.
 fn last_line_len(bytes: &[u8]) -> usize
     ensures value { result ≡ last_line_len bytes.now }
     ensures inside { result ≤ length bytes.now }
@@ -46,7 +46,7 @@ fn invalid_byte<'t>(bytes: &[u8]) -> Option<Detail<'t>>
     })
 }
 
-/// What is told of bytes that are no text: their format, or else the first byte that isn't UTF-8.
+/// What is reported of bytes that are no text: their format, or else the first byte that isn't UTF-8.
 pub(crate) fn invalid<'t>(bytes: &[u8]) -> Option<Detail<'t>>
     ensures { ¬ (IsUtf8 bytes.now) → option_map detail_view result ≡ Some (invalid_detail bytes.now) }
 {
@@ -56,7 +56,7 @@ pub(crate) fn invalid<'t>(bytes: &[u8]) -> Option<Detail<'t>>
     }
 }
 
-/// What is told of the line of a text that can't be read: the byte order mark before it.
+/// What is reported of the line of a text that can't be read: the byte order mark before it.
 pub(crate) fn mark<'t>(text: &str, line: u64) -> Option<Detail<'t>>
     ensures { option_map detail_view result ≡ mark_detail text.now line }
 {

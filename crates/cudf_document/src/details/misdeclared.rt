@@ -14,7 +14,7 @@ use cudf_text::StanzaRef;
 use cudf_value::{declaration_pieces, read_declaration};
 use std::alloc::{AllocError, Global};
 
-/// The first bad declaration of the property on a line, behind what those before it in the preamble
+/// The first bad declaration of the property on a line, after what those before it in the preamble
 /// declare.
 pub(crate) fn misdeclared<'t>(
     alloc: Global,
@@ -47,7 +47,7 @@ fn misdeclared_number(
     Ok(None)
 }
 
-/// The number of the first declaration of a value that is none, or that can't stand behind these and
+/// The number of the first declaration of a value that is none, or that isn't allowed after these and
 /// those before it, which are added. Where quotes or brackets are wrong the value has no declarations.
 fn bad_declaration<'t>(
     alloc: Global,
@@ -63,7 +63,7 @@ fn bad_declaration<'t>(
     }
 }
 
-/// The number of the first of these pieces that is no declaration, or that can't stand there.
+/// The number of the first of these pieces that is no declaration, or that isn't allowed there.
 fn bad_piece<'t>(
     alloc: Global,
     declarations: &mut Declarations<'t>,
@@ -82,13 +82,13 @@ fn bad_piece<'t>(
     Ok(None)
 }
 
-/// Declares what a piece does, and says whether it is a declaration that can stand here.
+/// Declares what a piece does, and says whether it is a declaration that is allowed here.
 fn declare_piece<'t>(
     alloc: Global,
     declarations: &mut Declarations<'t>,
     piece: &'t str,
 ) -> Result<bool, AllocError>
-    // On it goes with the pieces behind it, or this is the bad one.
+    // On it goes with the pieces after it, or this is the bad one.
     ensures { IfOk result (λ is_good. (n : ℕ) →
         (later : List (List ℕ)) →
         bad_piece n declarations.old (piece.now ∷ later)

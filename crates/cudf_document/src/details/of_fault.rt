@@ -91,7 +91,7 @@ fn is_of_pair(kind: Kind) -> bool
     matches!(kind, Kind::E11 | Kind::E15)
 }
 
-/// Whether it is another kind of which something is told.
+/// Whether it is another kind of which something is reported.
 fn is_of_stanza(kind: Kind) -> bool
     ensures { result ≡ is_of_stanza kind }
 {

@@ -1,4 +1,4 @@
-//! What is told of the stanza that a fault stands in, by the fault's kind.
+//! What is reported of the stanza that a fault is in, by the fault's kind.
 ghost use Rattle.std.specs.Prelude.{◌≡◌, ◌==◌, find, option_map, option_and_then, IfOk};
 ghost use Rattle.cudf_text.specs.Promises.Views.{property_view, stanza_view};
 ghost use Rattle.cudf_document.specs.Details.{request_on, name_on, undeclared, misplaced, first_detail, repeated_detail};
@@ -15,7 +15,7 @@ use crate::names::first_named;
 use cudf_text::{Fault, Kind, PropertyRef, StanzaRef};
 use std::alloc::{AllocError, Global};
 
-/// What is told of a fault in this stanza.
+/// What is reported of a fault in this stanza.
 pub(crate) fn told<'t>(
     alloc: Global,
     found: &Found<'t>,

@@ -1,5 +1,5 @@
-//! Room for copies of names, one behind the other. A look-up compares names, and reads them from few places of memory
-//! then: in the document a name stands beside all that its package says.
+//! Room for copies of names, one after the other. A look-up compares names, and reads them from few places of memory
+//! then: in the document a name is next to all that its package says.
 ghost use Rattle.std.specs.Prelude.{◌≡◌, ◌≤◌, length, is_some, IfOk, IsTrue, OnOk};
 
 use std::alloc::{AllocError, Global};
@@ -41,7 +41,7 @@ impl fmt::Debug for NameRoom {
 /// twice as long as the one before it.
 #[derive(Drop)]
 pub(crate) struct Names<'t> {
-    /// What is behind the last block.
+    /// What is after the last block.
     room: Option<&'t mut NameRoom>,
     /// The bytes of that block that are free.
     free: &'t mut [u8],
@@ -60,7 +60,7 @@ impl<'t> Names<'t> {
         }
     }
 
-    /// A copy of the name, behind those before it.
+    /// A copy of the name, after those before it.
     pub(crate) fn copy(&mut self, alloc: Global, name: &'t str) -> Result<&'t str, AllocError>
         ensures { IfOk result (λ copy. copy.now ≡ name.now) }
     {

@@ -27,7 +27,7 @@ use cudf_problem::{Ids, Mode, Postmark};
 use cudf_text::{Fault, Kind, Next, StanzaRef, Stanzas};
 use std::alloc::{AllocError, Global};
 
-/// Walks over all stanzas, and keeps the packages if it is told to, with copies of their names where there is room.
+/// Walks over all stanzas, and keeps the packages if it is asked to, with copies of their names where there is room.
 pub(crate) fn walk_all<'t>(
     alloc: Global,
     stanzas: Stanzas<'t>,
@@ -313,7 +313,7 @@ fn package_fault(is_repeated: bool, version_line: Option<u64>, last: u64) -> Opt
     lesser(repeated, fault_if(version_line.is_none(), last, Kind::E12))
 }
 
-/// The first fault of where a stanza stands.
+/// The first fault of where a stanza is.
 fn place_fault(is_first: bool, is_late: bool, mark: Option<Postmark>, line: u64) -> Option<Fault>
     ensures { result ≡ least (placed_faults is_first is_late mark line) }
 {

@@ -1,4 +1,4 @@
-//! The names and versions of a solution's packages, each of which strictly stands once.
+//! The names and versions of a solution's packages, each of which occurs only once in strict mode.
 ghost use Rattle.std.specs.Prelude.{◌≡◌};
 ghost use Rattle.cudf_text.specs.Promises.Views.{stanza_view};
 ghost use Rattle.cudf_text.specs.declared.fault.Kind.TheVariants.{E15};
@@ -17,7 +17,7 @@ use std::alloc::{AllocError, Global};
 pub(crate) struct Pairs<'a> {
     pub(crate) mode: Mode,
     ids: Ids<'a>,
-    /// The first fault of a stanza whose pair stood before it.
+    /// The first fault of a stanza whose pair came before it.
     pub(crate) first: Option<Fault>,
 }
 

@@ -21,7 +21,7 @@ use std::alloc::{AllocError, Global};
 /// (own). Leniently repeated pairs mean the same pair (own).
 ///
 /// It asks nothing of its caller. A text that says `FAIL` is read as any other and has a fault on that
-/// line, E2, or E3 where a blank stands before the word; whoever takes `FAIL` for an answer asks
+/// line, E2, or E3 where a blank comes before the word; whoever takes `FAIL` for an answer asks
 /// `cudf_text::is_fail` first.
 ///
 /// # Errors

@@ -16,7 +16,7 @@ use cudf_text::{Fault, Kind, StanzaRef};
 /// What a stanza says.
 #[derive(Clone, Copy)]
 pub(crate) struct SaidOfStanza<'a> {
-    /// Its first fault, whatever stands before it.
+    /// Its first fault, whatever is before it.
     pub(crate) fault: Option<Fault>,
     /// The name and the version of a package, where both are of their types.
     pub(crate) id: Option<(&'a str, u64)>,

@@ -14,7 +14,7 @@ abbrev pub number_meets : Option (Relop × ℕ) → Option ℕ → Bool
 number_meets bound None = not (is_below_one bound)
 number_meets bound (Some n) = meets bound n
 
--- the provision stands at another place than the one that is named, and meets the bound
+-- the provision is at another place than the one that is named, and meets the bound
 abbrev pub meets_beside : Option ℕ → Option (Relop × ℕ) → Provision → Bool
 meets_beside except bound g = is_other except g.place && number_meets bound g.number
 

@@ -185,7 +185,7 @@ fn alone(alloc: Global, provision: Provision) -> Entries
     }
 }
 
-/// The place of these provisions, where all stand at the same.
+/// The place of these provisions, where all are at the same.
 fn sole_place(row: &[Provision]) -> Option<u64>
     ensures { result ≡ sole_place (map (λ g. g.place) row.now) }
 {

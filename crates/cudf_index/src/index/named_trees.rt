@@ -49,7 +49,7 @@ impl<'t> NamedTrees<'t> {
         }
     }
 
-    /// The place of the first provision of the vpkg's name that stands at another place than `except` and meets the
+    /// The place of the first provision of the vpkg's name that is at another place than `except` and meets the
     /// bound.
     pub(crate) fn first_meeting(&self, vpkg: &Vpkg<'_>, except: Option<u64>) -> Option<u64>
         ensures { result ≡ first_place_of except vpkg.now.bound (tree_of vpkg.now.name.now self.now) }

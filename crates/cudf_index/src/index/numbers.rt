@@ -4,7 +4,7 @@ ghost use Rattle.cudf_index.specs.Working.Numbers.{numbers_in};
 
 use std::slice;
 
-/// Numbers in their order. One alone, as most names have, stands beside what else is kept of the
+/// Numbers in their order. One alone, as most names have, is next to what else is kept of the
 /// name, so that a look at it goes to no other block of memory.
 #[derive(Drop)]
 pub(crate) enum Numbers {

@@ -81,12 +81,12 @@ impl ProvisionTree {
         })
     }
 
-    /// The place of the first of them that stands at another place than `except` and meets the
+    /// The place of the first of them that is at another place than `except` and meets the
     /// bound.
     ///
     /// Its cost is the square of the binary digits of their number: a half is entered in vain only
     /// where it holds provisions of the package at `except` and of another one. Since those of a
-    /// package stand together, there are at most two such halves of each size.
+    /// package are together, there are at most two such halves of each size.
     pub(crate) fn first(&self, bound: Option<(Relop, u64)>, except: Option<u64>) -> Option<u64>
         ensures { result ≡ first_place_of except bound self.now }
     {

@@ -1,4 +1,4 @@
-//! The ghost number behind `Steps`. Its two functions are proved by hand, and nothing else may set it.
+//! The ghost number of `Steps`. Its two functions are proved by hand, and nothing else may set it.
 ghost use Rattle.std.specs.Prelude.{◌≡◌, ℕ, ◌+◌};
 ghost use Rattle.std.specs.Borrow.{ftrue};
 

@@ -10,8 +10,8 @@ use std::alloc::{AllocError, Global};
 /// The aims of a list, in its order, as of `-removed,+new`. Own.
 ///
 /// A list is one or more aims with a comma between each two. An aim is `-` or `+`, directly followed by `removed`,
-/// `new`, `changed`, `notuptodate`, `unsat_recommends` or `touched`; a count may stand in several. `None` for every
-/// other text, such as one with a blank, a capital letter, no sign, or no aim before or behind a comma.
+/// `new`, `changed`, `notuptodate`, `unsat_recommends` or `touched`; a count may be in several. `None` for every
+/// other text, such as one with a blank, a capital letter, no sign, or no aim before or after a comma.
 ///
 /// # Errors
 ///
@@ -42,7 +42,7 @@ impl Aim {
 }
 
 impl Sign {
-    /// The sign at the front of the text, and what stands behind it.
+    /// The sign at the front of the text, and what follows it.
     fn split(text: &str) -> Option<(Sign, &str)>
         ensures signed { IfSome result (λ r. text.now ≡ sign_text r.0 ++ r.1.now) }
         ensures unsigned { IfNone result ((sign : Sign) (name : List ℕ) → text.now ≡ sign_text sign ++ name → ⊥) }

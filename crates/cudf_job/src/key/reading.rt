@@ -11,7 +11,7 @@ use itoa::Buffer;
 impl Key {
     /// The key that is printed as this text. `None` where none is: each part is written as it is printed, so a sign,
     /// a leading zero, a blank, a capital letter, the number 0 or a number above 18446744073709551615 is refused, and
-    /// so are parts that don't fit each other. An aspect stands behind `r.upgrade` alone, and always.
+    /// so are parts that don't fit each other. An aspect comes after `r.upgrade` alone, and always.
     pub fn parse(text: &str) -> Option<Key>
         ensures printed { IfSome result (λ key. key_text (key_view key) ≡ text.now) }
         ensures exact { (key : PlainKey) → IsWritable key → key_text key ≡ text.now → option_map key_view result ≡ Some key }
@@ -98,7 +98,7 @@ impl Aspect {
     }
 }
 
-/// The place, and the aspect behind it if there is one.
+/// The place, and the aspect after it if there is one.
 fn place_and_aspect(text: &str) -> Option<(u64, Option<Aspect>)>
     ensures printed { IfSome result (λ r. decimal r.0 ++ aspect_text r.1 ≡ text.now) }
     ensures exact { (place : ℕ) (aspect : Option Aspect) → place < 2 ^ 64 → decimal place ++ aspect_text aspect ≡ text.now
@@ -124,7 +124,7 @@ fn read_number(text: &str) -> Option<u64>
     }
 }
 
-/// What stands before the first point, and what behind it.
+/// What is before the first point, and what after it.
 fn split_at_point(text: &str) -> Option<(&str, &str)>
     ensures joined { IfSome result (λ r. r.0.now ++ 46 ∷ r.1.now ≡ text.now) }
     ensures first { (first rest : List ℕ) → IsTrue (has_no_point first) → first ++ 46 ∷ rest ≡ text.now

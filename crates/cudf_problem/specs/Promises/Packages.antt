@@ -23,7 +23,7 @@ abbrev pub with_id : List Id → Option Id → List Id
 with_id ids None = ids
 with_id ids (Some id) = insert_key is_id ids id
 
--- no pair stands twice
+-- no pair occurs twice
 abbrev pub are_distinct : List Id → Bool
 are_distinct ids = list_all (λ x. not (is_among x.0 x.1)) (with_earlier [] ids)
 

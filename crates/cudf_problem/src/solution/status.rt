@@ -51,7 +51,7 @@ impl Status {
         })
     }
 
-    /// Whether the package at this place, from 1, is in the status: `false` of 0 and of places behind
+    /// Whether the package at this place, from 1, is in the status: `false` of 0 and of places after
     /// the universe.
     pub fn holds(&self, place: u64) -> bool
         ensures { result ≡ set.contains self.now place }

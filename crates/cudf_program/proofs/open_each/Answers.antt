@@ -13,7 +13,7 @@ use Rattle.cudf_program.proofs.FileLemmas.{counted, enough_behind, first_unopene
 use Rattle.cudf_program.specs.declared.failure.Failure.TheVariants.{Memory}
 use Rattle.cudf_program.proofs.open_each.Goals as goal
 
--- what stands for a name at a place behind the last one
+-- what stands for a name at a place after the last one
 abbrev no_name : FileName
 no_name = Path (record { ref_ptr = (0, 0); now = [] })
 

@@ -1,4 +1,4 @@
--- Where a package's reasons stand among all, by key.
+-- Where a package's reasons are among all, by key.
 use Rattle.std.specs.Prelude.{ℕ, Bool, false, ◌&&◌, nat_lt}
 use Rattle.cudf_job.specs.Keys.{PlainKey}
 use Rattle.cudf_job.specs.declared.key.Part.{Part}

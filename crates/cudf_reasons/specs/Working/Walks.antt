@@ -17,7 +17,7 @@ pub record IsRunOf (core : List PlainReason) (place : ℕ) (run : Run) : Type 0 
   pub within : run.end ≤ length core
   pub those : (k : ℕ) → k < length core → is_brought_by place (reason_at core k) ≡ (nat_le run.start k && nat_lt k run.end)
 
--- the core, those of it that were told, and the packages whose reasons wait, the next one first
+-- the core, those of it that were reported, and the packages whose reasons wait, the next one first
 pub record Progress : Type 0 where
   pub core : List PlainReason
   pub told : List PlainReason
@@ -26,7 +26,7 @@ pub record Progress : Type 0 where
 abbrev pub keys_ascend : List PlainReason → Bool
 keys_ascend core = ascend (map (λ reason. reason.key) core)
 
--- the marks are those of the reasons that were told, and from the start of a run on all are told that were passed
+-- the marks are those of the reasons that were reported, and from the start of a run on all are reported that were passed
 pub record IsMarked (core : List PlainReason) (order : List ℕ) (is_told : List Bool) (passed : List ℕ) : Type 0 where
   pub ordered : IsTrue (keys_ascend core)
   pub within : All (λ index. index < length core) order
@@ -40,11 +40,11 @@ pub record IsMarked (core : List PlainReason) (order : List ℕ) (is_told : List
 abbrev pub walk_on : List PlainReason → List PlainReason → List PlainReason → List PlainReason
 walk_on core waiting told = walk (length core - length told) core waiting told
 
--- where the walk ends, if these wait behind the packages
+-- where the walk ends, if these wait after the packages
 abbrev pub ends_with : Progress → List PlainReason → List PlainReason
 ends_with p later = walk_on p.core (flat_map (brought p.core) p.waiting ++ later) p.told
 
--- the walk goes on to the same end, whatever waits behind
+-- the walk goes on to the same end, whatever waits after
 pub record GoesOn (old new : Progress) : Type 0 where
   pub core : new.core ≡ old.core
   pub end : (later : List PlainReason) → ends_with old later ≡ ends_with new later
@@ -62,7 +62,7 @@ pub record IsFirstLeft (p : Progress) (place index : ℕ) : Type 0 where
   pub new : IsTrue (is_new p.told (reason_at p.core index))
   pub first : (rest : List PlainReason) × (left_of p place ≡ reason_at p.core index ∷ rest)
 
--- one more is told, and its places wait before the others
+-- one more is reported, and its places wait before the others
 pub record Tells (old new : Progress) (reason : PlainReason) : Type 0 where
   pub core : new.core ≡ old.core
   pub told : new.told ≡ old.told ++ reason ∷ []
@@ -74,12 +74,12 @@ pub record Steps (old new : Progress) : Type 0 where
   pub goes : GoesOn old new
   pub less : work_left new < work_left old
 
--- all that waited is told, and all that it brought in
+-- all that waited is reported, and all that it brought in
 pub record Follows (old new : Progress) : Type 0 where
   pub goes : GoesOn old new
   pub rests : new.waiting ≡ []
 
--- these are told, where nothing waited before them, and all that they bring in
+-- these are reported, where nothing waited before them, and all that they bring in
 pub record Tours (old new : Progress) (reasons : List PlainReason) : Type 0 where
   pub core : new.core ≡ old.core
   pub rests : new.waiting ≡ []

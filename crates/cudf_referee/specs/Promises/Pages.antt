@@ -20,7 +20,7 @@ left_at at_end s = []
 
 -- ---- pages
 
--- behind a key, or at the start
+-- after a key, or at the start
 abbrev pub behind : Option PlainKey → PlainPosition
 behind None = at_start
 behind (Some key) = at_key key
@@ -54,7 +54,7 @@ abbrev pub at_instance : Option PlainInstance → PlainPosition
 at_instance None = at_end
 at_instance (Some i) = at_key i.key
 
--- the steps that halving needs at least to find the first unknown stanza behind a key: none where that isn't of the solution
+-- the steps that halving needs at least to find the first unknown stanza after a key: none where that isn't of the solution
 abbrev pub least_search : Part → ℕ → ℕ
 least_search (Package n) len = 0
 least_search Request len = 0

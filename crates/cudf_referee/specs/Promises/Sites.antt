@@ -1,4 +1,4 @@
--- Where instances may stand, what judging each of these places costs, and the walk over them (own).
+-- Where instances may be, what judging each of these places costs, and the walk over them (own).
 use Rattle.std.specs.Prelude.{ℕ, Bool, true, false, not, ◌&&◌, ◌+◌, nat_le, List, [], ◌∷◌, ◌++◌, length, map, filter, sum_by, Some, None, if◌then◌else◌}
 use Rattle.std.specs.List.{flat_map, enumerate_from}
 use Rattle.std.specs.Ordering.{is_lt}
@@ -20,7 +20,7 @@ use Rattle.cudf_referee.specs.Proposals.{holds_place, Proposal}
 
 -- ---- sites
 
--- a place where an instance may stand: what is judged there, with the entry's place from 1
+-- a place where an instance may be: what is judged there, with the entry's place from 1
 pub data Site : Type 0 where
   conjunct : Placed → ℕ → List PlainAtom → Site
   conflicts_entry : Placed → ℕ → PlainVpkg → Site
@@ -32,7 +32,7 @@ pub data Site : Type 0 where
   upgrade_entry : ℕ → PlainVpkg → Aspect → Site
   unknown_stanza : PlainUnknown → Site
 
--- the key of the instance that may stand there
+-- the key of the instance that may be there
 abbrev pub site_key : Site → PlainKey
 site_key (conjunct p place clause) = package_key p.0 rule.Depends place
 site_key (conflicts_entry p place v) = package_key p.0 rule.Conflicts place

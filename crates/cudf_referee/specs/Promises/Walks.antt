@@ -1,4 +1,4 @@
--- A walk over the violated instances, as contracts see it: where it stands, and what it has spent (own).
+-- A walk over the violated instances, as contracts see it: where it is, and what it has spent (own).
 use Rattle.std.specs.Prelude.{◌≡◌, ◌≤◌, ◌+◌, ℕ, List, Option}
 use Rattle.std.specs.Iterator.{YieldsFirst}
 use Rattle.cudf_referee.specs.Instances.{PlainInstance}

@@ -10,7 +10,7 @@ use Rattle.cudf_referee.specs.Proposals.{holds_place, Proposal}
 use Rattle.cudf_referee.specs.Violations.{at_package, at_request, has_package, are_many, are_lower, unknown_instance}
 use Rattle.cudf_referee.specs.Promises.Sites.{Site, conjunct, conflicts_entry, kept_version, kept_package, kept_feature, install_entry, remove_entry, upgrade_entry, unknown_stanza, Stop, at_site, package_end}
 
--- the instance that may stand at a site
+-- the instance that may be at a site
 abbrev pub instance_at : Proposal → Site → PlainInstance
 instance_at s (conjunct p place clause) = at_package p rule.Depends place (needs clause)
 instance_at s (conflicts_entry p place v) = at_package p rule.Conflicts place (conflicts_with v)

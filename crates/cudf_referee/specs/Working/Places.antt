@@ -24,7 +24,7 @@ unknown_ahead at_start unknown = unknown
 unknown_ahead (at_key key) unknown = unknown_behind key.part key.place unknown
 unknown_ahead at_end unknown = []
 
--- a position behind a key, whose parts fit each other
+-- a position after a key, whose parts fit each other
 abbrev pub IsFitting : PlainPosition → Type 0
 IsFitting at_start = Unit {0}
 IsFitting (at_key key) = IsTrue (is_fitting key)
@@ -35,7 +35,7 @@ pub record BeginsAt (position : PlainPosition) (unknown : List PlainUnknown) (pl
   pub begins : unknown_ahead position unknown ≡ drop place unknown
   pub within : place ≤ length unknown
 
--- where those begin that are left behind an instance, if those before it begin at a place
+-- where those begin that are left after an instance, if those before it begin at a place
 abbrev pub place_behind : Part → ℕ → ℕ
 place_behind (Package n) place = place
 place_behind Request place = place

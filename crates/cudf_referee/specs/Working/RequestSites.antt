@@ -13,7 +13,7 @@ use Rattle.cudf_referee.specs.declared.sites.request_sites.RequestSites.{Request
 use Rattle.cudf_referee.specs.Promises.Sites.{Site, install_entry, remove_entry, upgrade_entry, upgrade_sites}
 use Rattle.cudf_referee.specs.Working.SiteNumbers.{numbered}
 
--- the aspects of an entry behind one of them
+-- the aspects of an entry after one of them
 abbrev pub later : Vpkg → Aspect → Option (Vpkg × Aspect)
 later v Unsatisfied = Some (v, Many)
 later v Many = Some (v, Lower)
@@ -42,7 +42,7 @@ request_site_view (Install n v) = install_entry n (vpkg_view v)
 request_site_view (Remove n v) = remove_entry n (vpkg_view v)
 request_site_view (Upgrade n v aspect) = upgrade_entry n (vpkg_view v) aspect
 
--- entries are numbered from 1, and one of `upgrade` stands where its number says
+-- entries are numbered from 1, and one of `upgrade` is where its number says
 abbrev pub IsEntry : PlainRequest → ℕ → PlainVpkg → Type 0
 IsEntry r n v = (0 < n) × (slice_get r.upgrade (n - 1) ≡ Some v)
 
@@ -55,7 +55,7 @@ abbrev pub IsHeld : PlainRequest → ℕ → Option (Vpkg × Aspect) → Type 0
 IsHeld r n None = Unit {0}
 IsHeld r n (Some e) = IsEntry r n (vpkg_view e.0)
 
--- the entries of `upgrade` that are left are those behind so many
+-- the entries of `upgrade` that are left are those after so many
 abbrev pub Remains : PlainRequest → RequestSites → Type 0
 Remains r s = (drop s.upgraded r.upgrade ≡ vpkgs_view s.upgrade) × IsHeld r s.upgraded s.entry
 

@@ -61,7 +61,7 @@ pub record Goes (old : Walking) (all : List Stop) (found : Option PlainInstance)
 abbrev pub Searches : Walking → List Stop → Option PlainInstance → Walking → Type 0
 Searches old stops found new = Goes old stops found [] new
 
--- these stops came to one that gives this instance, and those are left behind it
+-- these stops came to one that gives this instance, and those are left after it
 pub record Comes (all : List Stop) (i : PlainInstance) (left : List Stop) : Type 0 where
   pub before : List Stop
   pub site : Site
@@ -93,7 +93,7 @@ request_rest sites = map at_site (request_sites_view sites)
 abbrev pub unknown_rest : Proposal → ℕ → List Stop
 unknown_rest s n = map at_site (map unknown_stanza (drop n s.unknown))
 
--- of all, behind so many packages, with the sites of the next one and of the request that are left, behind so many unknown stanzas
+-- of all, after so many packages, with the sites of the next one and of the request that are left, after so many unknown stanzas
 abbrev pub stops_from : Proposal → Cursor → List Stop
 stops_from s c = packages_rest s c.sites (drop c.packages (enumerate_from 1 s.problem.packages)) ++ (request_rest c.request ++ unknown_rest s c.unknown)
 

@@ -46,7 +46,7 @@ kept_features Nothing vs = []
 abbrev pub features_of : Candidate → List PlainVpkg
 features_of c = if c.package.now.installed then kept_features c.package.now.keep (list_view c.package.now.provides) else []
 
--- one of each entry, with its place, behind so many
+-- one of each entry, with its place, after so many
 abbrev pub numbered : {A : Type 0} → (ℕ → A → Site) → ℕ → List A → List Site
 numbered make n entries = map (λ e. make e.0 e.1) (enumerate_from (n + 1) entries)
 

@@ -1,4 +1,4 @@
--- What a walk over the instances of a problem and a solution stands on.
+-- What a walk over the instances of a problem and a solution rests on.
 use Rattle.std.specs.Prelude.{◌≡◌, ℕ, Bool, List, Option, map, IsTrue}
 use Rattle.cudf_problem.specs.Statuses.{PlainUnknown, is_initial, ascend_above}
 use Rattle.cudf_problem.specs.Universe.{PlainProblem}

@@ -19,7 +19,7 @@ use std::fmt;
 use std::marker::Model;
 
 /// The walk over the violated instances, in key order. It holds none of them: each call of `next`
-/// judges the places where one may stand, from its position to the next instance.
+/// judges the places where one may be, from its position to the next instance.
 ///
 /// Contracts see what is judged, the position and the steps so far.
 #[derive(Drop)]
@@ -64,7 +64,7 @@ impl<'r, 'p, 't> Model for Instances<'r, 'p, 't> {
         × Remains i.problem.now.request i.cursor.request };
 }
 
-/// Where it stands.
+/// Where it is.
 impl fmt::Debug for Instances<'_, '_, '_> {
     fn fmt<W: fmt::Write>(&self, f: &mut fmt::Formatter<W>) -> fmt::Result {
         f.debug_struct("Instances")
@@ -106,7 +106,7 @@ impl<'r, 'p, 't> Instances<'r, 'p, 't> {
         }
     }
 
-    /// Those behind a key, for the search of the first unknown stanza.
+    /// Those after a key, for the search of the first unknown stanza.
     pub(crate) fn behind(self, key: Key) -> Self
         ensures judged { result.judged ≡ self.entry.judged }
         ensures position { result.position ≡ at_key (key_view key) }
@@ -140,8 +140,8 @@ impl<'r, 'p, 't> Instances<'r, 'p, 't> {
     }
 }
 
-/// Where a walk goes on: behind so many packages, with the places of the next one and of the request that are left, and
-/// behind so many unknown stanzas.
+/// Where a walk goes on: after so many packages, with the places of the next one and of the request that are left, and
+/// after so many unknown stanzas.
 #[derive(Clone, Copy)]
 struct Cursor<'t> {
     packages: usize,
@@ -164,7 +164,7 @@ impl<'r, 'p, 't> Instances<'r, 'p, 't> {
     ghost use Rattle.cudf_referee.specs.Working.SiteNumbers.{placed_view, Fits, package_site_view, sites_in, StandsAt};
     ghost use Rattle.cudf_referee.specs.Working.RequestSites.{request_site_view, Remains, StandsIn};
 
-    /// The package behind this many others, as it is judged.
+    /// The package after this many others, as it is judged.
     fn candidate(&self, index: usize, package: &'p Package<'t>) -> Candidate<'p, 't>
         requires { slice_get self.now.judged.problem.packages index ≡ Some (package_view «package».now) }
         ensures placed { placed_view result ≡ (index + 1, package_view «package».now) }
@@ -298,7 +298,7 @@ impl<'r, 'p, 't> Instances<'r, 'p, 't> {
         self.search_unknown(&mut cursor.unknown)
     }
 
-    /// Where it goes on behind a key.
+    /// Where it goes on after a key.
     fn cursor_behind(&self, key: Key, unknown: usize) -> Cursor<'t>
         requires { BeginsAt (at_key (key_view key)) self.now.judged.unknown unknown }
         ensures stops { stops_from self.entry.now.judged result ≡ ahead self.entry.now.judged (at_key (key_view key)) }
@@ -330,7 +330,7 @@ impl<'r, 'p, 't> Instances<'r, 'p, 't> {
         }
     }
 
-    /// The places of the package behind this many others that come after a key.
+    /// The places of the package after this many others that come after a key.
     fn behind_key(&self, index: usize, key: Key) -> Option<Sites<'t>>
         ensures { (p : PlainPackage) → slice_get self.entry.now.judged.problem.packages index ≡ Some p
             → filter (λ x. precedes (key_view key) (site_key x)) (package_sites self.entry.now.judged (index + 1, p)) ≡ sites_in self.entry.now.judged result (index + 1, p) }

@@ -21,7 +21,7 @@ pub(crate) struct Candidate<'p, 't> {
     ghost placed: { 0 < place },
 }
 
-/// The places of a package that are left, and of each list how many are behind.
+/// The places of a package that are left, and how many of each list were passed.
 #[derive(Clone, Copy)]
 pub(crate) struct Sites<'t> {
     clauses: Clauses<'t>,
@@ -156,7 +156,7 @@ impl<'p, 't> Candidate<'p, 't> {
         Some(PackageSite::KeptFeature(sites.feature, vpkg))
     }
 
-    /// The instance that may stand at a place.
+    /// The instance that may be at a place.
     pub(crate) fn instance(self, site: PackageSite<'t>) -> Instance<'t>
         requires { StandsAt self.package.now.keep site }
         ensures { (s : Proposal) → instance_view result ≡ instance_at s (package_site_view (placed_view self.entry) site.entry) }

@@ -8,7 +8,7 @@ use cudf_job::{Aspect, Key};
 use cudf_problem::Request;
 use cudf_value::{Vpkg, VpkgList, Vpkgs};
 
-/// The places of the request that are left, and of each list how many are behind.
+/// The places of the request that are left, and how many of each list were passed.
 #[derive(Clone, Copy)]
 pub(crate) struct RequestSites<'t> {
     install: Vpkgs<'t>,
@@ -17,7 +17,7 @@ pub(crate) struct RequestSites<'t> {
     removed: u64,
     upgrade: Vpkgs<'t>,
     upgraded: u64,
-    /// The last entry of `upgrade` that is behind, where aspects of it are left, and the first of these.
+    /// The last entry of `upgrade` that was passed, where aspects of it are left, and the first of these.
     entry: Option<(Vpkg<'t>, Aspect)>,
     ghost install_fits: { installed + length (vpkgs_view install) ≤ 2 ^ 63 },
     ghost remove_fits: { removed + length (vpkgs_view remove) ≤ 2 ^ 63 },

@@ -1,4 +1,4 @@
-//! What stands at a place of the request.
+//! What is at a place of the request.
 ghost use Rattle.std.specs.Prelude.{◌≡◌};
 ghost use Rattle.cudf_problem.specs.Promises.Views.{request_view};
 ghost use Rattle.cudf_referee.specs.Proposals.{Proposal};
@@ -12,7 +12,7 @@ use cudf_job::{Aspect, Rule};
 use cudf_problem::Request;
 use cudf_value::Vpkg;
 
-/// The aspects of an entry behind one of them.
+/// The aspects of an entry after one of them.
 pub(super) fn later<'t>(vpkg: Vpkg<'t>, aspect: Aspect) -> Option<(Vpkg<'t>, Aspect)>
     ensures { result ≡ later vpkg.entry aspect }
 {
@@ -23,7 +23,7 @@ pub(super) fn later<'t>(vpkg: Vpkg<'t>, aspect: Aspect) -> Option<(Vpkg<'t>, Asp
     }
 }
 
-/// The instance that may stand at a place.
+/// The instance that may be at a place.
 pub(crate) fn requested_instance<'t>(request: &Request<'t>, site: RequestSite<'t>) -> Instance<'t>
     requires { StandsIn (request_view request.now) site }
     ensures { (s : Proposal) → s.problem.request ≡ request_view request.now → instance_view result ≡ instance_at s (request_site_view site.entry) }

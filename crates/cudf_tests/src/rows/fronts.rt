@@ -37,7 +37,7 @@ const RANGES: [Range; 36] = [
         Outcome::Faulty,
     ),
     (24, b"problem line 2: E13 no request\n", Outcome::Faulty),
-    // `depends: wheel > 2`, which may be empty, and may end behind `wheel`, but not behind `>`
+    // `depends: wheel > 2`, which may be empty, and may end after `wheel`, but not after `>`
     (
         31,
         b"problem line 3: E2 not a property, continuation, comment or blank line\n",

@@ -39,7 +39,7 @@ fn page(alloc: Global, inputs: Inputs<'_>, after: Option<Key>, limit: u64) -> Op
     }
 }
 
-/// What stands before the line of the key that the page is continued from, and that key.
+/// What is before the line of the key that the page is continued from, and that key.
 fn cut_page(report: &str) -> (&str, Option<Key>) {
     match report.split_once("more after ") {
         Some((lines, rest)) => match rest.split_once("\n") {

@@ -13,7 +13,7 @@ HasNoLf bytes = list_any is_lf bytes ≡ false
 abbrev pub LinesJoinToText : List ℕ → Type 0
 LinesJoinToText text = concat (raw_lines text) ≡ text
 
--- bytes without LF that stand before an LF are a line with it
+-- bytes without LF that come before an LF are a line with it
 abbrev pub LineEndsAtLf : List ℕ → List ℕ → Type 0
 LineEndsAtLf line rest = HasNoLf line → raw_lines (line ++ 10 ∷ rest) ≡ (line ++ 10 ∷ []) ∷ raw_lines rest
 

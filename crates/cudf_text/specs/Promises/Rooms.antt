@@ -2,7 +2,7 @@
 use Rattle.std.specs.Prelude.{ℕ, List, [], ◌++◌, map, string_bytes}
 use Rattle.cudf_text.specs.declared.room.Room.{Room, Room', Held-Room-more, None', Some'}
 
--- the texts of a room: its own, and those of the room behind it
+-- the texts of a room: its own, and those of the room after it
 abbrev mutual
   pub held : Room → List (List ℕ)
   held (Room' texts more) = map string_bytes texts.items ++ held_behind more

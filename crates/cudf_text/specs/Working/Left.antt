@@ -13,7 +13,7 @@ use Rattle.cudf_text.specs.Working.Reading.{read_after, fault_after}
 abbrev pub numbered_from : ℕ → List ℕ → List NumberedLine
 numbered_from n text = enumerate_from n (map class (lines text))
 
--- the stanzas and the first fault of lines that stand after a blank one; after a fault none is read
+-- the stanzas and the first fault of lines that come after a blank one; after a fault none is read
 abbrev pub left : Option Fault → List NumberedLine → List TrackedStanza × Option Fault
 left None ls = (stanzas_of (read_after blank (filter is_no_comment ls)), fault_after blank (filter is_no_comment ls))
 left (Some f) ls = ([], Some f)

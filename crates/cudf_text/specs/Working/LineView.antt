@@ -16,6 +16,6 @@ line_view code.Faulty = faulty
 abbrev pub is_colon : ℕ → Bool
 is_colon b = b == byte ":"
 
--- the line begins with a letter, and a colon stands after its first n characters
+-- the line begins with a letter, and a colon comes after its first n characters
 abbrev pub ends_name : List ℕ → ℕ → Bool
 ends_name line n = is_colon (slice_index line n) && is_ascii_alphabetic (slice_index line 0)

@@ -25,13 +25,13 @@ abbrev pub IsReadSpaced : List ℕ → List ℕ → Relop → List ℕ → List 
 IsReadSpaced name gap r space number = IfSome (positive number) (λ n.
     let v : PlainVpkg = record { name = name; bound = Some (r, n) } in vpkg (name ++ gap ++ relop_text r ++ space ++ number) ≡ Some v)
 
--- a name, a colon and a type's word, with any blanks round the colon, declare the name of this type; what stands behind
+-- a name, a colon and a type's word, with any blanks round the colon, declare the name of this type; what follows
 -- the word is read as nothing or a default
 abbrev pub IsDeclaredSpaced : List ℕ → List ℕ → List ℕ → List ℕ → List ℕ → Type 0
 IsDeclaredSpaced name gap space word rest =
     declaration (name ++ gap ++ codes ":" ++ space ++ word ++ rest) ≡ with_kind name (word_type word) (trim_start rest)
 
--- an ident of an enum, with the blanks before and behind it
+-- an ident of an enum, with the blanks before and after it
 pub record SpacedIdent : Type 0 where
   pub before : List ℕ
   pub ident : List ℕ
@@ -43,12 +43,12 @@ is_spaced_ident i = is_blank_text i.before && is_ident i.ident && is_blank_text 
 abbrev pub spaced_text : SpacedIdent → List ℕ
 spaced_text i = i.before ++ i.ident ++ i.behind
 
--- an enum, with what stands between its word and its bracket
+-- an enum, with what is between its word and its bracket
 abbrev pub enum_text : List ℕ → List SpacedIdent → List ℕ
 enum_text blanks idents = codes "enum" ++ blanks ++ codes "[" ++ join_with_byte (byte ",") (map spaced_text idents) ++ codes "]"
 
 -- a name, a colon and an enum of one ident or more, with any blanks round the colon, before the bracket and round each
--- ident, declare the name of the enum of these idents, in their order; what stands behind the brackets is read as
+-- ident, declare the name of the enum of these idents, in their order; what follows the brackets is read as
 -- nothing or a default
 abbrev pub IsEnumDeclared : List ℕ → List ℕ → List ℕ → List ℕ → List ℕ → Type 0
 IsEnumDeclared name gap space blanks rest = (idents : List SpacedIdent) → 0 < length idents → list_all is_spaced_ident idents ≡ true →
@@ -67,6 +67,6 @@ abbrev pub IsMadeOfTokens : List ℕ → Type 0
 IsMadeOfTokens text = IfSome (pieces text) (λ ps.
     (tokens : List Token) × (list_all is_token tokens ≡ true) × (text_of tokens ≡ text) × (map text_of (slice_split is_comma tokens) ≡ ps))
 
--- a text can stand between quotes exactly where it is made of characters, quotes and backslashes escaped
+-- a text may be between quotes exactly where it is made of characters, quotes and backslashes escaped
 abbrev pub IsQuotableAsMade : List ℕ → Type 0
 IsQuotableAsMade text = (is_quotable text ≡ true) ↔ ((inner : List Inner) × (list_all is_inner inner ≡ true) × (flat_map inner_text inner ≡ text))

@@ -4,12 +4,12 @@ use Rattle.std.specs.List.{list_all, flat_map}
 use Rattle.std.specs.Str.{byte}
 use Rattle.cudf_value.specs.Spots.{quote_mark, backslash}
 
--- what stands between quotes: a character, or one that a backslash escapes
+-- what is between quotes: a character, or one that a backslash escapes
 pub data Inner : Type 0 where
   plain : ℕ → Inner
   escaped : ℕ → Inner
 
--- what stands between brackets: a character or a quoted text
+-- what is between brackets: a character or a quoted text
 pub data Item : Type 0 where
   char_item : ℕ → Item
   quoted_item : List Inner → Item
@@ -60,7 +60,7 @@ token_text (bracketed items) = byte "[" ∷ flat_map item_text items ++ byte "]"
 abbrev pub text_of : List Token → List ℕ
 text_of tokens = flat_map token_text tokens
 
--- a comma that stands in neither quotes nor brackets
+-- a comma that is in neither quotes nor brackets
 abbrev pub is_comma : Token → Bool
 is_comma (char b) = b == byte ","
 is_comma (quoted inner) = false

@@ -24,13 +24,13 @@ end_text Text = []
 end_text (Comma more) = byte "," ∷ more.now
 end_text (Bar more) = byte "|" ∷ more.now
 
--- what stands after a comma or a bar
+-- what follows a comma or a bar
 abbrev pub end_rest : AtomEnd → Option (List ℕ)
 end_rest Text = None
 end_rest (Comma more) = Some more.now
 end_rest (Bar more) = Some more.now
 
--- what stands after a bar
+-- what follows a bar
 abbrev pub bar_rest : AtomEnd → Option (List ℕ)
 bar_rest Text = None
 bar_rest (Comma more) = None
@@ -40,7 +40,7 @@ bar_rest (Bar more) = Some more.now
 abbrev pub values : List ℕ → List (List (Option PlainAtom))
 values text = map (λ part. map atom_part (parts (byte "|") part)) (parts (byte ",") text)
 
--- the value of an atom, and those behind its end
+-- the value of an atom, and those after its end
 abbrev pub values_of : Option PlainAtom → AtomEnd → List (List (Option PlainAtom))
 values_of value Text = (value ∷ []) ∷ []
 values_of value (Comma more) = (value ∷ []) ∷ values more.now

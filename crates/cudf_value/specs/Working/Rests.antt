@@ -24,33 +24,33 @@ read_pieces read text = option_and_then (λ ps. all_some (map read ps)) (pieces 
 abbrev pub is_number_below : ℕ → List ℕ → Bool
 is_number_below limit text = all_ascii_digits text && nat_lt 0 (length text) && nat_lt (digits_value 10 text) limit
 
--- the parts of what stands after a separator, if there is one
+-- the parts of what follows a separator, if there is one
 abbrev pub parts_after : ℕ → Option (List ℕ) → List (List ℕ)
 parts_after separator None = []
 parts_after separator (Some text) = parts separator text
 
--- the pieces of what stands after such a comma, if there is one
+-- the pieces of what follows such a comma, if there is one
 abbrev pub pieces_after : Option (List ℕ) → Option (List (List ℕ))
 pieces_after None = Some []
 pieces_after (Some text) = pieces text
 
--- the text begins with the vpkg, blanks or none round it, and the rest stands after these
+-- the text begins with the vpkg, blanks or none round it, and the rest comes after these
 pub record BeginsWith (v : PlainVpkg) (text rest : List ℕ) : Type 0 where
   pub part : List ℕ
   pub whole : text ≡ part ++ rest
   pub inside : list_all is_inside part ≡ true
   pub value : vpkg (trim part) ≡ Some v
 
--- the vpkg of a name and what stands directly after it: nothing, or a bound, with blanks or none before it
+-- the vpkg of a name and what is directly after it: nothing, or a bound, with blanks or none before it
 abbrev pub vpkg_after : List ℕ → List ℕ → Option PlainVpkg
 vpkg_after name rest = if length rest == 0 then Some (record { name = name; bound = None })
     else option_map (λ b. record { name = name; bound = Some b }) (bound_of (trim_start rest))
 
--- what stands after the operator at the front, and blanks
+-- what follows the operator at the front, and blanks
 abbrev pub number_text : List ℕ → List ℕ
 number_text text = trim_start (rest_after is_operator_char text)
 
--- the text begins with the operator and the number, blanks or none after each, and the rest stands after these
+-- the text begins with the operator and the number, blanks or none after each, and the rest comes after these
 pub record BoundBegins (r : Relop) (n : ℕ) (text rest : List ℕ) : Type 0 where
   pub operator : relop (take_while is_operator_char text) ≡ Some r
   pub number : positive (take_while is_pkgname_char (number_text text)) ≡ Some n

@@ -15,6 +15,6 @@ spot_of BracketQuotes = in_quotes true
 spot_of BracketEscape = after_backslash true
 spot_of Broken = astray
 
--- a text that begins at the spot stands between quotes that a quote after it closes, and none in it
+-- a text that begins at the spot is between quotes that a quote after it closes, and none in it
 abbrev pub is_quotable_from : Spot → List ℕ → Bool
 is_quotable_from spot text = list_all (λ x. not (is_outside x.0)) (with_spots spot text) && is_in_quotes (fold next_spot spot text)

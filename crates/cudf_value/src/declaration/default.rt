@@ -60,7 +60,7 @@ fn takes_quoted(kind: &ValueType<'_>, text: &str) -> bool
     }
 }
 
-/// Whether the text can stand between quotes.
+/// Whether the text may be between quotes.
 fn is_quotable(text: &str) -> bool
     ensures { result ≡ is_quotable text.now }
 {

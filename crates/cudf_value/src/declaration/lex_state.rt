@@ -2,7 +2,7 @@ ghost use Rattle.std.specs.Prelude.{◌≡◌};
 ghost use Rattle.cudf_value.specs.Spots.{next_spot, is_outside, is_in_quotes, separates};
 ghost use Rattle.cudf_value.specs.Working.Spots.{spot_of};
 
-/// Where a character of a declaration stands.
+/// Where a character of a declaration is.
 #[derive(Clone, Copy)]
 pub(crate) enum LexState {
     Outside,

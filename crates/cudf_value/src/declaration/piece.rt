@@ -8,7 +8,7 @@ ghost use Rattle.cudf_value.specs.Working.Spots.{spot_of};
 use crate::declaration::lex_state::LexState;
 use cudf_text::scan::{after, before};
 
-/// The first piece, and what stands after its comma, if there is one; `None` where quotes or brackets are at fault in
+/// The first piece, and what follows its comma, if there is one; `None` where quotes or brackets are at fault in
 /// the piece, and then the whole text has no pieces.
 pub(crate) fn cut_piece(text: &str) -> Option<(&str, Option<&str>)>
     ensures pieces { MatchOption result (pieces text.now ≡ None)

@@ -12,7 +12,7 @@ use cudf_text::scan::{Class, after, before, first_byte, split_run, trim_start};
 use cudf_text::{is_ident, trim};
 use std::alloc::{AllocError, Global};
 
-/// The type at the front of the text, and what stands after it.
+/// The type at the front of the text, and what follows it.
 pub(crate) fn type_of(
     alloc: Global,
     text: &str,
@@ -50,7 +50,7 @@ fn kind_of_word<'t>(word: &str) -> Option<ValueType<'t>>
     }
 }
 
-/// The enum of the idents in the brackets at the front, and what stands after them.
+/// The enum of the idents in the brackets at the front, and what follows them.
 fn enum_of(alloc: Global, text: &str) -> Result<Option<(ValueType<'_>, &str)>, AllocError>
     ensures { IfOk result (λ r. option_map (λ found. (type_view found.0, found.1.now)) r ≡ enum_at text.now) }
 {

@@ -1,4 +1,4 @@
--- The words behind those so far tell it.
+-- The words after those so far tell it.
 use Rattle.std.proofs.Common.{◌≡◌, map, drop, string_bytes}
 use Rattle.cudf_command_line.specs.Command.{has_list_apart}
 use Rattle.cudf_command_line.proofs.command.has_list_apart.Given as goal

@@ -1,4 +1,4 @@
--- The atoms so far are printed behind the first one.
+-- The atoms so far are printed after the first one.
 use Rattle.std.proofs.Common.{◌≡◌, ◌++◌, map, codes}
 use Rattle.std.specs.List.{flat_map}
 use Rattle.cudf_value.specs.Promises.Views.{atom_view, atoms_view}

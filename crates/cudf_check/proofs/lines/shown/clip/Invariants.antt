@@ -1,4 +1,4 @@
--- What is left is what stands behind the characters so far.
+-- What is left is what follows the characters so far.
 use Rattle.std.proofs.Common.{◌≡◌, drop}
 use Rattle.std.specs.Str.{IsUtf8, chars}
 use Rattle.cudf_check.proofs.lines.shown.clip.Given as goal

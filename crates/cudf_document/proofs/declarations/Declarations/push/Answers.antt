@@ -6,7 +6,7 @@ use Rattle.cudf_value.specs.Declarations.{PlainDeclaration}
 use Rattle.cudf_problem.proofs.ListLemmas.{lookup-find, find_none, option_map-none}
 use Rattle.cudf_document.proofs.declarations.Declarations.push.Goals as goal
 
--- the new entry stands last
+-- the new entry is last
 pushed : (c : goal.Joined-branch-2) → c.insert.new.self.entries ≡ c.self.inside.known.entries ++ (c.name.result, c.args.declared) ∷ []
 pushed c =
     let name = c.name.result.now in

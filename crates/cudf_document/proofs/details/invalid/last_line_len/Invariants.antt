@@ -1,4 +1,4 @@
--- No end of a line stands behind the start.
+-- No end of a line comes after the start.
 use Rattle.std.proofs.Common.{◌≡◌, ◌+◌, ◌≤◌, length, take}
 use Rattle.cudf_document.specs.Details.{last_line_len}
 use Rattle.cudf_document.proofs.details.invalid.last_line_len.Given as goal
