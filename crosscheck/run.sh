@@ -17,7 +17,7 @@ python3 crosscheck/refutations.py "$1"
 python3 crosscheck/pages.py "$1"
 python3 crosscheck/fails.py "$1"
 # the library with its callers, and the packages
-python3 tools/archive.py cudf_c >build/archive.log || { cat build/archive.log >&2; exit 1; }
+python3 tools/archive.py >build/archive.log || { cat build/archive.log >&2; exit 1; }
 make -s linked ARCHIVE="$2" LIBRARY=build/lib
 python3 crosscheck/embedding.py "$1" build/lib
 python3 crosscheck/packages.py "$1" "$2"

@@ -1,30 +1,24 @@
 #!/usr/bin/env python3
-"""Builds the archive of a static library behind a passed rt ci, over the libraries that it proved.
+"""Builds the archive of the library for C after rt ci, from the libraries that rt ci proved.
 
-    archive.py CRATE
+    archive.py
 
-The archive is crates/CRATE/out/libCRATE.a. rt lib would first prove the libraries below anew; here those are taken that
-rt ci left in out/rlib, as wrong_bodies.py takes them, and the crate alone is proved once more. The status is the build's,
-and 2 where there is no such crate or a library isn't there.
-
-What it rests on, beside what wrong_bodies.py does: `Crate.build_static` of rtlib.
+The archive is crates/cudf_c/out/libcudf_c.a. `rt lib` proves the libraries below first; this script takes those that rt ci
+left in out/rlib, and so only proves cudf_c again. It uses rt as a module: `crates_below`, `lock` and `Crate.build_static`.
+The exit status is the build's.
 """
 import os
+import shutil
 import sys
-
-from wrong_bodies import ROOT, rt, stop
+from importlib import machinery, util
 
 
 def main():
-    if len(sys.argv) != 2:
-        stop("one crate's name is wanted")
-    crates = {it.name: it for it in rt.rtlib.crates_below(str(ROOT))}
-    crate = crates.get(sys.argv[1])
-    if crate is None or not crate.is_static:
-        stop(f"{sys.argv[1]} is no static library of crates.txt")
-    for it in crate.below():
-        if not os.path.isdir(it.rlib):
-            stop(f"rt ci has left no library {it.name}")
+    loader = machinery.SourceFileLoader("rt", os.path.realpath(shutil.which("rt")))
+    rt = util.module_from_spec(util.spec_from_loader("rt", loader))
+    loader.exec_module(rt)
+    root = os.path.dirname(os.path.dirname(os.path.abspath(__file__)))
+    crate = next(it for it in rt.rtlib.crates_below(root) if it.name == "cudf_c")
     crate.held = rt.rtlib.lock([*crate.below(), crate])
     sys.exit(crate.build_static(["--jobs", "4"]))
 
