@@ -19,7 +19,7 @@ use Rattle.cudf_referee.specs.Proposals.{Proposal, proposal}
 use Rattle.cudf_job.specs.declared.job.Job.{Job}
 use Rattle.cudf_check.specs.declared.outcome.Outcome.TheVariants.{Fail}
 use Rattle.cudf_check.specs.Naming.{PlainOrigins}
-use Rattle.cudf_check.specs.Report.{alone, faulty_or, problem_fault, solution_fault, proposal_of, judged_report, pair_report, told}
+use Rattle.cudf_check.specs.Report.{alone, faulty_or, problem_fault, solution_fault, proposal_of, judged_report, pair_report, detail_if}
 use Rattle.cudf_check.specs.Working.Found.{found_text}
 use Rattle.cudf_check.specs.Working.Unjudged.{IsFaultOf}
 
@@ -89,5 +89,5 @@ pub pair_judged : (explain : Bool) (mode : Mode) (job : Job) (origins : PlainOri
     → judged_report (found_text job origins) s ≡ pair_report explain mode (found_text job) origins problem solution
 pair_judged explain mode job origins problem solution judged s none sound goes_on read is =
     ap (judged_report (found_text job origins)) (is ∙ ap (λ p. proposal_of p (plain_text solution)) read)
-    ∙ (λ k. faulty_or origins.problem (codes "problem") (told explain problem) (sym none k) (faulty_or origins.solution (codes "solution") (told explain solution) (sym sound k)
+    ∙ (λ k. faulty_or origins.problem (codes "problem") (detail_if explain problem) (sym none k) (faulty_or origins.solution (codes "solution") (detail_if explain solution) (sym sound k)
     (if sym goes_on k then alone (codes "solution FAIL") Fail else judged_report (found_text job origins) (proposal_of (plain_problem (plain_text problem)) (plain_text solution)))))

@@ -25,7 +25,7 @@ use Rattle.cudf_check.specs.Device.{SinkState, SourceState}
 use Rattle.cudf_check.specs.Readers.{Change, ReadsAll}
 use Rattle.cudf_check.specs.Refutations.{HasRefutedIfYes, Refutes, ViolatesOneOf}
 use Rattle.cudf_check.specs.Naming.{Names}
-use Rattle.cudf_check.specs.Report.{Report, faulty_or, instance_of, is_too_large, needed, problem_fault, problem_report, proof_report, refute_answer, report, told}
+use Rattle.cudf_check.specs.Report.{Report, faulty_or, instance_of, is_too_large, needed, problem_fault, problem_report, proof_report, refute_answer, report, detail_if}
 use Rattle.cudf_check.specs.Working.Answering.{Answers}
 use Rattle.cudf_check.specs.declared.outcome.Outcome.{Outcome}
 use Rattle.cudf_check.specs.declared.outcome.Outcome.TheVariants.{Yes, No, Faulty, Fail, TooLarge}
@@ -128,7 +128,7 @@ refutes law explain mode bytes proof is = by_fault (problem_fault mode bytes) is
     by_size true h = absurd (cc h)
     by_size false h = by_answer (checked (length problem.packages) (clauses_of (cnf problem)) proof) refl h
 
-    by_fault : (fault : Option Fault) → let r = faulty_or None (codes "problem") (told explain bytes) fault (refute_answer explain proof problem) in r.outcome ≡ Yes → Refutes explain problem r.text
+    by_fault : (fault : Option Fault) → let r = faulty_or None (codes "problem") (detail_if explain bytes) fault (refute_answer explain proof problem) in r.outcome ≡ Yes → Refutes explain problem r.text
     by_fault (Some f) h = absurd (cc h)
     by_fault None h = by_size (is_too_large problem) h
 

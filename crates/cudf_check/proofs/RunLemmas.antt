@@ -13,7 +13,7 @@ use Rattle.cudf_check.specs.Device.{SourceState, SinkState, failed_writes}
 use Rattle.cudf_check.specs.Readers.{Change, ReadsAll, IsUnfinished, IsTooLong, StopsInTime, OfOne}
 use Rattle.cudf_check.specs.Naming.{Names, names_of}
 use Rattle.cudf_check.specs.Report.{Report}
-use Rattle.cudf_check.specs.Runs.{OfReport, Runs, read_for}
+use Rattle.cudf_check.specs.Runs.{HoldsOfReport, Runs, read_for}
 use Rattle.cudf_check.specs.Working.Answering.{Answers}
 use Rattle.cudf_check.proofs.CallLemmas.{none_more}
 use Rattle.cudf_check.proofs.CommonLemmas.{none_below, same_error}
@@ -94,7 +94,7 @@ module _ (answer : Names → List ℕ → List (List ℕ) → Report) (first : C
   none_too_long (inl h) = was.short h
   none_too_long (inr h) = were.short h
 
-  of_report : (P : Report → Type 0) → P (answer (names_of first others) text texts) → OfReport answer first others P
+  of_report : (P : Report → Type 0) → P (answer (names_of first others) text texts) → HoldsOfReport answer first others P
   of_report P holds = record { text = text; texts = texts; first_read = was.all; others_read = were.all; holds = holds }
 
   pub all_answered : (before after : SinkState) (result : Result Outcome RunError) → Answers before after (answer (names_of first others) text texts) result

@@ -72,13 +72,13 @@ alone text outcome = record { text = line text; outcome = outcome }
 -- `problem line 3: E9 value is not of its type`, or `P:3: problem: E9 ..`, and what the document says beside it, if that is reported
 abbrev pub faulty : Option PlainOrigin → List ℕ → Fault → Option PlainDetail → Report
 faulty origin whose f detail = record {
-  text = named_before origin f.line ++ whose ++ numbered origin f.line ++ codes ": " ++ fault_text f.kind ++ line (detail_added origin detail);
+  text = line (named_before origin f.line ++ whose ++ numbered origin f.line ++ codes ": " ++ fault_text f.kind ++ detail_added origin detail);
   outcome = Faulty;
 }
 
 -- what a document says beside a fault of it, where lines are explained
-abbrev pub told : Bool → List ℕ → Fault → Option PlainDetail
-told explain bytes f = if explain then fault_detail bytes f else None
+abbrev pub detail_if : Bool → List ℕ → Fault → Option PlainDetail
+detail_if explain bytes f = if explain then fault_detail bytes f else None
 
 -- the fault, if there is one, with what is reported of it, or else the report
 abbrev pub faulty_or : Option PlainOrigin → List ℕ → (Fault → Option PlainDetail) → Option Fault → Report → Report
@@ -132,7 +132,7 @@ met_text origin i met =
 -- its line, with what is added where lines are explained
 abbrev pub instance_line : Bool → PlainOrigins → Proposal → PlainInstance → List ℕ
 instance_line explain origins s i =
-    met_text (origin_of origins i.key.part) i (option_and_then (package_at s.problem) (met_by s.proposed i)) ++ line (instance_added explain s i)
+    line (met_text (origin_of origins i.key.part) i (option_and_then (package_at s.problem) (met_by s.proposed i)) ++ instance_added explain s i)
 
 -- ---- pages of the listing
 
@@ -204,8 +204,8 @@ proposal_of problem text = proposal problem (is_initial problem) (is_proposed pr
 -- a problem and a solution: the problem's fault, or else the solution's, or else FAIL, or else what is found of the proposed status
 abbrev pub pair_report : Bool → Mode → (PlainOrigins → Proposal → List ℕ) → PlainOrigins → List ℕ → List ℕ → Report
 pair_report explain mode found origins problem solution =
-    faulty_or origins.problem (codes "problem") (told explain problem) (problem_fault mode problem)
-    (faulty_or origins.solution (codes "solution") (told explain solution) (solution_fault mode solution)
+    faulty_or origins.problem (codes "problem") (detail_if explain problem) (problem_fault mode problem)
+    (faulty_or origins.solution (codes "solution") (detail_if explain solution) (solution_fault mode solution)
     (if is_fail solution then alone (codes "solution FAIL") Fail
     else judged_report (found origins) (proposal_of (plain_problem (plain_text problem)) (plain_text solution))))
 
@@ -213,7 +213,7 @@ pair_report explain mode found origins problem solution =
 
 -- a problem's report, where it has no fault
 abbrev pub problem_report : Bool → Mode → List ℕ → (PlainProblem → Report) → Report
-problem_report explain mode bytes answer = faulty_or None (codes "problem") (told explain bytes) (problem_fault mode bytes) (answer (plain_problem (plain_text bytes)))
+problem_report explain mode bytes answer = faulty_or None (codes "problem") (detail_if explain bytes) (problem_fault mode bytes) (answer (plain_problem (plain_text bytes)))
 
 -- more packages or clauses than a CNF may have here
 abbrev pub is_too_large : PlainProblem → Bool
@@ -225,11 +225,11 @@ unless_too_large problem report = if is_too_large problem then (record { text = 
 
 -- a comment for a package, as `c p1 car 1`
 abbrev pub package_comment : Placed → List ℕ
-package_comment (place, p) = codes "c p" ++ decimal place ++ codes " " ++ p.name ++ codes " " ++ line (decimal p.version)
+package_comment (place, p) = line (codes "c p" ++ decimal place ++ codes " " ++ p.name ++ codes " " ++ decimal p.version)
 
 -- `p cnf 5 6`: how many variables and clauses there are
 abbrev pub header_line : ℕ → ℕ → List ℕ
-header_line places clauses = codes "p cnf " ++ decimal places ++ codes " " ++ line (decimal clauses)
+header_line places clauses = line (codes "p cnf " ++ decimal places ++ codes " " ++ decimal clauses)
 
 -- a literal and a blank
 abbrev pub literal_text : Literal → List ℕ
@@ -237,7 +237,7 @@ literal_text l = (if l.positive then [] else codes "-") ++ decimal l.place ++ co
 
 -- a clause, as `-1 2 0`
 abbrev pub clause_line : List Literal → List ℕ
-clause_line literals = flat_map literal_text literals ++ line (codes "0")
+clause_line literals = line (flat_map literal_text literals ++ codes "0")
 
 -- the CNF of a problem in DIMACS
 abbrev pub cnf_text : PlainProblem → List ℕ
@@ -297,7 +297,7 @@ met_texts problem (place ∷ places) = meeting_text (package_at problem place) +
 -- the line of a needed instance, with all packages by which its clauses are needed, and what is added where lines are explained
 abbrev pub reason_line : Bool → PlainProblem → Told → List ℕ
 reason_line explain problem (key, places) =
-    option_map_or (λ i. met_text None i None ++ met_texts problem places ++ line (reason_added explain problem i)) (instance_of problem key) []
+    option_map_or (λ i. line (met_text None i None ++ met_texts problem places ++ reason_added explain problem i)) (instance_of problem key) []
 
 -- the clauses of these numbers from 1
 abbrev pub needed : List Keyed → List ℕ → List Keyed
@@ -324,7 +324,7 @@ inputs_report explain mode found names input (Some solution) = pair_report expla
 
 -- of CNFs and refutations no line names a file
 unfoldable pub report : Job → Mode → Names → List ℕ → Option (List ℕ) → Report
-report (Lint explain) mode names input solution = faulty_or (own_file names.first) (codes "problem") (told explain input) (problem_fault mode input) (alone (codes "problem ok") Yes)
+report (Lint explain) mode names input solution = faulty_or (own_file names.first) (codes "problem") (detail_if explain input) (problem_fault mode input) (alone (codes "problem ok") Yes)
 report (Check after limit explain) mode names input solution = inputs_report explain mode (check_text explain (option_map key_view after) limit) names input solution
 report (Score aims) mode names input solution = inputs_report false mode (λ origins. scored_text (option_map (λ list. list.items) aims)) names input solution
 report Cnf mode names input solution = problem_report false mode input cnf_answer

@@ -29,20 +29,20 @@ pub record AppendsPrefix (old new : Option (List ℕ)) (text : List ℕ) : Type 
 abbrev pub StopsWriting : Change SinkState → Type 0
 StopsWriting out = IsLast failed_writes out.before.failures out.after.failures out.after.last
 
--- the first input and the others were read whole, and this holds of the answer to their names and texts
-pub record OfReport (answer : Names → List ℕ → List (List ℕ) → Report) (first : Change SourceState) (others : List (Change SourceState)) (P : Report → Type 0) : Type 0 where
+-- the first input and the others were read whole, and this holds of the report of their names and texts
+pub record HoldsOfReport (report_of : Names → List ℕ → List (List ℕ) → Report) (first : Change SourceState) (others : List (Change SourceState)) (P : Report → Type 0) : Type 0 where
   pub text : List ℕ
   pub texts : List (List ℕ)
   pub first_read : ReadsAll first text
   pub others_read : AllZip ReadsAll others texts
-  pub holds : P (answer (names_of first others) text texts)
+  pub holds : P (report_of (names_of first others) text texts)
 
--- a run on a first input and others, whose report is the answer to their names and texts
-pub record Runs (answer : Names → List ℕ → List (List ℕ) → Report) (first : Change SourceState) (others : List (Change SourceState)) (out : Change SinkState) (result : Result Outcome RunError) : Type 0 where
+-- a run on a first input and others, whose report is that of their names and texts
+pub record Runs (report_of : Names → List ℕ → List (List ℕ) → Report) (first : Change SourceState) (others : List (Change SourceState)) (out : Change SinkState) (result : Result Outcome RunError) : Type 0 where
   -- an outcome: the whole report was written, and the outcome is the report's
-  pub done : IfOk result (λ outcome. OfReport answer first others (λ r. Appends out.before.contents out.after.contents r.text × (outcome ≡ r.outcome)))
+  pub done : IfOk result (λ outcome. HoldsOfReport report_of first others (λ r. Appends out.before.contents out.after.contents r.text × (outcome ≡ r.outcome)))
   -- `Write`: a prefix of the report was written
-  pub cut_short : IsErrOf result Write → OfReport answer first others (λ r. AppendsPrefix out.before.contents out.after.contents r.text)
+  pub cut_short : IsErrOf result Write → HoldsOfReport report_of first others (λ r. AppendsPrefix out.before.contents out.after.contents r.text)
   -- any other error: nothing was written
   pub untouched : IfErr result (λ e. e ≢ Write → Keeps out.before.contents out.after.contents)
   -- `Read` exactly where a read failed or a reader didn't end within its turns

@@ -7,7 +7,7 @@ ghost use Rattle.cudf_document.specs.Promises.Views.{detail_view};
 ghost use Rattle.cudf_referee.specs.Proposals.{Proposal};
 ghost use Rattle.cudf_check.specs.declared.outcome.Outcome.TheVariants.{Fail, Yes};
 ghost use Rattle.cudf_check.specs.Naming.{PlainOrigins, one_file, own_file};
-ghost use Rattle.cudf_check.specs.Report.{Report, alone, faulty_or, cnf_answer, problem_fault, problem_report, refute_answer, solution_fault, pair_report, inputs_report, report, told};
+ghost use Rattle.cudf_check.specs.Report.{Report, alone, faulty_or, cnf_answer, problem_fault, problem_report, refute_answer, solution_fault, pair_report, inputs_report, report, detail_if};
 ghost use Rattle.cudf_check.specs.Working.Answering.{Answers};
 ghost use Rattle.cudf_check.specs.Working.Found.{explains, found_text};
 ghost use Rattle.cudf_check.specs.Working.Named.{given_names, origin_view, origins_view};
@@ -44,7 +44,7 @@ fn told<'t>(
     room: &'t mut Room,
     fault: Fault,
 ) -> Result<Option<Detail<'t>>, AllocError>
-    ensures { IfOk result (λ detail. option_map detail_view detail ≡ told document.entry.explain document.entry.bytes.now fault) }
+    ensures { IfOk result (λ detail. option_map detail_view detail ≡ detail_if document.entry.explain document.entry.bytes.now fault) }
 {
     if !document.explain {
         return Ok(None);
@@ -60,7 +60,7 @@ pub(crate) fn answer_unread<W: Sink>(
     error: ReadError,
 ) -> Result<Outcome, RunError>
     ensures { (fault : Option Fault) → (report : Report) → IsFaultOf fault error
-        → Answers (W.state out.old) (W.state out.new) (faulty_or (option_map origin_view document.entry.origin) document.entry.whose.now (told document.entry.explain document.entry.bytes.now) fault report) result }
+        → Answers (W.state out.old) (W.state out.new) (faulty_or (option_map origin_view document.entry.origin) document.entry.whose.now (detail_if document.entry.explain document.entry.bytes.now) fault report) result }
 {
     match error {
         ReadError::Fault(fault) => {
@@ -82,7 +82,7 @@ fn answer_unjudged<W: Sink>(
     reason: Unjudged,
 ) -> Result<Outcome, RunError>
     ensures { (report : Report) → IsUnjudged setting.mode solution.entry.bytes.now reason
-        → Answers (W.state out.old) (W.state out.new) (faulty_or (option_map origin_view solution.entry.origin) solution.entry.whose.now (told solution.entry.explain solution.entry.bytes.now) (solution_fault setting.mode solution.entry.bytes.now)
+        → Answers (W.state out.old) (W.state out.new) (faulty_or (option_map origin_view solution.entry.origin) solution.entry.whose.now (detail_if solution.entry.explain solution.entry.bytes.now) (solution_fault setting.mode solution.entry.bytes.now)
         (if is_fail solution.entry.bytes.now then alone (codes "solution FAIL") Fail else report)) result }
 {
     match reason {
@@ -139,7 +139,7 @@ fn lint<W: Sink>(
     out: &mut W,
     problem: Document<'_, '_>,
 ) -> Result<Outcome, RunError>
-    ensures { Answers (W.state out.old) (W.state out.new) (faulty_or (option_map origin_view problem.entry.origin) problem.entry.whose.now (told problem.entry.explain problem.entry.bytes.now)
+    ensures { Answers (W.state out.old) (W.state out.new) (faulty_or (option_map origin_view problem.entry.origin) problem.entry.whose.now (detail_if problem.entry.explain problem.entry.bytes.now)
         (problem_fault setting.mode problem.entry.bytes.now) (alone (codes "problem ok") Yes)) result }
 {
     match sound_in(setting, problem.bytes) {

@@ -7,7 +7,7 @@ use Rattle.std.specs.List.{AllZip}
 use Rattle.std.specs.Option.{option_to_list}
 use Rattle.std.specs.Result.{IsErrAnd}
 use Rattle.cudf_check.specs.Readers.{Change, IsTooLong, OfOne, ReadsAll, change, changes, most_bytes}
-use Rattle.cudf_check.specs.Runs.{AppendsPrefix, OfReport as Whole, Runs, job_report, read_for}
+use Rattle.cudf_check.specs.Runs.{AppendsPrefix, HoldsOfReport as Whole, Runs, job_report, read_for}
 use Rattle.cudf_check.specs.RankReport.{rank_report}
 use Rattle.cudf_check.specs.Report.{Report, report}
 use Rattle.cudf_job.specs.declared.job.Job.{Job}
@@ -22,7 +22,7 @@ use Rattle.cudf_problem.specs.declared.mode.Mode.{Mode}
 use Rattle.cudf_job.specs.declared.aims.Aim.{Aim}
 use Rattle.cudf_program.specs.Failure.{IsStatusOf, Prints, failure_status}
 use Rattle.cudf_program.specs.Inputs.{IsFirstUnopened, IsGivenFor, IsHeldBy, IsOpenable, IsOpenedAs, IsThere, IsUnopened, KeepsGiven, Opens, ReaderOf, left_behind}
-use Rattle.cudf_program.specs.Program.{AreShort, Did, Fails, Finishes, IsDone, IsKnownAs, IsTried, OfReport, labels, names_in, read_by, texts_read, work_report}
+use Rattle.cudf_program.specs.Program.{AreShort, Did, Fails, Finishes, IsDone, IsKnownAs, IsTried, HoldsOfKnown, labels, names_in, read_by, texts_read, work_report}
 use Rattle.cudf_command_line.specs.Command.{is_standard}
 use Rattle.cudf_command_line.specs.declared.command.FileName.{FileName}
 use Rattle.cudf_command_line.specs.declared.command.FileName.TheVariants.{Path, Standard}
@@ -123,7 +123,7 @@ others_of (Refute explain) mode text input (Some reader) (bytes ∷ other ∷ te
 
 of_run : (P : Report → Type 0) (job : Job) (mode : Mode) (input : Change SourceState) (solution : Option (Change SourceState)) (names rest : List (Option (List ℕ)))
     → (IsTooLong input ⊎ OfOne IsTooLong (read_for job (option_to_list solution)) → ⊥) → Whole (job_report job mode) input (read_for job (option_to_list solution)) P
-    → OfReport (RunOf job) mode (all_names input solution names) input.before.remaining (knowns solution rest) P
+    → HoldsOfKnown (RunOf job) mode (all_names input solution names) input.before.remaining (knowns solution rest) P
 of_run P job mode input solution names rest none h =
     let short : AreShort (h.text ∷ h.texts) = all_short (input ∷ read_for job (option_to_list solution)) (h.text ∷ h.texts) (h.first_read, h.others_read) none in
     let o : HasOthers job mode (names_of input (read_for job (option_to_list solution))) (all_names input solution names) h.text h.texts (knowns solution rest)
@@ -163,7 +163,7 @@ same_names state (old ∷ olds) (new ∷ news) same = ap (λ names. (state old).
 
 of_ranking : {D : Type 0} (P : Report → Type 0) (state : D → SourceState) (aims : Vec Aim Global) (mode : Mode) (problem : Change SourceState) (olds news : List D)
     → length news ≡ length olds → (IsTooLong problem ⊎ OfOne IsTooLong (changes state olds news) → ⊥) → Whole (rank_report aims.items mode) problem (changes state olds news) P
-    → OfReport (RankOf aims) mode (record { first = problem.before.name; others = map (λ d. (state d).name) olds }) problem.before.remaining (map (λ d. (state d).remaining) olds) P
+    → HoldsOfKnown (RankOf aims) mode (record { first = problem.before.name; others = map (λ d. (state d).name) olds }) problem.before.remaining (map (λ d. (state d).remaining) olds) P
 of_ranking P state aims mode problem olds news same none h = record {
   first = h.text;
   others = h.texts;

@@ -65,7 +65,7 @@ abbrev pub labels : Order → Names
 labels order = record { first = label order.names_files order.problem; others = map (label order.names_files) order.solutions.items }
 
 -- this holds of the report of inputs of these names, of which this is known; none that is read is longer than an input may be
-pub record OfReport (work : Work) (mode : Mode) (names : Names) (problem : Option (List ℕ)) (solutions : List (Option (List ℕ))) (P : Report → Type 0) : Type 0 where
+pub record HoldsOfKnown (work : Work) (mode : Mode) (names : Names) (problem : Option (List ℕ)) (solutions : List (Option (List ℕ))) (P : Report → Type 0) : Type 0 where
   pub first : List ℕ
   pub others : List (List ℕ)
   pub first_is : IsKnownAs problem first
@@ -76,9 +76,9 @@ pub record OfReport (work : Work) (mode : Mode) (names : Names) (problem : Optio
 -- what some work on such inputs did to the output, and its answer
 pub record Did (work : Work) (mode : Mode) (names : Names) (problem : Option (List ℕ)) (solutions : List (Option (List ℕ))) (out : Change SinkState) (answer : Result Outcome RunError) : Type 0 where
   -- an outcome: the whole report was printed, and the outcome is the report's
-  pub done : IfOk answer (λ outcome. OfReport work mode names problem solutions (λ r. Appends out.before.contents out.after.contents r.text × (outcome ≡ r.outcome)))
+  pub done : IfOk answer (λ outcome. HoldsOfKnown work mode names problem solutions (λ r. Appends out.before.contents out.after.contents r.text × (outcome ≡ r.outcome)))
   -- `Write`: a prefix of the report was printed
-  pub cut_short : IsErrOf answer Write → OfReport work mode names problem solutions (λ r. AppendsPrefix out.before.contents out.after.contents r.text)
+  pub cut_short : IsErrOf answer Write → HoldsOfKnown work mode names problem solutions (λ r. AppendsPrefix out.before.contents out.after.contents r.text)
   -- any other error: nothing was printed
   pub untouched : IfErr answer (λ e. e ≢ Write → Keeps out.before.contents out.after.contents)
   -- `Write` exactly where a write failed

@@ -15,7 +15,7 @@ use Rattle.cudf_problem.specs.Documents.{is_empty}
 use Rattle.cudf_problem.proofs.ListLemmas.{list_any-map}
 use Rattle.cudf_index.specs.Satisfaction.{Placed}
 use Rattle.cudf_referee.specs.declared.counting.standing.Standing.{Standing}
-use Rattle.cudf_referee.specs.Criteria.{each_once, versions_of, is_among, is_same_set, greatest, at_most_max}
+use Rattle.cudf_referee.specs.Criteria.{each_once, versions_of, is_number_among, is_same_set, greatest, at_most_max}
 use Rattle.cudf_referee.specs.Violations.{has_package}
 use Rattle.cudf_referee.specs.Working.Standings.{differ, standing_with, held, names_of, names_held, standing_of, standings_of}
 use Rattle.cudf_referee.proofs.EntryLemmas.{enumerate-push}
@@ -32,26 +32,26 @@ or_false a = grind (arith, common_steps)
 -- ---- sets of numbers
 
 -- a number more is as none, where it isn't asked about
-among_more : (ys : List ℕ) (v : ℕ) (zs : List ℕ) → is_among zs v ≡ false → list_all (is_among (ys ++ v ∷ [])) zs ≡ list_all (is_among ys) zs
+among_more : (ys : List ℕ) (v : ℕ) (zs : List ℕ) → is_number_among zs v ≡ false → list_all (is_number_among (ys ++ v ∷ [])) zs ≡ list_all (is_number_among ys) zs
 among_more ys v [] none = refl
 among_more ys v (z ∷ zs) none = grind (arith, common_steps, nat_tests, among_more ys v zs, list_any-append (λ m. m == z) ys (v ∷ []))
 
 -- a version more of one status or of both
-same_push : (xs ys : List ℕ) (v : ℕ) (a b : Bool) → is_among xs v ≡ false → is_among ys v ≡ false
+same_push : (xs ys : List ℕ) (v : ℕ) (a b : Bool) → is_number_among xs v ≡ false → is_number_among ys v ≡ false
     → not (is_same_set (xs ++ cond a (v ∷ []) []) (ys ++ cond b (v ∷ []) [])) ≡ (not (is_same_set xs ys) || differ a b)
 same_push xs ys v true true new_x new_y = grind (
   arith,
   common_steps,
   nat_tests,
-  list_all-append (is_among (ys ++ v ∷ [])) xs (v ∷ []),
-  list_all-append (is_among (xs ++ v ∷ [])) ys (v ∷ []),
+  list_all-append (is_number_among (ys ++ v ∷ [])) xs (v ∷ []),
+  list_all-append (is_number_among (xs ++ v ∷ [])) ys (v ∷ []),
   among_more ys v xs new_x,
   among_more xs v ys new_y,
   list_any-append (λ m. m == v) ys (v ∷ []),
   list_any-append (λ m. m == v) xs (v ∷ []),
 )
-same_push xs ys v true false new_x new_y = rw append-nil (grind (arith, common_steps, list_all-append (is_among ys) xs (v ∷ [])))
-same_push xs ys v false true new_x new_y = rw append-nil (grind (arith, common_steps, list_all-append (is_among xs) ys (v ∷ [])))
+same_push xs ys v true false new_x new_y = rw append-nil (grind (arith, common_steps, list_all-append (is_number_among ys) xs (v ∷ [])))
+same_push xs ys v false true new_x new_y = rw append-nil (grind (arith, common_steps, list_all-append (is_number_among xs) ys (v ∷ [])))
 same_push xs ys v false false new_x new_y = (λ i. not (is_same_set (append-nil xs i) (append-nil ys i))) ∙ sym (or_false (not (is_same_set xs ys)))
 
 greatest_push : (xs : List ℕ) (v : ℕ) → greatest (xs ++ v ∷ []) ≡ max (greatest xs) v
@@ -82,7 +82,7 @@ any_less p q [] none = refl
 any_less p q (x ∷ xs) none = grind (arith, common_steps, any_less p q xs)
 
 -- what isn't among all versions isn't among those of a status
-fresh_held : (t : ℕ → Bool) (f : List ℕ) (v : ℕ) (xs : List Placed) → is_among (versions_of f xs) v ≡ false → is_among (versions_of f (held t xs)) v ≡ false
+fresh_held : (t : ℕ → Bool) (f : List ℕ) (v : ℕ) (xs : List Placed) → is_number_among (versions_of f xs) v ≡ false → is_number_among (versions_of f (held t xs)) v ≡ false
 fresh_held t f v [] fresh = refl
 fresh_held t f v (x ∷ xs) fresh = grind (arith, common_steps, fresh_held t f v xs)
 
@@ -124,7 +124,7 @@ grown_other was is xs p f =
     }
 
 -- its own name gets one package more
-grown_own : (was is : ℕ → Bool) (xs : List Placed) (p : Placed) (f : List ℕ) → is_among (versions_of f xs) p.1.version ≡ false
+grown_own : (was is : ℕ → Bool) (xs : List Placed) (p : Placed) (f : List ℕ) → is_number_among (versions_of f xs) p.1.version ≡ false
     → grown was is xs p f true ≡ standing_with (standing_of was is xs f) p.1.version (was p.0) (is p.0)
 grown_own was is xs p f fresh =
     λ i. record {
@@ -169,21 +169,21 @@ module _ (was is : ℕ → Bool) (xs : List Placed) (p : Placed) where
   pub standing-other : (g : List ℕ) → bytes_eq p.1.name g ≡ false → standing_of was is (xs ++ p ∷ []) g ≡ standing_of was is xs g
   standing-other g e = standing-push was is xs p g ∙ ap (grown was is xs p g) e ∙ grown_other was is xs p g
 
-  pub standing-own : is_among (versions_of p.1.name xs) p.1.version ≡ false
+  pub standing-own : is_number_among (versions_of p.1.name xs) p.1.version ≡ false
       → standing_of was is (xs ++ p ∷ []) p.1.name ≡ standing_with (standing_of was is xs p.1.name) p.1.version (was p.0) (is p.0)
   standing-own fresh = standing-push was is xs p p.1.name ∙ ap (grown was is xs p p.1.name) (text_same p.1.name p.1.name refl) ∙ grown_own was is xs p p.1.name fresh
 
 -- ---- packages that come in turn
 
 among_versions : (name : List ℕ) (version k : ℕ) (xs : List PlainPackage) → is_among_ids (map package_id xs) (name, version) ≡ false
-    → is_among (versions_of name (enumerate_from k xs)) version ≡ false
+    → is_number_among (versions_of name (enumerate_from k xs)) version ≡ false
 among_versions name version k [] fresh = refl
 among_versions name version k (x ∷ xs) fresh =
     grind (arith, common_steps, nat_tests, among_versions name version (k + 1) xs, nat_list_eq_equiv.symm name x.name)
 
 -- of packages with distinct pairs, the next one's version is new to its name
 fresh_at : (ps : List PlainPackage) (i : ℕ) (d : PlainPackage) → are_distinct (map package_id ps) ≡ true → i < length ps
-    → is_among (versions_of (get_or ps i d).name (enumerate_from 1 (take i ps))) (get_or ps i d).version ≡ false
+    → is_number_among (versions_of (get_or ps i d).name (enumerate_from 1 (take i ps))) (get_or ps i d).version ≡ false
 fresh_at ps i d distinct within =
     among_versions (get_or ps i d).name (get_or ps i d).version 1 (take i ps)
     ((λ j. is_among_ids (sym (take-map package_id i ps) j) (sym (get_or-map package_id ps i d (package_id d) within) j))
@@ -192,10 +192,10 @@ fresh_at ps i d distinct within =
 module _ {A : Type 0} (view : A → PlainPackage) where
   -- the same of what packages are seen as
   pub next_fresh : (xs : List A) (ps : List PlainPackage) (i : ℕ) (item : A) → map view xs ≡ ps → are_distinct (map package_id ps) ≡ true → i < length xs → item ≡ get_or xs i item
-      → is_among (versions_of (view item).name (enumerate_from 1 (map view (take i xs)))) (view item).version ≡ false
+      → is_number_among (versions_of (view item).name (enumerate_from 1 (map view (take i xs)))) (view item).version ≡ false
   next_fresh xs ps i item seen distinct within is =
       let same : get_or (map view xs) i (view item) ≡ view item = get_or-map view xs i item (view item) within ∙ ap view (sym is) in
-      (λ j. is_among (versions_of (sym same j).name (enumerate_from 1 (sym (take-map view i xs) j))) (sym same j).version)
+      (λ j. is_number_among (versions_of (sym same j).name (enumerate_from 1 (sym (take-map view i xs) j))) (sym same j).version)
       ∙ fresh_at (map view xs) i (view item) (ap (λ l. are_distinct (map package_id l)) seen ∙ distinct) (omega (arith, length-map xs view))
 
   pub next_places : (xs : List A) (i : ℕ) (item : A) → i < length xs → item ≡ get_or xs i item
@@ -212,11 +212,11 @@ pub capped : (n : ℕ) → n < 2 ^ 64 → at_most_max n ≡ n
 capped n small = omega arith
 
 -- the greatest is one of them
-greatest_among : (xs : List ℕ) (x : ℕ) → is_among (x ∷ xs) (greatest (x ∷ xs)) ≡ true
+greatest_among : (xs : List ℕ) (x : ℕ) → is_number_among (x ∷ xs) (greatest (x ∷ xs)) ≡ true
 greatest_among [] x = grind (arith, nat_tests)
 greatest_among (y ∷ ys) x = grind (arith, nat_tests, greatest_among ys y)
 
-among_least : (xs : List ℕ) (n : ℕ) → is_among xs n ≡ true → n ≤ greatest xs
+among_least : (xs : List ℕ) (n : ℕ) → is_number_among xs n ≡ true → n ≤ greatest xs
 among_least [] n h = absurd (true≢false (sym h))
 among_least (x ∷ xs) n h = grind (arith, nat_tests, among_least xs n)
 
@@ -230,16 +230,16 @@ some_version f xs has none = true≢false (sym (ap is_empty none) ∙ empty-vers
 
 pub outdated : (is : ℕ → Bool) (xs : List Placed) (f : List ℕ)
     → (has_package (held is xs) f && nat_lt (greatest (versions_of f (held is xs))) (greatest (versions_of f xs)))
-    ≡ (has_package (held is xs) f && not (is_among (versions_of f (held is xs)) (greatest (versions_of f xs))))
+    ≡ (has_package (held is xs) f && not (is_number_among (versions_of f (held is xs)) (greatest (versions_of f xs))))
 outdated is xs f = by (has_package (held is xs) f) refl
   where
-    least : (vs : List ℕ) (top : ℕ) → greatest vs ≤ top → (vs ≡ [] → ⊥) → (b : Bool) → is_among vs top ≡ b → nat_lt (greatest vs) top ≡ not b
+    least : (vs : List ℕ) (top : ℕ) → greatest vs ≤ top → (vs ≡ [] → ⊥) → (b : Bool) → is_number_among vs top ≡ b → nat_lt (greatest vs) top ≡ not b
     least [] top up some b among = absurd (some refl)
     least (v ∷ vs) top up some b among = grind (arith, nat_tests, among_least (v ∷ vs) top, greatest_among vs v)
 
     by : (b : Bool) → has_package (held is xs) f ≡ b
-        → (b && nat_lt (greatest (versions_of f (held is xs))) (greatest (versions_of f xs))) ≡ (b && not (is_among (versions_of f (held is xs)) (greatest (versions_of f xs))))
-    by true e = least (versions_of f (held is xs)) (greatest (versions_of f xs)) (held_least is f xs) (some_version f (held is xs) e) (is_among (versions_of f (held is xs)) (greatest (versions_of f xs))) refl
+        → (b && nat_lt (greatest (versions_of f (held is xs))) (greatest (versions_of f xs))) ≡ (b && not (is_number_among (versions_of f (held is xs)) (greatest (versions_of f xs))))
+    by true e = least (versions_of f (held is xs)) (greatest (versions_of f xs)) (held_least is f xs) (some_version f (held is xs) e) (is_number_among (versions_of f (held is xs)) (greatest (versions_of f xs))) refl
     by false e = refl
 
 -- ---- what is counted of all names

@@ -22,12 +22,12 @@ each_once (name ∷ names) = name ∷ filter (λ other. not (bytes_eq name other
 abbrev pub versions_of : List ℕ → List Placed → List ℕ
 versions_of name packages = map (λ (place, p). p.version) (filter (λ (place, p). bytes_eq p.name name) packages)
 
-abbrev pub is_among : List ℕ → ℕ → Bool
-is_among numbers n = list_any (λ m. m == n) numbers
+abbrev pub is_number_among : List ℕ → ℕ → Bool
+is_number_among numbers n = list_any (λ m. m == n) numbers
 
 -- each number of one is among those of the other
 abbrev pub is_same_set : List ℕ → List ℕ → Bool
-is_same_set xs ys = list_all (is_among ys) xs && list_all (is_among xs) ys
+is_same_set xs ys = list_all (is_number_among ys) xs && list_all (is_number_among xs) ys
 
 -- the greatest of the numbers, 0 where there are none
 abbrev pub greatest : List ℕ → ℕ
@@ -52,7 +52,7 @@ is_changed s name = not (is_same_set (versions_of name s.initial) (versions_of n
 abbrev pub is_not_up_to_date : Proposal → List ℕ → Bool
 is_not_up_to_date s name =
     has_package s.proposed name
-    && not (is_among (versions_of name s.proposed) (greatest (versions_of name (universe s))))
+    && not (is_number_among (versions_of name s.proposed) (greatest (versions_of name (universe s))))
 
 -- packages that are to be installed, each by its name and version, with the place of a conjunct of what it recommends
 -- that the proposed status doesn't satisfy

@@ -8,17 +8,17 @@ use Rattle.cudf_check.specs.Naming.{PlainOrigin, PlainOrigins}
 use Rattle.cudf_check.specs.Report.{line, faulty, instance_line}
 
 -- the explained line is the plain one with something added after its text
-pub record AddsBehind (plain explained : List ℕ) : Type 0 where
+pub record AddsAfter (plain explained : List ℕ) : Type 0 where
   pub text : List ℕ
   pub added : List ℕ
   pub plain_is : plain ≡ line text
-  pub explained_is : explained ≡ text ++ line added
+  pub explained_is : explained ≡ line (text ++ added)
 
 -- so are the lines of instances
 abbrev pub AddsToInstances : Type 0
-AddsToInstances = (origins : PlainOrigins) (s : Proposal) (i : PlainInstance) → AddsBehind (instance_line false origins s i) (instance_line true origins s i)
+AddsToInstances = (origins : PlainOrigins) (s : Proposal) (i : PlainInstance) → AddsAfter (instance_line false origins s i) (instance_line true origins s i)
 
 -- and those of faults
 abbrev pub AddsToFaults : Type 0
 AddsToFaults = (origin : Option PlainOrigin) (whose : List ℕ) (f : Fault) (detail : Option PlainDetail)
-    → AddsBehind (faulty origin whose f None).text (faulty origin whose f detail).text
+    → AddsAfter (faulty origin whose f None).text (faulty origin whose f detail).text

@@ -4,7 +4,7 @@ ghost use Rattle.cudf_text.specs.Faults.{fault_text};
 ghost use Rattle.cudf_document.specs.Promises.Views.{detail_view};
 ghost use Rattle.cudf_check.specs.Explanations.{detail_added};
 ghost use Rattle.cudf_check.specs.Naming.{numbered};
-ghost use Rattle.cudf_check.specs.Report.{line, alone, faulty};
+ghost use Rattle.cudf_check.specs.Report.{alone, faulty};
 ghost use Rattle.cudf_check.specs.Working.Answering.{Answers};
 ghost use Rattle.cudf_check.specs.Working.Named.{origin_view};
 ghost use Rattle.cudf_check.specs.Working.Paper.{Says};
@@ -37,7 +37,7 @@ pub(crate) fn answer<W: Sink>(
     paper.finish(outcome)
 }
 
-/// Prints, after whose it is, which fault it is, and ends the line after the detail.
+/// Prints, after whose it is, which fault it is, with the detail.
 pub(crate) fn print_fault<W: Sink>(
     paper: &mut Paper<'_, W>,
     origin: Option<Origin<'_>>,
@@ -45,13 +45,12 @@ pub(crate) fn print_fault<W: Sink>(
     detail: Option<Detail<'_>>,
 )
     ensures { let o = option_map origin_view origin.entry in
-        Says W.state paper.old paper.new (numbered o fault.line ++ codes ": " ++ fault_text fault.kind ++ line (detail_added o (option_map detail_view detail.entry))) }
+        Says W.state paper.old paper.new (numbered o fault.line ++ codes ": " ++ fault_text fault.kind ++ detail_added o (option_map detail_view detail.entry)) }
 {
     print_numbered(paper, origin, fault.line);
     paper.text(": ");
     paper.text(fault.kind.text());
     print_added(paper, origin, detail);
-    paper.text("\n");
 }
 
 /// Writes the report of a faulty document, with the detail.
@@ -70,5 +69,6 @@ pub(crate) fn answer_fault<W: Sink>(
     print_before(&mut paper, document.origin, fault.line);
     paper.text(document.whose);
     print_fault(&mut paper, document.origin, fault, detail);
+    paper.text("\n");
     paper.finish(Outcome::Faulty)
 }

@@ -151,5 +151,6 @@ pub(crate) fn answer_faulty_solution<W: Sink>(
     print_before(&mut paper, origin, fault.line);
     print_whose(&mut paper, name, place);
     print_fault(&mut paper, origin, fault, None);
+    paper.text("\n");
     paper.finish(Outcome::Faulty)
 }

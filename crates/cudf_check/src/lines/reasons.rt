@@ -140,7 +140,7 @@ impl<'p, 't> ReasonScribe<'p, 't> {
     /// Prints the line of an instance that is met by the packages at these places.
     fn print_line<W: Sink>(&self, paper: &mut Paper<'_, W>, instance: &Instance<'_>, met: &[u32])
         ensures { let i = instance_view instance.now in
-            Says W.state paper.old paper.new (met_text None i None ++ met_texts self.now.problem met.now ++ line (reason_added self.now.explain self.now.problem i)) }
+            Says W.state paper.old paper.new (line (met_text None i None ++ met_texts self.now.problem met.now ++ reason_added self.now.explain self.now.problem i)) }
     {
         print_instance(paper, None, instance, None);
         print_met(paper, self.problem, met);

@@ -5,7 +5,7 @@ ghost use Rattle.std.specs.FinSet as set;
 ghost use Rattle.cudf_problem.specs.Promises.Views.{package_view};
 ghost use Rattle.cudf_index.specs.Satisfaction.{Placed};
 ghost use Rattle.indexmap.specs.IndexMap.{values};
-ghost use Rattle.cudf_referee.specs.Criteria.{is_among, versions_of};
+ghost use Rattle.cudf_referee.specs.Criteria.{is_number_among, versions_of};
 ghost use Rattle.cudf_referee.specs.Working.Standings.{names_held, StandsFor, standings_of};
 
 use crate::counting::standing::{Standing, Standings};
@@ -42,7 +42,7 @@ fn add(
     package: &Package<'_>,
 )
     ensures { (all packages : List Placed)
-        → is_among (versions_of «package».now.name.now packages) «package».now.version ≡ false
+        → is_number_among (versions_of «package».now.name.now packages) «package».now.version ≡ false
         → StandsFor (set.contains before.now) (set.contains proposed.now)
         (names_held (set.contains before.now) (set.contains proposed.now) all) packages standings.old
         → StandsFor (set.contains before.now) (set.contains proposed.now)

@@ -3,7 +3,7 @@ use Rattle.cudf_text.specs.Stanzas.{plain_text}
 use Rattle.cudf_problem.specs.Universe.{plain_problem}
 use Rattle.cudf_check.specs.Ranking.{have_own_places}
 use Rattle.cudf_check.specs.RankReport.{rank_report, ranked_report, placed_faults, first_faulty_or, entrants}
-use Rattle.cudf_check.specs.Report.{faulty_or, problem_fault, told}
+use Rattle.cudf_check.specs.Report.{faulty_or, problem_fault, detail_if}
 use Rattle.cudf_check.specs.Working.Named.{names_in}
 use Rattle.cudf_check.proofs.AnswerLemmas.{answers_as, memory_first}
 use Rattle.cudf_check.proofs.RankingLawLemmas.{entrants_own}
@@ -15,7 +15,7 @@ returns-in-Err g c =
     let mode = c.args.setting.mode in
     let solutions = map (λ b. b.items) c.args.ranked.texts.now in
     let rest = first_faulty_or (names_in g.S.Source.state c.args.ranked.sources.now) (placed_faults mode solutions) (ranked_report c.args.aims.now (names_in g.S.Source.state c.args.ranked.sources.now) (entrants (plain_problem (plain_text c.args.problem.bytes.now)) solutions)) in
-    answers_as _ _ _ _ _ (ap (λ origin. faulty_or origin (codes "problem") (told false c.args.problem.bytes.now) (problem_fault mode c.args.problem.bytes.now) rest) c.own_file.ensures)
+    answers_as _ _ _ _ _ (ap (λ origin. faulty_or origin (codes "problem") (detail_if false c.args.problem.bytes.now) (problem_fault mode c.args.problem.bytes.now) rest) c.own_file.ensures)
     (c.answer_unread.ensures (problem_fault mode c.args.problem.bytes.now) rest c.in-Err.ensures.fault)
 
 pub returns : goal.returns

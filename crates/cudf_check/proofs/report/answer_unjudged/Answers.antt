@@ -1,7 +1,7 @@
 use Rattle.std.proofs.Common.{if◌then◌else◌, sym, subst, codes, option_map}
 use Rattle.cudf_text.specs.Joined.{is_fail}
 use Rattle.cudf_check.specs.declared.outcome.Outcome.TheVariants.{Fail}
-use Rattle.cudf_check.specs.Report.{alone, faulty_or, solution_fault, told}
+use Rattle.cudf_check.specs.Report.{alone, faulty_or, solution_fault, detail_if}
 use Rattle.cudf_check.specs.Working.Named.{origin_view}
 use Rattle.cudf_check.specs.Working.Unjudged.{IsUnjudged}
 use Rattle.cudf_check.proofs.AnswerLemmas.{answers_as}
@@ -11,7 +11,7 @@ pub returns-in-SaysFail : goal.returns-in-SaysFail
 returns-in-SaysFail g c = λ report is.
     let solution = c.args.solution in
     let unjudged = subst (IsUnjudged c.args.setting.mode solution.bytes.now) c.in-SaysFail.is is in
-    answers_as _ _ _ _ _ (λ k. faulty_or (option_map origin_view solution.origin) solution.whose.now (told solution.explain solution.bytes.now) (sym unjudged.0 k)
+    answers_as _ _ _ _ _ (λ k. faulty_or (option_map origin_view solution.origin) solution.whose.now (detail_if solution.explain solution.bytes.now) (sym unjudged.0 k)
     (if sym unjudged.1 k then alone (codes "solution FAIL") Fail else report)) c.answer.ensures
 
 pub returns-in-Unread : goal.returns-in-Unread

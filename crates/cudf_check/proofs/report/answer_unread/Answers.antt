@@ -1,5 +1,5 @@
 use Rattle.std.proofs.Common.{ap, sym, ◌∙◌, subst, option_map}
-use Rattle.cudf_check.specs.Report.{faulty, faulty_or, told}
+use Rattle.cudf_check.specs.Report.{faulty, faulty_or, detail_if}
 use Rattle.cudf_check.specs.Working.Named.{origin_view}
 use Rattle.cudf_check.specs.Working.Unjudged.{IsFaultOf}
 use Rattle.cudf_check.proofs.AnswerLemmas.{memory_first, answers_as}
@@ -11,7 +11,7 @@ returns-in-Ok g c = λ fault report is.
     let whose = c.args.document.whose.now in
     let bytes = c.args.document.bytes.now in
     let same = subst (IsFaultOf fault) c.in-Fault.is is in
-    answers_as _ _ _ _ _ (ap (faulty origin whose c.in-Fault.fault) c.in-Ok.ensures ∙ ap (λ f. faulty_or origin whose (told c.args.document.explain bytes) f report) (sym same)) c.answer_fault.ensures
+    answers_as _ _ _ _ _ (ap (faulty origin whose c.in-Fault.fault) c.in-Ok.ensures ∙ ap (λ f. faulty_or origin whose (detail_if c.args.document.explain bytes) f report) (sym same)) c.answer_fault.ensures
 
 pub returns-in-Fault : goal.returns-in-Fault
 returns-in-Fault g c = λ fault report is. memory_first _ _

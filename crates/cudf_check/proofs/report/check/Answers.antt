@@ -6,7 +6,7 @@ use Rattle.cudf_problem.specs.Statuses.{is_initial}
 use Rattle.cudf_problem.specs.Promises.Views.{unknown_view}
 use Rattle.cudf_problem.specs.Universe.{plain_problem}
 use Rattle.cudf_referee.specs.Proposals.{proposal}
-use Rattle.cudf_check.specs.Report.{alone, faulty_or, problem_fault, solution_fault, proposal_of, judged_report, pair_report, told}
+use Rattle.cudf_check.specs.Report.{alone, faulty_or, problem_fault, solution_fault, proposal_of, judged_report, pair_report, detail_if}
 use Rattle.cudf_check.specs.Working.Found.{explains, found_text}
 use Rattle.cudf_check.specs.Working.Named.{origins_view}
 use Rattle.cudf_check.specs.declared.outcome.Outcome.TheVariants.{Fail}
@@ -23,7 +23,7 @@ returns-in-Err g c =
     let solution = c.args.inputs.solution.now in
     answers_as _ _ _ _ _ (ap (λ explain. pair_report explain mode found origins problem solution) c.explains-explain.ensures)
     (c.answer_unread.ensures (problem_fault mode problem)
-    (faulty_or origins.solution (codes "solution") (told c.explains-explain.result solution) (solution_fault mode solution) (if is_fail solution then alone (codes "solution FAIL") Fail
+    (faulty_or origins.solution (codes "solution") (detail_if c.explains-explain.result solution) (solution_fault mode solution) (if is_fail solution then alone (codes "solution FAIL") Fail
     else judged_report (found origins) (proposal_of (plain_problem (plain_text problem)) (plain_text solution))))
     c.in-Err.ensures.fault)
 
@@ -36,7 +36,7 @@ returns-in-Err-proposed_in g c =
     let solution = c.args.inputs.solution.now in
     let rest = judged_report (found origins) (proposal_of (plain_problem (plain_text problem)) (plain_text solution)) in
     answers_as _ _ _ _ _
-    ((λ k. faulty_or origins.problem (codes "problem") (told c.explains-explain.result problem) (sym c.in-Ok.ensures.sound k) (faulty_or origins.solution (codes "solution") (told c.explains-explain.result solution) (solution_fault mode solution)
+    ((λ k. faulty_or origins.problem (codes "problem") (detail_if c.explains-explain.result problem) (sym c.in-Ok.ensures.sound k) (faulty_or origins.solution (codes "solution") (detail_if c.explains-explain.result solution) (solution_fault mode solution)
     (if is_fail solution then alone (codes "solution FAIL") Fail else rest)))
     ∙ ap (λ explain. pair_report explain mode found origins problem solution) c.explains-explain.ensures)
     (c.answer_unjudged.ensures rest c.in-Err-proposed_in.ensures.unjudged)

@@ -9,5 +9,5 @@ pub returns : goal.returns
 returns g c =
     let i = instance_view c.args.instance.now in
     let w = c.args.self.now in
-    Says-as _ _ _ _ _ (ap (λ s. met_text None i None ++ met_texts s.problem c.args.met.now ++ line (reason_added w.explain w.problem i)) c.self.view_is)
-    ((c.print_instance.ensures ▸ c.print_met.ensures) ▸ (c.print_added.ensures ▸ c.text.ensures))
+    Says-as _ _ _ _ _ (ap (λ s. line (met_text None i None ++ met_texts s.problem c.args.met.now ++ reason_added w.explain w.problem i)) c.self.view_is)
+    (c.print_instance.ensures ▸ c.print_met.ensures ▸ c.print_added.ensures ▸ c.text.ensures)

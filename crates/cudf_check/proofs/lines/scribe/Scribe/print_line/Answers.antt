@@ -18,4 +18,4 @@ returns g c =
     let met = c.package_at-met.ensures s.problem c.packages.ensures ∙ (λ k. option_and_then (package_at (c.self.view_is k).judged.problem) (place k)) in
     let origin = c.of-origin.ensures ∙ ap (origin_of (origins_view c.self.inside.origins)) c.part.ensures.value ∙ ap (λ w. origin_of w.origins i.key.part) c.self.view_is in
     Says-as _ _ _ _ _ (λ k. met_text (origin k) i (met k)) c.print_instance.ensures
-    ▸ (Says-as _ _ _ _ _ (ap (met_added w.explain w.judged i) place) c.print_added.ensures ▸ c.text.ensures)
+    ▸ Says-as _ _ _ _ _ (ap (met_added w.explain w.judged i) place) c.print_added.ensures ▸ c.text.ensures
