@@ -1,4 +1,4 @@
-/* Times calls of the library, for calls.py.
+/* Times calls of the library, for measure.py calls.
 
 usage: calls PROBLEM SOLUTION COUNT
 

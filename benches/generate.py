@@ -3,343 +3,220 @@
 
 usage: generate.py KIND COUNT
 
-The same words give the same bytes. COUNT counts packages, but where something else is named.
-
-One input with a problem and an empty solution:
-    small (megabytes)      small stanzas
-    formula (megabytes)    one installed package of one long formula
-
-Problems for reading:
-    distribution           as a distribution's, ten dependencies a package, every twentieth installed
-    one-name               all packages have one name
-    long-names             names that share 200 letters
-    alike-names            names that share 120 letters, with dependencies on such names
-    properties (count)     so many properties declared, and set in one package
-    continuations (count)  one value of so many continuations
-    commented              lists on many lines with comments between
-    enum (idents)          an enum, and as many packages that each use another ident
-    comment (megabytes)    one comment line of ASCII
-    comment-other (megabytes)  one comment line of other letters
-
-Problems for judging, each with its solution of the same COUNT. A solution without fault, but where said:
-    tenth, half, all       a distribution with so many packages installed: chosen-tenth, chosen-half, chosen-all
-    broken                 five missing dependencies a package, so five lines of report a package: chosen-all
-    conflicting            all, and each tenth package conflicts with another one: chosen-most, which lacks each ninth
-    ascending, descending, shuffled  one name in COUNT versions: versions
-    one-feature            packages that provide one feature and conflict with it, a line of report each: chosen-all
-    last-entry             each conflicts with one feature's number that the last one alone provides, a line of report
-                           each but one: chosen-all
-    own-entries (count)    a package with so many versions of a feature and a conflict with each: own
-    own-names (count)      a package with so many features and a conflict with each: own
-    own-and-other (count)  own-entries, and a second package with one version of that feature more: own-two
-    own-bounds (count)     the same with conflicts of each operator and of none, and each eighth entry given at all
-                           versions, a line of report for most: own-two
-    kept                   packages with keep: package: chosen-all
-
-Solutions:
-    absent                 packages of a distribution, none installed
-    unknown (stanzas)      installed stanzas that no universe has, a line of report each
-    short-stanzas (stanzas)  stanzas of one short property, none of a package
-
-Python's standard library alone.
+The same arguments give the same bytes. COUNT counts packages, unless the kind says what else. After the last colon is
+the kind of a problem's answer, of the same COUNT: a solution, unless a report is mentioned. Only the standard library.
 """
 import random
 import sys
 
-BLOCK = 1 << 20
-
-
-class Writer:
-    """Collects text and writes it in large blocks."""
-
-    def __init__(self, stream):
-        self.stream = stream
-        self.pieces = []
-        self.waiting = 0
-        self.written = 0
-
-    def add(self, text):
-        self.pieces.append(text)
-        self.waiting += len(text)
-        self.written += len(text)
-        if self.waiting > BLOCK:
-            self.flush()
-
-    def flush(self):
-        self.stream.write("".join(self.pieces).encode())
-        self.pieces, self.waiting = [], 0
-
-
-def small(out, megabytes):
-    number = 0
-    while out.written < megabytes * 1_000_000 - 20:
-        number += 1
-        out.add(f"package: pkg-{number}\nversion: {number % 9 + 1}\ndepends: pkg-{number // 2 + 1}\ninstalled: true\n\n")
-    out.add("request: none\n\n")
-
-
-def formula(out, megabytes):
-    out.add("package: root\nversion: 1\ndepends: root")
-    number = 0
-    while out.written < megabytes * 1_000_000 - 100:
-        number += 1
-        out.add(f", root >= 1 | lib-{number % 1000} < {number}")
-    out.add("\ninstalled: true\n\nrequest: none\n\n")
-
-
-# libcudf reads this form too: a blank behind the colon, one `property` line, an enum's default without quotes.
+REQUEST = "request: none\n"
+# libcudf reads this form too: a space after the colon, one `property` line, an enum's default without quotes.
 PREAMBLE = (
     "preamble: \n"
     'property: suite: enum[stable,unstable] = [stable], source: string = [""],\n'
     "  recommends: vpkgformula = [true!], replaces: vpkglist = [],\n"
     "  priority: int = [0], essential: bool = [false], architecture: string\n\n"
 )
+OPERATORS = (" = {}", " != {}", " >= {}", " > {}", " <= {}", " < {}", "")
 
 
-def distribution(out, packages):
-    chance = random.Random(1)
-    out.add(PREAMBLE)
-    for number in range(1, packages + 1):
-        names = [f"lib-{chance.randrange(1, packages + 1)}" for _ in range(10)]
-        clauses = [names[0] + f" >= {chance.randrange(1, 5)}", names[1] + " | " + names[2]] + names[3:]
-        name = f"lib-{number}"
-        out.add(
-            f"package: {name}\nversion: {chance.randrange(1, 9)}\ndepends: {', '.join(clauses)}\n"
-            f"conflicts: {name}\nprovides: {name} = 1, feature-{number % 997}\n"
-            f"recommends: true!\nsource: source of {name}\npriority: {number % 7 - 3}\narchitecture: amd64\n"
-        )
-        out.add("installed: true\n\n" if number % 20 == 0 else "\n")
-    out.add("request: none\ninstall: lib-1\n")
+def stanza(name, version, *lines):
+    return "\n".join((f"package: {name}", f"version: {version}", *lines)) + "\n\n"
 
 
-def one_name(out, packages):
-    for number in range(1, packages + 1):
-        out.add(f"package: same\nversion: {number}\ndepends: same > 1\n\n")
-    out.add("request: none\n")
-
-
-def long_names(out, packages):
-    prefix = "a" * 200
-    for number in range(1, packages + 1):
-        out.add(f"package: {prefix}{number}\nversion: 1\n\n")
-    out.add("request: none\n")
-
-
-def properties(out, count):
-    out.add("preamble:\nproperty: p-0: int")
-    for number in range(1, count):
-        out.add(f", p-{number}: int")
-    out.add("\n\npackage: a\nversion: 1\n")
-    for number in range(count):
-        out.add(f"p-{number}: {number}\n")
-    out.add("\nrequest: none\n")
-
-
-def continuations(out, count):
-    out.add("package: a\nversion: 1\ndepends: b")
-    for number in range(count):
-        out.add(f",\n  b >= {number % 9 + 1}")
-    out.add("\n\nrequest: none\n")
-
-
-def absent(out, packages):
-    for number in range(1, packages + 1):
-        out.add(f"package: lib-{number}\nversion: {number % 9 + 1}\ninstalled: false\n\n")
-
-
-def alike_names(out, packages):
-    prefix = "b" * 120
-    for number in range(1, packages + 1):
-        out.add(f"package: {prefix}{number}\nversion: 1\ndepends: {prefix}{number // 2 + 1}, {prefix}{number} = 1\n\n")
-    out.add("request: none\n")
-
-
-def commented(out, packages):
-    for number in range(1, packages + 1):
-        entries = ",\n# between\n\t".join(f"lib-{(number * place) % packages + 1}" for place in range(1, 11))
-        out.add(f"package: lib-{number}\n# within\nversion: 1\ndepends: {entries}\n\n")
-    out.add("request: none\n")
-
-
-def enum(out, idents):
-    out.add("preamble:\nproperty: colour: enum[" + ", ".join(f"c{number}" for number in range(idents)) + "] = [c0]\n\n")
-    for number in range(idents):
-        out.add(f"package: lib-{number}\nversion: 1\ncolour: c{number}\n\n")
-    out.add("request: none\n")
-
-
-def comment(out, megabytes, letters="abcd efg "):
-    size = len(letters.encode())
-    out.add("request: none\n#")
-    for _ in range(megabytes * 1_000_000 // (size * 1000)):
-        out.add(letters * 1000)
-    out.add("\n")
-
-
-def comment_other(out, megabytes):
-    comment(out, megabytes, "\u00e9\u20ac\U0001f600")
-
-
-# ---- problems for judging, and their solutions
+def installed(name, version=1):
+    return stanza(name, version, "installed: true")
 
 
 def version_of(number):
     return number % 8 + 1
 
 
-def installed_distribution(out, packages, step, is_conflicting=False):
-    """Every step-th package is installed; its dependencies are installed too."""
-    chance, partner = random.Random(1), random.Random(2)
-    out.add(PREAMBLE)
-    for number in range(1, packages + 1):
-        is_installed = number % step == 0
-        within = step if is_installed else 1
-        others = [chance.randrange(1, packages // within + 1) * within for _ in range(10)]
-        names = [f"lib-{other}" for other in others]
-        clauses = [f"{names[0]} >= {version_of(others[0])}", f"missing | {names[1]}"] + names[2:]
-        name = f"lib-{number}"
-        conflicts = f", lib-{partner.randrange(1, packages + 1)}" if is_conflicting and number % 10 == 0 else ""
-        out.add(
-            f"package: {name}\nversion: {version_of(number)}\ndepends: {', '.join(clauses)}\n"
-            f"conflicts: {name}, missing-{number % 991}{conflicts}\nprovides: {name} = 9, feature-{number % 997}\n"
-            f"recommends: true!\nsource: source of {name}\npriority: {number % 7 - 3}\narchitecture: amd64\n"
-        )
-        out.add("installed: true\n\n" if is_installed else "\n")
-    out.add(f"request: none\ninstall: lib-{step}\n")
+def each(text_of, end=REQUEST):
+    """A document with a text for each number from 1 to COUNT."""
+    def document(count):
+        yield from (text_of(number, count) for number in range(1, count + 1))
+        yield end
+    return document
 
 
-def chosen(out, numbers):
-    for number in numbers:
-        out.add(f"package: lib-{number}\nversion: {version_of(number)}\ninstalled: true\n\n")
+def packages(*lines):
+    """Packages for chosen-all with these lines, of which each is made of the number and the count."""
+    return each(lambda number, count: stanza(
+        f"lib-{number}", version_of(number), *(line.format(number=number, count=count) for line in lines)))
 
 
-def plain_packages(out, packages, lines):
-    """Packages for `chosen-all`, each with the lines that belong to its number."""
-    for number in range(1, packages + 1):
-        out.add(f"package: lib-{number}\nversion: {version_of(number)}\n{lines(number)}\n\n")
-    out.add("request: none\n")
+def chosen(is_chosen):
+    return each(lambda number, _: installed(f"lib-{number}", version_of(number)) if is_chosen(number) else "", "")
 
 
-def broken(out, packages):
-    def lines(number):
-        present = [f"lib-{(number * place) % packages + 1}" for place in range(1, 6)]
-        missing = [f"missing-{number % 991 + place}" for place in range(5)]
-        return "depends: " + ", ".join(f"{one}, {other}" for one, other in zip(present, missing))
-    plain_packages(out, packages, lines)
+def sized(head, text_of, end, room):
+    """A document with texts up to a number of megabytes, with room for the end."""
+    def document(megabytes):
+        yield head
+        size, number = len(head), 0
+        while size < megabytes * 1_000_000 - room:
+            number += 1
+            text = text_of(number)
+            size += len(text)
+            yield text
+        yield end
+    return document
 
 
-def one_feature(out, packages):
-    plain_packages(out, packages, lambda number: "provides: feature\nconflicts: feature")
+def about(number, is_installed):
+    """The last lines of a distribution's package."""
+    lines = "recommends: true!", f"source: source of lib-{number}", f"priority: {number % 7 - 3}", "architecture: amd64"
+    return [*lines, "installed: true"] if is_installed else lines
 
 
-def last_entry(out, packages):
-    plain_packages(out, packages, lambda number: f"provides: feature = {number}\nconflicts: feature = {packages}")
+def distribution(count):
+    chance = random.Random(1)
+    yield PREAMBLE
+    for number in range(1, count + 1):
+        name, others = f"lib-{number}", [f"lib-{chance.randrange(1, count + 1)}" for _ in range(10)]
+        clauses = [f"{others[0]} >= {chance.randrange(1, 5)}", f"{others[1]} | {others[2]}", *others[3:]]
+        yield stanza(name, chance.randrange(1, 9), f"depends: {', '.join(clauses)}", f"conflicts: {name}",
+                     f"provides: {name} = 1, feature-{number % 997}", *about(number, number % 20 == 0))
+    yield REQUEST + "install: lib-1\n"
 
 
-def kept(out, packages):
-    plain_packages(out, packages, lambda number: "keep: package\ninstalled: true")
+def installed_distribution(step, conflicting=0):
+    """Every step-th package is installed, and its dependencies are; each `conflicting`-th conflicts with another."""
+    def document(count):
+        chance, partner = random.Random(1), random.Random(2)
+        yield PREAMBLE
+        for number in range(1, count + 1):
+            within = step if number % step == 0 else 1
+            others = [chance.randrange(1, count // within + 1) * within for _ in range(10)]
+            clauses = [f"lib-{others[0]} >= {version_of(others[0])}", f"missing | lib-{others[1]}"]
+            clauses += [f"lib-{other}" for other in others[2:]]
+            conflicts = [f"lib-{number}", f"missing-{number % 991}"]
+            if conflicting and number % conflicting == 0:
+                conflicts.append(f"lib-{partner.randrange(1, count + 1)}")
+            yield stanza(f"lib-{number}", version_of(number), f"depends: {', '.join(clauses)}",
+                         f"conflicts: {', '.join(conflicts)}", f"provides: lib-{number} = 9, feature-{number % 997}",
+                         *about(number, number % step == 0))
+        yield f"{REQUEST}install: lib-{step}\n"
+    return document
 
 
-def versions_in(out, numbers):
-    numbers = list(numbers)
-    for number in numbers:
-        out.add(f"package: same\nversion: {number}\ndepends: same >= {number}, same != {number}\ninstalled: true\n\n")
-    out.add("request: none\nremove: same > " + str(len(numbers)) + "\n")
+def properties(count):
+    yield "preamble:\nproperty: p-0: int" + "".join(f", p-{number}: int" for number in range(1, count))
+    yield "\n\npackage: a\nversion: 1\n"
+    yield from (f"p-{number}: {number}\n" for number in range(count))
+    yield "\n" + REQUEST
 
 
-def shuffled(out, packages):
-    numbers = list(range(1, packages + 1))
-    random.Random(1).shuffle(numbers)
-    versions_in(out, numbers)
+def continuations(count):
+    yield "package: a\nversion: 1\ndepends: b"
+    yield from (f",\n  b >= {number % 9 + 1}" for number in range(count))
+    yield "\n\n" + REQUEST
 
 
-def versions(out, packages):
-    for number in range(1, packages + 1):
-        out.add(f"package: same\nversion: {number}\ninstalled: true\n\n")
+def commented(number, count):
+    entries = ",\n# between\n\t".join(f"lib-{number * place % count + 1}" for place in range(1, 11))
+    return f"package: lib-{number}\n# within\nversion: 1\ndepends: {entries}\n\n"
 
 
-def own(out, count, entry, behind=""):
-    """One package that provides each entry and conflicts with it."""
-    entries = ", ".join(entry(number) for number in range(1, count + 1))
-    out.add(f"package: own\nversion: 1\nprovides: {entries}\nconflicts: {entries}\n\n{behind}request: none\n")
+def enum(count):
+    yield "preamble:\nproperty: colour: enum[" + ", ".join(f"c{number}" for number in range(count)) + "] = [c0]\n\n"
+    yield from (stanza(f"lib-{number}", 1, f"colour: c{number}") for number in range(count))
+    yield REQUEST
 
 
-def own_and_other(out, count):
-    other = f"package: other\nversion: 1\nprovides: feature = {count + 1}\n\n"
-    own(out, count, lambda number: f"feature = {number}", other)
+def comment(letters):
+    def document(megabytes):
+        yield REQUEST + "#"
+        yield from [letters * 1000] * (megabytes * 1_000_000 // (len(letters.encode()) * 1000))
+        yield "\n"
+    return document
 
 
-def own_bounds(out, count):
-    operators = (" = {}", " != {}", " >= {}", " > {}", " <= {}", " < {}", "")
-    entries = ", ".join(f"feature = {number}" if number % 8 else "feature" for number in range(1, count + 1))
-    conflicts = ", ".join("feature" + operators[number % 7].format(number) for number in range(1, count + 1))
-    out.add(f"package: own\nversion: 1\nprovides: {entries}\nconflicts: {conflicts}\n\n")
-    out.add(f"package: other\nversion: 1\nprovides: feature = {count // 2}\n\nrequest: none\n")
+def broken(number, count):
+    clauses = [f"lib-{number * place % count + 1}, missing-{number % 991 + place - 1}" for place in range(1, 6)]
+    return stanza(f"lib-{number}", version_of(number), "depends: " + ", ".join(clauses))
 
 
-def unknown(out, stanzas):
-    for number in range(1, stanzas + 1):
-        out.add(f"package: ghost-{number}\nversion: 1\ninstalled: true\n\n")
+def versions(arranged):
+    """One name in all versions, in an order."""
+    def document(count):
+        numbers = list(range(1, count + 1))
+        arranged(numbers)
+        for number in numbers:
+            yield stanza("same", number, f"depends: same >= {number}, same != {number}", "installed: true")
+        yield f"{REQUEST}remove: same > {count}\n"
+    return document
 
 
-def repeat(text):
-    """A document of so many times this text."""
-    def write(out, count):
-        for _ in range(count):
-            out.add(text)
-    return write
+def own(entry, conflict=None, other=None):
+    """A package that provides each entry, and conflicts with each or those of `conflict`; and a second provider."""
+    def document(count):
+        provides, conflicts = (", ".join(map(text_of, range(1, count + 1))) for text_of in (entry, conflict or entry))
+        yield stanza("own", 1, f"provides: {provides}", f"conflicts: {conflicts}")
+        yield stanza("other", 1, f"provides: feature = {other(count)}") if other else ""
+        yield REQUEST
+    return document
 
 
 KINDS = {
-    "small": small,
-    "formula": formula,
-    "distribution": distribution,
-    "one-name": one_name,
-    "long-names": long_names,
-    "alike-names": alike_names,
-    "properties": properties,
-    "continuations": continuations,
-    "commented": commented,
-    "enum": enum,
-    "comment": comment,
-    "comment-other": comment_other,
-    "tenth": lambda out, packages: installed_distribution(out, packages, 10),
-    "half": lambda out, packages: installed_distribution(out, packages, 2),
-    "all": lambda out, packages: installed_distribution(out, packages, 1),
-    "chosen-tenth": lambda out, packages: chosen(out, range(10, packages + 1, 10)),
-    "chosen-half": lambda out, packages: chosen(out, range(2, packages + 1, 2)),
-    "chosen-all": lambda out, packages: chosen(out, range(1, packages + 1, 1)),
-    "chosen-most": lambda out, packages: chosen(out, (number for number in range(1, packages + 1) if number % 9)),
-    "broken": broken,
-    "conflicting": lambda out, packages: installed_distribution(out, packages, 1, True),
-    "ascending": lambda out, packages: versions_in(out, range(1, packages + 1)),
-    "descending": lambda out, packages: versions_in(out, range(packages, 0, -1)),
-    "shuffled": shuffled,
-    "versions": versions,
-    "one-feature": one_feature,
-    "last-entry": last_entry,
-    "own-entries": lambda out, count: own(out, count, lambda number: f"feature = {number}"),
-    "own-names": lambda out, count: own(out, count, lambda number: f"feature-{number}"),
-    "own-and-other": own_and_other,
-    "own-bounds": own_bounds,
-    "own": lambda out, count: out.add("package: own\nversion: 1\ninstalled: true\n"),
-    "own-two": lambda out, count: out.add(
-        "package: own\nversion: 1\ninstalled: true\n\npackage: other\nversion: 1\ninstalled: true\n"
-    ),
-    "kept": kept,
-    "absent": absent,
-    "unknown": unknown,
-    "short-stanzas": repeat("request:\n\n"),
+    # a problem and an empty answer in one document
+    "small": ("megabytes of small stanzas", sized("", lambda number: stanza(
+        f"pkg-{number}", number % 9 + 1, f"depends: pkg-{number // 2 + 1}", "installed: true"), REQUEST + "\n", 20)),
+    "formula": ("megabytes, of one installed package of one long formula", sized(
+        "package: root\nversion: 1\ndepends: root", lambda number: f", root >= 1 | lib-{number % 1000} < {number}",
+        f"\ninstalled: true\n\n{REQUEST}\n", 100)),
+    # problems for reading
+    "distribution": ("as a distribution's, ten dependencies a package, every twentieth installed", distribution),
+    "one-name": ("all packages have one name", each(lambda number, _: stanza("same", number, "depends: same > 1"))),
+    "long-names": ("names that share 200 letters", each(lambda number, _: stanza("a" * 200 + str(number), 1))),
+    "alike-names": ("names that share 120 letters, with dependencies on such names", each(lambda number, _: stanza(
+        "b" * 120 + str(number), 1, "depends: {0}{1}, {0}{2} = 1".format("b" * 120, number // 2 + 1, number)))),
+    "properties": ("so many properties declared, and set in one package", properties),
+    "continuations": ("so many continuations of one value", continuations),
+    "commented": ("lists on many lines with comments between", each(commented)),
+    "enum": ("so many idents of an enum, and a package with each", enum),
+    "comment": ("megabytes of one comment line of ASCII", comment("abcd efg ")),
+    "comment-other": ("megabytes of one comment line of other letters", comment("\u00e9\u20ac\U0001f600")),
+    # problems for judging
+    "tenth": ("a distribution with a tenth installed: chosen-tenth", installed_distribution(10)),
+    "half": ("a distribution with a half installed: chosen-half", installed_distribution(2)),
+    "all": ("a distribution with all installed: chosen-all", installed_distribution(1)),
+    "broken": ("five missing dependencies a package, a line of report each: chosen-all", each(broken)),
+    "conflicting": ("all, and each tenth conflicts with another one: chosen-most", installed_distribution(1, 10)),
+    "ascending": ("one name in ascending versions: versions", versions(list.sort)),
+    "descending": ("one name in descending versions: versions", versions(list.reverse)),
+    "shuffled": ("one name in shuffled versions: versions", versions(lambda order: random.Random(1).shuffle(order))),
+    "one-feature": ("packages that provide one feature and conflict with it, a line of report each: chosen-all",
+                    packages("provides: feature", "conflicts: feature")),
+    "last-entry": ("each conflicts with a number that only the last one provides, lines of report: chosen-all",
+                   packages("provides: feature = {number}", "conflicts: feature = {count}")),
+    "own-entries": ("so many versions of a feature, and a conflict with each: own", own("feature = {}".format)),
+    "own-names": ("so many features, and a conflict with each: own", own("feature-{}".format)),
+    "own-and-other": ("own-entries, and a second provider: own-two",
+                      own("feature = {}".format, other=lambda count: count + 1)),
+    "own-bounds": ("the same with all operators in conflicts, each eighth entry at all versions, for a report: own-two",
+                   own(lambda number: f"feature = {number}" if number % 8 else "feature",
+                       lambda number: "feature" + OPERATORS[number % 7].format(number), lambda count: count // 2)),
+    "kept": ("packages with keep: package: chosen-all", packages("keep: package", "installed: true")),
+    # answers
+    "chosen-tenth": ("each tenth package", chosen(lambda number: number % 10 == 0)),
+    "chosen-half": ("each second package", chosen(lambda number: number % 2 == 0)),
+    "chosen-all": ("all packages", chosen(lambda number: True)),
+    "chosen-most": ("all but each ninth", chosen(lambda number: number % 9 != 0)),
+    "versions": ("one name in all versions", each(lambda number, _: installed("same", number), "")),
+    "own": ("the package of own-entries and own-names", lambda _: [installed("own")[:-1]]),
+    "own-two": ("the packages of own-and-other and own-bounds", lambda _: [installed("own"), installed("other")[:-1]]),
+    "absent": ("packages of a distribution, none installed", each(
+        lambda number, _: stanza(f"lib-{number}", number % 9 + 1, "installed: false"), "")),
+    "unknown": ("so many stanzas that no problem has, a line of report each", each(
+        lambda number, _: installed(f"ghost-{number}"), "")),
+    "short-stanzas": ("so many stanzas of one short property, none of a package", each(lambda *_: "request:\n\n", "")),
 }
 
 
-def main():
-    if len(sys.argv) != 3 or sys.argv[1] not in KINDS or not sys.argv[2].isdigit():
-        sys.exit(__doc__)
-    out = Writer(sys.stdout.buffer)
-    KINDS[sys.argv[1]](out, int(sys.argv[2]))
-    out.flush()
-
-
 if __name__ == "__main__":
-    main()
+    if len(sys.argv) != 3 or sys.argv[1] not in KINDS or not sys.argv[2].isdigit():
+        sys.exit("\n".join([__doc__, *(f"    {name:14} {what}" for name, (what, _) in KINDS.items())]))
+    with open(sys.stdout.fileno(), "w", encoding="utf-8", newline="\n", buffering=1 << 20) as out:
+        out.writelines(KINDS[sys.argv[1]][1](int(sys.argv[2])))

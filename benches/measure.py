@@ -1,80 +1,105 @@
 #!/usr/bin/env python3
-"""Measures the program beside another one with the same command line, and prints tables for docs/FIGURES.md.
+"""Measures the program, and prints tables for docs/FIGURES.md.
 
-usage: measure.py [-k TIMES] [-s SHARE] [-b COMMAND] [-d FOLDER] PROGRAM PLAIN [GROUP..]
+usage: measure.py times [-k TIMES] [-n SITTINGS] [-s SHARE] [-b COMMAND] [-d FOLDER] PROGRAM PLAIN [GROUP..]
+       measure.py instructions PROGRAM PLAIN
+       measure.py calls PROGRAM LIBRARY_FOLDER
+       measure.py minutes COMMAND [WORD..]
 
-GROUPs are reading, judging, hostile, pages; all of them if none is named. PLAIN is the command of the other program (in
-quotes where it has several words). Each job is run TIMES times (7 if not given) by each, in turns; the least processor
-time counts, and the greatest memory. Sizes are multiplied by SHARE (1 if not given). With `-b` the shapes of
-distributions are also given to this command, in the same turns; {P} and {S} in it stand for the files. With `-d` the
-inputs are kept in FOLDER, and those that it has from an earlier sitting are used again.
+PLAIN is the command of another program with the same command line. Inputs are those of generate.py. For Linux; Python's
+standard library alone.
 
-Columns: the ratio of the least times; `doubled`, the time by that of the same job on the half size, which runs in the
-same turns; `by lint`, the time by that of `lint` of the same problem; memory in megabytes and its ratio, and memory by
-the input's bytes. Compare ratios of one run, never times of two. Reports are thrown away. A small run's memory is at
-least that of this script. For Linux; Python's standard library alone.
+- times: the GROUPs reading, judging, hostile and pages, or some of them, SITTINGS (1) times. The least processor time
+  of TIMES (7) runs counts, in turns with PLAIN, and the greatest memory, at least this script's. Sizes are multiplied
+  by SHARE. With -b distributions are also given to COMMAND; {P} and {S} in it are the files. With -d inputs are kept in
+  FOLDER. `doubled`: the time divided by that of half the size; `by lint`: by that of `lint`; `by input`: memory by
+  size. Compare ratios of one sitting, never times of two.
+- instructions: each job once under valgrind's callgrind, by stripped copies of the programs. Counts have no noise.
+- calls: the least time of five for 1,000 calls of libcudf_check.a by a program in C, and 1,000 starts of the program.
+- minutes: the time of a command that proves crates, and the processor minutes of each crate in its session. The last
+  half second of each check is lost.
 """
 import argparse
 import collections
 import os
+import re
 import shlex
+import shutil
 import subprocess
 import sys
 import tempfile
+import time
+from pathlib import Path
 
-GENERATE = os.path.join(os.path.dirname(os.path.abspath(__file__)), "generate.py")
-Shape = collections.namedtuple("Shape", "name problem solution count jobs")
-LINT, CHECK = ("lint",), ("lint", "check")
+from generate import KINDS
+
+HERE = os.path.dirname(os.path.abspath(__file__))
+ROOT = os.path.dirname(HERE)
+
+
+def show(*cells):
+    print("| " + " | ".join(map(str, cells)) + " |", flush=True)
+
+
+def heads(*cells):
+    show(*cells)
+    print("|---" + "|--:" * (len(cells) - 1) + "|", flush=True)
+
+
+def generated(folder, kind, count):
+    path = f"{folder}/{kind}-{count}"
+    if not os.path.exists(path):
+        with open(path + "-begun", "wb") as file:
+            subprocess.run([sys.executable, f"{HERE}/generate.py", kind, str(count)], stdout=file, check=True)
+        os.rename(path + "-begun", path)
+    return path
+
+
+def files_of(folder, kind, count):
+    """The paths of a problem P and of its answer S, where it has one; or of an answer to a small problem."""
+    if kind in ANSWERS:
+        return {"P": generated(folder, "kept", 10), "S": generated(folder, kind, count)}
+    answer, files = KINDS[kind][0].rpartition(": ")[2], {"P": generated(folder, kind, count)}
+    return {**files, "S": generated(folder, answer, count)} if answer in KINDS else files
+
+
+JOBS = {
+    "lint": "lint {P}", "check": "check {P} {S}", "the first page of 20": "check {P} {S} --limit 20",
+    "20 after the middle": "check {P} {S} --after p{middle}.depends.5 --limit 20",
+}
+# each input: its name, the kind of its problem, and sizes
 GROUPS = {
-    "reading": [
-        Shape("distribution", "tenth", "chosen-tenth", 156_000, CHECK),
-        Shape("distribution", "tenth", "chosen-tenth", 624_000, CHECK),
-        Shape("distribution, all installed", "all", "chosen-all", 134_000, CHECK),
-        Shape("distribution, all installed", "all", "chosen-all", 536_000, CHECK),
-    ],
-    "judging": [
-        Shape("a tenth installed", "tenth", "chosen-tenth", 50_000, CHECK),
-        Shape("a tenth installed", "tenth", "chosen-tenth", 200_000, CHECK),
-        Shape("half installed", "half", "chosen-half", 50_000, CHECK),
-        Shape("half installed", "half", "chosen-half", 200_000, CHECK),
-        Shape("all installed", "all", "chosen-all", 50_000, CHECK),
-        Shape("all installed", "all", "chosen-all", 200_000, CHECK),
-        Shape("five faults a package", "broken", "chosen-all", 100_000, CHECK),
-        Shape("one name, ascending", "ascending", "versions", 100_000, CHECK),
-        Shape("one name, descending", "descending", "versions", 100_000, CHECK),
-        Shape("one name, shuffled", "shuffled", "versions", 100_000, CHECK),
-        Shape("one feature", "one-feature", "chosen-all", 10_000, CHECK),
-        Shape("met by the last entry", "last-entry", "chosen-all", 100_000, CHECK),
-        Shape("own entries of one name", "own-entries", "own", 20_000, CHECK),
-        Shape("own entries of many names", "own-names", "own", 20_000, CHECK),
-        Shape("own entries and another's", "own-and-other", "own-two", 10_000, CHECK),
-        Shape("own entries and another's", "own-and-other", "own-two", 40_000, CHECK),
-        Shape("the same by each operator", "own-bounds", "own-two", 10_000, CHECK),
-        Shape("the same by each operator", "own-bounds", "own-two", 40_000, CHECK),
-        Shape("keep: package", "kept", "chosen-all", 50_000, CHECK),
-        Shape("an enum", "enum", None, 50_000, LINT),
-    ],
-    "hostile": [
-        Shape("lists on many lines", "commented", None, 100_000, LINT),
-        Shape("names sharing 120 bytes", "alike-names", None, 100_000, LINT),
-        Shape("declared properties", "properties", None, 100_000, LINT),
-        Shape("an enum", "enum", None, 50_000, LINT),
-        Shape("a comment, ASCII", "comment", None, 100, LINT),
-        Shape("a comment, other letters", "comment-other", None, 100, LINT),
-        Shape("unknown stanzas", "kept", "unknown", 1_000_000, ("check",)),
-        Shape("stanzas of one property", "kept", "short-stanzas", 1_000_000, ("check",)),
-        Shape("continuations", "continuations", None, 100_000, LINT),
-    ],
+    "reading": (
+        ("distribution", "tenth", 156_000, 624_000), ("distribution, all installed", "all", 134_000, 536_000),
+    ),
+    "judging": (
+        ("a tenth installed", "tenth", 50_000, 200_000), ("half installed", "half", 50_000, 200_000),
+        ("all installed", "all", 50_000, 200_000), ("five faults a package", "broken", 100_000),
+        ("one name, ascending", "ascending", 100_000), ("one name, descending", "descending", 100_000),
+        ("one name, shuffled", "shuffled", 100_000), ("one feature", "one-feature", 10_000),
+        ("met by the last entry", "last-entry", 100_000), ("own entries of one name", "own-entries", 20_000),
+        ("own entries of many names", "own-names", 20_000),
+        ("own entries and another's", "own-and-other", 10_000, 40_000),
+        ("the same by each operator", "own-bounds", 10_000, 40_000), ("keep: package", "kept", 50_000),
+    ),
+    "hostile": (
+        ("lists on many lines", "commented", 100_000), ("names sharing 120 bytes", "alike-names", 100_000),
+        ("declared properties", "properties", 100_000), ("an enum", "enum", 50_000),
+        ("a comment, ASCII", "comment", 100), ("a comment, other letters", "comment-other", 100),
+        ("unknown stanzas", "unknown", 1_000_000), ("stanzas of one property", "short-stanzas", 1_000_000),
+        ("continuations", "continuations", 100_000),
+    ),
+    "pages": (("a long listing", "broken", 100_000),),
 }
-# the problem beside these solutions is small
-SMALL = {"unknown": 10, "short-stanzas": 10}
-DISTRIBUTIONS = ("tenth", "half", "all")
-PAGES = {
-    "lint": ["lint", "{P}"],
-    "the first page of 20": ["check", "{P}", "{S}", "--limit", "20"],
-    "20 behind the middle": ["check", "{P}", "{S}", "--after", "p{middle}.depends.5", "--limit", "20"],
-    "the whole listing": ["check", "{P}", "{S}"],
-}
+# answers without a problem of their own
+ANSWERS = ("unknown", "short-stanzas")
+COLUMNS = ("size MB", "ms", "plain ms", "ratio", "doubled", "by lint", "beside by ours", "MB", "plain MB",
+           "memory ratio", "by input", "status")
+# the inputs that docs/FIGURES.md shows
+SHOWN = ("distribution, 156000", "distribution, 624000", "distribution, all installed, 134000",
+         "half installed, 200000", "five faults a package, 100000", "one name, descending, 100000",
+         "met by the last entry, 100000", "the same by each operator, 40000", "lists on many lines, 100000",
+         "a comment, other letters, 100", "unknown stanzas, 1000000")
 
 
 class Series:
@@ -92,131 +117,193 @@ class Series:
         self.memory = max(self.memory, usage.ru_maxrss * 1024)
 
 
-def run_in_turns(commands, times):
-    """The series of each command, by its name."""
-    series = {name: Series(words) for name, words in commands.items()}
-    order = list(series.values())
-    for turn in range(times):
-        for place in range(len(order)):
-            order[(place + turn) % len(order)].run()
-    return series
-
-
-def generate(folder, kind, count):
-    """The path of a generated document."""
-    path = os.path.join(folder, f"{kind}-{count}")
-    if not os.path.exists(path):
-        with open(path + "-begun", "wb") as file:
-            subprocess.run([sys.executable, GENERATE, kind, str(count)], stdout=file, check=True)
-        os.rename(path + "-begun", path)
-    return path
-
-
-def files_of(folder, shape, count):
-    """The files of a shape: P and, where it has a solution, S."""
-    files = {"P": generate(folder, shape.problem, SMALL.get(shape.solution, count))}
-    if shape.solution:
-        files["S"] = generate(folder, shape.solution, count)
-    return files
-
-
 def ratio(part, whole):
     return f"{part / whole:.2f}" if whole else "-"
 
 
-def row(name, size, ours, plain, *ratios):
-    megabytes = [f"{series.memory / 1e6:.0f}" for series in (ours, plain)]
-    same = str(ours.status) if ours.status == plain.status else f"{ours.status}, plain {plain.status}"
-    return [
-        name, f"{size / 1e6:.1f}", f"{ours.time * 1000:.1f}", f"{plain.time * 1000:.1f}", ratio(ours.time, plain.time),
-        *ratios, *megabytes, ratio(ours.memory, plain.memory), ratio(ours.memory, size), same,
-    ]
-
-
-def table(head, rows):
-    print("| " + " | ".join(head) + " |\n|" + "---|" * len(head), flush=True)
-    for cells in rows:
-        print("| " + " | ".join(cells) + " |", flush=True)
-    print()
-
-
-MEMORY = ["MB", "plain MB", "ratio", "by input", "status"]
-
-
-def commands_of(options, shape, job, files):
+def commands_of(options, kind, job, files, count):
     """The commands of a job on files, by the names ours, plain and beside."""
-    names = [files["P"]] + ([files["S"]] if job == "check" else [])
-    programs = (("ours", options.program), ("plain", options.plain))
-    commands = {name: shlex.split(words) + [job] + names for name, words in programs}
-    if options.beside and shape.problem in DISTRIBUTIONS:
-        commands["beside"] = [word.format(**files) for word in shlex.split(options.beside)]
+    words = [word.format(**files, middle=count // 2) for word in JOBS[job].split()]
+    commands = {"ours": shlex.split(options.program) + words, "plain": shlex.split(options.plain) + words}
+    if options.b and kind in ("tenth", "half", "all"):
+        commands["beside"] = [word.format(**files) for word in shlex.split(options.b)]
     return commands
 
 
-def measure_shape(options, folder, shape):
-    """The rows of a shape: its jobs on the half and the whole size, each job on both in the same turns."""
-    half, whole = max(1, int(shape.count * options.share) // 2), max(2, int(shape.count * options.share))
-    files, linted = {count: files_of(folder, shape, count) for count in (half, whole)}, {}
-    for job in shape.jobs:
-        commands = {count: commands_of(options, shape, job, files[count]) for count in files}
-        series = run_in_turns({(count, who): words for count in files for who, words in commands[count].items()}, options.times)
-        for count in files:
-            ours, size = series[count, "ours"], sum(map(os.path.getsize, list(files[count].values())[:2 if job == "check" else 1]))
-            linted[count] = ours.time if job == "lint" else linted.get(count, 0)
-            doubled = ratio(ours.time, series[half, "ours"].time if count == whole else 0)
-            beside = ratio(series[count, "beside"].time, ours.time) if (count, "beside") in series else "-"
-            name = f"{shape.name}, {count}: {job}"
-            yield row(name, size, ours, series[count, "plain"], doubled, ratio(ours.time, linted[count]), beside)
-    for path in [] if options.kept else [path for count in files for path in files[count].values()]:
-        if os.path.exists(path):
-            os.remove(path)
+def measured(options, folder, kind, count, is_paged):
+    """For each job on half and whole of an input, in the same turns, the size, the job and the columns."""
+    half, whole = max(1, int(count * options.s) // 2), max(2, int(count * options.s))
+    files, linted = {number: files_of(folder, kind, number) for number in (half, whole)}, {}
+    jobs = ["lint"] * (kind not in ANSWERS) + ["check"] * ("S" in files[whole])
+    for job in JOBS if is_paged else jobs:
+        series = {(number, who): Series(words) for number in files
+                  for who, words in commands_of(options, kind, job, files[number], number).items()}
+        order = list(series.values())
+        for turn in range(options.k):
+            for one in order[turn % len(order):] + order[:turn % len(order)]:
+                one.run()
+        for number, paths in files.items():
+            ours, plain, beside = (series.get((number, who)) for who in ("ours", "plain", "beside"))
+            size = sum(os.path.getsize(path) for name, path in paths.items() if name == "P" or job != "lint")
+            linted[number] = ours.time if job == "lint" else linted.get(number)
+            yield number, job, (
+                f"{size / 1e6:.1f}", f"{ours.time * 1e3:.1f}", f"{plain.time * 1e3:.1f}", ratio(ours.time, plain.time),
+                ratio(ours.time, series[half, "ours"].time if number == whole else 0), ratio(ours.time, linted[number]),
+                ratio(beside.time, ours.time) if beside else "-", f"{ours.memory / 1e6:.0f}",
+                f"{plain.memory / 1e6:.0f}", ratio(ours.memory, plain.memory), ratio(ours.memory, size),
+                ours.status if ours.status == plain.status else f"{ours.status}, plain {plain.status}",
+            )
+    for path in set() if options.d else {path for paths in files.values() for path in paths.values()}:
+        os.remove(path)
 
 
-def measure_group(options, folder, group):
-    print(f"### {group}\n")
-    head = ["input", "size MB", "ms", "plain ms", "ratio", "doubled", "by lint", "beside by ours"] + MEMORY
-    table(head, (cells for shape in GROUPS[group] for cells in measure_shape(options, folder, shape)))
+def sitting(options, folder, group, found):
+    """Prints the rows of a group, and adds them to what was found."""
+    heads(group, *COLUMNS)
+    for name, kind, count in ((name, kind, count) for name, kind, *counts in GROUPS[group] for count in counts):
+        for number, job, cells in measured(options, folder, kind, count, group == "pages"):
+            show(f"{name}, {number}: {job}", *cells)
+            found[f"{name}, {number}", job].append(dict(zip(COLUMNS, cells)))
+    print()
 
 
-def measure_pages(options, folder):
-    """Pages of a long listing, in one series of turns."""
-    print("### pages\n")
-    count = max(2, int(100_000 * options.share))
-    files = files_of(folder, Shape("pages", "broken", "chosen-all", count, ()), count)
-    commands = {
-        (name, who): shlex.split(words) + [word.format(middle=count // 2, **files) for word in job]
-        for name, job in PAGES.items() for who, words in (("ours", options.program), ("plain", options.plain))
-    }
-    series = run_in_turns(commands, options.times)
-    size = sum(map(os.path.getsize, files.values()))
-    linted = series["lint", "ours"].time
-    rows = [
-        row(name, size, series[name, "ours"], series[name, "plain"], ratio(series[name, "ours"].time, linted))
-        for name in PAGES
-    ]
-    table(["page", "size MB", "ms", "plain ms", "ratio", "by lint"] + MEMORY, rows)
-
-
-def main():
+def times(*words):
     read = argparse.ArgumentParser(usage=__doc__)
-    read.add_argument("-k", dest="times", type=int, default=7)
-    read.add_argument("-s", dest="share", type=float, default=1)
-    read.add_argument("-b", dest="beside")
-    read.add_argument("-d", dest="kept")
+    for letter, kind, default in (("k", int, 7), ("n", int, 1), ("s", float, 1), ("b", str, ""), ("d", str, "")):
+        read.add_argument(f"-{letter}", type=kind, default=default)
     read.add_argument("program")
     read.add_argument("plain")
-    read.add_argument("groups", nargs="*")
-    options = read.parse_args()
-    if not set(options.groups) <= {*GROUPS, "pages"}:
+    read.add_argument("groups", nargs="*", default=list(GROUPS))
+    options, found = read.parse_args(words), collections.defaultdict(list)
+    if not GROUPS.keys() >= set(options.groups):
         sys.exit(__doc__)
-    with tempfile.TemporaryDirectory() as scratch:
-        folder = options.kept or scratch
-        for group in options.groups or [*GROUPS, "pages"]:
-            if group == "pages":
-                measure_pages(options, folder)
-            else:
-                measure_group(options, folder, group)
+    with tempfile.TemporaryDirectory() as folder:
+        for group in options.groups * options.n:
+            sitting(options, options.d or folder, group, found)
+    heads("Input", "MB", "`lint`", "`check`", "Doubled", "Memory")
+    for name in SHOWN:
+        lint, check = found[name, "lint"], found[name, "check"]
+        for last in (check or lint)[:1]:
+            columns = (lint, "ratio"), (check, "ratio"), (check or lint, "doubled")
+            figures = (", ".join(cells[column] for cells in rows) for rows, column in columns)
+            show(name, last["size MB"], *figures, last["memory ratio"])
 
+
+# each input with the jobs whose instructions are counted; PLAIN doesn't know the option
+COUNTED = (
+    ("a tenth installed", "tenth", 20_000, "lint", "lint --strict", "check", "check --strict"),
+    ("all installed", "all", 20_000, "check"), ("lists on many lines", "commented", 20_000, "lint"),
+    ("own entries and another's", "own-and-other", 5_000, "check"),
+    ("own entries and another's", "own-and-other", 10_000, "check"),
+)
+
+
+def stripped(folder, command):
+    """The words of a command, with a copy of its program that valgrind can read."""
+    program, *words = shlex.split(command)
+    copy = f"{folder}/program-{len(os.listdir(folder))}"
+    shutil.copy(shutil.which(program), copy)
+    subprocess.run(["strip", "-g", copy], check=True)
+    return [copy, *words]
+
+
+def counted(words):
+    """The millions of instructions of a command."""
+    words = ["valgrind", "--tool=callgrind", "--callgrind-out-file=/dev/null", *words]
+    ran = subprocess.run(words, stdout=subprocess.DEVNULL, stderr=subprocess.PIPE, text=True, check=False)
+    found = re.search(r"Collected : (\d+)", ran.stderr)
+    return int(found[1]) / 1e6 if found else sys.exit(ran.stderr[-1000:])
+
+
+def instructions(program, plain):
+    heads("Millions of instructions", "`cudf_check`", "Plain", "By plain", "By byte")
+    with tempfile.TemporaryDirectory() as folder:
+        ours, other = stripped(folder, program), stripped(folder, plain)
+        for name, kind, count, job in ((*row[:3], job) for row in COUNTED for job in row[3:]):
+            files = list(files_of(folder, kind, count).values())[:2 if "check" in job else 1]
+            words = job.split() + files
+            own, beside = counted(ours + words), 0 if "--" in job else counted(other + words)
+            ratios = [f"{beside:.1f}", ratio(own, beside)] if beside else ["", ""]
+            by_byte = own * 1e6 / sum(map(os.path.getsize, files))
+            show(f"`{job}`, {name}, {count}", f"{own:.1f}", *ratios, f"{by_byte:.0f}")
+
+
+FILES = [f"{ROOT}/examples/car.{name}.cudf" for name in ("problem", "broken")]
+CALLS, TURNS = 1_000, 5
+
+
+def calls(program, library):
+    """A start also reads its files, which a call doesn't."""
+    start, turns = Series([os.path.abspath(program), "check", *FILES]), []
+    with tempfile.TemporaryDirectory() as folder:
+        path, sources = f"{folder}/calls", [f"{HERE}/calls.c", f"{library}/libcudf_check.a"]
+        subprocess.run(["cc", "-std=c99", "-O2", f"-I{ROOT}/include", *sources, "-o", path], check=True)
+        for _ in range(TURNS):
+            called, begun = int(subprocess.check_output([path, *FILES, str(CALLS)])), time.monotonic()
+            for _ in range(CALLS):
+                start.run()
+            turns.append((called / 1e6, (time.monotonic() - begun) * 1e3))
+    if start.status != 1:
+        sys.exit(f"{program} doesn't answer `solution no`")
+    called, started = map(min, zip(*turns))
+    heads(f"{CALLS:,} times", "ms", "by calls")
+    show("calls of the library", f"{called:.1f}", 1)
+    show("starts of the program", f"{started:.1f}", f"{started / called:.0f}")
+
+
+PARTS = "proofs", "tests", "wrong bodies"
+TICKS_A_MINUTE = 60 * os.sysconf("SC_CLK_TCK")
+
+
+def checked(words, folder):
+    """The crate that a process checks, and which part: outside of the crate's own folder these are wrong bodies."""
+    if os.path.basename(words[0]) != "rattle" or "--crate-name" not in words:
+        return None
+    crate = words[words.index("--crate-name") + 1]
+    is_own = folder.endswith(f"/crates/{crate}") and "/wrong-bodies-" not in folder
+    return crate, PARTS["--test" in words] if is_own else PARTS[2]
+
+
+def look_over(ticks):
+    """Notes the ticks of each check in this session and of its ended children; a check's own child counts with it."""
+    found = {}
+    for it in Path("/proc").glob("[0-9]*"):
+        try:
+            stat = (it / "stat").read_text().rpartition(")")[2].split()
+            part = checked((it / "cmdline").read_text(errors="replace").split("\0"), os.readlink(it / "cwd"))
+            if int(stat[3]) == os.getsid(0):
+                found[it.name] = stat[1], part, sum(map(int, stat[11:15]))
+        except OSError:
+            continue
+    for number, (parent, part, used) in found.items():
+        if part and not (parent in found and found[parent][1]):
+            ticks[number, part] = used
+
+
+def minutes(*command):
+    began, ticks = time.monotonic(), collections.Counter()
+    run = subprocess.Popen(command, stderr=subprocess.STDOUT)
+    while run.poll() is None:
+        look_over(ticks)
+        time.sleep(0.5)
+    spent, used = int(time.monotonic() - began), os.times()
+    heads("Command", "Time", "Processor time")
+    processor = (used.children_user + used.children_system) / 60
+    show(f"`{' '.join(command)}`", f"{spent // 60}m{spent % 60:02}s", f"{processor:.1f} min")
+    print()
+    heads("Minutes", *PARTS)
+    for crate in dict.fromkeys(crate for _, (crate, _) in ticks):
+        sums = [sum(used for (_, part), used in ticks.items() if part == (crate, name)) for name in PARTS]
+        show(crate, *(f"{used / TICKS_A_MINUTE:.1f}" for used in sums))
+    return run.returncode
+
+
+# each command with the numbers of arguments that it takes
+COMMANDS = {"times": (times, range(2, 99)), "instructions": (instructions, [2]), "calls": (calls, [2]),
+            "minutes": (minutes, range(1, 99))}
 
 if __name__ == "__main__":
-    main()
+    name, *words = sys.argv[1:] or [""]
+    if name not in COMMANDS or len(words) not in COMMANDS[name][1]:
+        sys.exit(__doc__)
+    sys.exit(COMMANDS[name][0](*words))

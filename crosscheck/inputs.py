@@ -1,13 +1,12 @@
-"""Random problems, solutions and words of the command line, for comparing. Python's standard library alone."""
+"""Random problems, solutions and arguments; errors are put in on purpose. Python's standard library alone."""
 import random
 
-from second import keys
 from second.criteria import COUNTS
-from faulty import Faults
-from second.values import OPERATORS
+from second.documents import WISHES
+from second.keys import ASPECTS
+from second.values import BLANKS, ENTRIES, OPERATORS, PROPERTIES, RESERVED
 
 NAMES = ("a", "b", "c", "f")
-UNKNOWN = ("a", "c", "f", "z")
 ODD_NAMES = ("true", "1", "a:i", "g++", "a b", "")
 ODD_NUMBERS = ("+2", "01", "0", "18446744073709551615", "18446744073709551616", "-1", "x")
 DECLARATIONS = (
@@ -16,48 +15,213 @@ DECLARATIONS = (
     "x: bool = [tru]", "version: int", "l: vpkglist = []", "i: ident = [a1]", "x: typedecl", "s: string = [x][y]",
     "q: veqpkglist = [a = 1]", "x: int = []", "n: pkgname = [b:c]", "v: vpkg = [a >= 2]", 'w: veqpkg = "a"',
 )
-ODD_LINES = (
-    "# comment", "#", "junk", "é: x", " cont", "\t", " x", "a b: c", "FAIL", "x:", "1a: b", "property: x: int", "note: 1",
-)
-RECOMMENDS = (
-    "recommends: vpkgformula", "recommends: vpkgformula = []", "recommends: vpkgformula = [true!]",
-    "recommends: vpkgformula = [a | b > 1, c]", "recommends: vpkgformula = f", "recommends: vpkgformula=[ false! ]",
-    "recommends: vpkglist = [a]", "recommends: string",
-)
-# declarations without default, each with lines that a package may have
+ODD_LINES = "# comment|#|junk|é: x| cont|\t| x|a b: c|FAIL|x:|1a: b|property: x: int|note: 1".split("|")
+RECOMMENDS = tuple("recommends: " + text for text in (
+    "vpkgformula", "vpkgformula = []", "vpkgformula = [true!]", "vpkgformula = [a | b > 1, c]", "vpkgformula = f",
+    "vpkgformula=[ false! ]", "vpkglist = [a]", "string",
+))
+# declarations without a default, each with lines that a package may have
 NEEDED = {
     "x: int": ("x: -1", "x:+0"), "note: string": ("note:", "note: any"), "e: enum[red, green]": ("e: red", "e:green"),
     "size: nat": ("size: 3", "size: 0"),
 }
-REPEATED_VERSIONS = ("{}", "0{}", "+{}", "+00{} ")
-REPEATED_ENDS = (["installed: true"], ["installed: false"], [])
 ODD_LISTS = (
-    "", "removed", "-removed,", ",-new", "- removed", "-Removed", "-new,,+new", "-new, +new", "--new", "-size", "-changed +new",
-    "-paranoid", "-\u00e9", "+", "-new;+new", "-newer", "-unsat-recommends", " -new", "-new\n",
+    "", "removed", "-removed,", ",-new", "- removed", "-Removed", "-new,,+new", "-new, +new", "--new", "-size",
+    "-changed +new", "-paranoid", "-\u00e9", "+", "-new;+new", "-newer", "-unsat-recommends", " -new", "-new\n",
 )
-ODD_LIMITS = (" 2\t", "+1", "003", "18446744073709551615", "18446744073709551616", "0", "-1", "x", "", "1.0", "1 1", "\n1")
+ODD_LIMITS = " 2\t|+1|003|18446744073709551615|18446744073709551616|0|-1|x||1.0|1 1|\n1".split("|")
 ODD_ENDS = ("", ".", ".1", "0", " ", "\n", ".lower", "\u00e9", "e3", "18446744073709551615")
-WISHES = ("install", "remove", "upgrade")
-BLANK_STARTS = (" ", "\t", "  ")
-ODD_SOLUTIONS = (b"FAIL", b"# c\n FAIL\r\nx", b"\nFAIL\t\n\xff", b"FAIL x\n", b"fail\n")
-FAILS = ODD_SOLUTIONS[:2]
+FAILS = (b"FAIL", b"# c\n FAIL\r\nx")
+ODD_SOLUTIONS = (*FAILS, b"\nFAIL\t\n\xff", b"FAIL x\n", b"fail\n")
+# invalid values by the word of the type; of a list one entry is invalid
+WRONG = {
+    "posint": ("0", "-1", "x", "", "1 1", "18446744073709551616"), "nat": ("-1", "x", "", "1.0"),
+    "int": ("x", "", "+-1", "1,2"), "bool": ("True", "", "yes", "1"), "pkgname": ("a b", "", "a!", "a,b"),
+    "ident": ("1a", "", "a b", "-a"), "enum": ("blue", "", "red, green", "Red"),
+    "vpkg": ("a 2", "", "a, b", "true!", "a | b"), "veqpkg": ("a > 2", "", "a = 0", "a, b"),
+    "vpkgformula": ("a b", "", "a | ", "| a", "a || b", "a = 0", "true !"),
+    "vpkglist": ("a b", "", "true!", "a | b", "a >", "a = 0"), "veqpkglist": ("a > 1", "", "a != 2", "a = 0", "a b"),
+}
+BUILT_IN = {name: kind.word for name, kind in PROPERTIES.items() if name not in ("package", "was-installed")}
+# names that a preamble may declare; some are those of the request
+DECLARED = ("x", "e", "recommends", "install", "upgrade", "property", "size-2", "E_")
+FIRST = "version: 1|depends: a|Package: a|x:|installed: true|property: x: int|preambles: |requests:".split("|")
+UNDECLARED = "size: 3|install: a|request: r|preamble:|property: x: int|Version: 1|recommend: a|e1: red".split("|")
+IGNORED = {
+    "package": ("was-installed: x",), "request": ("note: x", "size: 1", "property: x"),
+    "preamble": ("maker: x", "size: 1"),
+}
+STRAY = "package: a|version: 1|keep: none|was-installed: x|preamble: x|request: r|instal: a|recommends: a".split("|")
+REPEATED_VERSIONS = ("{}", "0{}", "+{}", "+00{} ")
+GOOD_DECLARATIONS = (
+    "k{}: int", "k{} : nat = [3]", 'k{}: string = ["a, \\"b\\" [c"]', "k{}: enum[red, green] = [red]",
+    "k{}: vpkglist = [a, b > 1]", "k{}:vpkgformula = [true!, a | b]", "k{}: veqpkglist = []",
+)
+WRONG_DECLARATIONS = (
+    "", "k", "k:", "k int", "k: typedecl", "k: int = [x]", "k: bool =", "1k: int", "k: enum", "k: enum[]",
+    "k: enum[a b]", 'k: int = "3"', 'k: string = "a" b', "k: nat [3]", 'k: enum[a, b] = "c"', "k: vpkglist = [a b]",
+)
+BROKEN = (
+    'k: string = "a', 'k: string = ["a\\n"]', "k: int = [3", "k: int]", "k: int = 3]4", "k: enum[a[b]]",
+    'k: string = ["a\\"]', "]", "[", '"',
+)
 
 
-class Inputs:
-    """Random problems and solutions. The same seed gives the same ones."""
+class Faults:
+    """Puts an error into the stanzas of a document, each a list of lines, so that each kind comes with each cause."""
 
     def __init__(self, seed):
         self.chance = random.Random(seed)
         self.pick = self.chance.choice
+
+    def put_in_problem(self, stanzas):
+        ways = [self.begins_otherwise, self.follows, self.repeats, self.undeclared, self.wrong_value, self.wrong_value]
+        ways += [self.wrong_wish, *[self.declared_value] * 3, *[self.bad_declaration] * 3, self.repeats_package]
+        self.pick(ways + [self.out_of_place] * 2)(stanzas)
+
+    def put_in_solution(self, stanzas):
+        self.pick((self.begins_otherwise, self.repeats, self.wrong_value, self.wrong_name, self.out_of_place))(stanzas)
+
+    def of_kind(self, stanzas, kind):
+        """A stanza with this postmark; one is added if there is none."""
+        found = [stanza for stanza in stanzas if stanza[0].startswith(kind + ":")]
+        if found:
+            return self.pick(found)
+        is_package = kind == "package"
+        stanza = [f"{kind}: q"] + ["version: 7"] * is_package
+        stanzas.insert(0 if kind == "preamble" else len(stanzas) - (is_package and bool(stanzas)), stanza)
+        return stanza
+
+    def put(self, stanza, *lines):
+        """Lines at any place after the postmark."""
+        at = self.chance.randrange(1, len(stanza) + 1)
+        stanza[at:at] = lines
+
+    def begins_otherwise(self, stanzas):
+        stanza = self.of_kind(stanzas, "package")
+        stanza[:1] = [self.pick(FIRST)] * self.pick((0, 1))
+        if not stanza or stanza[0].startswith("package:"):
+            stanza.insert(0, self.pick(FIRST))
+
+    def follows(self, stanzas):
+        """One or two stanzas after the request."""
+        self.of_kind(stanzas, "request")
+        late = [["request:"], ["package: a", "version: 1"], ["package: z", "size: 3"], ["preamble:"]]
+        stanzas += self.chance.sample(late + [[self.pick(FIRST)]], self.pick((1, 1, 2)))
+
+    def repeats(self, stanzas):
+        stanza = self.pick(stanzas or [self.of_kind(stanzas, "package")])
+        mark = stanza[0].split(":")[0]
+        if self.pick((False, True)) and mark in IGNORED:
+            stanza += [self.pick(IGNORED[mark])] * 2
+            return
+        line = self.pick(stanza)
+        if ":" in line:
+            self.put(stanza, line if self.pick((False, True)) else line.split(":")[0] + ":")
+
+    def undeclared(self, stanzas):
+        self.put(self.of_kind(stanzas, "package"), self.pick(UNDECLARED))
+
+    def out_of_place(self, stanzas):
+        """A name in a preamble or a request that mostly has no meaning there."""
+        self.put(self.of_kind(stanzas, self.pick(("preamble", "request"))), self.pick(STRAY))
+
+    def repeats_package(self, stanzas):
+        """A package again, its version written in another way."""
+        stanza = self.of_kind(stanzas, "package")
+        version = next((line for line in stanza if line.startswith("version:")), "version: 1").split(":")[1]
+        again = [stanza[0], "version: " + self.pick(REPEATED_VERSIONS).format(version.strip(BLANKS).lstrip("+"))]
+        self.put(again, "installed: false")
+        stanzas.insert(self.chance.randrange(stanzas.index(stanza) + 1, len(stanzas) + 1), again)
+
+    def property_lines(self, name, pieces):
+        """The lines of a property, none of them blank; a list is now and then on several lines."""
+        text = f"{name}: {pieces[0]}"
+        for piece in pieces[1:]:
+            text += self.pick((", ", ",", " ,\t", ",\n ", "\n ,", ",\n# between\n\t")) + piece
+        return [line if line.strip(BLANKS) else "#" for line in text.split("\n")]
+
+    def wrong(self, word):
+        """A value that is not of the type, as pieces of a list."""
+        piece = self.pick(WRONG[word])
+        if word not in ENTRIES:
+            return [piece]
+        pieces = [self.pick(("a", "b = 2", "f", "c=1")) for _ in range(self.chance.randrange(6))]
+        pieces.insert(self.chance.randrange(len(pieces) + 1), piece)
+        if self.pick((False, False, True)):
+            pieces.insert(self.chance.randrange(len(pieces) + 1), self.pick(WRONG[word]))
+        # the empty text is a list
+        return pieces + ["a"] * (pieces == [""])
+
+    def set_wrong(self, stanza, name, word):
+        """An invalid value in place of that of this name."""
+        lines = self.property_lines(name, self.wrong(word))
+        at = next((at for at, line in enumerate(stanza) if line.startswith(name + ":")), None)
+        if at is None:
+            self.put(stanza, *lines)
+        else:
+            stanza[at:at + 1] = lines
+
+    def word(self, words):
+        """One of the words of types, more often of a list."""
+        return self.pick([word for word in words for _ in range(3 if word in ENTRIES else 1)])
+
+    def wrong_value(self, stanzas):
+        word = self.word(BUILT_IN.values())
+        name = self.pick([name for name in BUILT_IN if BUILT_IN[name] == word])
+        self.set_wrong(self.of_kind(stanzas, "package"), name, word)
+
+    def wrong_name(self, stanzas):
+        self.of_kind(stanzas, "package")[0] = "package: " + self.pick(WRONG["pkgname"])
+
+    def wrong_wish(self, stanzas):
+        self.set_wrong(self.of_kind(stanzas, "request"), self.pick(WISHES), "vpkglist")
+
+    def declared_value(self, stanzas):
+        """A value that is not of the declared type."""
+        name, word = self.pick(DECLARED), self.word(WRONG)
+        preamble = self.of_kind(stanzas, "preamble")
+        text = name + self.pick((": ", ":")) + word + ("[red, green]" if word == "enum" else "")
+        earlier = [self.pick(("k1: int = 1", "k2: nat"))] * self.pick((0, 1))
+        preamble += self.property_lines("property", earlier + [text])
+        self.set_wrong(self.of_kind(stanzas, "package"), name, word)
+
+    def declarations(self, most, first):
+        """Valid ones, whose names have numbers from the first on."""
+        numbers = range(first, first + self.chance.randrange(most))
+        return [self.pick(GOOD_DECLARATIONS).format(number) for number in numbers]
+
+    def bad_declaration(self, stanzas):
+        """An invalid piece at any place of a value, which may come after others."""
+        preamble, first = self.of_kind(stanzas, "preamble"), 1
+        for _ in range(self.chance.randrange(3)):
+            earlier = self.declarations(4, first)
+            first += len(earlier)
+            preamble += self.property_lines("property", earlier or [""])
+        pieces = self.declarations(6, first)
+        at = self.chance.randrange(len(pieces) + 1)
+        known = [f"k{number}" for number in range(1, first + at)] or ["k1"]
+        pieces.insert(at, self.pick((
+            self.pick(WRONG_DECLARATIONS), self.pick(WRONG_DECLARATIONS), self.pick(RESERVED) + ": int",
+            self.pick(known) + ": nat", self.pick(known) + ": string", self.pick(BROKEN),
+        )))
+        pieces += [self.pick(WRONG_DECLARATIONS)] * self.pick((0, 0, 1))
+        preamble += self.property_lines("property", pieces)
+
+
+class Inputs(Faults):
+    """Random problems and solutions. The same seed gives the same ones."""
+
+    def __init__(self, seed):
+        super().__init__(seed)
         self.recommends = self.pick(RECOMMENDS) if self.now_and_then(0.3) else None
-        # a long input is without fault, so that it has a long listing
+        # a long input has no error, so that its listing is long; in a wide one packages provide 62 entries and more
         self.is_long = self.now_and_then(0.001)
-        # in a wide input some packages give 64 entries and more
         self.is_wide = not self.is_long and self.now_and_then(0.15)
-        # names declared without default, how often a package lacks one, and how often a solution tells a pair again
+        # names declared without a default, how often a package lacks one, and how often a solution repeats a pair
         self.needed = self.chance.sample(list(NEEDED), self.pick((1, 1, 2, 4))) if self.now_and_then(0.25) else []
         self.gap = 0 if self.is_long else self.pick((0, 0, 0.1, 0.5))
-        self.repeats = 0 if self.is_long else self.pick((0, 0, 0.4))
+        self.again = 0 if self.is_long else self.pick((0, 0, 0.4))
 
     def now_and_then(self, share):
         return self.chance.random() < share
@@ -66,27 +230,27 @@ class Inputs:
         return self.now_and_then(share) and not (self.is_long or self.is_wide)
 
     def name(self):
-        return self.pick(ODD_NAMES) if self.oddly(0.03) else self.pick(NAMES)
+        return self.pick(ODD_NAMES if self.oddly(0.03) else NAMES)
 
     def number(self):
-        return self.pick(ODD_NUMBERS) if self.oddly(0.03) else self.pick("123")
+        return self.pick(ODD_NUMBERS if self.oddly(0.03) else "123")
 
     def vpkg(self):
         if self.now_and_then(0.5):
             return self.name()
-        return self.name() + self.pick(("", " ", "\t")) + self.pick(OPERATORS) + self.pick(("", " ")) + self.number()
+        operator = self.name() + self.pick(("", " ", "\t")) + self.pick(list(OPERATORS))
+        return operator + self.pick(("", " ")) + self.number()
 
     def veqpkg(self):
         return self.name() + (self.pick((" = ", "=")) + self.number() if self.now_and_then(0.5) else "")
 
-    def atom(self):
-        return self.pick(("true!", "false!")) if self.now_and_then(0.2) else self.vpkg()
-
     def clause(self):
-        # single versions are seldom installed, and so asked for
+        # single versions are seldom installed, so clauses of them are often violated
         if self.now_and_then(0.2):
             return " | ".join(f"{self.pick(NAMES)} = {self.pick('123')}" for _ in range(self.pick((2, 3))))
-        return self.pick((" | ", "|")).join(self.atom() for _ in range(self.pick((1, 1, 1, 2, 3))))
+        separator, count = self.pick((" | ", "|")), self.pick((1, 1, 1, 2, 3))
+        atoms = (self.pick(("true!", "false!")) if self.now_and_then(0.2) else self.vpkg() for _ in range(count))
+        return separator.join(atoms)
 
     def entries(self, entry, most=3):
         return self.pick((", ", ",", " ,\t")).join(entry() for _ in range(self.chance.randrange(most + 1)))
@@ -97,10 +261,10 @@ class Inputs:
         return self.entries(self.veqpkg)
 
     def package(self, name, version):
-        lines = [f"version: {version}"]
+        lines, given = [f"version: {version}"], 0.8 if self.is_wide else 0.4
         lines += [f"depends: {self.entries(self.clause)}"] * self.now_and_then(0.4)
         lines += [f"conflicts: {self.entries(self.vpkg)}"] * self.now_and_then(0.4)
-        lines += [f"provides: {self.provisions()}"] * self.now_and_then(0.8 if self.is_wide else 0.4)
+        lines += [f"provides: {self.provisions()}"] * self.now_and_then(given)
         lines += ["keep: " + self.pick(("version", "package", "feature", "none"))] * self.now_and_then(0.4)
         lines += ["installed: " + self.pick(("true", "true", "false"))] * self.now_and_then(0.6)
         lines += ["was-installed: x"] * self.now_and_then(0.05)
@@ -109,92 +273,27 @@ class Inputs:
             lines.append("recommends: " + self.entries(self.vpkg if "list" in self.recommends else self.clause))
         lines += [self.pick(("x: 1", "e: red", "recommends: a | b", "note: any"))] * self.oddly(0.05)
         self.chance.shuffle(lines)
-        return [f"package: {name}"] + lines
+        return [f"package: {name}", *lines]
 
     def preamble(self):
-        kept = [f"property: {self.entries(lambda: self.pick(DECLARATIONS), 2)}" for _ in range(self.chance.randrange(3))]
+        kept = range(self.chance.randrange(3))
+        kept = [f"property: {self.entries(lambda: self.pick(DECLARATIONS), 2)}" for _ in kept]
         declared = self.needed + ([self.recommends] if self.recommends else [])
         if declared or self.is_long:
             together = [", ".join(declared)] if self.now_and_then(0.5) else declared
             kept = [f"property: {text}" for text in together] + kept * self.oddly(0.1)
-        return ["preamble: "] + kept
+        return ["preamble: ", *kept]
 
     def request(self):
         wished = [f"{name}: {self.entries(self.vpkg, 2)}" for name in WISHES if self.now_and_then(0.35)]
-        return ["request: "] + wished + ["note: x"] * self.now_and_then(0.1)
+        return ["request: ", *wished] + ["note: x"] * self.now_and_then(0.1)
 
-    def problem(self, pairs):
-        stanzas = [self.preamble()] if self.recommends or self.needed or self.now_and_then(0.2) else []
-        stanzas += [self.package(name, version) for name, version in pairs]
-        stanzas += [] if self.oddly(0.03) else [self.request()]
-        if self.oddly(0.25):
-            Faults(self).in_problem(stanzas)
-        return self.document(stanzas)
-
-    def solution(self, pairs):
-        if self.oddly(0.04):
-            return self.pick(ODD_SOLUTIONS)
-        # few packages leave much to be asked for; a name may be known where the pair isn't
-        share = self.pick((0.6, 0.6, 0.25))
-        chosen = [pair for pair in pairs if self.now_and_then(share)] + [(self.pick(UNKNOWN), 4)] * self.now_and_then(0.15)
-        stanzas = [[f"package: {name}", f"version: {version}", "installed: true"] for name, version in chosen]
-        if self.now_and_then(self.repeats):
-            pair = self.pick(chosen + pairs + [("z", 1)])
-            stanzas += [self.again(*pair) for _ in range(self.pick((1, 1, 2)))]
-        self.chance.shuffle(stanzas)
-        stanzas += [["request: ", "install: ,"]] * self.now_and_then(0.05)
-        if self.oddly(0.08):
-            Faults(self).in_solution(stanzas)
-        return self.document(stanzas)
-
-    def again(self, name, version):
-        """A stanza of a solution that may tell a pair again."""
-        lines = [f"version: {self.pick(REPEATED_VERSIONS).format(version)}"] + self.pick(REPEATED_ENDS)
+    def repetition(self, name, version):
+        """A stanza of a solution that may repeat a pair."""
+        lines = [f"version: {self.pick(REPEATED_VERSIONS).format(version)}"]
+        lines += self.pick((["installed: true"], ["installed: false"], []))
         self.chance.shuffle(lines)
-        return [f"package: {name}"] + lines
-
-    def solutions(self, pairs):
-        """One to six solutions, equal ones among them; of a long input one or two."""
-        told = [self.solution(pairs)]
-        for _ in range(self.chance.randrange(2 if self.is_long else 6)):
-            told.append(self.pick(told) if self.now_and_then(0.2) else self.solution(pairs))
-            told[-1] = self.pick(FAILS) if self.now_and_then(0.1) else told[-1]
-        return told
-
-    def aims(self):
-        """The text of a list of criteria, a count with both signs or twice among them; now and then no list."""
-        if self.now_and_then(0.1):
-            return self.pick(ODD_LISTS)
-        return ",".join(self.pick("-+") + self.pick(COUNTS) for _ in range(self.pick((1, 1, 2, 2, 3, 4, 9))))
-
-    def document(self, stanzas):
-        """The stanzas as bytes, some of them spoilt."""
-        if self.oddly(0.03):
-            self.chance.shuffle(stanzas)
-        lines = [line for stanza in stanzas for line in stanza + [""] * self.pick((1, 1, 1, 2))]
-        if self.oddly(0.3):
-            lines = list(self.spoilt(lines))
-        end = self.pick(("\n", "\n", "\n", "\r\n"))
-        data = (end.join(lines) + end * self.now_and_then(0.8)).encode()
-        if self.oddly(0.02):
-            data = data[: self.chance.randrange(len(data) + 1)]
-        if self.oddly(0.03):
-            at = self.chance.randrange(len(data) + 1)
-            data = data[:at] + self.pick((b"\xff", b"\xc3", b"\x80", b"\r", b"\n", b" ", b"#", b":")) + data[at:]
-        return data
-
-    def spoilt(self, lines):
-        for line in lines:
-            if self.now_and_then(0.02):
-                yield self.pick(ODD_LINES)
-            if ", " in line and self.now_and_then(0.1):
-                front, back = line.split(", ", 1)
-                yield front + ","
-                yield from ["# between"] * self.now_and_then(0.5)
-                yield self.pick(BLANK_STARTS) + back
-            elif not self.now_and_then(0.01):
-                yield line
-                yield from [line] * self.now_and_then(0.01)
+        return [f"package: {name}", *lines]
 
     def pairs(self):
         """Names and versions of packages."""
@@ -203,26 +302,93 @@ class Inputs:
         pairs = self.chance.sample(known, min(wanted, len(known)))
         return pairs + pairs[:1] * self.oddly(0.03) + [("a", self.pick(ODD_NUMBERS))] * self.oddly(0.03)
 
+    def problem(self, pairs):
+        stanzas = [self.preamble()] if self.recommends or self.needed or self.now_and_then(0.2) else []
+        stanzas += [self.package(name, version) for name, version in pairs]
+        stanzas += [] if self.oddly(0.03) else [self.request()]
+        if self.oddly(0.25):
+            self.put_in_problem(stanzas)
+        return self.document(stanzas)
+
+    def solution(self, pairs):
+        if self.oddly(0.04):
+            return self.pick(ODD_SOLUTIONS)
+        # few packages violate more rules; of an unknown pair the name may be known
+        share = self.pick((0.6, 0.6, 0.25))
+        chosen = [pair for pair in pairs if self.now_and_then(share)]
+        chosen += [(self.pick("acfz"), 4)] * self.now_and_then(0.15)
+        stanzas = [[f"package: {name}", f"version: {version}", "installed: true"] for name, version in chosen]
+        if self.now_and_then(self.again):
+            pair = self.pick(chosen + pairs + [("z", 1)])
+            stanzas += [self.repetition(*pair) for _ in range(self.pick((1, 1, 2)))]
+        self.chance.shuffle(stanzas)
+        stanzas += [["request: ", "install: ,"]] * self.now_and_then(0.05)
+        if self.oddly(0.08):
+            self.put_in_solution(stanzas)
+        return self.document(stanzas)
+
+    def solutions(self, pairs):
+        """One to six solutions, of which some are equal; of a long input one or two."""
+        found = [self.solution(pairs)]
+        for _ in range(self.chance.randrange(2 if self.is_long else 6)):
+            found.append(self.pick(found) if self.now_and_then(0.2) else self.solution(pairs))
+            found[-1] = self.pick(FAILS) if self.now_and_then(0.1) else found[-1]
+        return found
+
+    def document(self, stanzas):
+        """The stanzas as bytes, now and then in another order, with odd lines or bytes, or cut off."""
+        if self.oddly(0.03):
+            self.chance.shuffle(stanzas)
+        lines = [line for stanza in stanzas for line in stanza + [""] * self.pick((1, 1, 1, 2))]
+        lines = list(self.odd_lines(lines)) if self.oddly(0.3) else lines
+        end = self.pick(("\n", "\n", "\n", "\r\n"))
+        data = (end.join(lines) + end * self.now_and_then(0.8)).encode()
+        if self.oddly(0.02):
+            data = data[:self.chance.randrange(len(data) + 1)]
+        if self.oddly(0.03):
+            at = self.chance.randrange(len(data) + 1)
+            data = data[:at] + self.pick((b"\xff", b"\xc3", b"\x80", b"\r", b"\n", b" ", b"#", b":")) + data[at:]
+        return data
+
+    def odd_lines(self, lines):
+        """The lines with odd ones among them, and lists on two lines; some are missing or doubled."""
+        for line in lines:
+            if self.now_and_then(0.02):
+                yield self.pick(ODD_LINES)
+            if ", " in line and self.now_and_then(0.1):
+                front, back = line.split(", ", 1)
+                yield from [front + ","] + ["# between"] * self.now_and_then(0.5)
+                yield self.pick((" ", "\t", "  ")) + back
+            elif not self.now_and_then(0.01):
+                yield from [line] * (1 + self.now_and_then(0.01))
+
+    def aims(self):
+        """A list of criteria, in which a count may have both signs or come twice; now and then no list."""
+        if self.now_and_then(0.1):
+            return self.pick(ODD_LISTS)
+        return ",".join(self.pick("-+") + self.pick(COUNTS) for _ in range(self.pick((1, 1, 2, 2, 3, 4, 9))))
+
     def key(self):
-        """The text of a key, of an instance or not."""
-        place, number = self.pick((1, 1, 2, 3, 9, 2**64 - 1)), self.chance.randrange(1, 8)
-        part = self.pick((0, 0, 0, 1, 1, 2))
-        rule = self.chance.randrange(3) if part < 2 else 0
-        aspect = self.chance.randrange(3) if (part, rule) == (1, 2) else 0
-        return keys.printed((part, number if part == 0 else 0, rule, place, aspect))
+        """A key, of a violation or not."""
+        place, number, part = self.pick((1, 1, 2, 3, 9, 2**64 - 1)), self.chance.randrange(1, 8), self.pick("ppprrs")
+        if part == "s":
+            return f"s.unknown.{place}"
+        if part == "p":
+            return f"p{number}.{self.pick(('depends', 'conflicts', 'keep'))}.{place}"
+        wish = self.pick(WISHES)
+        return f"r.{wish}.{place}" + (f".{self.pick(ASPECTS)}" if wish == "upgrade" else "")
 
     def odd_key(self):
-        """The text of a key with one thing changed. It may be a key still."""
+        """A key with one thing changed; it may still be a key."""
         text = self.key()
         at = self.chance.randrange(len(text))
-        ways = (
+        return self.pick((
             text + self.pick(ODD_ENDS), text[:at] + text[at + 1:], text[:at] + self.pick("0p.rsA-+ 1") + text[at:],
             text.upper(), text[:at], text.replace(".", self.pick(("..", ":", "-"))), self.pick(ODD_ENDS) + text,
-        )
-        return self.pick(ways)
+        ))
 
     def page(self):
-        """The words for a page, right ones and wrong ones, as a dictionary."""
+        """The options of a page, valid and invalid ones, by name."""
         words = {}
         if self.now_and_then(0.8):
             words["after"] = self.odd_key() if self.now_and_then(0.4) else self.key()

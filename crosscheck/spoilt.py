@@ -1,14 +1,14 @@
-"""Spoilt documents: mutations of problems and solutions, and random bytes. Python's standard library alone."""
-import os
+"""Corrupted documents: changed problems and solutions, and random bytes. Python's standard library alone."""
+from pathlib import Path
 
-from second import documents
-from second import reports
 from inputs import Inputs
-from second.universe import universe_of
+from second.documents import faults_of
+from second.universe import Problem, installing
 
-EXAMPLES = os.path.join(os.path.dirname(os.path.dirname(os.path.abspath(__file__))), "examples")
+EXAMPLES = Path(__file__).resolve().parent.parent / "examples"
+PAIRS = [("car", "car.good"), ("car", "car.broken"), ("car", "car.fail")] + [("producer", "producer.solution")] * 3
 GENERATED = 40
-TELLING = b"\n\n\n  \t\r:##,,||==<>![]\"\\0123+-aZ_\x00\x7f\x80\xc3\xa9\xff"
+ODD_BYTES = b"\n\n\n  \t\r:##,,||==<>![]\"\\0123+-aZ_\x00\x7f\x80\xc3\xa9\xff"
 WORDS = (
     b"package: a", b"version: 1", b"depends: a | b", b"conflicts: a", b"provides: a = 1", b"installed: true",
     b"keep: feature", b"preamble: ", b"property: a: int", b"request: ", b"install: a", b"upgrade: a", b"FAIL", b"# ",
@@ -16,67 +16,48 @@ WORDS = (
 )
 
 
-def read(path):
-    with open(path, "rb") as file:
-        return file.read()
-
-
 def example(name):
-    return read(os.path.join(EXAMPLES, name + ".cudf"))
+    return (EXAMPLES / f"{name}.cudf").read_bytes()
 
 
-def installed_status(problem):
-    """A solution that has what the problem has installed; empty where the problem has a fault."""
-    if reports.problem_fault(problem):
-        return b""
-    packages = universe_of(documents.read_stanzas(problem.decode())[0])
-    chosen = [f"package: {p.name}\nversion: {p.version}\ninstalled: true\n" for p in packages if p.installed]
-    return "\n".join(chosen).encode()
-
-
-def bases(seed, problems):
-    """Pairs of a problem and a solution."""
-    named = [("car", "car.good"), ("car", "car.broken"), ("car", "car.fail")]
-    named += [("producer", "producer.solution")] * 3
-    pairs = [(example(problem + ".problem"), example(solution)) for problem, solution in named]
+def bases(seed, paths):
+    """Pairs of a problem and a solution; of the problems in these files the solution that changes nothing."""
+    pairs = [(example(problem + ".problem"), example(solution)) for problem, solution in PAIRS]
     for number in range(GENERATED):
         inputs = Inputs(f"{seed} base {number}")
         chosen = inputs.pairs()
         pairs.append((inputs.problem(chosen), inputs.solution(chosen)))
-    return pairs + [(read(path), installed_status(read(path))) for path in problems]
+    for problem in (Path(path).read_bytes() for path in paths):
+        initial = [] if faults_of(problem, is_problem=True) else Problem(problem.decode()).initial
+        pairs.append((problem, installing(initial).encode()))
+    return pairs
 
 
 def changed(chance, data):
-    """A byte changed, a line dropped or doubled."""
+    """A byte is changed, or a line is dropped or doubled."""
     lines = data.split(b"\n")
-    at, place = chance.randrange(len(data) + 1), chance.randrange(len(lines))
-    way = chance.randrange(4)
-    if way == 0:
-        return data[:at] + bytes([chance.randrange(256)]) + data[at + 1:]
-    if way == 1:
-        return data[:at] + bytes([chance.choice(TELLING)]) + data[at + 1:]
-    if way == 2:
-        return b"\n".join(lines[:place] + lines[place + 1:])
-    return b"\n".join(lines[:place + 1] + lines[place:])
+    at, place, way = chance.randrange(len(data) + 1), chance.randrange(len(lines)), chance.randrange(4)
+    if way < 2:
+        return data[:at] + bytes([chance.randrange(256) if way == 0 else chance.choice(ODD_BYTES)]) + data[at + 1:]
+    return b"\n".join(lines[:place] + lines[place + 1:] if way == 2 else lines[:place + 1] + lines[place:])
 
 
 def mutation(chance, pairs):
-    """A problem and a solution, one of them spoilt, or each spliced with another."""
-    problem, solution = chance.choice(pairs)
-    way = chance.randrange(5)
+    """A problem and a solution: one is changed, or the problem is the front of one and the back of another document."""
+    (problem, solution), way = chance.choice(pairs), chance.randrange(5)
     if way < 2:
         return changed(chance, problem), solution
     if way < 4:
         return problem, changed(chance, solution)
-    front, back = problem, chance.choice(chance.choice(pairs))
-    return front[:chance.randrange(len(front) + 1)] + back[chance.randrange(len(back) + 1):], solution
+    back = chance.choice(chance.choice(pairs))
+    return problem[:chance.randrange(len(problem) + 1)] + back[chance.randrange(len(back) + 1):], solution
 
 
 def noise(chance):
-    """Random bytes: any, telling ones, or words."""
+    """Random bytes: any, odd ones, or words."""
     way, length = chance.randrange(3), chance.randrange(300)
     if way == 0:
         return chance.randbytes(length)
     if way == 1:
-        return bytes(chance.choice(TELLING) for _ in range(length))
+        return bytes(chance.choice(ODD_BYTES) for _ in range(length))
     return b"".join(chance.choice(WORDS) + chance.choice((b"", b"\n", b"\n")) for _ in range(length // 8))

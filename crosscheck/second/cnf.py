@@ -1,63 +1,45 @@
-"""The rules of a problem as a CNF, as docs/RULES.md tells it, and its text. Python's standard library alone.
+"""The rules of a problem as a CNF, by docs/RULES.md. Python's standard library alone.
 
-A clause is a list of places, negative where the package isn't installed.
+A clause is a list of places, negative if the package is not installed.
 """
 from itertools import combinations
 
-from second.documents import read_stanzas
-from second.universe import numbers, satisfies, satisfies_clause, universe_of
-from second.values import read_vpkglist
+from second.universe import Problem, numbers, satisfies_clause
 
 
-class Rules:
-    """The packages of a problem, and its CNF clauses, each beside the text of its key."""
+class Rules(Problem):
+    """A problem with the clauses of its CNF, each with its key."""
 
-    def __init__(self, problem):
-        stanzas = read_stanzas(problem)[0]
-        self.packages = universe_of(stanzas)
-        self.initial = [package for package in self.packages if package.installed]
-        request = next(stanza for stanza in stanzas if stanza.mark() == "request")
-        self.request = request
-        self.wished = {name: read_vpkglist(request.value(name) or "") for name in ("install", "remove", "upgrade")}
+    def __init__(self, text):
+        super().__init__(text)
         self.clauses = [*self.of_packages(), *self.of_request()]
 
-    def alone(self, vpkg):
-        """The places of the packages that alone satisfy the vpkg."""
-        return [package.place for package in self.packages if satisfies([package], vpkg)]
+    def alone(self, *clause):
+        """The places of the packages that alone satisfy a clause."""
+        return [package.place for package in self.packages if satisfies_clause([package], clause)]
 
     def of_packages(self):
         for package in self.packages:
-            own = f"p{package.place}"
-            for entry, clause in enumerate(package.depends, 1):
-                would = [other.place for other in self.packages if satisfies_clause([other], clause)]
-                if package.place not in would:
-                    yield f"{own}.depends.{entry}", [-package.place, *would]
-            for entry, vpkg in enumerate(package.conflicts, 1):
-                for place in self.alone(vpkg):
-                    if place != package.place:
-                        yield f"{own}.conflicts.{entry}", [-package.place, -place]
-            if package.installed:
-                for entry, clause in self.kept(package):
-                    yield f"{own}.keep.{entry}", clause
-
-    def kept(self, package):
-        if package.keep == "version":
-            yield 1, [package.place]
-        if package.keep == "package":
-            yield 1, [other.place for other in self.packages if other.name == package.name]
-        if package.keep == "feature":
-            for entry, vpkg in enumerate(package.provides, 1):
-                yield entry, self.alone(vpkg)
+            own, key = package.place, f"p{package.place}"
+            for at, clause in enumerate(package.depends, 1):
+                would = self.alone(*clause)
+                yield from [] if own in would else [(f"{key}.depends.{at}", [-own, *would])]
+            for at, vpkg in enumerate(package.conflicts, 1):
+                yield from ((f"{key}.conflicts.{at}", [-own, -place]) for place in self.alone(vpkg) if place != own)
+            kept = {
+                "version": [[own]], "package": [[other.place for other in self.packages if other.name == package.name]],
+                "feature": [self.alone(vpkg) for vpkg in package.provides], "none": [],
+            }
+            clauses = kept[package.keep] if package.installed else []
+            yield from ((f"{key}.keep.{at}", clause) for at, clause in enumerate(clauses, 1))
 
     def of_request(self):
-        for entry, vpkg in enumerate(self.wished["install"], 1):
-            yield f"r.install.{entry}", self.alone(vpkg)
-        for entry, vpkg in enumerate(self.wished["remove"], 1):
-            for place in self.alone(vpkg):
-                yield f"r.remove.{entry}", [-place]
-        for entry, vpkg in enumerate(self.wished["upgrade"], 1):
-            for aspect, clause in self.of_upgrade(vpkg):
-                yield f"r.upgrade.{entry}.{aspect}", clause
+        for at, vpkg in enumerate(self.request.wished["install"], 1):
+            yield f"r.install.{at}", self.alone(vpkg)
+        for at, vpkg in enumerate(self.request.wished["remove"], 1):
+            yield from ((f"r.remove.{at}", [-place]) for place in self.alone(vpkg))
+        for at, vpkg in enumerate(self.request.wished["upgrade"], 1):
+            yield from ((f"r.upgrade.{at}.{aspect}", clause) for aspect, clause in self.of_upgrade(vpkg))
 
     def of_upgrade(self, vpkg):
         given = {package.place: numbers([package], vpkg[0]) for package in self.packages}

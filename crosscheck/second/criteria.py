@@ -1,74 +1,50 @@
-"""A second count of the criteria, and lists of them, as docs/RULES.md tells them. Python's standard library alone."""
+"""The counts of an answer, and lists of criteria, by docs/RULES.md. Python's standard library alone."""
 import re
-from dataclasses import dataclass
 
 from second.universe import satisfies_clause
 
 COUNTS = ("removed", "new", "changed", "notuptodate", "unsat_recommends", "touched")
 AIM = re.compile(rf"([-+])({'|'.join(COUNTS)})")
-
-
-@dataclass(frozen=True)
-class Criteria:
-    removed: int
-    new: int
-    changed: int
-    notuptodate: int
-    unsat_recommends: int
-    touched: int
-
-    def told(self, aims):
-        """Each aim of a list with its count."""
-        return [f"{sign}{name} {getattr(self, name)}" for sign, name in aims]
-
-    def lines(self):
-        return [
-            f"removed {self.removed}",
-            f"new {self.new}",
-            f"changed {self.changed}",
-            f"notuptodate {self.notuptodate}",
-            f"unsat_recommends {self.unsat_recommends}",
-            f"paranoid {self.removed} {self.changed}",
-            f"trendy {self.removed} {self.notuptodate} {self.unsat_recommends} {self.new}",
-        ]
+# the lines of a score without a list, each with its counts
+LINES = {name: [name] for name in COUNTS[:-1]} | {
+    "paranoid": ["removed", "changed"], "trendy": ["removed", "notuptodate", "unsat_recommends", "new"],
+}
 
 
 def versions(packages):
-    """The set of versions of each name."""
-    told = {}
-    for package in packages:
-        told.setdefault(package.name, set()).add(package.version)
-    return told
+    """The versions of each name."""
+    return {name: {it.version for it in packages if it.name == name} for name in {it.name for it in packages}}
 
 
 def count(packages, initial, status):
-    """The criteria of a status, beside the initial one and the whole universe."""
+    """The counts of a status, by name."""
     known, before, now = versions(packages), versions(initial), versions(status)
-    return Criteria(
-        removed=len(before.keys() - now.keys()),
-        new=len(now.keys() - before.keys()),
-        changed=sum(before.get(name) != now.get(name) for name in known),
-        notuptodate=sum(max(known[name]) not in installed for name, installed in now.items()),
-        unsat_recommends=sum(
-            not satisfies_clause(status, clause) for package in status for clause in package.recommends
-        ),
-        touched=len({package.place for package in initial} ^ {package.place for package in status}),
-    )
+    wanted = [clause for package in status for clause in package.recommends]
+    return {
+        "removed": len(before.keys() - now.keys()),
+        "new": len(now.keys() - before.keys()),
+        "changed": sum(before.get(name) != now.get(name) for name in known),
+        "notuptodate": sum(max(known[name]) not in installed for name, installed in now.items()),
+        "unsat_recommends": sum(not satisfies_clause(status, clause) for clause in wanted),
+        "touched": len({it.place for it in initial} ^ {it.place for it in status}),
+    }
 
 
-# ---- lists
+def lines(counts):
+    """The lines of a score without a list."""
+    return [" ".join([word, *(str(counts[name]) for name in names)]) for word, names in LINES.items()]
 
 
 def read_list(text):
-    """The aims of a list, each a sign and a count's name, or None where the text is no list."""
+    """The aims of a list, each a sign and a count's name, or None if the text is no list."""
     aims = [AIM.fullmatch(piece) for piece in text.split(",")]
     return None if None in aims else [aim.groups() for aim in aims]
 
 
-def compare(aims, one, other):
-    """Below 0 where the one's counts are the better ones, above 0 where the other's are, and 0 where neither are."""
-    for sign, name in aims:
-        difference = getattr(one, name) - getattr(other, name)
-        if difference:
-            return difference if sign == "-" else -difference
-    return 0
+def aim_lines(aims, counts):
+    return [f"{sign}{name} {counts[name]}" for sign, name in aims]
+
+
+def rank_of(aims, counts):
+    """Numbers that are less for the better of two answers."""
+    return [counts[name] if sign == "-" else -counts[name] for sign, name in aims]

@@ -1,245 +1,186 @@
-"""A second reading of CUDF documents, as docs/FORMAT.md tells it. Python's standard library alone."""
+"""CUDF documents, by docs/FORMAT.md. An error is a line and a kind. Python's standard library alone."""
 import re
-from dataclasses import dataclass, field
 
-from second.values import BLANKS, BUILT_IN, IDENT, RESERVED, is_pkgname, read_declarations, read_posint, read_vpkglist
+from second.values import BLANKS, IDENT, PROPERTIES, READERS, RESERVED, read_declarations, read_vpkglist
 
 POSTMARKS = ("preamble", "package", "request")
-KINDS = {
-    1: "not UTF-8", 2: "not a property, continuation, comment or blank line", 3: "continuation of nothing",
-    4: "stanza without postmark", 5: "preamble is not first", 6: "stanza after the request", 7: "property repeated",
-    8: "property not declared", 9: "value is not of its type", 10: "bad declaration", 11: "package repeated",
-    12: "no version", 13: "no request", 14: "declared property missing", 15: "pair repeated",
-    16: "property out of place",
-}
+WISHES = ("install", "remove", "upgrade")
+# what is read of a solution's packages
+COUNTED = ("package", "version", "installed")
+KINDS = dict(enumerate((
+    "not UTF-8", "not a property, continuation, comment or blank line", "continuation of nothing",
+    "stanza without postmark", "preamble is not first", "stanza after the request", "property repeated",
+    "property not declared", "value is not of its type", "bad declaration", "package repeated", "no version",
+    "no request", "declared property missing", "pair repeated", "property out of place",
+), 1))
+STRICT_KINDS = (14, 15, 16)
 
 
-# ---- lines and stanzas
-
-
-@dataclass
 class Stanza:
-    line: int
-    last: int
-    # line, name and the texts of each property
-    properties: list = field(default_factory=list)
+    """The first and the last line, and of each property its line, its name and its value."""
+
+    def __init__(self, line):
+        self.line, self.last, self.properties = line, line, []
 
     def mark(self):
         return self.properties[0][1]
 
     def value(self, name):
-        """The value of the first property of this name."""
+        """The value of the first property of this name, or None."""
         return next((value for _, other, value in self.properties if other == name), None)
 
     def line_of(self, name):
         return next(line for line, other, _ in self.properties if other == name)
 
+    def pair(self):
+        """The name and the version of a package, or None unless both are valid."""
+        name, version = self.value("package"), READERS["posint"](self.value("version") or "")
+        return (name, version) if self.mark() == "package" and READERS["pkgname"](name) and version else None
+
+    def declarations(self):
+        """What a preamble declares, by name, and by the lines of invalid values the place of the invalid piece or 0."""
+        declared, invalid = {}, {}
+        for line, name, value in self.properties:
+            more, place = read_declarations(value, declared) if name == "property" else ({}, None)
+            declared.update(more)
+            invalid.update({} if place is None else {line: place})
+        return declared, invalid
+
+    def missing(self, declared):
+        """The names that are declared without a default and missing."""
+        return [name for name, known in declared.items() if known.default is None and self.value(name) is None]
+
 
 def lines_of(text):
-    lines = text.split("\n")
-    if lines[-1] == "":
-        lines.pop()
-    return [line[:-1] if line.endswith("\r") else line for line in lines]
+    lines = text.removesuffix("\n").split("\n") if text else []
+    return [line.removesuffix("\r") for line in lines]
+
+
+def line_class(line):
+    if line.startswith("#"):
+        return "comment"
+    if line.strip(BLANKS) == "":
+        return "blank"
+    if line[0] in BLANKS:
+        return "continuation"
+    return "name line" if re.match(IDENT.pattern + ":", line) else "faulty"
 
 
 def read_stanzas(text):
-    """The stanzas, the fault of the first faulty line, and the number of lines."""
-    stanzas, current, fault = [], None, None
-    lines = lines_of(text)
+    """The stanzas, the E2 or E3 at which reading ends, and the number of lines."""
+    stanzas, is_open, fault, lines = [], False, None, lines_of(text)
     for number, line in enumerate(lines, 1):
-        if line.startswith("#"):
+        found = line_class(line)
+        if found == "comment":
             continue
-        if line.strip(BLANKS) == "":
-            current = None
-        elif line[0] in BLANKS:
-            if current is None:
-                fault = (number, 3)
-                break
-            current.properties[-1][2].append(line.strip(BLANKS))
-            current.last = number
-        elif re.match(IDENT.pattern + ":", line):
-            if current is None:
-                current = Stanza(number, number)
-                stanzas.append(current)
+        if found == "name line":
             name, value = line.split(":", 1)
-            current.properties.append((number, name, [value.strip(BLANKS)]))
-            current.last = number
-        else:
-            if current is not None:
-                current.last = number
-            fault = (number, 2)
+            stanzas += [] if is_open else [Stanza(number)]
+            stanzas[-1].properties.append((number, name, [value.strip(BLANKS)]))
+        elif found == "continuation" and is_open:
+            stanzas[-1].properties[-1][2].append(line.strip(BLANKS))
+        elif found != "blank":
+            fault = number, 2 if found == "faulty" else 3
+        is_open = found == "name line" or is_open and found != "blank"
+        if is_open:
+            stanzas[-1].last = number
+        if fault:
             break
     for stanza in stanzas:
-        stanza.properties = [(n, name, " ".join(t for t in texts if t)) for n, name, texts in stanza.properties]
+        stanza.properties = [(at, name, " ".join(filter(None, texts))) for at, name, texts in stanza.properties]
     return stanzas, fault, len(lines)
-
-
-# ---- documents
-
-
-def utf8_fault(data):
-    try:
-        data.decode()
-        return None
-    except UnicodeDecodeError as error:
-        return (1 + data[: error.start].count(b"\n"), 1)
-
-
-def repeated(stanza, names=None):
-    """The lines on which a name stands again."""
-    seen = set()
-    for line, name, _ in stanza.properties:
-        if name in seen and (names is None or name in names):
-            yield line
-        seen.add(name)
-
-
-def package_id(stanza):
-    name, version = stanza.value("package"), stanza.value("version")
-    if is_pkgname(name) and version is not None and read_posint(version) is not None:
-        return (name, read_posint(version))
-    return None
-
-
-def preamble_faults(stanza, declared):
-    for line, name, value in stanza.properties:
-        if name == "property":
-            more = read_declarations(value, declared)
-            if more is None:
-                yield (line, 10)
-            else:
-                declared.update(more)
-    again = {line for line, name, _ in stanza.properties if name != "property"}
-    yield from ((line, 7) for line in repeated(stanza) if line in again)
 
 
 def declared_by(stanzas):
     """What the preamble declares, by name."""
-    declared = {}
-    if stanzas and stanzas[0].mark() == "preamble":
-        for _, name, value in stanzas[0].properties:
-            declared.update(read_declarations(value, declared) or {} if name == "property" else {})
-    return declared
+    return stanzas[0].declarations()[0] if stanzas and stanzas[0].mark() == "preamble" else {}
 
 
-def lacks_declared(stanza, declared):
-    """Whether a declared name without a default is missing."""
-    return any(known.default is None and stanza.value(name) is None for name, known in declared.items())
+def utf8_error(data):
+    """The place of the first byte that is not UTF-8, or None."""
+    try:
+        data.decode()
+    except UnicodeDecodeError as error:
+        return error.start
+    return None
 
 
-def package_faults(stanza, declared, ids, is_strict):
-    for line, name, value in stanza.properties:
-        fits = BUILT_IN.get(name) or name in declared and declared[name].fits
-        if not fits:
-            yield (line, 8)
-        elif not fits(value):
-            yield (line, 9)
-    yield from ((line, 7) for line in repeated(stanza))
-    if is_strict and lacks_declared(stanza, declared):
-        yield (stanza.last, 14)
+def repeated(properties):
+    """Errors of properties whose names come again."""
+    names = [name for _, name, _ in properties]
+    return [(line, 7) for at, (line, name, _) in enumerate(properties) if name in names[:at]]
+
+
+def package_faults(stanza, declared, pairs, is_problem):
+    """`pairs` has those of earlier stanzas."""
+    types = PROPERTIES | {name: known.type for name, known in declared.items()}
+    properties = [it for it in stanza.properties if is_problem or it[1] in COUNTED]
+    for line, name, value in properties:
+        if name not in types:
+            yield line, 8
+        elif types[name].read(value) is None:
+            yield line, 9
+    yield from repeated(properties)
+    yield from [(stanza.last, 14)] if stanza.missing(declared) else []
     if stanza.value("version") is None:
-        yield (stanza.last, 12)
-    elif package_id(stanza) in ids:
-        yield (stanza.line_of("version"), 11)
-    if package_id(stanza):
-        ids.add(package_id(stanza))
+        yield stanza.last, 12
+    elif stanza.pair() and stanza.pair() in pairs:
+        yield stanza.line_of("version"), 11 if is_problem else 15
+    pairs.add(stanza.pair())
 
 
-def request_faults(stanza):
-    for line, name, value in stanza.properties:
-        if name in ("install", "remove", "upgrade") and read_vpkglist(value) is None:
-            yield (line, 9)
-    yield from ((line, 7) for line in repeated(stanza))
+def other_faults(stanza, is_problem):
+    """Of a preamble or a request, in a solution only properties out of place."""
+    mark, properties = stanza.mark(), stanza.properties
+    has_wishes = is_problem and mark == "request"
+    for line, name, value in properties:
+        is_out = name not in ("request", *WISHES) if has_wishes else name in RESERVED and name != mark
+        yield from [(line, 16)] if is_out else []
+        yield from [(line, 9)] if has_wishes and name in WISHES and read_vpkglist(value) is None else []
+    if is_problem and mark == "preamble":
+        yield from ((line, 10) for line in stanza.declarations()[1])
+        properties = [it for it in properties if it[1] != "property"]
+    yield from repeated(properties) if is_problem else []
 
 
-def out_of_place(stanza, has_wishes):
-    """The lines of a preamble or a request whose names have no meaning in it; only a problem's request has wishes."""
-    mark = stanza.mark()
-    for line, name, _ in stanza.properties:
-        if mark == "request" and has_wishes:
-            is_out = name not in ("request", "install", "remove", "upgrade")
-        else:
-            is_out = mark in ("preamble", "request") and name in RESERVED - {mark}
-        if is_out:
-            yield line
-
-
-def place_faults(stanza, is_first, is_late):
-    if stanza.mark() not in POSTMARKS:
-        yield (stanza.line, 4)
-    if stanza.mark() == "preamble" and not is_first:
-        yield (stanza.line, 5)
-    if is_late:
-        yield (stanza.line, 6)
-
-
-def problem_faults(text, is_strict=False):
+def faults_in(text, is_problem):
     stanzas, fault, lines = read_stanzas(text)
-    faults = {fault} if fault else set()
-    declared, ids, is_late = {}, set(), False
-    for index, stanza in enumerate(stanzas):
-        misplaced = set(place_faults(stanza, index == 0, is_late))
-        faults |= misplaced
-        is_late = is_late or stanza.mark() == "request"
-        if misplaced:
-            continue
-        if stanza.mark() == "preamble":
-            faults |= set(preamble_faults(stanza, declared))
-        elif stanza.mark() == "package":
-            faults |= set(package_faults(stanza, declared, ids, is_strict))
-        else:
-            faults |= set(request_faults(stanza))
-        if is_strict:
-            faults |= {(line, 16) for line in out_of_place(stanza, has_wishes=True)}
-    if not is_late:
-        faults.add((max(lines, 1), 13))
-    return faults
+    yield from [fault] if fault else []
+    marks = [stanza.mark() for stanza in stanzas]
+    end = marks.index("request") if is_problem and "request" in marks else len(marks)
+    declared, pairs = declared_by(stanzas) if is_problem else {}, set()
+    for at, (mark, stanza) in enumerate(zip(marks, stanzas)):
+        wrong = {4: mark not in POSTMARKS, 5: is_problem and mark == "preamble" and at > 0, 6: at > end}
+        yield from ((stanza.line, kind) for kind, is_so in wrong.items() if is_so)
+        if mark == "package" and at < end:
+            yield from package_faults(stanza, declared, pairs, is_problem)
+        elif not any(wrong.values()):
+            yield from other_faults(stanza, is_problem)
+    if is_problem and "request" not in marks:
+        yield max(lines, 1), 13
 
 
-def repeated_pairs(stanzas):
-    """The lines on which a pair of an earlier package stanza is told again, be it installed or not."""
-    seen = set()
-    for stanza in stanzas:
-        pair = package_id(stanza) if stanza.mark() == "package" else None
-        if pair in seen:
-            yield stanza.line_of("version")
-        seen |= {pair} - {None}
-
-
-def solution_faults(text, is_strict=False):
-    stanzas, fault, _ = read_stanzas(text)
-    faults = {fault} if fault else set()
-    faults |= {(line, 15) for line in repeated_pairs(stanzas)} if is_strict else set()
-    for stanza in stanzas:
-        if stanza.mark() not in POSTMARKS:
-            faults.add((stanza.line, 4))
-        if is_strict:
-            faults |= {(line, 16) for line in out_of_place(stanza, has_wishes=False)}
-        if stanza.mark() != "package":
-            continue
-        counted = ("package", "version", "installed")
-        faults |= {(line, 7) for line in repeated(stanza, counted)}
-        faults |= {(line, 9) for line, name, value in stanza.properties if name in counted and not BUILT_IN[name](value)}
-        if stanza.value("version") is None:
-            faults.add((stanza.last, 12))
-    return faults
+def faults_of(data, is_problem, is_strict=False):
+    """The errors of a problem or a solution; a solution that says FAIL has at most E1."""
+    at = utf8_error(data)
+    if at is not None:
+        return {(1 + data.count(b"\n", 0, at), 1)}
+    if not is_problem and says_fail(data.decode()):
+        return set()
+    return {fault for fault in faults_in(data.decode(), is_problem) if is_strict or fault[1] not in STRICT_KINDS}
 
 
 def says_fail(text):
-    for line in lines_of(text):
-        if not line.startswith("#") and line.strip(BLANKS) != "":
-            return line.strip(BLANKS) == "FAIL"
-    return False
+    first = next((line for line in lines_of(text) if line_class(line) not in ("comment", "blank")), "")
+    return first.strip(BLANKS) == "FAIL"
 
 
 def cut_joined(data):
     """The problem and the solution of one input."""
-    at, has_request = 0, False
+    end, has_request = 0, False
     for line in re.findall(rb"[^\n]*\n|[^\n]+", data):
-        at += len(line)
-        bare = line[:-1] if line.endswith(b"\n") else line
-        bare = bare[:-1] if bare.endswith(b"\r") else bare
-        if has_request and bare.strip(b" \t") == b"":
-            return data[:at], data[at:]
+        end += len(line)
+        if has_request and line.removesuffix(b"\n").removesuffix(b"\r").strip(b" \t") == b"":
+            return data[:end], data[end:]
         has_request = has_request or line.startswith(b"request:")
     return data, b""

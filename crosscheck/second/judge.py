@@ -1,119 +1,116 @@
-"""A second judge of CUDF solutions, as docs/RULES.md tells it: what is violated. Python's standard library alone."""
-from second import criteria
-from second import explained
-from second import keys
-from second.documents import package_id, read_stanzas
-from second.universe import meeting, numbers, satisfies, satisfies_clause, universe_of
-from second.values import read_vpkglist
+"""Which rules an answer violates, by docs/RULES.md. Python's standard library alone.
+
+A violation is its key, the package that meets an entry of conflicts or remove, or None, and for the others its cause.
+"""
+from second import criteria, explained, keys
+from second.documents import read_stanzas
+from second.universe import Problem, clause_text, meeting, numbers, satisfies, satisfies_clause
+
+# the texts of violations, by rule or aspect: of the clause or vpkg, and of its name
+TEXTS = {
+    "depends": "needs {0}", "conflicts": "conflicts with {0}", "keep": "keep feature {0}", "install": "needs {0}",
+    "remove": "must remove {0}", "unsatisfied": "upgrade needs {0}", "many": "upgrade {1} has several versions",
+    "lower": "upgrade {1} is lower than before",
+}
 
 
-# ---- instances
+def clause_of(problem, key):
+    """The clause that a key of a package or of the request names; an entry of a list is a clause of one vpkg."""
+    part, rule, place = key.split(".")[:3]
+    if part == "r":
+        entries = problem.request.wished[rule]
+    else:
+        entries = getattr(problem.packages[int(part[1:]) - 1], "provides" if rule == "keep" else rule)
+    return entries[int(place) - 1] if rule == "depends" else (entries[int(place) - 1],)
 
 
-def vpkg_text(vpkg):
-    name, bound = vpkg
-    return name if bound is None else f"{name} {bound[0]} {bound[1]}"
-
-
-def clause_text(clause):
-    return " | ".join(atom if isinstance(atom, str) else vpkg_text(atom) for atom in clause)
+def line_of(problem, key):
+    """The line of such a key, without what meets it."""
+    part, rule, _, *aspect = key.split(".")
+    package = problem.packages[int(part[1:]) - 1] if part != "r" else None
+    if rule == "keep" and package.keep != "feature":
+        text = f"keep {package.keep}"
+    else:
+        clause = clause_of(problem, key)
+        text = TEXTS[[rule, *aspect][-1]].format(clause_text(clause), clause[0][0])
+    whose = f"{package.words()} line {package.line}" if package else f"line {problem.request.line}"
+    return f"{key} {whose}: {text}"
 
 
 def violated_needs(package, status, explainer):
-    for entry, clause in enumerate(package.depends, 1):
-        if not satisfies_clause(status, clause):
-            yield f"depends.{entry}", f"needs {clause_text(clause)}", explainer.clause(clause)
     others = [other for other in status if other.place != package.place]
-    for entry, vpkg in enumerate(package.conflicts, 1):
+    for place, clause in enumerate(package.depends, 1):
+        if not satisfies_clause(status, clause):
+            yield f"depends.{place}", None, explainer.clause(clause)
+    for place, vpkg in enumerate(package.conflicts, 1):
         if satisfies(others, vpkg):
-            met = meeting(others, vpkg)
-            yield f"conflicts.{entry}", f"conflicts with {vpkg_text(vpkg)}, met by {met.words()}", explainer.needed(met, status)
+            yield f"conflicts.{place}", meeting(others, vpkg), ""
 
 
 def violated_keep(package, status):
-    if package.keep == "version" and package not in status:
-        yield "keep.1", "keep version", ""
-    if package.keep == "package" and all(other.name != package.name for other in status):
-        yield "keep.1", "keep package", ""
-    if package.keep == "feature":
-        for entry, vpkg in enumerate(package.provides, 1):
-            if not satisfies(status, vpkg):
-                yield f"keep.{entry}", f"keep feature {vpkg_text(vpkg)}", ""
+    is_lost = {
+        "version": [package not in status], "package": [all(other.name != package.name for other in status)],
+        "feature": [not satisfies(status, vpkg) for vpkg in package.provides], "none": [],
+    }
+    yield from ((f"keep.{place}", None, "") for place, is_so in enumerate(is_lost[package.keep], 1) if is_so)
 
 
 def violated_packages(packages, status, explainer):
     for package in packages:
-        found = list(violated_needs(package, status, explainer)) if package in status else []
+        found = [*violated_needs(package, status, explainer)] if package in status else []
         found += violated_keep(package, status) if package.installed else []
-        for key, text, added in found:
-            yield f"p{package.place}.{key}", f"{package.words()} line {package.line}: {text}", added
+        yield from ((f"p{package.place}.{key}", met, cause) for key, met, cause in found)
 
 
 def violated_request(request, initial, status, explainer):
-    wished = {name: read_vpkglist(request.value(name) or "") for name in ("install", "remove", "upgrade")}
-    for entry, vpkg in enumerate(wished["install"], 1):
+    """The keys are without `r.`."""
+    for place, vpkg in enumerate(request.wished["install"], 1):
         if not satisfies(status, vpkg):
-            yield f"install.{entry}", f"needs {vpkg_text(vpkg)}", explainer.entry(vpkg)
-    for entry, vpkg in enumerate(wished["remove"], 1):
+            yield f"install.{place}", None, explainer.clause((vpkg,))
+    for place, vpkg in enumerate(request.wished["remove"], 1):
         if satisfies(status, vpkg):
-            met = meeting(status, vpkg)
-            yield f"remove.{entry}", f"must remove {vpkg_text(vpkg)}, met by {met.words()}", explainer.needed(met, status)
-    for entry, vpkg in enumerate(wished["upgrade"], 1):
-        name = vpkg[0]
-        now, before = numbers(status, name), numbers(initial, name)
+            yield f"remove.{place}", meeting(status, vpkg), ""
+    for place, vpkg in enumerate(request.wished["upgrade"], 1):
+        now, before = numbers(status, vpkg[0]), numbers(initial, vpkg[0])
         if not satisfies(status, vpkg):
-            yield f"upgrade.{entry}.unsatisfied", f"upgrade needs {vpkg_text(vpkg)}", explainer.entry(vpkg)
+            yield f"upgrade.{place}.unsatisfied", None, explainer.clause((vpkg,))
         if len(now) > 1:
-            yield f"upgrade.{entry}.many", f"upgrade {name} has several versions", explained.many(now)
-        if any(number < earlier for number in now for earlier in before):
-            yield f"upgrade.{entry}.lower", f"upgrade {name} is lower than before", explained.lower(now, before)
+            yield f"upgrade.{place}.many", None, f"{min(now)} and {max(now)} now"
+        if now and before and min(now) < max(before):
+            yield f"upgrade.{place}.lower", None, f"{min(now)} now, {max(before)} before"
 
 
-# ---- solutions
-
-
-def installed_stanzas(solution):
-    """The number, stanza and pair of each installed stanza of the solution."""
-    return [
-        (number, stanza, package_id(stanza))
-        for number, stanza in enumerate(read_stanzas(solution)[0], 1)
-        if stanza.mark() == "package" and stanza.value("installed") == "true"
-    ]
-
-
-def violated_unknown(packages, chosen, explainer):
-    known = {(package.name, package.version) for package in packages}
-    for number, stanza, pair in chosen:
-        if pair not in known:
-            text = f"{pair[0]} {pair[1]} line {stanza.line}: not in the universe"
-            yield f"s.unknown.{number}", text, explainer.name(pair[0])
+def installed(problem, solution):
+    """The packages that a solution installs, and the place, line, name and version of each unknown stanza."""
+    stanzas = [(at, it) for at, it in enumerate(read_stanzas(solution)[0], 1) if it.mark() == "package"]
+    chosen = {at: it for at, it in stanzas if it.value("installed") == "true"}
+    pairs, known = {it.pair() for it in chosen.values()}, {(it.name, it.version) for it in problem.packages}
+    status = [it for it in problem.packages if (it.name, it.version) in pairs]
+    return status, [(at, it.line, *it.pair()) for at, it in chosen.items() if it.pair() not in known]
 
 
 class Judgement:
-    """What is wrong with a solution, and its criteria. Both texts are without fault, and the solution isn't FAIL."""
+    """The violations and counts of a solution. Both texts are without error, and the solution does not say FAIL."""
 
     def __init__(self, problem, solution):
-        stanzas = read_stanzas(problem)[0]
-        packages, chosen = universe_of(stanzas), installed_stanzas(solution)
-        pairs = {pair for _, _, pair in chosen}
-        status = [package for package in packages if (package.name, package.version) in pairs]
-        initial = [package for package in packages if package.installed]
-        request = next(stanza for stanza in stanzas if stanza.mark() == "request")
-        explainer = explained.Explainer(packages)
-        found = list(violated_packages(packages, status, explainer))
-        found += [
-            (f"r.{key}", f"line {request.line}: {text}", added)
-            for key, text, added in violated_request(request, initial, status, explainer)
-        ]
-        found += violated_unknown(packages, chosen, explainer)
-        # the texts of keys with their lines and what explains these, in the order of keys
-        found.sort(key=lambda entry: keys.parse(entry[0]))
-        self.instances = [(key, f"{key} {text}", added) for key, text, added in found]
-        self.criteria = criteria.count(packages, initial, status)
+        problem = Problem(problem)
+        status, unknown = installed(problem, solution)
+        explainer, found = explained.Explainer(problem.packages), []
+        violated = [*violated_packages(problem.packages, status, explainer)]
+        asked = violated_request(problem.request, problem.initial, status, explainer)
+        for key, met, cause in violated + [(f"r.{key}", met, cause) for key, met, cause in asked]:
+            line = line_of(problem, key) + (f", met by {met.words()}" if met else "")
+            found.append((key, line, explainer.needed(met, status) if met else cause))
+        for place, line, name, version in unknown:
+            key = f"s.unknown.{place}"
+            found.append((key, f"{key} {name} {version} line {line}: not in the universe", explainer.name(name)))
+        # keys, their lines, and what is added to these
+        self.instances = sorted(found, key=lambda entry: keys.parse(entry[0]))
+        self.criteria = criteria.count(problem.packages, problem.initial, status)
 
     def page(self, after, limit, explains=False):
-        """The lines behind a key, as many as the limit says, and then the key that more follow, if they do."""
+        """The lines after a key, as many as the limit says, and then the key after which there are more."""
         rest = [entry for entry in self.instances if after is None or keys.parse(entry[0]) > keys.parse(after)]
         shown = rest if limit is None else rest[:limit]
         more = [f"more after {shown[-1][0]}"] if len(shown) < len(rest) else []
-        return [explained.behind(line, added if explains else "") for _, line, added in shown] + more
+        return [explained.with_cause(line, cause if explains else "") for _, line, cause in shown] + more

@@ -1,71 +1,41 @@
-"""A second checker of LRAT proofs, as docs/FORMAT.md tells them, and a small prover. Python's standard library alone.
+"""A checker of LRAT proofs, by docs/FORMAT.md, and a small prover. Python's standard library alone.
 
-A clause is a list of places, negative where the place is false.
+A clause is a list of literals.
 """
 import re
 
-GREATEST = 18446744073709551615
-KINDS = {
-    1: "not a step", 2: "number is not new", 3: "no such package", 4: "RAT is not accepted", 5: "no such clause",
-    6: "hint is not unit", 7: "hints without conflict", 8: "proof ends early",
-}
-DIGITS = re.compile(rb"[0-9]+\Z")
+from second.documents import lines_of
+from second.values import GREATEST
 
-
-class Fault(Exception):
-    """The line of a fault, and its kind."""
-
-
-def lines_of(data):
-    """The lines, without their LF and one CR before it."""
-    lines = data.split(b"\n")
-    if lines[-1] == b"":
-        lines.pop()
-    return [line[:-1] if line.endswith(b"\r") else line for line in lines]
+KINDS = dict(enumerate((
+    "not a step", "number is not new", "no such package", "RAT is not accepted", "no such clause", "hint is not unit",
+    "hints without conflict", "proof ends early",
+), 1))
 
 
 def number(word):
-    return int(word) if DIGITS.match(word) and int(word) <= GREATEST else None
-
-
-def signed(word):
-    if not word.startswith(b"-"):
-        return number(word)
-    value = number(word[1:])
-    return -value if value else None
-
-
-def until_zero(words):
-    """The numbers before the first zero and the words after it, or None."""
-    found = []
-    for at, word in enumerate(words):
-        value = signed(word)
-        if value is None:
-            return None
-        if value == 0:
-            return found, words[at + 1:]
-        found.append(value)
-    return None
+    """The number of a word, which may be below 0, or None; `-0` is none."""
+    found = re.fullmatch("-?[0-9]+", word) and int(word)
+    return None if found is None or abs(found) > GREATEST or found == 0 and "-" in word else found
 
 
 def step_of(line):
-    """The number, literals and hints of a line; () where it is passed over, None where it is no step."""
-    words = [word for word in re.split(rb"[ \t]", line) if word]
-    if not words or words[0] == b"c":
+    """The number, literals and hints of a line; () if it is skipped, None if it is no step."""
+    words = list(filter(None, re.split("[ \t]", line)))
+    if not words or words[0] == "c":
         return ()
-    name, rest = number(words[0]), words[1:]
-    if name is None or not rest:
+    is_deletion = words[1:2] == ["d"]
+    name, *rest = [number(word) for word in (words[:1] + words[2:] if is_deletion else words)]
+    if name is None or name < 0 or None in rest or rest[-1:] != [0]:
         return None
-    if rest[0] == b"d":
-        gone = until_zero(rest[1:])
-        return () if gone and not gone[1] and min(gone[0], default=1) > 0 else None
-    literals = until_zero(rest)
-    hints = until_zero(literals[1]) if literals else None
-    return (name, literals[0], hints[0]) if hints and not hints[1] else None
+    if is_deletion:
+        return () if rest.count(0) == 1 and min(rest) == 0 else None
+    end = rest.index(0)
+    return (name, rest[:end], rest[end + 1:-1]) if rest.count(0) == 2 else None
 
 
 def used(literals, hints, clauses):
-    """How many hints lead to a conflict; or the kind of fault."""
+    """How many hints lead to a conflict, and None; or 0 and the kind of error."""
     known = {abs(literal): literal < 0 for literal in literals}
     for at, hint in enumerate(hints, 1):
         left = {literal for literal in clauses[hint] if known.get(abs(literal)) != (literal < 0)}
@@ -79,66 +49,52 @@ def used(literals, hints, clauses):
 
 
 class Proof:
-    """What a text shows of a CNF: the numbers of a core, or the fault of a line."""
+    """What a proof shows of a CNF: the numbers of a core, or the line and the kind of the first error."""
 
     def __init__(self, places, cnf, data):
         self.places, self.count = places, len(cnf)
         self.clauses, self.sources = dict(enumerate(cnf, 1)), {}
-        self.core = self.fault = None
-        empty = next((number for number, clause in self.clauses.items() if not clause), None)
-        if empty:
-            self.core = [empty]
-            return
-        try:
-            self.read(lines_of(data))
-        except Fault as fault:
-            self.fault = fault.args
+        empty = [[name] for name, clause in self.clauses.items() if not clause]
+        self.core, self.fault = (empty[0], None) if empty else self.read(lines_of(data.decode("latin-1")))
 
     def read(self, lines):
         last = self.count
         for at, line in enumerate(lines, 1):
             step = step_of(line)
-            if step is None:
-                raise Fault(at, 1)
-            if step:
-                kind = self.take(last, *step)
-                if kind:
-                    raise Fault(at, kind)
-                last = step[0]
-                if not step[1]:
-                    self.core = self.needed(last)
-                    return
-        raise Fault(max(1, len(lines)), 8)
+            if step == ():
+                continue
+            kind = self.take(last, *step) if step else 1
+            if kind:
+                return None, (at, kind)
+            last = step[0]
+            if not step[1]:
+                return self.needed(last), None
+        return None, (max(1, len(lines)), 8)
 
     def take(self, last, name, literals, hints):
+        """Takes a step, or returns the kind of its error."""
         if name <= last:
             return 2
         if any(abs(literal) > self.places for literal in literals):
             return 3
-        if any(hint < 0 for hint in hints):
-            return 4
         if any(hint not in self.clauses for hint in hints):
-            return 5
+            return 4 if min(hints) < 0 else 5
         count, kind = used(literals, hints, self.clauses)
-        if kind is None:
-            self.clauses[name], self.sources[name] = literals, hints[:count]
+        self.clauses[name], self.sources[name] = literals, hints[:count]
         return kind
 
     def needed(self, last):
+        """The numbers of the clauses of the CNF that a step needs."""
         found, waiting = set(), [last]
         while waiting:
             name = waiting.pop()
-            if name not in found:
-                found.add(name)
-                waiting += self.sources.get(name, [])
+            waiting += self.sources.get(name, []) if name not in found else []
+            found.add(name)
         return sorted(name for name in found if name <= self.count)
 
 
-# ---- a prover of small formulas, by cases
-
-
 class Prover:
-    """The text of a proof that clauses are refuted, or None where they aren't."""
+    """Refutes small formulas by cases: whether the clauses are refuted, and the text of a proof."""
 
     def __init__(self, places, cnf):
         self.places, self.cnf, self.lines, self.last = places, list(enumerate(cnf, 1)), [], len(cnf)
@@ -151,27 +107,21 @@ class Prover:
 
     def refute(self, taken):
         """The number of a step whose clause says that not all of these literals are true, or None."""
-        known, hints, is_new = set(taken), [], True
+        negated, known, hints, is_new = [-literal for literal in taken], set(taken), [], True
         while is_new:
             is_new = False
             for name, clause in self.cnf:
                 left = {literal for literal in clause if -literal not in known}
                 if not left:
-                    return self.step([-literal for literal in taken], [*hints, name])
+                    return self.step(negated, [*hints, name])
                 if len(left) == 1 and not left <= known:
                     known |= left
                     hints.append(name)
                     is_new = True
-        free = [place for place in range(1, self.places + 1) if place not in known and -place not in known]
-        if not free:
-            return None
-        both = []
-        for literal in (free[0], -free[0]):
-            found = self.refute((*taken, literal))
-            if found is None:
-                return None
-            both.append(found)
-        return self.step([-literal for literal in taken], both)
+        free = [place for place in range(1, self.places + 1) if not {place, -place} & known]
+        one = self.refute((*taken, free[0])) if free else None
+        other = self.refute((*taken, -free[0])) if one else None
+        return self.step(negated, [one, other]) if other else None
 
     def text(self):
         return "".join(line + "\n" for line in self.lines).encode()

@@ -1,83 +1,74 @@
-"""A second judge of CUDF solutions, as docs/RULES.md tells it: packages, and what a status of them satisfies. Python's
-standard library alone."""
-from dataclasses import dataclass
+"""The packages and the request of a problem, and what satisfies a vpkg. Python's standard library alone."""
+from collections import namedtuple
 
-from second.documents import declared_by
-from second.values import read_formula, read_posint, read_veqpkglist, read_vpkglist
+from second.documents import WISHES, declared_by, read_stanzas
+from second.values import OPERATORS, read_formula, read_posint, read_veqpkglist, read_vpkglist
 
-COMPARISONS = {
-    "=": int.__eq__, "!=": int.__ne__, ">=": int.__ge__, ">": int.__gt__, "<=": int.__le__, "<": int.__lt__,
-}
+Request = namedtuple("Request", "line wished")
 
 
-@dataclass(frozen=True)
-class Package:
-    place: int
-    line: int
-    name: str
-    version: int
-    depends: tuple
-    conflicts: tuple
-    provides: tuple
-    installed: bool
-    keep: str
-    # the conjuncts of its `recommends`, its own or the declared default
-    recommends: tuple
-
+class Package(namedtuple("Package", "place line name version depends conflicts provides installed keep recommends")):
     def words(self):
         return f"{self.name} {self.version}"
 
 
-def recommends_of(stanza, declaration):
-    """The conjuncts, where `recommends` is declared as a formula."""
-    if declaration is None or declaration.kind != "vpkgformula":
-        return ()
-    own = stanza.value("recommends")
-    text = declaration.default or "" if own is None else own
-    return tuple(tuple(clause) for clause in read_formula(text))
+def package_of(place, stanza, declaration):
+    """`recommends` has the clauses of its own or of the default, if its declaration is that of a formula."""
+    said, recommends = stanza.value, ""
+    if declaration and declaration.type.word == "vpkgformula":
+        recommends = declaration.default or "" if said("recommends") is None else said("recommends")
+    return Package(
+        place=place, line=stanza.line, name=said("package"), version=read_posint(said("version")),
+        depends=read_formula(said("depends") or ""), conflicts=read_vpkglist(said("conflicts") or ""),
+        provides=read_veqpkglist(said("provides") or ""), installed=said("installed") == "true",
+        keep=said("keep") or "none", recommends=read_formula(recommends),
+    )
 
 
-def universe_of(stanzas):
-    declaration = declared_by(stanzas).get("recommends")
-    packages = []
-    for stanza in stanzas:
-        if stanza.mark() == "package":
-            said = stanza.value
-            packages.append(Package(
-                place=len(packages) + 1,
-                line=stanza.line,
-                name=said("package"),
-                version=read_posint(said("version")),
-                depends=tuple(tuple(clause) for clause in read_formula(said("depends") or "")),
-                conflicts=tuple(read_vpkglist(said("conflicts") or "")),
-                provides=tuple(read_veqpkglist(said("provides") or "")),
-                installed=said("installed") == "true",
-                keep=said("keep") or "none",
-                recommends=recommends_of(stanza, declaration),
-            ))
-    return packages
+class Problem:
+    """A problem without errors: its packages, those that are installed before, and its request."""
+
+    def __init__(self, text):
+        *stanzas, request = read_stanzas(text)[0]
+        own, declaration = [it for it in stanzas if it.mark() == "package"], declared_by(stanzas).get("recommends")
+        self.packages = [package_of(place, stanza, declaration) for place, stanza in enumerate(own, 1)]
+        self.initial = [package for package in self.packages if package.installed]
+        self.request = Request(request.line, {name: read_vpkglist(request.value(name) or "") for name in WISHES})
 
 
-# ---- what a status gives and satisfies
+def installing(packages):
+    """A solution that installs these packages."""
+    return "\n".join(f"package: {it.name}\nversion: {it.version}\ninstalled: true\n" for it in packages)
 
 
 def numbers(status, name):
-    """The numbers that the status gives of a name."""
+    """The numbers at which these packages provide a name."""
     own = {package.version for package in status if package.name == name}
     return own | {bound[1] for package in status for entry, bound in package.provides if entry == name and bound}
 
 
-def satisfies(status, vpkg):
+def meeting(status, vpkg):
+    """The first package that alone satisfies a vpkg, or None."""
     name, bound = vpkg
-    if any(bound is None or COMPARISONS[bound[0]](number, bound[1]) for number in numbers(status, name)):
-        return True
-    return bound != ("<", 1) and any((name, None) in package.provides for package in status)
+    for package in status:
+        is_met = any(bound is None or OPERATORS[bound[0]](number, bound[1]) for number in numbers([package], name))
+        if is_met or bound != ("<", 1) and (name, None) in package.provides:
+            return package
+    return None
+
+
+def satisfies(status, vpkg):
+    return meeting(status, vpkg) is not None
 
 
 def satisfies_clause(status, clause):
     return any(atom == "true!" or atom != "false!" and satisfies(status, atom) for atom in clause)
 
 
-def meeting(status, vpkg):
-    """The first package that alone satisfies the vpkg."""
-    return next(package for package in sorted(status, key=lambda p: p.place) if satisfies([package], vpkg))
+def vpkg_text(vpkg):
+    name, bound = vpkg
+    return name if bound is None else f"{name} {bound[0]} {bound[1]}"
+
+
+def clause_text(clause):
+    return " | ".join(atom if isinstance(atom, str) else vpkg_text(atom) for atom in clause)

@@ -1,7 +1,10 @@
-"""A second reading of CUDF values and declarations, as docs/FORMAT.md tells it. Python's standard library alone."""
+"""CUDF values and declarations, read as docs/FORMAT.md defines them. Python's standard library alone.
+
+What reads a type returns None for a text that is not of it.
+"""
 import re
 import sys
-from dataclasses import dataclass
+from collections import namedtuple
 
 sys.set_int_max_str_digits(0)
 
@@ -9,44 +12,42 @@ BLANKS = " \t"
 GREATEST = 2**64 - 1
 PKGNAME = re.compile(r"[A-Za-z0-9+\-./@()%_:~]+")
 IDENT = re.compile(r"[A-Za-z][A-Za-z0-9_-]*")
-OPERATORS = ("=", "!=", ">=", ">", "<=", "<")
-RESERVED = {
-    "package", "version", "depends", "conflicts", "provides", "installed", "was-installed", "keep", "preamble", "request",
-}
+OPERATORS = {"=": int.__eq__, "!=": int.__ne__, ">=": int.__ge__, ">": int.__gt__, "<=": int.__le__, "<": int.__lt__}
+VPKG = re.compile(rf"({PKGNAME.pattern})[ \t]*(?:({'|'.join(OPERATORS)})(.*))?")
+QUOTED = r'"(?:[^"\\]|\\["\\])*"'
+Type = namedtuple("Type", "word read idents", defaults=[()])
+# the default is without brackets, or None
+Declaration = namedtuple("Declaration", "name type default", defaults=[None])
 
 
-def read_number(text, least, greatest, signs):
+def read_number(text, least, greatest=GREATEST, signs="+"):
     text = text.strip(BLANKS)
-    if re.fullmatch("[" + signs + "]?[0-9]+", text) and least <= int(text) <= greatest:
-        return int(text)
-    return None
+    is_fine = re.fullmatch(f"[{signs}]?[0-9]+", text) and least <= int(text) <= greatest
+    return int(text) if is_fine else None
 
 
 def read_posint(text):
-    return read_number(text, 1, GREATEST, "+")
+    return read_number(text, 1)
 
 
-def read_bool(text):
-    return {"true": True, "false": False}.get(text.strip(BLANKS))
+def trimmed(is_fine):
+    """What reads a trimmed text that passes a test."""
+    return lambda text: text.strip(BLANKS) if is_fine(text.strip(BLANKS)) else None
 
 
-def is_pkgname(text):
-    return PKGNAME.fullmatch(text.strip(BLANKS)) is not None
+read_constant = trimmed(("true!", "false!").__contains__)
 
 
 def read_vpkg(text):
-    text = text.strip(BLANKS)
-    name = PKGNAME.match(text)
-    if not name:
+    """The name, and the operator with its number, or None without these."""
+    found = VPKG.fullmatch(text.strip(BLANKS))
+    if not found:
         return None
-    rest = text[name.end():].lstrip(BLANKS)
-    if rest == "":
-        return (name.group(), None)
-    for operator in OPERATORS:
-        number = read_posint(rest[len(operator):]) if rest.startswith(operator) else None
-        if number is not None:
-            return (name.group(), (operator, number))
-    return None
+    name, operator, digits = found.groups()
+    if operator is None:
+        return name, None
+    number = read_posint(digits)
+    return None if number is None else (name, (operator, number))
 
 
 def read_veqpkg(text):
@@ -54,168 +55,97 @@ def read_veqpkg(text):
     return vpkg if vpkg and (vpkg[1] is None or vpkg[1][0] == "=") else None
 
 
-def read_list(text, read):
-    if text.strip(BLANKS) == "":
-        return []
-    entries = [read(piece) for piece in text.split(",")]
-    return None if None in entries else entries
-
-
-def read_vpkglist(text):
-    return read_list(text, read_vpkg)
-
-
-def read_veqpkglist(text):
-    return read_list(text, read_veqpkg)
-
-
-def read_atom(text):
-    text = text.strip(BLANKS)
-    return text if text in ("true!", "false!") else read_vpkg(text)
-
-
 def read_clause(text):
-    atoms = [read_atom(piece) for piece in text.split("|")]
+    """The atoms, a constant as its text."""
+    atoms = tuple(read_constant(piece) or read_vpkg(piece) for piece in text.split("|"))
     return None if None in atoms else atoms
 
 
-def read_formula(text):
-    return read_list(text, read_clause)
+def list_of(read):
+    def read_list(text):
+        entries = tuple(map(read, text.split(","))) if text.strip(BLANKS) else ()
+        return None if None in entries else entries
+    return read_list
 
 
-def is_read(read):
-    return lambda text: read(text) is not None
-
-
-TYPES = {
-    "posint": is_read(read_posint),
-    "nat": lambda text: read_number(text, 0, GREATEST, "+") is not None,
-    "int": lambda text: read_number(text, -(2**63), 2**63 - 1, "+-") is not None,
-    "bool": is_read(read_bool),
-    "string": lambda text: True,
-    "pkgname": is_pkgname,
-    "ident": lambda text: IDENT.fullmatch(text.strip(BLANKS)) is not None,
-    "vpkg": is_read(read_vpkg),
-    "veqpkg": is_read(read_veqpkg),
-    "vpkgformula": is_read(read_formula),
-    "vpkglist": is_read(read_vpkglist),
-    "veqpkglist": is_read(read_veqpkglist),
-}
-BUILT_IN = {
-    "package": is_pkgname,
-    "version": is_read(read_posint),
-    "depends": is_read(read_formula),
-    "conflicts": is_read(read_vpkglist),
-    "provides": is_read(read_veqpkglist),
-    "installed": is_read(read_bool),
-    "keep": lambda text: text.strip(BLANKS) in ("version", "package", "feature", "none"),
-    "was-installed": lambda text: True,
-}
-# the word of the type of each of these that has wrong values
-WORDS = {
-    "package": "pkgname", "version": "posint", "depends": "vpkgformula", "conflicts": "vpkglist", "provides": "veqpkglist",
-    "installed": "bool", "keep": "enum",
-}
-# what reads one entry of a list
 ENTRIES = {"vpkgformula": read_clause, "vpkglist": read_vpkg, "veqpkglist": read_veqpkg}
-
-
-def wrong_entry(kind, text):
-    """The place of the first entry that is none, of a text that is no list of this kind."""
-    return next(place for place, piece in enumerate(text.split(","), 1) if ENTRIES[kind](piece) is None)
-
-
-# ---- declarations
+READERS = {
+    "posint": read_posint, "nat": lambda text: read_number(text, 0),
+    "int": lambda text: read_number(text, -(2**63), 2**63 - 1, "+-"), "bool": trimmed(("true", "false").__contains__),
+    "string": str, "pkgname": trimmed(PKGNAME.fullmatch), "ident": trimmed(IDENT.fullmatch), "vpkg": read_vpkg,
+    "veqpkg": read_veqpkg, **{word: list_of(read) for word, read in ENTRIES.items()},
+}
+read_formula, read_vpkglist, read_veqpkglist = (READERS[word] for word in ENTRIES)
+TYPES = {word: Type(word, read) for word, read in READERS.items()}
+# what a package may have without a declaration
+PROPERTIES = {
+    "package": TYPES["pkgname"], "version": TYPES["posint"], "depends": TYPES["vpkgformula"],
+    "conflicts": TYPES["vpkglist"], "provides": TYPES["veqpkglist"], "installed": TYPES["bool"],
+    "was-installed": TYPES["string"],
+    "keep": Type("enum", trimmed(("version", "package", "feature", "none").__contains__)),
+}
+RESERVED = (*PROPERTIES, "preamble", "request")
 
 
 def cut_declarations(text):
-    """The pieces between commas outside quotes and brackets, or None where these are wrong."""
-    quoted = r'"(?:[^"\\]|\\["\\])*"'
-    token = re.compile(quoted + r'|[^"]', re.DOTALL)
-    pieces, piece, at, is_inside = [], "", 0, False
-    while at < len(text):
-        found = token.match(text, at)
-        if not found:
-            return None
-        part, at = found.group(), found.end()
-        if part == "[" and is_inside or part == "]" and not is_inside:
+    """The pieces between commas outside quotes and brackets, or None if these are invalid."""
+    parts, pieces, is_inside = re.findall(QUOTED + r'|[^"]', text), [""], False
+    if "".join(parts) != text:
+        return None
+    for part in parts:
+        if part == ("[" if is_inside else "]"):
             return None
         is_inside = part == "[" or is_inside and part != "]"
         if part == "," and not is_inside:
-            pieces.append(piece)
-            piece = ""
+            pieces.append("")
         else:
-            piece += part
-    return None if is_inside else pieces + [piece]
-
-
-@dataclass(frozen=True)
-class Declaration:
-    name: str
-    # the type's word, and the test of its values
-    kind: str
-    fits: object
-    # the default without its brackets
-    default: str = None
+            pieces[-1] += part
+    return None if is_inside else pieces
 
 
 def read_type(text):
-    """The type's word, the test of its values, the idents of an enum, and the text behind it."""
+    """The type at the beginning of a text, and the rest; or None."""
+    word = re.match("[A-Za-z]*", text).group()
+    if word in TYPES:
+        return TYPES[word], text[len(word):]
     choice = re.match(r"enum[ \t]*\[([^\]]*)\]", text)
-    if choice:
-        idents = [ident.strip(BLANKS) for ident in choice.group(1).split(",")]
-        if not all(IDENT.fullmatch(ident) for ident in idents):
-            return None
-        return "enum", (lambda value: value.strip(BLANKS) in idents), idents, text[choice.end():]
-    word = re.match(r"[A-Za-z]*", text).group()
-    return (word, TYPES[word], [], text[len(word):]) if word in TYPES else None
+    idents = tuple(map(READERS["ident"], choice[1].split(","))) if choice else (None,)
+    return None if None in idents else (Type("enum", trimmed(idents.__contains__), idents), text[choice.end():])
 
 
-def read_default(text, kind, fits, idents):
-    """The default without its brackets, or None where it isn't of the type."""
+def read_default(text, kind):
+    """The default without its brackets, or None if it is not of the type."""
     text = text.strip(BLANKS)
-    if len(text) > 1 and text.startswith("[") and text.endswith("]"):
+    if len(text) > 1 and text[0] == "[" and text[-1] == "]":
         text = text[1:-1].strip(BLANKS)
     if text.startswith('"'):
-        quoted = re.fullmatch(r'"((?:[^"\\]|\\["\\])*)"', text, re.DOTALL)
-        is_fine = quoted is not None and (kind == "string" or quoted.group(1) in idents)
+        is_fine = re.fullmatch(QUOTED, text) and (kind.word == "string" or text[1:-1] in kind.idents)
     else:
-        is_fine = '"' not in text and fits(text)
+        is_fine = '"' not in text and kind.read(text) is not None
     return text if is_fine else None
 
 
 def read_declaration(piece):
-    head = re.match("(" + IDENT.pattern + r")[ \t]*:[ \t]*", piece.strip(BLANKS))
-    read = head and read_type(piece.strip(BLANKS)[head.end():])
+    head = re.match(rf"[ \t]*({IDENT.pattern})[ \t]*:[ \t]*", piece)
+    read = head and read_type(piece[head.end():])
     if not read:
         return None
-    kind, fits, idents, rest = read
-    rest = rest.lstrip(BLANKS)
+    kind, rest = read[0], read[1].strip(BLANKS)
     if rest == "":
-        return Declaration(head.group(1), kind, fits)
-    default = read_default(rest[1:], kind, fits, idents) if rest[0] == "=" else None
-    return None if default is None else Declaration(head.group(1), kind, fits, default)
-
-
-def declared_up_to(text, before):
-    """What the pieces of a value declare up to the first wrong one, by name, and the place of that one, or None."""
-    declared = {}
-    for place, piece in enumerate(cut_declarations(text) or [""], 1):
-        read = read_declaration(piece)
-        if not read or read.name in RESERVED or read.name in before or read.name in declared:
-            return declared, place
-        declared[read.name] = read
-    return declared, None
+        return Declaration(head[1], kind)
+    default = read_default(rest[1:], kind) if rest[0] == "=" else None
+    return None if default is None else Declaration(head[1], kind, default)
 
 
 def read_declarations(text, before):
-    """What one `property` value declares, by name, or None where it is a bad declaration."""
-    if text.strip(BLANKS) == "":
-        return {}
-    declared, wrong = declared_up_to(text, before)
-    return None if wrong else declared
+    """What a value declares, by name, and the place of its first invalid piece.
 
-
-def wrong_declaration(text, before):
-    """The place of the first piece that declares nothing, or None where the text can't be cut in pieces."""
-    return cut_declarations(text) and declared_up_to(text, before)[1]
+    The place is None if all are valid, and 0 if the value can't be cut. `before` has the names of earlier values.
+    """
+    declared, pieces = {}, cut_declarations(text) if text.strip(BLANKS) else []
+    for place, piece in enumerate(pieces or (), 1):
+        read = read_declaration(piece)
+        if not read or any(read.name in names for names in (RESERVED, before, declared)):
+            return {}, place
+        declared[read.name] = read
+    return declared, 0 if pieces is None else None

@@ -1,5 +1,5 @@
 //! Each call that takes memory, and a test of calls that take none. The tests pass with ample memory;
-//! `crosscheck/refusals.py` runs each of them with each growth refused in turn: then a call says so, or all is right.
+//! `crosscheck/memory.py` runs each of them with each growth refused in turn: then a call says so, or all is right.
 use cudf_check::{Device, Job, RunError, run};
 use cudf_referee::{Explainer, Key, Referee, read_criterion};
 use cudf_text::{Fault, Room, TextError, cut_joined, is_fail, read, stanzas};

@@ -1,20 +1,23 @@
-/* Makes calls of cudf_check.h for embedding.py.
+/* Makes calls of cudf_check.h for library.py.
 
-usage: embedding FILE [THREADS CALLS STACK]
+usage: library FILE [peak | THREADS CALLS STACK]
 
-FILE has requests, one behind the other, in numbers of 64 bits as the machine has them: which call it is (0 lint, 1 check,
-2 score, 3 rank, 4 cnf, 5 refute), whether it is strict, whether lines are explained, the limit, whether the buffer is null,
-the room, how many texts there are, and then the texts, each a kind, a length and, where it is WRITTEN, bytes. The problem
-comes first, then the solutions or the proof, and last the key or the list, where the call has one. A text of ZEROES has that
-many bytes 0; of one that is NOTHING the pointer is null, and of one that is CLAIMED there is one byte, whatever its length. Of
-one that is UNREADABLE there are all bytes, and a read of any ends the process.
+FILE has requests, one after the other, in numbers of 64 bits as the machine has them: which call it is (0 lint, 1
+check, 2 score, 3 rank, 4 cnf, 5 refute), whether it is strict, whether lines are explained, the limit, whether the
+buffer is null, its room, how many texts there are, and then the texts, each a kind, a length and, if it is WRITTEN,
+bytes. The problem comes first, then the solutions or the proof, and last the key or the list, if the call has one. A
+text of ZEROES has that many bytes 0. Of NOTHING the pointer is null, of CLAIMED there is one byte, whatever the length.
+Of UNREADABLE there are all bytes, and a read of any ends the process.
 
-For each request its answer is written in the same way: the status, the length that was told, and the buffer with GUARD
-bytes behind its room, or nothing of one that is null. All its bytes were PATTERN before the call.
+For each request its answer is written in the same way: the status, the length that the call returned, and the buffer
+with GUARD bytes after its room, or nothing if it is null. All its bytes were PATTERN before the call.
 
-With THREADS the requests are answered once, and then so often as CALLS says by so many threads at once, whose stacks have
-STACK bytes, or the usual ones where that is 0. What is written is how many of these answers were others. The status is 70
-where FILE can't be opened, or memory for a request is refused before its call. For systems with POSIX threads. */
+With `peak` the most memory that the process has held, in KB, is written to standard error.
+
+With THREADS the requests are answered once, and then CALLS times by so many threads at once, whose stacks have STACK
+bytes, or the usual ones if that is 0. Only the number of these answers that differ is written.
+
+The status is 70 if FILE can't be opened, or if memory for a request is refused before its call. For Linux. */
 #define _DEFAULT_SOURCE
 #include "cudf_check.h"
 
@@ -40,7 +43,7 @@ struct request {
     cudf_check_text *solutions;
 };
 
-/* What a call left. The buffer has GUARD bytes more than the room that the call was told of. */
+/* What a call left. The buffer has GUARD bytes more than the room that the call was given. */
 struct answer {
     uint64_t status;
     size_t length, size;
@@ -89,9 +92,9 @@ static bool read_request(FILE *file, struct request *request)
 {
     if (!read_number(file, &request->call))
         return false;
-    if (!read_number(file, &request->strict) || !read_number(file, &request->explain) || !read_number(file, &request->limit)
-        || !read_number(file, &request->is_null) || !read_number(file, &request->room)
-        || !read_number(file, &request->count))
+    if (!read_number(file, &request->strict) || !read_number(file, &request->explain)
+        || !read_number(file, &request->limit) || !read_number(file, &request->is_null)
+        || !read_number(file, &request->room) || !read_number(file, &request->count))
         abort();
     request->texts = taken(request->count * sizeof *request->texts);
     for (uint64_t at = 0; at < request->count; at++)
@@ -143,7 +146,7 @@ static void call(const struct request *request, struct answer *answer)
                                           words->bytes, words->length, answer->buffer, room, &answer->length);
         break;
     case RANK:
-        /* where there are no solutions the array is null, and is said to have three */
+        /* without solutions the array is null, and the call is given a count of three */
         answer->status = cudf_check_rank(strict, problem->bytes, problem->length, request->solutions,
                                          request->solutions ? request->count - 2 : 3, words->bytes, words->length,
                                          answer->buffer, room, &answer->length);
@@ -233,6 +236,20 @@ static void at_once(FILE *file, size_t threads, size_t calls, size_t stack)
     free(requests);
 }
 
+/* Not by getrusage: its peak may be that of the process that started this one. */
+static long peak(void)
+{
+    char line[256];
+    long most = -1;
+    FILE *status = fopen("/proc/self/status", "r");
+    if (!status)
+        exit(REFUSED);
+    while (most < 0 && fgets(line, sizeof line, status))
+        sscanf(line, "VmHWM: %ld", &most);
+    fclose(status);
+    return most;
+}
+
 int main(int count, char **words)
 {
     /* buffers of our own, so that stdio asks for no memory where growths are refused */
@@ -254,6 +271,8 @@ int main(int count, char **words)
             drop_request(&request);
         }
     }
+    if (count == 3)
+        fprintf(stderr, "%ld\n", peak());
     fclose(file);
     return EXIT_SUCCESS;
 }

@@ -1,0 +1,332 @@
+#!/usr/bin/env python3
+"""Runs the program by many command lines, and compares its exit status and its output with what is wanted.
+
+usage: commands.py PROGRAM
+
+The rows are in commands.txt, whose head says how one is written. The texts of help are in help.txt. Rows that need more
+than a command line are here: limits of the system, a closed pipe, a thousand solutions.
+
+What is wanted was worked out by hand from README.md, docs/FORMAT.md, docs/DECISIONS.md and the man page. Each row that
+isn't as wanted is printed, and then how many rows there were. The exit status is 1 where one is wrong, and 2 where
+there is no program. For Linux; Python's standard library alone.
+"""
+import contextlib
+import itertools
+import os
+import re
+import resource
+import shlex
+import socket
+import subprocess
+import sys
+import tempfile
+from dataclasses import dataclass
+
+HERE = os.path.dirname(os.path.abspath(__file__))
+LIMIT_SECONDS = 120
+MEGABYTE = 1 << 20
+GREATEST_INPUT = 268_435_456
+# from this exit status on, an error is wanted and no report
+FIRST_ERROR = 4
+# what the program is started as, by the head of a section; it is no word of the command line. None is its path
+NAMES = {
+    "by its own name": (None, "cudf_check"),
+    "by each name": (None, "cudf_check", "--", "--criteria", "", "-", "lint"),
+}
+REDIRECTIONS = ("<", "<<", "<<<", "<!", "<&-", ">")
+ESCAPED = {b"n": b"\n", b"t": b"\t", b"\\": b"\\"}
+
+
+# ---- the table
+
+
+@dataclass(frozen=True)
+class Row:
+    """A command line, the status and the text that are wanted, the value of `@`, and what the program is started as."""
+
+    line: str
+    status: int
+    wanted: str
+    value: str = ""
+    name: str | None = None
+
+    def __str__(self):
+        line = self.line.replace("@", self.value)[:100]
+        return line if self.name is None else f"{line} (started as '{self.name}')"
+
+
+def sections(name, mark):
+    """The head and the body of each section of a file beside this one; the line of a head begins with the mark."""
+    with open(os.path.join(HERE, name), encoding="ascii") as file:
+        text = "\n" + file.read().removesuffix("\n")
+    for section in text.split("\n" + mark)[1:]:
+        head, _, body = section.partition("\n")
+        yield head, body
+
+
+def lines_of(body):
+    """The lines of a section without comments, each joined with those that continue it."""
+    lines = re.sub(r"\n +", " ", body).split("\n")
+    return [line for line in lines if line and not line.startswith("#")]
+
+
+def rows_of(body, names):
+    """The rows of a section, each once for each name and value."""
+    values = [""]
+    for line in lines_of(body):
+        row = re.fullmatch(r"(.*?) ?\| (\d) \| ?(.*)", line)
+        if line.startswith("@ = "):
+            values = [unescaped(word) for word in shlex.split(line)[2:]]
+        elif row:
+            commands, status, wanted = row.groups()
+            tried = values if "@" in line else [""]
+            for command, value, name in itertools.product(commands.split("; "), tried, names):
+                yield Row(command, int(status), wanted, value, name)
+        else:
+            sys.exit(f"commands.txt: this is no row: {line}")
+
+
+def unescaped(text):
+    r"""The text with the bytes of its escapes, which are \n, \t, \\ and \xNN."""
+    def byte(found):
+        return bytes.fromhex(found[1].decode()) if found[1] else ESCAPED[found[2]]
+
+    return os.fsdecode(re.sub(rb"\\(?:x([0-9a-f]{2})|([nt\\]))", byte, os.fsencode(text)))
+
+
+class Table:
+    """The files and the texts by their names, the rows, and the names of the texts that no row has used yet."""
+
+    def __init__(self):
+        self.files, self.rows = {}, []
+        self.texts = dict(sections("help.txt", "$ "))
+        for head, body in sections("commands.txt", "== "):
+            body = body.strip("\n")
+            if head.startswith("file "):
+                text = body + "\n" if body else ""
+                self.files.update((unescaped(name), text) for name in shlex.split(head)[1:])
+            elif head == "texts":
+                self.texts.update(line.split(" = ", 1) for line in lines_of(body))
+            else:
+                self.rows += rows_of(body, NAMES.get(head.partition(": ")[0], [None]))
+        self.unused = set(self.texts)
+
+    def named(self, found):
+        """The text for a name in braces, without its last line end, and with the argument in place of `{}`."""
+        name, argument = found.groups("")
+        self.unused.discard(name)
+        text = self.texts[name] if name in self.texts else self.files[name].removesuffix("\n")
+        return self.replaced(text.replace("{}", argument))
+
+    def replaced(self, text):
+        """The text with what is named in it."""
+        return re.sub(r"\{([a-z][\w -]*)(?:: ([^{}]*))?\}", self.named, text)
+
+    def text(self, text, row):
+        """The text as it is meant in the row."""
+        return unescaped(self.replaced(text)).replace("@", row.value)
+
+    def command(self, row):
+        """The words of the row, the mark of its redirection, and what comes after the mark."""
+        parts = [self.text(part, row) for part in shlex.split(row.line)]
+        at = next((place for place, part in enumerate(parts) if part in REDIRECTIONS), len(parts))
+        mark, target = (parts[at:] + ["", ""])[:2]
+        return parts[:at], mark, target
+
+    def usage(self, words):
+        """What follows the reason of a usage error: the usage of the command, and where its help is."""
+        asked = " ".join(["cudf_check", *words[:1], "--help"])
+        asked = asked if asked in self.texts else "cudf_check --help"
+        usage = re.search(r"^Usage: .*", self.texts[asked], re.MULTILINE)[0]
+        return f"\n\n{usage}\n\nFor more information, try '{asked}'.\n"
+
+    def outputs(self, row, words):
+        """What is wanted on both outputs: pieces of text, with something between each two."""
+        pieces = [self.text(piece, row) for piece in row.wanted.split("...")]
+        if row.wanted:
+            pieces[-1] += self.usage(words) if pieces[0].startswith("error: ") else "\n"
+        return ([""], pieces) if row.status >= FIRST_ERROR else (pieces, [""])
+
+
+# ---- redirections
+
+
+def held(text):
+    """A pipe that holds the text."""
+    reader, writer = os.pipe()
+    os.write(writer, os.fsencode(text))
+    os.close(writer)
+    return reader
+
+
+def failing(text):
+    """A socket that gives the text and then fails (ECONNRESET), since its other side was closed with bytes unread."""
+    ours, other = socket.socketpair()
+    with other:
+        other.sendall(os.fsencode(text))
+        ours.sendall(b"unread")
+    return ours.detach()
+
+
+def opened(mark, target, files):
+    """The descriptor of a redirection."""
+    if mark in ("<", ">"):
+        return os.open(target, os.O_RDONLY if mark == "<" else os.O_WRONLY)
+    if mark == "<!":
+        return failing(files[target])
+    return held(files[target] if mark == "<<" else target)
+
+
+@contextlib.contextmanager
+def redirected(mark, target, files):
+    """The arguments of subprocess.run for a redirection."""
+    if not mark:
+        yield {}
+    elif mark == "<&-":
+        yield {"stdin": None, "preexec_fn": lambda: os.close(0)}
+    else:
+        descriptor = opened(mark, target, files)
+        try:
+            yield {"stdout" if mark == ">" else "stdin": descriptor}
+        finally:
+            os.close(descriptor)
+
+
+def limited(limit, size):
+    """What sets a limit of the system for the program, before it starts."""
+    return lambda: resource.setrlimit(limit, (size, size))
+
+
+# ---- runs of the program
+
+
+class Trial:
+    """Runs the program, counts the rows, and prints the wrong ones."""
+
+    def __init__(self, path):
+        self.path, self.table, self.rows, self.wrong = os.path.abspath(path), Table(), 0, 0
+
+    def run(self, words, name=None, **arguments):
+        """The exit status and both outputs."""
+        arguments = {"stdin": subprocess.DEVNULL, "stdout": subprocess.PIPE, "stderr": subprocess.PIPE, **arguments}
+        command = [self.path if name is None else name, *words]
+        try:
+            ran = subprocess.run(command, executable=self.path, timeout=LIMIT_SECONDS, check=False, **arguments)
+        except subprocess.TimeoutExpired:
+            return "no end", "", ""
+        return ran.returncode, os.fsdecode(ran.stdout or b""), os.fsdecode(ran.stderr)
+
+    def expect(self, row, **arguments):
+        """Runs a row, with these arguments for subprocess.run too."""
+        words, mark, target = self.table.command(row)
+        with redirected(mark, target, self.table.files) as redirection:
+            given = self.run(words, row.name, **redirection, **arguments)
+        outputs = self.table.outputs(row, words)
+        is_right = given[0] == row.status and all(map(is_made_of, given[1:], outputs))
+        self.note(row, is_right, given, (row.status, *map("...".join, outputs)))
+
+    def note(self, row, is_right, given, wanted):
+        self.rows += 1
+        if not is_right:
+            self.wrong += 1
+            print(f"{row}: {given}, wanted {wanted}", flush=True)
+
+
+def is_made_of(text, pieces):
+    """Whether the text is these pieces in their order, with something between each two."""
+    return re.fullmatch(".+".join(map(re.escape, pieces)), text, re.DOTALL) is not None
+
+
+# ---- the rows
+
+
+def rows_of_table(trial):
+    for row in trial.table.rows:
+        trial.expect(row)
+
+
+def too_many_files(trial):
+    """More files than may be open: the error names the first that is too many."""
+    wanted = "cudf_check: good can't be opened: Too many open files (os error 24)"
+    row = Row("rank --criteria=-new p" + " good" * 20, 5, wanted)
+    trial.expect(row, preexec_fn=limited(resource.RLIMIT_NOFILE, 20))
+
+
+def closed_pipe(trial):
+    """A report that nobody reads any more, as after head."""
+    reader, writer = os.pipe()
+    os.close(reader)
+    trial.expect(Row("check p bad", 5, "{unwritten}"), stdout=writer)
+    os.close(writer)
+
+
+def many_solutions(trial):
+    """A thousand solutions in one command, of four kinds in turn; then the last of them is missing, or is invalid."""
+    kinds = dict(zip(range(1, 1001), itertools.cycle(("empty", "bad", "fail", "good"))))
+    for place, kind in kinds.items():
+        write(f"s{place}", trial.table.files[kind])
+    shown = {"good": "yes +new 1", "empty": "yes +new 0", "bad": "no", "fail": "FAIL"}
+    best_first = [place for kind in shown for place in kinds if kinds[place] == kind]
+    report = "\n".join(f"{rank} solution {place} {shown[kinds[place]]}" for rank, place in enumerate(best_first, 1))
+    *files, last = (f"s{place}" for place in kinds)
+    line = "rank --criteria=+new p " + " ".join(files)
+    trial.expect(Row(f"{line} {last}", 0, report))
+    trial.expect(Row(f"{line} none", 5, "{missing: none}"))
+    trial.expect(Row(f"{line} faulty", 2, "solution 1000 line 1: {no property}"))
+
+
+def too_little_memory(trial):
+    """Too little memory for a line of 200 megabytes."""
+    write("wide", "request:\n" + "#" * (200 * MEGABYTE))
+    for line in (
+        "lint wide", "check wide", "check p wide", "score wide p", "rank --criteria=-new wide good",
+        "rank --criteria=-new p good wide",
+    ):
+        trial.expect(Row(line, 6, "{no room}"), preexec_fn=limited(resource.RLIMIT_AS, 100 * MEGABYTE))
+
+
+def too_many_words(trial):
+    """Too little memory for the words: enough for a few of them, and not for as many as need some ten megabytes."""
+    limits = {size: limited(resource.RLIMIT_AS, size) for size in range(2 * MEGABYTE, 200 * MEGABYTE, MEGABYTE)}
+    least = next((size for size, limit in limits.items() if trial.run(["--version"], preexec_fn=limit)[0] == 0), 0)
+    limit = limited(resource.RLIMIT_AS, least + 3 * MEGABYTE)
+    line = "rank --criteria=-new p"
+    trial.expect(Row(line + " good" * 100_000, 6, "{no room for words}"), preexec_fn=limit)
+    trial.expect(Row(line + " good", 0, "1 solution 1 yes -new 1"), preexec_fn=limit)
+
+
+# ---- all of it
+
+
+def write(name, text):
+    with open(name, "w", encoding="ascii") as file:
+        file.write(text)
+
+
+def main(path):
+    trial = Trial(path)
+    with tempfile.TemporaryDirectory() as folder:
+        os.chdir(folder)
+        for name, text in trial.table.files.items():
+            write(name, text)
+        with open("long", "wb") as file:
+            os.truncate(file.fileno(), GREATEST_INPUT + 1)
+        for rows in (rows_of_table, too_many_files, closed_pipe, many_solutions, too_little_memory, too_many_words):
+            rows(trial)
+        os.chdir("/")
+    unused = trial.table.unused
+    trial.note("texts that no row uses", not unused, unused, set())
+    print(f"{trial.rows} rows, {trial.wrong} wrong")
+    return 1 if trial.wrong else 0
+
+
+def start(path):
+    if os.path.isfile(path) and os.access(path, os.X_OK):
+        return main(path)
+    left = "rt ci leaves it there where it has passed, and rt run in crates/cudf_program"
+    print(f"{path} is no program: {left}", file=sys.stderr)
+    return 2
+
+
+if __name__ == "__main__":
+    sys.exit(start(sys.argv[1]) if len(sys.argv) == 2 else __doc__)
