@@ -36,7 +36,7 @@ MADE_OF = ("embedding", "CHANGELOG.md", "Makefile", "completions", "cudf_check.1
 # where Debian has what is elsewhere below another prefix
 MOVED = {
     "lib/": "lib/x86_64-linux-gnu/", "share/man/man1/cudf_check.1": "share/man/man1/cudf_check.1.gz",
-    "share/zsh/site-functions": "share/zsh/vendor-completions", "share/doc/cudf_check": f"share/doc/{DEBIAN}",
+    "share/zsh/site-functions": "share/zsh/vendor-completions", "share/doc/cudf_check": f"share/doc/{DEBIAN}/docs",
 }
 # a path that no file of the system's own has
 OF_A_BUILD = re.compile(rb"/(?:home|root|work|tmp|build|opt|mnt|srv)/[\w.-]+")

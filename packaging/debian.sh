@@ -7,7 +7,9 @@ package=$(sed -n 's/^Package: //p' packaging/control)
 root=$scratch/root
 doc=$root/usr/share/doc/$package
 DESTDIR=$root PREFIX=/usr LIBDIR=lib/x86_64-linux-gnu packaging/install.sh install
-mv "$root/usr/share/doc/cudf_check" "$doc"
+install -d "$doc"
+# where README links to them
+mv "$root/usr/share/doc/cudf_check" "$doc/docs"
 # where Debian's zsh looks for what packages bring
 mv "$root/usr/share/zsh/site-functions" "$root/usr/share/zsh/vendor-completions"
 gzip -9n "$root/usr/share/man/man1/cudf_check.1"

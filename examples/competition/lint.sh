@@ -1,6 +1,7 @@
 # lint.sh: names each faulty problem with its error; the status is 1 if there is one
 status=0
 for problem in problems/*; do
+  [ -e "$problem" ] || continue
   told=$(cudf_check lint "$problem" 2>&1) || { echo "$problem: $told"; status=1; }
 done
 exit $status

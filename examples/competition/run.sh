@@ -24,5 +24,5 @@ rm "$measured"
 # without the program time, or of a solver that had to be killed, there is no more than this
 if [ -z "$used" ]; then used="$(($(date +%s) - start)) - - -"; fi
 if [ $status -eq 137 ]; then used="${used%% *} - - -"; fi
-if [ $status -lt 124 ] && [ -f "$raw" ]; then cp "$raw" "answers/$solver/$problem" || exit 5; fi
+if [ $status -lt 124 ] && [ -f "$raw" ] && [ -r "$raw" ]; then cp "$raw" "answers/$solver/$problem" || exit 5; fi
 echo "$solver $problem $status $start $used" >> ended
