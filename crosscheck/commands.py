@@ -28,7 +28,7 @@ MEGABYTE = 1 << 20
 GREATEST_INPUT = 268_435_456
 # from this exit status on, an error is wanted and no report
 FIRST_ERROR = 4
-# what the program is started as, by the head of a section; it is no word of the command line. None is its path
+# what the program is started as, by the head of a section; it is no word of the command line. None is a path of `cudf_check`
 NAMES = {
     "by its own name": (None, "cudf_check"),
     "by each name": (None, "cudf_check", "--", "--criteria", "", "-", "lint"),
@@ -205,11 +205,13 @@ class Trial:
 
     def __init__(self, path):
         self.path, self.table, self.rows, self.wrong = os.path.abspath(path), Table(), 0, 0
+        # help names the program by the last part of what it is started as
+        self.installed = os.path.join(os.path.dirname(self.path), "cudf_check")
 
     def run(self, words, name=None, **arguments):
         """The exit status and both outputs."""
         arguments = {"stdin": subprocess.DEVNULL, "stdout": subprocess.PIPE, "stderr": subprocess.PIPE, **arguments}
-        command = [self.path if name is None else name, *words]
+        command = [self.installed if name is None else name, *words]
         try:
             ran = subprocess.run(command, executable=self.path, timeout=LIMIT_SECONDS, check=False, **arguments)
         except subprocess.TimeoutExpired:
