@@ -7,7 +7,7 @@ use Rattle.cudf_referee.specs.Instances.{PlainInstance}
 use Rattle.cudf_job.specs.Keys.{PlainKey}
 use Rattle.cudf_referee.specs.Promises.Pages.{behind, at_instance, left_at, calls, cost_along, page_price}
 use Rattle.cudf_referee.specs.Proposals.{Proposal}
-use Rattle.cudf_referee.specs.Promises.Sites.{PlainPosition, at_key, at_end, cost_between}
+use Rattle.cudf_referee.specs.Promises.Stops.{PlainPosition, at_key, at_end, cost_between}
 use Rattle.cudf_referee.specs.Promises.Walks.{Walking, left, Moves}
 use Rattle.cudf_job.specs.declared.key.Key.{Key}
 use Rattle.cudf_check.specs.Working.Pages.{positions, last_position, HasSpent, IsSpent, page_size}

@@ -4,14 +4,14 @@ use Rattle.std.specs.Prelude.{Contains, IsTrue}
 use Rattle.std.specs.List.{list_all, list_any, flat_map, enumerate_from}
 use Rattle.std.specs.Ordering.{is_eq}
 use Rattle.std.proofs.lemmas.List.{append-nil, length-map}
-use Rattle.std.proofs.lemmas.List.Elements.{All-map, All-contains, Contains-append_left}
+use Rattle.std.proofs.lemmas.List.Elements.{All-map, All-contains, Contains-append_left, filter-append}
 use Rattle.std.proofs.lemmas.List.Folds.{list_all-map, list_all_at, list_any-append}
 use Rattle.std.proofs.lemmas.List.Sums.{AllPass-from_list_all}
 use Rattle.cudf_problem.specs.Documents.{is_empty}
 use Rattle.cudf_problem.specs.Statuses.{PlainUnknown, is_initial}
 use Rattle.cudf_problem.specs.Universe.{PlainProblem}
 use Rattle.cudf_problem.proofs.ListLemmas.{list_any-map}
-use Rattle.cudf_index.specs.Satisfaction.{Placed, members}
+use Rattle.cudf_index.specs.Satisfaction.{Placed}
 use Rattle.cudf_index.proofs.SearchLemmas.{list_any-filter}
 use Rattle.cudf_job.specs.Keys.{PlainKey, key_cmp}
 use Rattle.cudf_job.proofs.KeyLemmas.{equal_keys}
@@ -19,67 +19,67 @@ use Rattle.cudf_lrat.specs.declared.literal.Literal.{Literal}
 use Rattle.cudf_lrat.specs.Literals.{IsCore, clause_at, is_satisfied_by}
 use Rattle.cudf_referee.specs.Instances.{PlainInstance}
 use Rattle.cudf_referee.specs.Proposals.{holds_place}
-use Rattle.cudf_referee.specs.Violations.{listing, package_instances, request_instances, unknown_instance, violated_conflicts, violated_depends, violated_install, violated_keep, violated_remove, violated_upgrade}
+use Rattle.cudf_referee.specs.Violations.{entry_instances, instances, is_violated, kept_instances, listing, needed_instances, of_each, package_instances, request_instances, unknown_instance}
+use Rattle.cudf_referee.specs.Working.RuleInstances.{conflicts_instance, depends_instance, install_instance, remove_instance}
 use Rattle.cudf_referee.proofs.ListLemmas.{is_empty-append, is_empty-map, list_all-same, list_any-none}
 use Rattle.cudf_referee.proofs.SolutionLemmas.{solution_is_empty}
 use Rattle.cudf_cnf.specs.Cnf.{Keyed, clauses_of, cnf, conflicts_clauses, depends_clauses, install_clauses, keep_clauses, package_clauses, remove_clauses, upgrade_clauses}
 use Rattle.cudf_cnf.specs.Laws.{FalsifiedIsViolated, RefutedAreViolated, RefutedHasNone, SolutionSatisfies, falsified, proposed}
-use Rattle.cudf_cnf.proofs.RuleLemmas.{conflicts_any, depends_any, fails, hits, holds_own, install_any, installed, keep_any, remove_any, upgrade_any}
+use Rattle.cudf_cnf.proofs.RuleLemmas.{breaks, conflicts_any, depends_any, fails, holds_own, install_any, keep_any, remove_any, upgrade_any}
 use Rattle.cudf_cnf.proofs.TestLemmas.{IsOneOf, and-false, and-or, and-swap, contains-any, element, element-any, element-map, list_any-flat, list_any-if, list_any-same, list_any-where, not-not, passing}
 
 -- ---- all rules
 
 package_any : (problem : PlainProblem) (is : ℕ → Bool) (t : PlainKey → Bool) (p : Placed)
     → let all = enumerate_from 1 problem.packages in
-    IsOneOf all p → list_any (fails is t) (package_clauses all (members (is_initial problem) problem.packages) p) ≡ list_any (hits t) (package_instances (proposed problem is []) p)
+    let s = proposed problem is [] in
+    IsOneOf all p → list_any (fails is t) (package_clauses all s.initial p) ≡ list_any (breaks s t) (package_instances s p)
 package_any problem is t p of =
     let all = enumerate_from 1 problem.packages in
-    let before = members (is_initial problem) problem.packages in
-    let status = installed is all in
-    let kept = holds_place before p.0 in
+    let s = proposed problem is [] in
+    let kept = holds_place s.initial p.0 in
     let d = depends_clauses all p in
     let c = conflicts_clauses all p in
-    let vd = violated_depends status p in
-    let vc = violated_conflicts status p in
+    let vd = of_each (depends_instance p) p.1.depends in
+    let vc = of_each (conflicts_instance p) p.1.conflicts in
     list_any-append (fails is t) (d ++ c) (if kept then keep_clauses all p.1.keep p else [])
     ∙ (λ i. (list_any-append (fails is t) d c
-    ∙ (λ j. depends_any is t all p of j || conflicts_any is t all p j)
-    ∙ sym (and-or (is p.0) (list_any (hits t) vd) (list_any (hits t) vc))
-    ∙ (λ j. sym (holds_own is all p of) j && sym (list_any-append (hits t) vd vc) j)
-    ∙ sym (list_any-if (hits t) (holds_place status p.0) (vd ++ vc))) i
-    || (list_any-if (fails is t) kept (keep_clauses all p.1.keep p) ∙ ap (λ b. kept && b) (keep_any is t all p.1.keep p of) ∙ sym (list_any-if (hits t) kept (violated_keep status p.1.keep p))) i)
-    ∙ sym (list_any-append (hits t) (if holds_place status p.0 then vd ++ vc else []) (if kept then violated_keep status p.1.keep p else []))
+    ∙ (λ j. depends_any problem is t p of j || conflicts_any problem is t p j)
+    ∙ sym (and-or (is p.0) (list_any (breaks s t) vd) (list_any (breaks s t) vc))
+    ∙ (λ j. sym (holds_own is all p of) j && sym (list_any-append (breaks s t) vd vc) j)
+    ∙ sym (list_any-if (breaks s t) (holds_place s.proposed p.0) (needed_instances p))) i
+    || (list_any-if (fails is t) kept (keep_clauses all p.1.keep p) ∙ ap (λ b. kept && b) (keep_any problem is t p.1.keep p of) ∙ sym (list_any-if (breaks s t) kept (kept_instances p.1.keep p))) i)
+    ∙ sym (list_any-append (breaks s t) (if holds_place s.proposed p.0 then needed_instances p else []) (if kept then kept_instances p.1.keep p else []))
 
 -- a clause whose key passes isn't satisfied exactly where an instance whose key passes is violated
-pub agrees : (problem : PlainProblem) (is : ℕ → Bool) (t : PlainKey → Bool) → list_any (fails is t) (cnf problem) ≡ list_any (hits t) (listing (proposed problem is []))
+pub agrees : (problem : PlainProblem) (is : ℕ → Bool) (t : PlainKey → Bool) → list_any (fails is t) (cnf problem) ≡ list_any (λ i. t i.key) (listing (proposed problem is []))
 unfolding cnf listing
 agrees problem is t =
     let all = enumerate_from 1 problem.packages in
-    let before = members (is_initial problem) problem.packages in
     let r = problem.request in
     let s = proposed problem is [] in
-    let status = installed is all in
     let f = fails is t in
-    let g = hits t in
-    let p = flat_map (package_clauses all before) all in
+    let g = breaks s t in
+    let p = flat_map (package_clauses all s.initial) all in
     let i = install_clauses all r.install in
     let m = remove_clauses all r.remove in
-    let u = upgrade_clauses all before r.upgrade in
+    let u = upgrade_clauses all s.initial r.upgrade in
     let vp = flat_map (package_instances s) all in
-    let vi = violated_install status r in
-    let vm = violated_remove status r in
-    let vu = violated_upgrade before status r in
+    let vi = of_each (install_instance r) r.install in
+    let vm = of_each (remove_instance r) r.remove in
+    let vu = flat_map (entry_instances r) (enumerate_from 1 r.upgrade) in
     let packages : list_any f p ≡ list_any g vp =
-    list_any-flat f (package_clauses all before) all
-    ∙ list_any-where (λ x. list_any f (package_clauses all before x)) (λ x. list_any g (package_instances s x)) all (package_any problem is t)
+    list_any-flat f (package_clauses all s.initial) all
+    ∙ list_any-where (λ x. list_any f (package_clauses all s.initial x)) (λ x. list_any g (package_instances s x)) all (package_any problem is t)
     ∙ sym (list_any-flat g (package_instances s) all) in
     list_any-append f (p ++ i ++ m) u
     ∙ ap (λ b. b || list_any f u) (list_any-append f (p ++ i) m ∙ ap (λ b. b || list_any f m) (list_any-append f p i))
-    ∙ (λ j. ((packages j || install_any is t all r j) || remove_any is t all r j) || upgrade_any is t problem.packages before r j)
+    ∙ (λ j. ((packages j || install_any problem is t j) || remove_any problem is t j) || upgrade_any problem is t j)
     ∙ regroup (list_any g vp) (list_any g vi) (list_any g vm) (list_any g vu)
     ∙ ap (λ b. list_any g vp || b) (ap (λ b. b || list_any g vu) (sym (list_any-append g vi vm)) ∙ sym (list_any-append g (vi ++ vm) vu))
     ∙ sym (list_any-append g vp (vi ++ vm ++ vu))
     ∙ ap (list_any g) (sym (append-nil (vp ++ (vi ++ vm ++ vu))))
+    ∙ sym (list_any-filter (λ (i : PlainInstance). t i.key) (is_violated s) (vp ++ (vi ++ vm ++ vu) ++ []))
   where
     regroup : (a b c d : Bool) → (((a || b) || c) || d) ≡ (a || ((b || c) || d))
     regroup true b c d = refl
@@ -125,8 +125,13 @@ known_first : (problem : PlainProblem) (is : ℕ → Bool) (unknown : List Plain
 unfolding listing
 known_first problem is unknown =
     let s = proposed problem is [] in
-    let known = flat_map (package_instances s) (enumerate_from 1 problem.packages) ++ request_instances s in
-    ap (λ xs. xs ++ map unknown_instance unknown) (sym (append-nil known))
+    let known = flat_map (package_instances s) (enumerate_from 1 problem.packages) ++ request_instances problem.request in
+    filter-append (is_violated s) known (map unknown_instance unknown)
+    ∙ (λ i. filter (is_violated s) (sym (append-nil known) i) ++ always unknown i)
+  where
+    always : (us : List PlainUnknown) → filter (is_violated (proposed problem is unknown)) (map unknown_instance us) ≡ map unknown_instance us
+    always [] = refl
+    always (u ∷ us) = ap (λ is. unknown_instance u ∷ is) (always us)
 
 pub solution_satisfies : SolutionSatisfies
 solution_satisfies problem is unknown =
@@ -165,7 +170,7 @@ refuted_are_violated problem core refuted is unknown =
     let test = λ (k : PlainKey). same_key k c.0 in
     let unsatisfied_at : is_satisfied_by is c.1 ≡ false = ap (is_satisfied_by is) (sym (element-map (λ (c : Keyed). c.1) (cnf problem) (n - 1) c [] at.1)) ∙ found.2 in
     let failing : fails is test c ≡ true = (λ i. (tells c.0 c.0).1 refl i && not (unsatisfied_at i)) in
-    let violated = passing (hits test) (listing (proposed problem is [])) (sym (agrees problem is test) ∙ element-any (fails is test) (cnf problem) (n - 1) c at.1 failing) in
+    let violated = passing (λ (i : PlainInstance). test i.key) (listing (proposed problem is [])) (sym (agrees problem is test) ∙ element-any (fails is test) (cnf problem) (n - 1) c at.1 failing) in
     record {
       number = n;
       clause = c;

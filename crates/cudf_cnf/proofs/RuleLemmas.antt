@@ -1,38 +1,39 @@
 -- What the clauses of each rule say: some clause of a key isn't satisfied where an instance of the key is violated.
-use Rattle.std.proofs.Common.{◌≡◌, ℕ, ◌==◌, Bool, true, false, not, ◌&&◌, ◌||◌, nat_lt, List, [], ◌∷◌, ◌++◌, map, filter, refl, sym, ap, ◌∙◌, arith, if◌then◌else◌, eq-eqb}
+use Rattle.std.proofs.Common.{◌≡◌, ℕ, ◌==◌, Bool, true, false, not, ◌&&◌, ◌||◌, nat_lt, List, [], ◌∷◌, map, filter, refl, sym, ap, ◌∙◌, arith, if◌then◌else◌, eq-eqb}
 use Rattle.std.specs.Prelude.{Some, None}
-use Rattle.std.specs.List.{list_any, enumerate_from}
+use Rattle.std.specs.List.{list_any, flat_map, enumerate_from}
 use Rattle.std.proofs.lemmas.List.Folds.{list_any-append}
 use Rattle.cudf_value.specs.Formulas.{PlainAtom, truth_atom, falsehood_atom, named}
 use Rattle.cudf_value.specs.Vpkgs.{PlainVpkg}
 use Rattle.cudf_problem.specs.declared.package.Keep.{Keep}
 use Rattle.cudf_problem.specs.declared.package.Keep.TheVariants.{Version, Package, Feature, Nothing}
-use Rattle.cudf_problem.specs.Universe.{PlainPackage, PlainRequest}
+use Rattle.cudf_problem.specs.Universe.{PlainPackage, PlainProblem, PlainRequest}
 use Rattle.cudf_problem.proofs.ListLemmas.{list_any-map}
 use Rattle.cudf_index.specs.Satisfaction.{Placed, meets_alone, numbers_of, satisfies, satisfies_clause, without}
 use Rattle.cudf_index.proofs.SatisfactionLemmas.{member_alone}
 use Rattle.cudf_index.proofs.SearchLemmas.{list_any-filter}
 use Rattle.cudf_job.specs.declared.key.Rule.TheVariants as rule
-use Rattle.cudf_job.specs.declared.key.Aspect.{Aspect}
 use Rattle.cudf_job.specs.declared.key.Aspect.TheVariants.{Unsatisfied, Many, Lower}
 use Rattle.cudf_job.specs.Keys.{PlainKey, package_key, request_key}
 use Rattle.cudf_lrat.specs.Literals.{is_satisfied_by, is_true_in}
-use Rattle.cudf_referee.specs.Instances.{PlainInstance, needs, conflicts_with, keep_version, keep_package, keep_feature, install, remove, upgrade}
-use Rattle.cudf_referee.specs.Proposals.{holds_place}
-use Rattle.cudf_referee.specs.Violations.{are_lower, are_many, at_each, at_package, at_request, has_package, one_if, violated_conflicts, violated_depends, violated_entry, violated_install, violated_keep, violated_remove, violated_upgrade}
+use Rattle.cudf_referee.specs.Instances.{PlainInstance, keep_feature}
+use Rattle.cudf_referee.specs.Proposals.{Proposal, holds_place}
+use Rattle.cudf_referee.specs.Violations.{are_lower, are_many, entry_instances, has_package, is_violated, kept_instances, of_each}
+use Rattle.cudf_referee.specs.Working.RuleInstances.{conflicts_instance, depends_instance, install_instance, keep_instance, remove_instance}
 use Rattle.cudf_referee.proofs.StatusLemmas.{holds-filter}
 use Rattle.cudf_satisfiers.specs.Answers.{differ, is_named, meets_clause_alone}
 use Rattle.cudf_cnf.specs.Cnf.{Keyed, conflict_clauses, conflicts_clauses, conjunct_clauses, depends_clauses, differing_clauses, entry_clauses, for_each, install_clauses, is_in, is_out, keep_clauses, lower_clauses, many_clauses, one_of, removal_clauses, remove_clauses, upgrade_clauses}
+use Rattle.cudf_cnf.specs.Laws.{proposed}
 use Rattle.cudf_cnf.proofs.PairLemmas.{any_once, differ-swap, lower_any, many-pair, once-pair, pair-filter}
-use Rattle.cudf_cnf.proofs.TestLemmas.{IsOneOf, and-or, and-swap, and-true, list_any-and, list_any-flat, list_any-if, list_any-or, list_any-same, or-false, or-true}
+use Rattle.cudf_cnf.proofs.TestLemmas.{IsOneOf, and-or, and-swap, and-true, list_any-and, list_any-flat, list_any-if, list_any-or, list_any-same, or-assoc, or-false, or-true}
 
 -- the key of the clause passes, and a status doesn't satisfy it
 abbrev pub fails : (ℕ → Bool) → (PlainKey → Bool) → Keyed → Bool
 fails is t c = t c.0 && not (is_satisfied_by is c.1)
 
--- the key of the instance passes
-abbrev pub hits : (PlainKey → Bool) → PlainInstance → Bool
-hits t i = t i.key
+-- the instance is violated, and its key passes
+abbrev pub breaks : Proposal → (PlainKey → Bool) → PlainInstance → Bool
+breaks s t i = is_violated s i && t i.key
 
 -- the packages at the true places
 abbrev pub installed : (ℕ → Bool) → List Placed → List Placed
@@ -57,32 +58,25 @@ one_meets is v all = one_of_is is (meets_alone v) all ∙ sym (member_alone (ins
 for_each_any : {A : Type 0} (test : Keyed → Bool) (make : ℕ → A → List Keyed) (xs : List A) → list_any test (for_each make xs) ≡ list_any (λ e. list_any test (make e.0 e.1)) (enumerate_from 1 xs)
 for_each_any test make xs = list_any-flat test (λ e. make e.0 e.1) (enumerate_from 1 xs)
 
-at_each_any : {A : Type 0} (test : PlainInstance → Bool) (make : ℕ → A → PlainInstance) (violated : A → Bool) (xs : List A)
-    → list_any test (at_each make violated xs) ≡ list_any (λ e. violated e.1 && test (make e.0 e.1)) (enumerate_from 1 xs)
-at_each_any {A} test make violated xs =
-    list_any-map (λ (e : ℕ × A). make e.0 e.1) test (filter (λ (e : ℕ × A). violated e.1) (enumerate_from 1 xs))
-    ∙ list_any-filter (λ (e : ℕ × A). test (make e.0 e.1)) (λ e. violated e.1) (enumerate_from 1 xs)
+of_each_any : {A : Type 0} (test : PlainInstance → Bool) (make : ℕ → A → PlainInstance) (xs : List A) → list_any test (of_each make xs) ≡ list_any (λ e. test (make e.0 e.1)) (enumerate_from 1 xs)
+of_each_any {A} test make xs = list_any-map (λ (e : ℕ × A). make e.0 e.1) test (enumerate_from 1 xs)
 
 -- entry by entry
-each_any : {A : Type 0} (f : Keyed → Bool) (clauses : ℕ → A → List Keyed) (g : PlainInstance → Bool) (make : ℕ → A → PlainInstance) (violated : A → Bool)
-    → ((n : ℕ) (x : A) → list_any f (clauses n x) ≡ (violated x && g (make n x))) → (xs : List A) → list_any f (for_each clauses xs) ≡ list_any g (at_each make violated xs)
-each_any {A} f clauses g make violated same xs =
+each_any : {A : Type 0} (f : Keyed → Bool) (clauses : ℕ → A → List Keyed) (g : PlainInstance → Bool) (make : ℕ → A → PlainInstance)
+    → ((n : ℕ) (x : A) → list_any f (clauses n x) ≡ g (make n x)) → (xs : List A) → list_any f (for_each clauses xs) ≡ list_any g (of_each make xs)
+each_any {A} f clauses g make same xs =
     for_each_any f clauses xs
-    ∙ list_any-same (λ (e : ℕ × A). list_any f (clauses e.0 e.1)) (λ e. violated e.1 && g (make e.0 e.1)) (λ e. same e.0 e.1) (enumerate_from 1 xs)
-    ∙ sym (at_each_any g make violated xs)
+    ∙ list_any-same (λ (e : ℕ × A). list_any f (clauses e.0 e.1)) (λ e. g (make e.0 e.1)) (λ e. same e.0 e.1) (enumerate_from 1 xs)
+    ∙ sym (of_each_any g make xs)
 
 -- and where something else is needed too
-each_any_if : {A : Type 0} (b : Bool) (f : Keyed → Bool) (clauses : ℕ → A → List Keyed) (g : PlainInstance → Bool) (make : ℕ → A → PlainInstance) (violated : A → Bool)
-    → ((n : ℕ) (x : A) → list_any f (clauses n x) ≡ (b && (violated x && g (make n x)))) → (xs : List A) → list_any f (for_each clauses xs) ≡ (b && list_any g (at_each make violated xs))
-each_any_if {A} b f clauses g make violated same xs =
+each_any_if : {A : Type 0} (b : Bool) (f : Keyed → Bool) (clauses : ℕ → A → List Keyed) (g : PlainInstance → Bool) (make : ℕ → A → PlainInstance)
+    → ((n : ℕ) (x : A) → list_any f (clauses n x) ≡ (b && g (make n x))) → (xs : List A) → list_any f (for_each clauses xs) ≡ (b && list_any g (of_each make xs))
+each_any_if {A} b f clauses g make same xs =
     for_each_any f clauses xs
-    ∙ list_any-same (λ (e : ℕ × A). list_any f (clauses e.0 e.1)) (λ e. b && (violated e.1 && g (make e.0 e.1))) (λ e. same e.0 e.1) (enumerate_from 1 xs)
-    ∙ list_any-and b (λ (e : ℕ × A). violated e.1 && g (make e.0 e.1)) (enumerate_from 1 xs)
-    ∙ ap (λ c. b && c) (sym (at_each_any g make violated xs))
-
-one_if_any : (t : PlainKey → Bool) (b : Bool) (i : PlainInstance) → list_any (hits t) (one_if b i) ≡ (b && t i.key)
-one_if_any t true i = or-false (t i.key)
-one_if_any t false i = refl
+    ∙ list_any-same (λ (e : ℕ × A). list_any f (clauses e.0 e.1)) (λ e. b && g (make e.0 e.1)) (λ e. same e.0 e.1) (enumerate_from 1 xs)
+    ∙ list_any-and b (λ (e : ℕ × A). g (make e.0 e.1)) (enumerate_from 1 xs)
+    ∙ ap (λ c. b && c) (sym (of_each_any g make xs))
 
 -- one clause alone, of which it is known when it is satisfied
 one_clause : (is : ℕ → Bool) (t : PlainKey → Bool) (c : Keyed) (b : Bool) → is_satisfied_by is c.1 ≡ b → list_any (fails is t) (c ∷ []) ≡ (not b && t c.0)
@@ -149,11 +143,6 @@ conjunct_any is t all p of n clause = by (meets_clause_alone clause p) refl
         shuffle (is p.0) (is_satisfied_by is (one_of (meets_clause_alone clause) all)) (t key)
         ∙ ap (λ s. is p.0 && (not s && t key)) (one_of_is is (meets_clause_alone clause) all ∙ sym (conjunct_alone (installed is all) clause ∙ ap (λ b. b || list_any (meets_clause_alone clause) (installed is all)) (empty (satisfies_clause [] clause) refl alone)))
 
-pub depends_any : (is : ℕ → Bool) (t : PlainKey → Bool) (all : List Placed) (p : Placed) → IsOneOf all p
-    → list_any (fails is t) (depends_clauses all p) ≡ (is p.0 && list_any (hits t) (violated_depends (installed is all) p))
-depends_any is t all p of =
-    each_any_if (is p.0) (fails is t) (conjunct_clauses all p) (hits t) (λ n clause. at_package p rule.Depends n (needs clause)) (λ clause. not (satisfies_clause (installed is all) clause)) (conjunct_any is t all p of) p.1.depends
-
 -- ---- conflicts
 
 conflict_any : (is : ℕ → Bool) (t : PlainKey → Bool) (all : List Placed) (p : Placed) (n : ℕ) (v : PlainVpkg)
@@ -178,37 +167,13 @@ conflict_any is t all p n v =
     turn true k s = and-swap k s
     turn false k s = refl
 
-pub conflicts_any : (is : ℕ → Bool) (t : PlainKey → Bool) (all : List Placed) (p : Placed)
-    → list_any (fails is t) (conflicts_clauses all p) ≡ (is p.0 && list_any (hits t) (violated_conflicts (installed is all) p))
-conflicts_any is t all p =
-    each_any_if (is p.0) (fails is t) (conflict_clauses all p.0) (hits t) (λ n v. at_package p rule.Conflicts n (conflicts_with v)) (satisfies (without p.0 (installed is all))) (conflict_any is t all p) p.1.conflicts
-
 -- ---- keep
 
 -- a package of the universe is held where it is installed
 pub holds_own : (is : ℕ → Bool) (all : List Placed) (p : Placed) → IsOneOf all p → holds_place (installed is all) p.0 ≡ is p.0
 holds_own is all p of = holds-filter is all p.0 ∙ ap (λ b. is p.0 && b) (of (λ q. q.0 == p.0) (eq-eqb p.0 p.0 refl)) ∙ and-true (is p.0)
 
-pub keep_any : (is : ℕ → Bool) (t : PlainKey → Bool) (all : List Placed) (k : Keep) (p : Placed) → IsOneOf all p
-    → list_any (fails is t) (keep_clauses all k p) ≡ list_any (hits t) (violated_keep (installed is all) k p)
-keep_any is t all Version p of =
-    one_clause is t (package_key p.0 rule.Keep 1, is_in p.0 ∷ []) (holds_place (installed is all) p.0) (or-false (is p.0) ∙ sym (holds_own is all p of))
-    ∙ sym (one_if_any t (not (holds_place (installed is all) p.0)) (at_package p rule.Keep 1 keep_version))
-keep_any is t all Package p of =
-    one_clause is t (package_key p.0 rule.Keep 1, one_of (is_named p.1.name) all) (has_package (installed is all) p.1.name) (one_of_is is (is_named p.1.name) all)
-    ∙ sym (one_if_any t (not (has_package (installed is all) p.1.name)) (at_package p rule.Keep 1 keep_package))
-keep_any is t all Feature p of =
-    each_any (fails is t) (λ n v. (package_key p.0 rule.Keep n, one_of (meets_alone v) all) ∷ []) (hits t) (λ n v. at_package p rule.Keep n (keep_feature v)) (λ v. not (satisfies (installed is all) v))
-    (λ n v. one_clause is t (package_key p.0 rule.Keep n, one_of (meets_alone v) all) (satisfies (installed is all) v) (one_meets is v all)) p.1.provides
-keep_any is t all Nothing p of = refl
-
 -- ---- the request
-
-pub install_any : (is : ℕ → Bool) (t : PlainKey → Bool) (all : List Placed) (r : PlainRequest)
-    → list_any (fails is t) (install_clauses all r.install) ≡ list_any (hits t) (violated_install (installed is all) r)
-install_any is t all r =
-    each_any (fails is t) (λ n v. (request_key rule.Install n None, one_of (meets_alone v) all) ∷ []) (hits t) (λ n v. at_request r rule.Install n None (install v)) (λ v. not (satisfies (installed is all) v))
-    (λ n v. one_clause is t (request_key rule.Install n None, one_of (meets_alone v) all) (satisfies (installed is all) v) (one_meets is v all)) r.install
 
 -- clauses that each rule one package out
 units_any : (is : ℕ → Bool) (t : PlainKey → Bool) (key : PlainKey) (test : Placed → Bool) (all : List Placed)
@@ -228,12 +193,6 @@ units_any is t key test all =
     by false true true = refl
     by false true false = refl
     by false false i = refl
-
-pub remove_any : (is : ℕ → Bool) (t : PlainKey → Bool) (all : List Placed) (r : PlainRequest)
-    → list_any (fails is t) (remove_clauses all r.remove) ≡ list_any (hits t) (violated_remove (installed is all) r)
-remove_any is t all r =
-    each_any (fails is t) (removal_clauses all) (hits t) (λ n v. at_request r rule.Remove n None (remove v)) (satisfies (installed is all))
-    (λ n v. units_any is t (request_key rule.Remove n None) (meets_alone v) all ∙ ap (λ b. b && t (request_key rule.Remove n None)) (sym (member_alone (installed is all) v))) r.remove
 
 -- ---- upgrade
 
@@ -286,29 +245,67 @@ lower_is is t all before n name =
     units_any is t (request_key rule.Upgrade n (Some Lower)) (λ p. are_lower (numbers_of name before) (numbers_of name (p ∷ []))) all
     ∙ ap (λ b. b && t (request_key rule.Upgrade n (Some Lower))) (sym (lower_any (numbers_of name before) name (installed is all)))
 
-entry_any : (is : ℕ → Bool) (t : PlainKey → Bool) (packages : List PlainPackage) (before : List Placed) (r : PlainRequest) (n : ℕ) (v : PlainVpkg)
-    → let all = enumerate_from 1 packages in
-    list_any (fails is t) (entry_clauses all before n v) ≡ list_any (hits t) (violated_entry before (installed is all) r n v)
-entry_any is t packages before r n v =
-    let all = enumerate_from 1 packages in
-    let status = installed is all in
-    let at = λ (aspect : Aspect). at_request r rule.Upgrade n (Some aspect) (upgrade v) in
-    let one : Keyed = (request_key rule.Upgrade n (Some Unsatisfied), one_of (meets_alone v) all) in
-    let unsatisfied = one_if (not (satisfies status v)) (at Unsatisfied) in
-    let many = one_if (are_many (numbers_of v.name status)) (at Many) in
-    let lower = one_if (are_lower (numbers_of v.name before) (numbers_of v.name status)) (at Lower) in
-    list_any-append (fails is t) (one ∷ many_clauses all n v.name) (lower_clauses all before n v.name)
-    ∙ (λ i. ((sym (or-false (fails is t one)) ∙ one_clause is t one (satisfies status v) (one_meets is v all) ∙ sym (one_if_any t (not (satisfies status v)) (at Unsatisfied))) i
-    || (many_any is t packages n v.name ∙ sym (one_if_any t (are_many (numbers_of v.name status)) (at Many))) i)
-    || (lower_is is t all before n v.name ∙ sym (one_if_any t (are_lower (numbers_of v.name before) (numbers_of v.name status)) (at Lower))) i)
-    ∙ ap (λ b. b || list_any (hits t) lower) (sym (list_any-append (hits t) unsatisfied many))
-    ∙ sym (list_any-append (hits t) (unsatisfied ++ many) lower)
+-- ---- all rules
 
-pub upgrade_any : (is : ℕ → Bool) (t : PlainKey → Bool) (packages : List PlainPackage) (before : List Placed) (r : PlainRequest)
-    → let all = enumerate_from 1 packages in
-    list_any (fails is t) (upgrade_clauses all before r.upgrade) ≡ list_any (hits t) (violated_upgrade before (installed is all) r)
-upgrade_any is t packages before r =
-    let all = enumerate_from 1 packages in
-    for_each_any (fails is t) (entry_clauses all before) r.upgrade
-    ∙ list_any-same (λ (e : ℕ × PlainVpkg). list_any (fails is t) (entry_clauses all before e.0 e.1)) (λ e. list_any (hits t) (violated_entry before (installed is all) r e.0 e.1)) (λ e. entry_any is t packages before r e.0 e.1) (enumerate_from 1 r.upgrade)
-    ∙ sym (list_any-flat (hits t) (λ (e : ℕ × PlainVpkg). violated_entry before (installed is all) r e.0 e.1) (enumerate_from 1 r.upgrade))
+module _ (problem : PlainProblem) (is : ℕ → Bool) (t : PlainKey → Bool) where
+  abbrev all : List Placed
+  all = enumerate_from 1 problem.packages
+
+  abbrev s : Proposal
+  s = proposed problem is []
+
+  pub depends_any : (p : Placed) → IsOneOf all p → list_any (fails is t) (depends_clauses all p) ≡ (is p.0 && list_any (breaks s t) (of_each (depends_instance p) p.1.depends))
+  depends_any p of = each_any_if (is p.0) (fails is t) (conjunct_clauses all p) (breaks s t) (depends_instance p) (conjunct_any is t all p of) p.1.depends
+
+  pub conflicts_any : (p : Placed) → list_any (fails is t) (conflicts_clauses all p) ≡ (is p.0 && list_any (breaks s t) (of_each (conflicts_instance p) p.1.conflicts))
+  conflicts_any p = each_any_if (is p.0) (fails is t) (conflict_clauses all p.0) (breaks s t) (conflicts_instance p) (conflict_any is t all p) p.1.conflicts
+
+  pub keep_any : (k : Keep) (p : Placed) → IsOneOf all p → list_any (fails is t) (keep_clauses all k p) ≡ list_any (breaks s t) (kept_instances k p)
+  keep_any Version p of =
+      one_clause is t (package_key p.0 rule.Keep 1, is_in p.0 ∷ []) (holds_place s.proposed p.0) (or-false (is p.0) ∙ sym (holds_own is all p of))
+      ∙ sym (or-false (not (holds_place s.proposed p.0) && t (package_key p.0 rule.Keep 1)))
+  keep_any Package p of =
+      one_clause is t (package_key p.0 rule.Keep 1, one_of (is_named p.1.name) all) (has_package s.proposed p.1.name) (one_of_is is (is_named p.1.name) all)
+      ∙ sym (or-false (not (has_package s.proposed p.1.name) && t (package_key p.0 rule.Keep 1)))
+  keep_any Feature p of =
+      each_any (fails is t) (λ n v. (package_key p.0 rule.Keep n, one_of (meets_alone v) all) ∷ []) (breaks s t) (λ n v. keep_instance p n (keep_feature v))
+      (λ n v. one_clause is t (package_key p.0 rule.Keep n, one_of (meets_alone v) all) (satisfies s.proposed v) (one_meets is v all)) p.1.provides
+  keep_any Nothing p of = refl
+
+  abbrev r : PlainRequest
+  r = problem.request
+
+  pub install_any : list_any (fails is t) (install_clauses all r.install) ≡ list_any (breaks s t) (of_each (install_instance r) r.install)
+  install_any =
+      each_any (fails is t) (λ n v. (request_key rule.Install n None, one_of (meets_alone v) all) ∷ []) (breaks s t) (install_instance r)
+      (λ n v. one_clause is t (request_key rule.Install n None, one_of (meets_alone v) all) (satisfies s.proposed v) (one_meets is v all)) r.install
+
+  pub remove_any : list_any (fails is t) (remove_clauses all r.remove) ≡ list_any (breaks s t) (of_each (remove_instance r) r.remove)
+  remove_any =
+      each_any (fails is t) (removal_clauses all) (breaks s t) (remove_instance r)
+      (λ n v. units_any is t (request_key rule.Remove n None) (meets_alone v) all ∙ ap (λ b. b && t (request_key rule.Remove n None)) (sym (member_alone s.proposed v))) r.remove
+
+  entry_any : (e : ℕ × PlainVpkg) → list_any (fails is t) (entry_clauses all s.initial e.0 e.1) ≡ list_any (breaks s t) (entry_instances r e)
+  entry_any e =
+      let n = e.0 in
+      let v = e.1 in
+      let one : Keyed = (request_key rule.Upgrade n (Some Unsatisfied), one_of (meets_alone v) all) in
+      list_any-append (fails is t) (one ∷ many_clauses all n v.name) (lower_clauses all s.initial n v.name)
+      ∙ (λ i. ((sym (or-false (fails is t one)) ∙ one_clause is t one (satisfies s.proposed v) (one_meets is v all)) i || many_any is t problem.packages n v.name i) || lower_is is t all s.initial n v.name i)
+      ∙ or-assoc (unsatisfied n v) (many n v) (lower n v)
+      ∙ ap (λ b. unsatisfied n v || (many n v || b)) (sym (or-false (lower n v)))
+    where
+      unsatisfied : ℕ → PlainVpkg → Bool
+      unsatisfied n v = not (satisfies s.proposed v) && t (request_key rule.Upgrade n (Some Unsatisfied))
+
+      many : ℕ → PlainVpkg → Bool
+      many n v = are_many (numbers_of v.name s.proposed) && t (request_key rule.Upgrade n (Some Many))
+
+      lower : ℕ → PlainVpkg → Bool
+      lower n v = are_lower (numbers_of v.name s.initial) (numbers_of v.name s.proposed) && t (request_key rule.Upgrade n (Some Lower))
+
+  pub upgrade_any : list_any (fails is t) (upgrade_clauses all s.initial r.upgrade) ≡ list_any (breaks s t) (flat_map (entry_instances r) (enumerate_from 1 r.upgrade))
+  upgrade_any =
+      for_each_any (fails is t) (entry_clauses all s.initial) r.upgrade
+      ∙ list_any-same (λ (e : ℕ × PlainVpkg). list_any (fails is t) (entry_clauses all s.initial e.0 e.1)) (λ e. list_any (breaks s t) (entry_instances r e)) entry_any (enumerate_from 1 r.upgrade)
+      ∙ sym (list_any-flat (breaks s t) (entry_instances r) (enumerate_from 1 r.upgrade))

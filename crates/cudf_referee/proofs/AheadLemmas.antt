@@ -21,10 +21,11 @@ use Rattle.cudf_job.specs.declared.key.Aspect.{Aspect}
 use Rattle.cudf_referee.specs.declared.sites.candidate.Sites.{Sites}
 use Rattle.cudf_job.specs.Keys.{PlainKey, part_rank, part_place, is_key, rule_rank, aspect_rank, key_ranks}
 use Rattle.cudf_referee.specs.Proposals.{Proposal}
-use Rattle.cudf_referee.specs.Promises.Sites.{unknown_stanza, site_key, package_sites, request_sites, Stop, at_site, package_end, package_stops, precedes, precedes_end, is_after}
+use Rattle.cudf_referee.specs.Violations.{package_instances, request_instances, unknown_instance}
+use Rattle.cudf_referee.specs.Promises.Stops.{Stop, stop_at, package_end, package_stops, precedes, precedes_end, is_after}
 use Rattle.cudf_referee.specs.Working.Searches.{unknown_left, package_rest, packages_rest}
 use Rattle.cudf_referee.specs.Working.SiteNumbers.{sites_in}
-use Rattle.cudf_referee.proofs.AscentLemmas.{Below, same_first, less_first, Climbs, from_lower, to_higher, climbs-over, site_ranks, package_climbs, packages_climb, request_climbs}
+use Rattle.cudf_referee.proofs.AscentLemmas.{Below, same_first, less_first, Climbs, from_lower, to_higher, climbs-over, instance_ranks, package_climbs, packages_climb, request_climbs}
 use Rattle.cudf_referee.proofs.ListLemmas.{and_left, filter-map, all_kept}
 use Rattle.cudf_referee.proofs.PositionLemmas.{stop_ranks, is_after-ranks}
 
@@ -97,18 +98,18 @@ module _ (s : Proposal) (key : PlainKey) where
       (packages_climb s m packages))
 
   -- the key's own package, of whose places these are left
-  own_package : (k : Option Sites) (p : Placed) → key.part ≡ part.Package p.0 → filter (λ x. precedes key (site_key x)) (package_sites s p) ≡ sites_in s k p
+  own_package : (k : Option Sites) (p : Placed) → key.part ≡ part.Package p.0 → filter (λ x. precedes key x.key) (package_instances s p) ≡ sites_in s k p
       → filter (is_after key) (package_stops s p) ≡ package_rest s k p
   own_package k p of left =
-      filter-append (is_after key) (map at_site (package_sites s p)) (package_end p.0 ∷ [])
-      ∙ (λ i. (filter-map (is_after key) at_site (package_sites s p) ∙ ap (map at_site) left) i
+      filter-append (is_after key) (map stop_at (package_instances s p)) (package_end p.0 ∷ [])
+      ∙ (λ i. (filter-map (is_after key) stop_at (package_instances s p) ∙ ap (map stop_at) left) i
       ++ cond ((ap (λ q. precedes_end q p.0) of ∙ itself) i) (package_end p.0 ∷ []) [])
     where
       itself : nat_le p.0 p.0 ≡ true
       itself = grind (arith, nat_tests)
 
   pub packages_after : (k : Option Sites) (n m i : ℕ) (packages : List PlainPackage) → key.part ≡ part.Package n → n ≡ m + i
-      → ((p : PlainPackage) → slice_get packages i ≡ Some p → filter (λ x. precedes key (site_key x)) (package_sites s (n, p)) ≡ sites_in s k (n, p))
+      → ((p : PlainPackage) → slice_get packages i ≡ Some p → filter (λ x. precedes key x.key) (package_instances s (n, p)) ≡ sites_in s k (n, p))
       → filter (is_after key) (flat_map (package_stops s) (enumerate_from m packages)) ≡ packages_rest s k (drop i (enumerate_from m packages))
   packages_after k n m i [] of h own = ap (packages_rest s k) (sym (drop-none i))
   packages_after k n m zero (x ∷ packages) of h own =
@@ -145,25 +146,25 @@ package_counted n r place aspect h = absurd (cc h)
 -- ---- the solution
 
 pub unknown_after : (place : ℕ) (aspect : Option Aspect) (unknown : List PlainUnknown)
-    → filter (λ x. precedes (key_of part.Solution rule.Unknown place aspect) (site_key x)) (map unknown_stanza unknown) ≡ map unknown_stanza (unknown_left place unknown)
+    → filter (λ x. precedes (key_of part.Solution rule.Unknown place aspect) x.key) (map unknown_instance unknown) ≡ map unknown_instance (unknown_left place unknown)
 unknown_after place aspect unknown =
-    filter-map (λ x. precedes (key_of part.Solution rule.Unknown place aspect) (site_key x)) unknown_stanza unknown
-    ∙ ap (map unknown_stanza) (filter_agree (λ u. precedes (key_of part.Solution rule.Unknown place aspect) (site_key (unknown_stanza u))) (λ u. nat_lt place u.stanza)
+    filter-map (λ x. precedes (key_of part.Solution rule.Unknown place aspect) x.key) unknown_instance unknown
+    ∙ ap (map unknown_instance) (filter_agree (λ u. precedes (key_of part.Solution rule.Unknown place aspect) (unknown_instance u).key) (λ u. nat_lt place u.stanza)
     (λ u. place_decides place u.stanza (aspect_rank aspect)) unknown)
 
 -- the unknown stanzas come after the keys of the other parts
-pub all_unknown_after : (key : PlainKey) → ((u : PlainUnknown) → precedes key (site_key (unknown_stanza u)) ≡ true) → (unknown : List PlainUnknown)
-    → filter (λ x. precedes key (site_key x)) (map unknown_stanza unknown) ≡ map unknown_stanza unknown
+pub all_unknown_after : (key : PlainKey) → ((u : PlainUnknown) → precedes key (unknown_instance u).key ≡ true) → (unknown : List PlainUnknown)
+    → filter (λ x. precedes key x.key) (map unknown_instance unknown) ≡ map unknown_instance unknown
 all_unknown_after key h unknown =
-    filter-map (λ x. precedes key (site_key x)) unknown_stanza unknown
-    ∙ ap (map unknown_stanza) (all_kept (λ u. precedes key (site_key (unknown_stanza u))) h unknown)
+    filter-map (λ x. precedes key x.key) unknown_instance unknown
+    ∙ ap (map unknown_instance) (all_kept (λ u. precedes key (unknown_instance u).key) h unknown)
 
 -- ---- the walk
 
 -- the whole request comes after the keys of packages
-pub request-later : (key : PlainKey) (r : PlainRequest) → Below (key_ranks key) (2 ∷ []) → filter (λ x. precedes key (site_key x)) (request_sites r) ≡ request_sites r
-request-later key r h = kept_above site_ranks (key_ranks key) (request_sites r) (3 ∷ []) (from_lower site_ranks (key_ranks key) (2 ∷ []) (3 ∷ []) (request_sites r) h (request_climbs r))
+pub request-later : (key : PlainKey) (r : PlainRequest) → Below (key_ranks key) (2 ∷ []) → filter (λ x. precedes key x.key) (request_instances r) ≡ request_instances r
+request-later key r h = kept_above instance_ranks (key_ranks key) (request_instances r) (3 ∷ []) (from_lower instance_ranks (key_ranks key) (2 ∷ []) (3 ∷ []) (request_instances r) h (request_climbs r))
 
 -- and none of it after those of the solution
-pub request-earlier : (key : PlainKey) (r : PlainRequest) → Below (3 ∷ []) (key_ranks key) → filter (λ x. precedes key (site_key x)) (request_sites r) ≡ []
-request-earlier key r h = dropped_below site_ranks (2 ∷ []) (request_sites r) (key_ranks key) (to_higher site_ranks (2 ∷ []) (3 ∷ []) (key_ranks key) (request_sites r) (request_climbs r) h)
+pub request-earlier : (key : PlainKey) (r : PlainRequest) → Below (3 ∷ []) (key_ranks key) → filter (λ x. precedes key x.key) (request_instances r) ≡ []
+request-earlier key r h = dropped_below instance_ranks (2 ∷ []) (request_instances r) (key_ranks key) (to_higher instance_ranks (2 ∷ []) (3 ∷ []) (key_ranks key) (request_instances r) (request_climbs r) h)

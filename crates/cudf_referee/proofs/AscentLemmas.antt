@@ -13,15 +13,16 @@ use Rattle.cudf_problem.specs.declared.package.Keep.TheVariants.{Version, Packag
 use Rattle.cudf_problem.specs.Universe.{PlainPackage, PlainRequest}
 use Rattle.cudf_problem.specs.Statuses.{PlainUnknown, ascend_above}
 use Rattle.cudf_index.specs.Satisfaction.{Placed}
-use Rattle.cudf_referee.specs.Instances.{PlainInstance}
+use Rattle.cudf_referee.specs.Instances.{keep_feature, PlainInstance}
 use Rattle.cudf_job.specs.Keys.{PlainKey, key_ranks, precedes_all, ascend}
 use Rattle.cudf_referee.specs.Proposals.{Proposal, holds_place}
-use Rattle.cudf_referee.specs.Violations.{listing}
-use Rattle.cudf_referee.specs.Promises.Sites.{Site, conjunct, conflicts_entry, kept_feature, install_entry, remove_entry, unknown_stanza, site_key, needed_sites, kept_sites, package_sites, upgrade_sites, request_sites, Stop, at_site, package_end, package_stops, walk}
-use Rattle.cudf_referee.specs.Working.Judged.{instance_at, is_violated, all_given}
+use Rattle.cudf_referee.specs.Violations.{unknown_instance, needed_instances, kept_instances, package_instances, entry_instances, request_instances, is_violated, listing}
+use Rattle.cudf_referee.specs.Working.RuleInstances.{depends_instance, conflicts_instance, keep_instance, install_instance, remove_instance}
+use Rattle.cudf_referee.specs.Promises.Stops.{Stop, stop_at, package_end, package_stops, walk}
+use Rattle.cudf_referee.specs.Working.Judged.{all_given}
 use Rattle.cudf_referee.proofs.ListLemmas.{and_left, and_right}
 use Rattle.cudf_referee.proofs.PositionLemmas.{stop_ranks}
-use Rattle.cudf_referee.proofs.SiteLemmas.{key_at, listing-walk}
+use Rattle.cudf_referee.proofs.StopLemmas.{listing-walk}
 
 -- ---- ranks
 
@@ -90,17 +91,17 @@ climbs-flat_map ranks f bound high step top n [] = top n
 climbs-flat_map ranks f bound high step top n (x ∷ xs) =
     climbs-append ranks (bound n) (bound (n + 1)) high (f (n, x)) (flat_map f (enumerate_from (n + 1) xs)) (step (n, x)) (climbs-flat_map ranks f bound high step top (n + 1) xs)
 
--- ---- sites
+-- ---- instances
 
-abbrev pub site_ranks : Site → List ℕ
-site_ranks site = key_ranks (site_key site)
+abbrev pub instance_ranks : PlainInstance → List ℕ
+instance_ranks i = key_ranks i.key
 
--- the sites of a rule without aspects, by the ranks of its part and its own
-climbs-rule : {A : Type 0} (make : ℕ × A → Site) (part place rule : ℕ)
-    → ((x : ℕ × A) → site_ranks (make x) ≡ (part ∷ place ∷ rule ∷ x.0 ∷ 0 ∷ []))
-    → (xs : List A) → Climbs site_ranks (part ∷ place ∷ rule ∷ []) (map make (enumerate_from 1 xs)) (part ∷ place ∷ (rule + 1) ∷ [])
+-- the instances of a rule without aspects, by the ranks of its part and its own
+climbs-rule : {A : Type 0} (make : ℕ × A → PlainInstance) (part place rule : ℕ)
+    → ((x : ℕ × A) → instance_ranks (make x) ≡ (part ∷ place ∷ rule ∷ x.0 ∷ 0 ∷ []))
+    → (xs : List A) → Climbs instance_ranks (part ∷ place ∷ rule ∷ []) (map make (enumerate_from 1 xs)) (part ∷ place ∷ (rule + 1) ∷ [])
 climbs-rule {A = A} make part place rule ranks xs =
-    from_lower site_ranks (part ∷ place ∷ rule ∷ []) (bound 1) high (map make (enumerate_from 1 xs)) (of_rule [] (1 ∷ []) refl) (from 1 xs)
+    from_lower instance_ranks (part ∷ place ∷ rule ∷ []) (bound 1) high (map make (enumerate_from 1 xs)) (of_rule [] (1 ∷ []) refl) (from 1 xs)
   where
     bound : ℕ → List ℕ
     bound n = part ∷ place ∷ rule ∷ n ∷ []
@@ -114,50 +115,50 @@ climbs-rule {A = A} make part place rule ranks xs =
     of_rule : (ms ns : List ℕ) → Below ms ns → Below (part ∷ place ∷ rule ∷ ms) (part ∷ place ∷ rule ∷ ns)
     of_rule ms ns h = within (rule ∷ ms) (rule ∷ ns) (same_first rule ms ns h)
 
-    above : (x : ℕ × A) → Below (bound x.0) (site_ranks (make x))
+    above : (x : ℕ × A) → Below (bound x.0) (instance_ranks (make x))
     above x = subst (λ r. Below (bound x.0) r) (sym (ranks x)) (of_rule (x.0 ∷ []) (x.0 ∷ 0 ∷ []) (same_first x.0 [] (0 ∷ []) refl))
 
-    below : (x : ℕ × A) → Below (site_ranks (make x)) (bound (x.0 + 1))
+    below : (x : ℕ × A) → Below (instance_ranks (make x)) (bound (x.0 + 1))
     below x = subst (λ r. Below r (bound (x.0 + 1))) (sym (ranks x)) (of_rule (x.0 ∷ 0 ∷ []) ((x.0 + 1) ∷ []) (next_first x.0 (0 ∷ []) []))
 
-    from : (n : ℕ) (xs : List A) → Climbs site_ranks (bound n) (map make (enumerate_from n xs)) high
+    from : (n : ℕ) (xs : List A) → Climbs instance_ranks (bound n) (map make (enumerate_from n xs)) high
     from n [] = within (rule ∷ n ∷ []) ((rule + 1) ∷ []) (next_first rule (n ∷ []) [])
     from n (x ∷ xs) = (
       above (n, x),
-      from_lower site_ranks (site_ranks (make (n, x))) (bound (n + 1)) high (map make (enumerate_from (n + 1) xs)) (below (n, x)) (from (n + 1) xs),
+      from_lower instance_ranks (instance_ranks (make (n, x))) (bound (n + 1)) high (map make (enumerate_from (n + 1) xs)) (below (n, x)) (from (n + 1) xs),
     )
 
 -- ---- packages
 
-kept_climb : (k : Keep) (p : Placed) → Climbs site_ranks (1 ∷ p.0 ∷ 3 ∷ []) (kept_sites k p) (1 ∷ p.0 ∷ 4 ∷ [])
+kept_climb : (k : Keep) (p : Placed) → Climbs instance_ranks (1 ∷ p.0 ∷ 3 ∷ []) (kept_instances k p) (1 ∷ p.0 ∷ 4 ∷ [])
 kept_climb Version p = (same_first p.0 (3 ∷ []) (3 ∷ 1 ∷ 0 ∷ []) refl, same_first p.0 (3 ∷ 1 ∷ 0 ∷ []) (4 ∷ []) refl)
 kept_climb Package p = (same_first p.0 (3 ∷ []) (3 ∷ 1 ∷ 0 ∷ []) refl, same_first p.0 (3 ∷ 1 ∷ 0 ∷ []) (4 ∷ []) refl)
-kept_climb Feature p = climbs-rule (λ v. kept_feature p v.0 v.1) 1 p.0 3 (λ x. refl) p.1.provides
+kept_climb Feature p = climbs-rule (λ v. keep_instance p v.0 (keep_feature v.1)) 1 p.0 3 (λ x. refl) p.1.provides
 kept_climb Nothing p = same_first p.0 (3 ∷ []) (4 ∷ []) refl
 
-pub sites_climb : (s : Proposal) (p : Placed) → Climbs site_ranks (1 ∷ p.0 ∷ []) (package_sites s p) (1 ∷ p.0 ∷ 4 ∷ [])
+pub sites_climb : (s : Proposal) (p : Placed) → Climbs instance_ranks (1 ∷ p.0 ∷ []) (package_instances s p) (1 ∷ p.0 ∷ 4 ∷ [])
 sites_climb s p =
-    from_lower site_ranks (1 ∷ p.0 ∷ []) (1 ∷ p.0 ∷ 1 ∷ []) (1 ∷ p.0 ∷ 4 ∷ []) (package_sites s p) (same_first p.0 [] (1 ∷ []) refl)
-    (climbs-append site_ranks (1 ∷ p.0 ∷ 1 ∷ []) (1 ∷ p.0 ∷ 3 ∷ []) (1 ∷ p.0 ∷ 4 ∷ [])
-    (cond (holds_place s.proposed p.0) (needed_sites p) []) (cond (holds_place s.initial p.0) (kept_sites p.1.keep p) [])
-    (climbs-if site_ranks (1 ∷ p.0 ∷ 1 ∷ []) (1 ∷ p.0 ∷ 3 ∷ []) (holds_place s.proposed p.0) (needed_sites p) (same_first p.0 (1 ∷ []) (3 ∷ []) refl) needed)
-    (climbs-if site_ranks (1 ∷ p.0 ∷ 3 ∷ []) (1 ∷ p.0 ∷ 4 ∷ []) (holds_place s.initial p.0) (kept_sites p.1.keep p) (same_first p.0 (3 ∷ []) (4 ∷ []) refl) (kept_climb p.1.keep p)))
+    from_lower instance_ranks (1 ∷ p.0 ∷ []) (1 ∷ p.0 ∷ 1 ∷ []) (1 ∷ p.0 ∷ 4 ∷ []) (package_instances s p) (same_first p.0 [] (1 ∷ []) refl)
+    (climbs-append instance_ranks (1 ∷ p.0 ∷ 1 ∷ []) (1 ∷ p.0 ∷ 3 ∷ []) (1 ∷ p.0 ∷ 4 ∷ [])
+    (cond (holds_place s.proposed p.0) (needed_instances p) []) (cond (holds_place s.initial p.0) (kept_instances p.1.keep p) [])
+    (climbs-if instance_ranks (1 ∷ p.0 ∷ 1 ∷ []) (1 ∷ p.0 ∷ 3 ∷ []) (holds_place s.proposed p.0) (needed_instances p) (same_first p.0 (1 ∷ []) (3 ∷ []) refl) needed)
+    (climbs-if instance_ranks (1 ∷ p.0 ∷ 3 ∷ []) (1 ∷ p.0 ∷ 4 ∷ []) (holds_place s.initial p.0) (kept_instances p.1.keep p) (same_first p.0 (3 ∷ []) (4 ∷ []) refl) (kept_climb p.1.keep p)))
   where
-    depends : List Site
-    depends = map (λ c. conjunct p c.0 c.1) (enumerate_from 1 p.1.depends)
+    depends : List PlainInstance
+    depends = map (λ c. depends_instance p c.0 c.1) (enumerate_from 1 p.1.depends)
 
-    conflicts : List Site
-    conflicts = map (λ v. conflicts_entry p v.0 v.1) (enumerate_from 1 p.1.conflicts)
+    conflicts : List PlainInstance
+    conflicts = map (λ v. conflicts_instance p v.0 v.1) (enumerate_from 1 p.1.conflicts)
 
-    needed : Climbs site_ranks (1 ∷ p.0 ∷ 1 ∷ []) (needed_sites p) (1 ∷ p.0 ∷ 3 ∷ [])
-    needed = climbs-append site_ranks (1 ∷ p.0 ∷ 1 ∷ []) (1 ∷ p.0 ∷ 2 ∷ []) (1 ∷ p.0 ∷ 3 ∷ []) depends conflicts
-        (climbs-rule (λ c. conjunct p c.0 c.1) 1 p.0 1 (λ x. refl) p.1.depends)
-        (climbs-rule (λ v. conflicts_entry p v.0 v.1) 1 p.0 2 (λ x. refl) p.1.conflicts)
+    needed : Climbs instance_ranks (1 ∷ p.0 ∷ 1 ∷ []) (needed_instances p) (1 ∷ p.0 ∷ 3 ∷ [])
+    needed = climbs-append instance_ranks (1 ∷ p.0 ∷ 1 ∷ []) (1 ∷ p.0 ∷ 2 ∷ []) (1 ∷ p.0 ∷ 3 ∷ []) depends conflicts
+        (climbs-rule (λ c. depends_instance p c.0 c.1) 1 p.0 1 (λ x. refl) p.1.depends)
+        (climbs-rule (λ v. conflicts_instance p v.0 v.1) 1 p.0 2 (λ x. refl) p.1.conflicts)
 
 pub package_climbs : (s : Proposal) (p : Placed) → Climbs stop_ranks (1 ∷ p.0 ∷ []) (package_stops s p) (1 ∷ p.0 ∷ 9 ∷ [])
 package_climbs s p =
-    climbs-append stop_ranks (1 ∷ p.0 ∷ []) (1 ∷ p.0 ∷ 4 ∷ []) (1 ∷ p.0 ∷ 9 ∷ []) (map at_site (package_sites s p)) (package_end p.0 ∷ [])
-    (climbs-map stop_ranks at_site (1 ∷ p.0 ∷ []) (package_sites s p) (1 ∷ p.0 ∷ 4 ∷ []) (sites_climb s p))
+    climbs-append stop_ranks (1 ∷ p.0 ∷ []) (1 ∷ p.0 ∷ 4 ∷ []) (1 ∷ p.0 ∷ 9 ∷ []) (map stop_at (package_instances s p)) (package_end p.0 ∷ [])
+    (climbs-map stop_ranks stop_at (1 ∷ p.0 ∷ []) (package_instances s p) (1 ∷ p.0 ∷ 4 ∷ []) (sites_climb s p))
     (same_first p.0 (4 ∷ []) (8 ∷ []) refl, same_first p.0 (8 ∷ []) (9 ∷ []) refl)
 
 pub packages_climb : (s : Proposal) (n : ℕ) (packages : List PlainPackage) → Climbs stop_ranks (1 ∷ n ∷ []) (flat_map (package_stops s) (enumerate_from n packages)) (2 ∷ [])
@@ -168,30 +169,30 @@ packages_climb s n packages =
 
 -- ---- the request
 
-pub entry_climbs : (v : ℕ × PlainVpkg) → Climbs site_ranks (2 ∷ 0 ∷ 6 ∷ v.0 ∷ []) (upgrade_sites v) (2 ∷ 0 ∷ 6 ∷ (v.0 + 1) ∷ [])
-entry_climbs v = (same_first v.0 [] (1 ∷ []) refl, (same_first v.0 (1 ∷ []) (2 ∷ []) refl, (same_first v.0 (2 ∷ []) (3 ∷ []) refl, next_first v.0 (3 ∷ []) [])))
+pub entry_climbs : (r : PlainRequest) (v : ℕ × PlainVpkg) → Climbs instance_ranks (2 ∷ 0 ∷ 6 ∷ v.0 ∷ []) (entry_instances r v) (2 ∷ 0 ∷ 6 ∷ (v.0 + 1) ∷ [])
+entry_climbs r v = (same_first v.0 [] (1 ∷ []) refl, (same_first v.0 (1 ∷ []) (2 ∷ []) refl, (same_first v.0 (2 ∷ []) (3 ∷ []) refl, next_first v.0 (3 ∷ []) [])))
 
-pub entries_climb : (n : ℕ) (vs : List PlainVpkg) → Climbs site_ranks (2 ∷ 0 ∷ 6 ∷ n ∷ []) (flat_map upgrade_sites (enumerate_from n vs)) (3 ∷ [])
-entries_climb n vs = climbs-flat_map site_ranks upgrade_sites (λ m. 2 ∷ 0 ∷ 6 ∷ m ∷ []) (3 ∷ []) entry_climbs (λ m. refl) n vs
+pub entries_climb : (r : PlainRequest) (n : ℕ) (vs : List PlainVpkg) → Climbs instance_ranks (2 ∷ 0 ∷ 6 ∷ n ∷ []) (flat_map (entry_instances r) (enumerate_from n vs)) (3 ∷ [])
+entries_climb r n vs = climbs-flat_map instance_ranks (entry_instances r) (λ m. 2 ∷ 0 ∷ 6 ∷ m ∷ []) (3 ∷ []) (entry_climbs r) (λ m. refl) n vs
 
-pub request_climbs : (r : PlainRequest) → Climbs site_ranks (2 ∷ []) (request_sites r) (3 ∷ [])
+pub request_climbs : (r : PlainRequest) → Climbs instance_ranks (2 ∷ []) (request_instances r) (3 ∷ [])
 request_climbs r =
-    from_lower site_ranks (2 ∷ []) (2 ∷ 0 ∷ 4 ∷ []) (3 ∷ []) (request_sites r) refl
-    (climbs-append site_ranks (2 ∷ 0 ∷ 4 ∷ []) (2 ∷ 0 ∷ 6 ∷ []) (3 ∷ []) (wanted ++ unwanted) (flat_map upgrade_sites (enumerate_from 1 r.upgrade))
-    (climbs-append site_ranks (2 ∷ 0 ∷ 4 ∷ []) (2 ∷ 0 ∷ 5 ∷ []) (2 ∷ 0 ∷ 6 ∷ []) wanted unwanted
-    (climbs-rule (λ v. install_entry v.0 v.1) 2 0 4 (λ x. refl) r.install)
-    (climbs-rule (λ v. remove_entry v.0 v.1) 2 0 5 (λ x. refl) r.remove))
-    (from_lower site_ranks (2 ∷ 0 ∷ 6 ∷ []) (2 ∷ 0 ∷ 6 ∷ 1 ∷ []) (3 ∷ []) (flat_map upgrade_sites (enumerate_from 1 r.upgrade)) refl (entries_climb 1 r.upgrade)))
+    from_lower instance_ranks (2 ∷ []) (2 ∷ 0 ∷ 4 ∷ []) (3 ∷ []) (request_instances r) refl
+    (climbs-append instance_ranks (2 ∷ 0 ∷ 4 ∷ []) (2 ∷ 0 ∷ 6 ∷ []) (3 ∷ []) (wanted ++ unwanted) (flat_map (entry_instances r) (enumerate_from 1 r.upgrade))
+    (climbs-append instance_ranks (2 ∷ 0 ∷ 4 ∷ []) (2 ∷ 0 ∷ 5 ∷ []) (2 ∷ 0 ∷ 6 ∷ []) wanted unwanted
+    (climbs-rule (λ v. install_instance r v.0 v.1) 2 0 4 (λ x. refl) r.install)
+    (climbs-rule (λ v. remove_instance r v.0 v.1) 2 0 5 (λ x. refl) r.remove))
+    (from_lower instance_ranks (2 ∷ 0 ∷ 6 ∷ []) (2 ∷ 0 ∷ 6 ∷ 1 ∷ []) (3 ∷ []) (flat_map (entry_instances r) (enumerate_from 1 r.upgrade)) refl (entries_climb r 1 r.upgrade)))
   where
-    wanted : List Site
-    wanted = map (λ v. install_entry v.0 v.1) (enumerate_from 1 r.install)
+    wanted : List PlainInstance
+    wanted = map (λ v. install_instance r v.0 v.1) (enumerate_from 1 r.install)
 
-    unwanted : List Site
-    unwanted = map (λ v. remove_entry v.0 v.1) (enumerate_from 1 r.remove)
+    unwanted : List PlainInstance
+    unwanted = map (λ v. remove_instance r v.0 v.1) (enumerate_from 1 r.remove)
 
 -- ---- the solution
 
-unknown_climbs : (n : ℕ) (unknown : List PlainUnknown) → ascend_above n unknown ≡ true → Climbs site_ranks (3 ∷ 0 ∷ 7 ∷ n ∷ 0 ∷ []) (map unknown_stanza unknown) (4 ∷ [])
+unknown_climbs : (n : ℕ) (unknown : List PlainUnknown) → ascend_above n unknown ≡ true → Climbs instance_ranks (3 ∷ 0 ∷ 7 ∷ n ∷ 0 ∷ []) (map unknown_instance unknown) (4 ∷ [])
 unknown_climbs n [] h = refl
 unknown_climbs n (u ∷ unknown) h = (
   less_first n u.stanza (0 ∷ []) (0 ∷ []) (ltb-true n u.stanza (and_left (nat_lt n u.stanza) (ascend_above u.stanza unknown) h)),
@@ -204,37 +205,30 @@ unknown_climbs n (u ∷ unknown) h = (
 pub walk-climbs : (s : Proposal) → ascend_above 0 s.unknown ≡ true → Climbs stop_ranks [] (walk s) (4 ∷ [])
 unfolding walk
 walk-climbs s h =
-    from_lower stop_ranks [] (1 ∷ 1 ∷ []) (4 ∷ []) (flat_map (package_stops s) packages ++ map at_site others) refl
-    (climbs-append stop_ranks (1 ∷ 1 ∷ []) (2 ∷ []) (4 ∷ []) (flat_map (package_stops s) packages) (map at_site others)
+    from_lower stop_ranks [] (1 ∷ 1 ∷ []) (4 ∷ []) (flat_map (package_stops s) packages ++ map stop_at others) refl
+    (climbs-append stop_ranks (1 ∷ 1 ∷ []) (2 ∷ []) (4 ∷ []) (flat_map (package_stops s) packages) (map stop_at others)
     (packages_climb s 1 s.problem.packages)
-    (climbs-map stop_ranks at_site (2 ∷ []) others (4 ∷ [])
-    (climbs-append site_ranks (2 ∷ []) (3 ∷ []) (4 ∷ []) (request_sites s.problem.request) (map unknown_stanza s.unknown) (request_climbs s.problem.request)
-    (from_lower site_ranks (3 ∷ []) (3 ∷ 0 ∷ 7 ∷ 0 ∷ 0 ∷ []) (4 ∷ []) (map unknown_stanza s.unknown) refl (unknown_climbs 0 s.unknown h)))))
+    (climbs-map stop_ranks stop_at (2 ∷ []) others (4 ∷ [])
+    (climbs-append instance_ranks (2 ∷ []) (3 ∷ []) (4 ∷ []) (request_instances s.problem.request) (map unknown_instance s.unknown) (request_climbs s.problem.request)
+    (from_lower instance_ranks (3 ∷ []) (3 ∷ 0 ∷ 7 ∷ 0 ∷ 0 ∷ []) (4 ∷ []) (map unknown_instance s.unknown) refl (unknown_climbs 0 s.unknown h)))))
   where
     packages : List Placed
     packages = enumerate_from 1 s.problem.packages
 
-    others : List Site
-    others = request_sites s.problem.request ++ map unknown_stanza s.unknown
+    others : List PlainInstance
+    others = request_instances s.problem.request ++ map unknown_instance s.unknown
 
 -- ---- the listing
 
-abbrev instance_ranks : PlainInstance → List ℕ
-instance_ranks i = key_ranks i.key
-
-given_one : (low high : List ℕ) (violated : Bool) (key : PlainKey) (i : PlainInstance) (is : List PlainInstance) → i.key ≡ key → Below low (key_ranks key)
-    → Climbs instance_ranks (key_ranks key) is high → Climbs instance_ranks low (cons_option (cond violated (Some i) None) is) high
-given_one low high true key i is same h k = (
-  subst (λ (x : PlainKey). Below low (key_ranks x)) (sym same) h,
-  subst (λ (x : PlainKey). Climbs instance_ranks (key_ranks x) is high) (sym same) k,
-)
-given_one low high false key i is same h k = from_lower instance_ranks low (key_ranks key) high is h k
+given_one : (low high : List ℕ) (violated : Bool) (i : PlainInstance) (is : List PlainInstance) → Below low (instance_ranks i)
+    → Climbs instance_ranks (instance_ranks i) is high → Climbs instance_ranks low (cons_option (cond violated (Some i) None) is) high
+given_one low high true i is h k = (h, k)
+given_one low high false i is h k = from_lower instance_ranks low (instance_ranks i) high is h k
 
 -- what stops that climb give does
 given_climbs : (s : Proposal) (low : List ℕ) (xs : List Stop) (high : List ℕ) → Climbs stop_ranks low xs high → Climbs instance_ranks low (all_given s xs) high
 given_climbs s low [] high h = h
-given_climbs s low (at_site x ∷ xs) high h = given_one low high (is_violated s x) (site_key x) (instance_at s x) (all_given s xs) (key_at s x) h.0
-    (given_climbs s (stop_ranks (at_site x)) xs high h.1)
+given_climbs s low (stop_at i ∷ xs) high h = given_one low high (is_violated s i) i (all_given s xs) h.0 (given_climbs s (stop_ranks (stop_at i)) xs high h.1)
 given_climbs s low (package_end n ∷ xs) high h = from_lower instance_ranks low (stop_ranks (package_end n)) high (all_given s xs) h.0
     (given_climbs s (stop_ranks (package_end n)) xs high h.1)
 

@@ -14,10 +14,11 @@ use Rattle.cudf_job.specs.declared.key.Part.TheVariants as part
 use Rattle.cudf_job.specs.Keys.{PlainKey, is_key}
 use Rattle.cudf_job.specs.Promises.Keys.{is_fitting}
 use Rattle.cudf_referee.specs.Proposals.{Proposal}
-use Rattle.cudf_referee.specs.Promises.Sites.{site_key, package_sites, request_sites, at_site, package_stops, PlainPosition, at_start, at_key, at_end, precedes, is_after, is_ahead}
+use Rattle.cudf_referee.specs.Promises.Stops.{stop_at, package_stops, PlainPosition, at_start, at_key, at_end, precedes, is_after, is_ahead}
 use Rattle.cudf_referee.specs.declared.sites.candidate.Sites.{Sites}
 use Rattle.cudf_referee.specs.declared.sites.request_sites.RequestSites.{RequestSites}
 use Rattle.cudf_referee.specs.Promises.Walks.{Walking}
+use Rattle.cudf_referee.specs.Violations.{package_instances, request_instances}
 use Rattle.cudf_referee.specs.Working.RequestSites.{request_sites_view}
 use Rattle.cudf_referee.specs.Working.SiteNumbers.{sites_in}
 use Rattle.cudf_referee.specs.Working.Places.{ahead, IsFitting, BeginsAt}
@@ -35,56 +36,56 @@ module _ (s : Proposal) where
   -- the three parts of the walk, each kept as far as it lies ahead
   from-parts : (old : PlainPosition) (n : ℕ) (k : Option Sites) (r : RequestSites) (u : ℕ) → IsFitting old → BeginsAt old s.unknown u
       → filter (is_ahead old) (flat_map (package_stops s) packages) ≡ packages_rest s k (drop n packages)
-      → filter (is_ahead old) (map at_site (request_sites s.problem.request)) ≡ request_rest r
+      → filter (is_ahead old) (map stop_at (request_instances s.problem.request)) ≡ request_rest s r
       → stops_from s (record { packages = n; sites = k; request = r; unknown = u }) ≡ ahead s old
   from-parts old n k r u fits begins h h' = sym (
       ap (filter (is_ahead old)) (walk-split s)
       ∙ filter-append (is_ahead old) (known_stops s) (unknown_stops s.unknown)
-      ∙ (λ i. (filter-append (is_ahead old) (flat_map (package_stops s) packages) (map at_site (request_sites s.problem.request)) ∙ (λ j. h j ++ h' j)) i
+      ∙ (λ i. (filter-append (is_ahead old) (flat_map (package_stops s) packages) (map stop_at (request_instances s.problem.request)) ∙ (λ j. h j ++ h' j)) i
       ++ (ahead_unknown old s.unknown fits ∙ ap unknown_stops begins.begins) i)
-      ∙ append_assoc (packages_rest s k (drop n packages)) (request_rest r) (unknown_rest s u)
+      ∙ append_assoc (packages_rest s k (drop n packages)) (request_rest s r) (unknown_rest s u)
       )
 
   past-packages : [] ≡ packages_rest s None (drop (length s.problem.packages) packages)
   past-packages = ap (packages_rest s None) (sym (drop_of_length-le packages (omega (arith, length-enumerate_from 1 s.problem.packages))))
 
-  of-request : (key : PlainKey) (r : RequestSites) → filter (λ x. precedes key (site_key x)) (request_sites s.problem.request) ≡ request_sites_view r
-      → filter (is_after key) (map at_site (request_sites s.problem.request)) ≡ request_rest r
-  of-request key r h = filter-map (is_after key) at_site (request_sites s.problem.request) ∙ ap (map at_site) h
+  of-request : (key : PlainKey) (r : RequestSites) → filter (λ x. precedes key x.key) (request_instances s.problem.request) ≡ request_sites_view s.problem.request r
+      → filter (is_after key) (map stop_at (request_instances s.problem.request)) ≡ request_rest s r
+  of-request key r h = filter-map (is_after key) stop_at (request_instances s.problem.request) ∙ ap (map stop_at) h
 
-  pub at-start : (r : RequestSites) (u : ℕ) → request_sites_view r ≡ request_sites s.problem.request → BeginsAt at_start s.unknown u
+  pub at-start : (r : RequestSites) (u : ℕ) → request_sites_view s.problem.request r ≡ request_instances s.problem.request → BeginsAt at_start s.unknown u
       → stops_from s (record { packages = 0; sites = None; request = r; unknown = u }) ≡ ahead s at_start
   at-start r u whole begins = from-parts at_start 0 None r u tt begins
       (all_kept (is_ahead at_start) (λ x. refl) (flat_map (package_stops s) packages) ∙ sym (rest-whole s packages))
-      (all_kept (is_ahead at_start) (λ x. refl) (map at_site (request_sites s.problem.request)) ∙ ap (map at_site) (sym whole))
+      (all_kept (is_ahead at_start) (λ x. refl) (map stop_at (request_instances s.problem.request)) ∙ ap (map stop_at) (sym whole))
 
-  pub at-end : (n : ℕ) (r : RequestSites) (u : ℕ) → n ≡ length s.problem.packages → request_sites_view r ≡ [] → BeginsAt at_end s.unknown u
+  pub at-end : (n : ℕ) (r : RequestSites) (u : ℕ) → n ≡ length s.problem.packages → request_sites_view s.problem.request r ≡ [] → BeginsAt at_end s.unknown u
       → stops_from s (record { packages = n; sites = None; request = r; unknown = u }) ≡ ahead s at_end
   at-end n r u count none begins = from-parts at_end n None r u tt begins
       (none_kept (is_ahead at_end) (λ x. refl) (flat_map (package_stops s) packages) ∙ past-packages ∙ ap (λ m. packages_rest s None (drop m packages)) (sym count))
-      (none_kept (is_ahead at_end) (λ x. refl) (map at_site (request_sites s.problem.request)) ∙ ap (map at_site) (sym none))
+      (none_kept (is_ahead at_end) (λ x. refl) (map stop_at (request_instances s.problem.request)) ∙ ap (map stop_at) (sym none))
 
   module _ (key : PlainKey) (fits : is_fitting key ≡ true) where
-    pub behind-package : (n : ℕ) (k : Option Sites) (r : RequestSites) (u : ℕ) → key.part ≡ part.Package n → request_sites_view r ≡ request_sites s.problem.request → BeginsAt (at_key key) s.unknown u
-        → ((p : PlainPackage) → slice_get s.problem.packages (n - 1) ≡ Some p → filter (λ x. precedes key (site_key x)) (package_sites s (n - 1 + 1, p)) ≡ sites_in s k (n - 1 + 1, p))
+    pub behind-package : (n : ℕ) (k : Option Sites) (r : RequestSites) (u : ℕ) → key.part ≡ part.Package n → request_sites_view s.problem.request r ≡ request_instances s.problem.request → BeginsAt (at_key key) s.unknown u
+        → ((p : PlainPackage) → slice_get s.problem.packages (n - 1) ≡ Some p → filter (λ x. precedes key x.key) (package_instances s (n - 1 + 1, p)) ≡ sites_in s k (n - 1 + 1, p))
         → stops_from s (record { packages = n - 1; sites = k; request = r; unknown = u }) ≡ ahead s (at_key key)
     behind-package n k r u of whole begins own =
         let counted = package_counted n key.rule key.place key.aspect (ap (λ p. is_key p key.rule key.place key.aspect) (sym of) ∙ fits) in
         let number : n - 1 + 1 ≡ n = omega arith in
         from-parts (at_key key) (n - 1) k r u fits begins
         (packages_after s key k n 1 (n - 1) s.problem.packages of (omega arith)
-        (λ p is. subst (λ (m : ℕ). filter (λ x. precedes key (site_key x)) (package_sites s (m, p)) ≡ sites_in s k (m, p)) number (own p is)))
+        (λ p is. subst (λ (m : ℕ). filter (λ x. precedes key x.key) (package_instances s (m, p)) ≡ sites_in s k (m, p)) number (own p is)))
         (of-request key r (request-later key s.problem.request
         (subst (λ (l : List ℕ). Below l (2 ∷ [])) (ranks_of key (part.Package n) of) refl) ∙ sym whole))
 
     pub behind-request : (n : ℕ) (r : RequestSites) (u : ℕ) → n ≡ length s.problem.packages → key.part ≡ part.Request → BeginsAt (at_key key) s.unknown u
-        → filter (λ x. precedes key (site_key x)) (request_sites s.problem.request) ≡ request_sites_view r
+        → filter (λ x. precedes key x.key) (request_instances s.problem.request) ≡ request_sites_view s.problem.request r
         → stops_from s (record { packages = n; sites = None; request = r; unknown = u }) ≡ ahead s (at_key key)
     behind-request n r u count of begins left = from-parts (at_key key) n None r u fits begins
         (packages_before s key (subst (λ (l : List ℕ). Below (2 ∷ []) l) (ranks_of key part.Request of) refl) ∙ past-packages ∙ ap (λ m. packages_rest s None (drop m packages)) (sym count))
         (of-request key r left)
 
-    pub behind-solution : (n : ℕ) (r : RequestSites) (u : ℕ) → n ≡ length s.problem.packages → request_sites_view r ≡ [] → key.part ≡ part.Solution → BeginsAt (at_key key) s.unknown u
+    pub behind-solution : (n : ℕ) (r : RequestSites) (u : ℕ) → n ≡ length s.problem.packages → request_sites_view s.problem.request r ≡ [] → key.part ≡ part.Solution → BeginsAt (at_key key) s.unknown u
         → stops_from s (record { packages = n; sites = None; request = r; unknown = u }) ≡ ahead s (at_key key)
     behind-solution n r u count none of begins = from-parts (at_key key) n None r u fits begins
         (packages_before s key (subst (λ (l : List ℕ). Below (2 ∷ []) l) (ranks_of key part.Solution of) refl) ∙ past-packages ∙ ap (λ m. packages_rest s None (drop m packages)) (sym count))

@@ -1,9 +1,9 @@
 pub mod AheadLemmas
 pub mod AscentLemmas
-pub mod EntryLemmas
 pub mod BeforeLemmas
 pub mod ComesLemmas
 pub mod CursorLemmas
+pub mod EntryLemmas
 pub mod Examples
 pub mod ExplanationLemmas
 pub mod GroundLemmas
@@ -24,11 +24,11 @@ pub mod PriceExamples
 pub mod RecommendLemmas
 pub mod RemedyLemmas
 pub mod SearchLemmas
-pub mod SiteLemmas
 pub mod SiteNumberLemmas
 pub mod SolutionLemmas
 pub mod StandingLemmas
 pub mod StatusLemmas
+pub mod StopLemmas
 pub mod TouchedLemmas
 pub mod UnknownLemmas
 pub mod WritableLemmas

@@ -1,6 +1,7 @@
 -- Tests, and lists: what passes, how many do, and which are empty.
 use Rattle.std.proofs.Common.{◌≡◌, ℕ, ◌+◌, ◌<◌, Bool, true, false, not, ◌&&◌, ◌||◌, List, [], ◌∷◌, ◌++◌, length, take, get_or, map, filter, cond, refl, ap, sym, ◌∙◌, arith}
 use Rattle.std.proofs.lemmas.List.{map-append, take_more}
+use Rattle.std.proofs.lemmas.List.Folds.{list_all-append}
 use Rattle.std.proofs.lemmas.List.Sums.{sum_by-cons}
 use Rattle.std.specs.List.{count_by, list_all, list_any, flat_map, enumerate_from}
 use Rattle.cudf_problem.specs.Documents.{is_empty}
@@ -78,9 +79,9 @@ pub is_empty-map : {A B : Type 0} (f : A → B) (xs : List A) → is_empty (map 
 is_empty-map f [] = refl
 is_empty-map f (x ∷ xs) = refl
 
-pub is_empty-flat_map : {A B : Type 0} (f : A → List B) (xs : List A) → is_empty (flat_map f xs) ≡ list_all (λ x. is_empty (f x)) xs
-is_empty-flat_map f [] = refl
-is_empty-flat_map f (x ∷ xs) = is_empty-append (f x) (flat_map f xs) ∙ ap (λ b. is_empty (f x) && b) (is_empty-flat_map f xs)
+pub list_all-flat_map : {A B : Type 0} (p : B → Bool) (f : A → List B) (xs : List A) → list_all p (flat_map f xs) ≡ list_all (λ x. list_all p (f x)) xs
+list_all-flat_map p f [] = refl
+list_all-flat_map p f (x ∷ xs) = list_all-append p (f x) (flat_map f xs) ∙ ap (λ b. list_all p (f x) && b) (list_all-flat_map p f xs)
 
 pub is_empty-filter : {A : Type 0} (test : A → Bool) (xs : List A) → is_empty (filter test xs) ≡ list_all (λ x. not (test x)) xs
 is_empty-filter test [] = refl

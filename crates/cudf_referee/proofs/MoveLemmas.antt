@@ -14,10 +14,11 @@ use Rattle.cudf_referee.specs.Instances.{PlainInstance}
 use Rattle.cudf_job.specs.Keys.{PlainKey, key_ranks}
 use Rattle.cudf_referee.specs.Promises.Pages.{at_instance}
 use Rattle.cudf_referee.specs.Proposals.{Proposal}
-use Rattle.cudf_referee.specs.Promises.Sites.{Stop, at_site, package_end, walk, stop_cost, least_cost, PlainPosition, at_start, at_key, at_end, precedes, is_after, is_ahead, stops_between, cost_between, least_between}
+use Rattle.cudf_referee.specs.Promises.Stops.{Stop, stop_at, package_end, walk, stop_cost, least_cost, PlainPosition, at_start, at_key, at_end, precedes, is_after, is_ahead, stops_between, cost_between, least_between}
 use Rattle.cudf_referee.specs.Promises.Views.{instance_view}
 use Rattle.cudf_referee.specs.Promises.Walks.{Walking, left, Moves}
-use Rattle.cudf_referee.specs.Working.Judged.{instance_at, is_violated, given_at, all_given}
+use Rattle.cudf_referee.specs.Violations.{is_violated}
+use Rattle.cudf_referee.specs.Working.Judged.{given_at, all_given}
 use Rattle.cudf_referee.specs.Working.Places.{ahead}
 use Rattle.cudf_referee.specs.Working.Searches.{or_later, first_given, unless_found, sum_to_first, cost_to_first, least_to_first, Searches}
 use Rattle.cudf_referee.proofs.AheadLemmas.{not_below, kept_above, after-ranks}
@@ -25,7 +26,7 @@ use Rattle.cudf_referee.proofs.ListLemmas.{none_kept, filter-both, weaker_case}
 use Rattle.cudf_referee.proofs.AscentLemmas.{Below, chained, Climbs, from_lower, climbs-filter, walk-climbs}
 use Rattle.cudf_referee.proofs.PositionLemmas.{stop_ranks, is_after-ranks, IsLater, later-key, later-start}
 use Rattle.cudf_referee.proofs.SearchLemmas.{or_later-none, unless_found-zero}
-use Rattle.cudf_referee.proofs.SiteLemmas.{key_at, left-walk}
+use Rattle.cudf_referee.proofs.StopLemmas.{left-walk}
 
 -- ---- what a stop gives
 
@@ -35,7 +36,7 @@ given_case false i j h = absurd (cc h)
 
 -- an instance ranks where its stop does
 pub given_ranks : (s : Proposal) (x : Stop) (i : PlainInstance) → given_at s x ≡ Some i → stop_ranks x ≡ key_ranks i.key
-given_ranks s (at_site site) i h = ap key_ranks (sym (key_at s site) ∙ ap (λ (j : PlainInstance). j.key) (given_case (is_violated s site) (instance_at s site) i h))
+given_ranks s (stop_at x) i h = ap (λ (j : PlainInstance). key_ranks j.key) (given_case (is_violated s x) x i h)
 given_ranks s (package_end n) i h = absurd (cc h)
 
 pub first_case : (s : Proposal) (x : Stop) (xs : List Stop) (o : Option PlainInstance) → given_at s x ≡ o → first_given s (x ∷ xs) ≡ or_later o (first_given s xs)

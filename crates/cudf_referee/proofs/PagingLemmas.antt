@@ -12,7 +12,7 @@ use Rattle.cudf_job.specs.Keys.{PlainKey, precedes_all, ascend, key_text}
 use Rattle.cudf_job.specs.Promises.Keys.{IsWritable}
 use Rattle.cudf_referee.specs.Proposals.{Proposal}
 use Rattle.cudf_referee.specs.Violations.{listing, rest}
-use Rattle.cudf_referee.specs.Promises.Sites.{PlainPosition, at_start, at_key, at_end, precedes, cost_between}
+use Rattle.cudf_referee.specs.Promises.Stops.{PlainPosition, at_start, at_key, at_end, precedes, cost_between}
 use Rattle.cudf_referee.specs.Promises.Pages.{left_at, behind, page, last_key, pages, ReadsKeys, at_instance, page_bound, calls, cost_along, page_price}
 use Rattle.cudf_referee.proofs.ListLemmas.{and_left, and_right}
 use Rattle.cudf_referee.proofs.PositionLemmas.{precedes-itself, precedes-back, IsLater, later-key, later-end, later-start, later-chained, cost_between-joined}

@@ -16,8 +16,8 @@ use Rattle.cudf_referee.specs.Instances.{PlainInstance}
 use Rattle.cudf_job.specs.Keys.{is_key, key_ranks}
 use Rattle.cudf_referee.specs.Promises.Pages.{at_instance}
 use Rattle.cudf_referee.specs.Proposals.{Proposal}
-use Rattle.cudf_referee.specs.Promises.Sites.{unknown_stanza, request_sites, Stop, at_site, package_stops, walk, PlainPosition, at_start, at_key, at_end, is_after, is_ahead}
-use Rattle.cudf_referee.specs.Violations.{unknown_instance}
+use Rattle.cudf_referee.specs.Promises.Stops.{Stop, stop_at, package_stops, walk, PlainPosition, at_start, at_key, at_end, is_after, is_ahead}
+use Rattle.cudf_referee.specs.Violations.{request_instances, unknown_instance}
 use Rattle.cudf_referee.specs.Working.Judged.{given_at}
 use Rattle.cudf_referee.specs.Working.Places.{ahead, IsFitting, unknown_behind, unknown_ahead, BeginsAt, place_behind, next_place}
 use Rattle.cudf_referee.specs.Working.Searches.{or_later, first_given, unknown_left}
@@ -69,22 +69,22 @@ left_behind m (suc n) (x ∷ us) u more ascends h =
 -- ---- the stops before the unknown stanzas
 
 abbrev pub known_stops : Proposal → List Stop
-known_stops s = flat_map (package_stops s) (enumerate_from 1 s.problem.packages) ++ map at_site (request_sites s.problem.request)
+known_stops s = flat_map (package_stops s) (enumerate_from 1 s.problem.packages) ++ map stop_at (request_instances s.problem.request)
 
 abbrev pub unknown_stops : List PlainUnknown → List Stop
-unknown_stops unknown = map at_site (map unknown_stanza unknown)
+unknown_stops unknown = map stop_at (map unknown_instance unknown)
 
 pub walk-split : (s : Proposal) → walk s ≡ known_stops s ++ unknown_stops s.unknown
 unfolding walk
 walk-split s =
-    ap (λ xs. flat_map (package_stops s) (enumerate_from 1 s.problem.packages) ++ xs) (map-append at_site (request_sites s.problem.request) (map unknown_stanza s.unknown))
-    ∙ sym (append_assoc (flat_map (package_stops s) (enumerate_from 1 s.problem.packages)) (map at_site (request_sites s.problem.request)) (unknown_stops s.unknown))
+    ap (λ xs. flat_map (package_stops s) (enumerate_from 1 s.problem.packages) ++ xs) (map-append stop_at (request_instances s.problem.request) (map unknown_instance s.unknown))
+    ∙ sym (append_assoc (flat_map (package_stops s) (enumerate_from 1 s.problem.packages)) (map stop_at (request_instances s.problem.request)) (unknown_stops s.unknown))
 
 known_climbs : (s : Proposal) → Climbs stop_ranks [] (known_stops s) (3 ∷ [])
 known_climbs s =
     from_lower stop_ranks [] (1 ∷ 1 ∷ []) (3 ∷ []) (known_stops s) refl
-    (climbs-append stop_ranks (1 ∷ 1 ∷ []) (2 ∷ []) (3 ∷ []) (flat_map (package_stops s) (enumerate_from 1 s.problem.packages)) (map at_site (request_sites s.problem.request))
-    (packages_climb s 1 s.problem.packages) (climbs-map stop_ranks at_site (2 ∷ []) (request_sites s.problem.request) (3 ∷ []) (request_climbs s.problem.request)))
+    (climbs-append stop_ranks (1 ∷ 1 ∷ []) (2 ∷ []) (3 ∷ []) (flat_map (package_stops s) (enumerate_from 1 s.problem.packages)) (map stop_at (request_instances s.problem.request))
+    (packages_climb s 1 s.problem.packages) (climbs-map stop_ranks stop_at (2 ∷ []) (request_instances s.problem.request) (3 ∷ []) (request_climbs s.problem.request)))
 
 first_below : (s : Proposal) (low : List ℕ) (xs : List Stop) (high : List ℕ) (i : PlainInstance) → Climbs stop_ranks low xs high → first_given s xs ≡ Some i → Below (key_ranks i.key) high
 first_below s low [] high i h k = absurd (cc k)
@@ -99,14 +99,14 @@ first_below s low (x ∷ xs) high i h k = by (given_at s x) refl (first_below s 
 behind_key : (p : Part) (r : Rule) (place : ℕ) (aspect : Option Aspect) (unknown : List PlainUnknown) → is_key p r place aspect ≡ true
     → filter (is_after (key_of p r place aspect)) (unknown_stops unknown) ≡ unknown_stops (unknown_behind p place unknown)
 behind_key (part.Package n) r place aspect unknown h =
-    filter-map (is_after (key_of (part.Package n) r place aspect)) at_site (map unknown_stanza unknown)
-    ∙ ap (map at_site) (all_unknown_after (key_of (part.Package n) r place aspect) (λ u. refl) unknown)
+    filter-map (is_after (key_of (part.Package n) r place aspect)) stop_at (map unknown_instance unknown)
+    ∙ ap (map stop_at) (all_unknown_after (key_of (part.Package n) r place aspect) (λ u. refl) unknown)
 behind_key part.Request r place aspect unknown h =
-    filter-map (is_after (key_of part.Request r place aspect)) at_site (map unknown_stanza unknown)
-    ∙ ap (map at_site) (all_unknown_after (key_of part.Request r place aspect) (λ u. refl) unknown)
+    filter-map (is_after (key_of part.Request r place aspect)) stop_at (map unknown_instance unknown)
+    ∙ ap (map stop_at) (all_unknown_after (key_of part.Request r place aspect) (λ u. refl) unknown)
 behind_key part.Solution rule.Unknown place aspect unknown h =
-    filter-map (is_after (key_of part.Solution rule.Unknown place aspect)) at_site (map unknown_stanza unknown)
-    ∙ ap (map at_site) (unknown_after place aspect unknown)
+    filter-map (is_after (key_of part.Solution rule.Unknown place aspect)) stop_at (map unknown_instance unknown)
+    ∙ ap (map stop_at) (unknown_after place aspect unknown)
 behind_key part.Solution rule.Depends place aspect unknown h = absurd (cc h)
 behind_key part.Solution rule.Conflicts place aspect unknown h = absurd (cc h)
 behind_key part.Solution rule.Keep place aspect unknown h = absurd (cc h)

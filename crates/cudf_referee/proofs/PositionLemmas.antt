@@ -14,7 +14,7 @@ use Rattle.cudf_job.specs.declared.key.Rule.{Rule}
 use Rattle.cudf_job.specs.declared.key.Rule.TheVariants.{Depends, Conflicts, Keep, Install, Remove, Upgrade, Unknown}
 use Rattle.cudf_job.specs.Keys.{PlainKey, part_rank, part_place, rule_rank, aspect_rank, key_ranks}
 use Rattle.cudf_referee.specs.Proposals.{Proposal}
-use Rattle.cudf_referee.specs.Promises.Sites.{Stop, at_site, package_end, site_key, walk, stop_cost, PlainPosition, at_start, at_key, at_end, precedes, precedes_end, is_after, is_ahead, cost_between}
+use Rattle.cudf_referee.specs.Promises.Stops.{Stop, stop_at, package_end, walk, stop_cost, PlainPosition, at_start, at_key, at_end, precedes, precedes_end, is_after, is_ahead, cost_between}
 use Rattle.std.proofs.lemmas.Grind.{common_steps}
 
 -- ---- keys
@@ -40,7 +40,7 @@ precedes-back a b h = ap is_lt (nat_list_cmp_total.antisymm (key_ranks b) (key_r
 
 -- the end of a package ranks after all its keys
 abbrev pub stop_ranks : Stop → List ℕ
-stop_ranks (at_site site) = key_ranks (site_key site)
+stop_ranks (stop_at i) = key_ranks i.key
 stop_ranks (package_end place) = 1 ∷ place ∷ 8 ∷ []
 
 pub rule_below : (r : Rule) → rule_rank r < 8
@@ -65,7 +65,7 @@ end_ranks Solution n r more h = refl
 
 -- a stop comes after a key where its ranks do
 pub is_after-ranks : (k : PlainKey) (x : Stop) → is_after k x ≡ is_lt (slice_cmp nat_cmp (key_ranks k) (stop_ranks x))
-is_after-ranks k (at_site site) = refl
+is_after-ranks k (stop_at i) = refl
 is_after-ranks k (package_end n) = end_ranks k.part n (rule_rank k.rule) (k.place ∷ aspect_rank k.aspect ∷ []) (rule_below k.rule)
 
 -- ---- positions

@@ -16,7 +16,7 @@ use Rattle.cudf_job.specs.declared.key.Aspect.TheVariants.{Unsatisfied}
 use Rattle.cudf_job.specs.Keys.{PlainKey, package_key, request_key, unknown_key}
 use Rattle.cudf_referee.specs.Proposals.{Proposal}
 use Rattle.cudf_referee.specs.Violations.{listing}
-use Rattle.cudf_referee.specs.Promises.Sites.{walk, at_start, at_key, at_end, stops_between, least_between}
+use Rattle.cudf_referee.specs.Promises.Stops.{walk, at_start, at_key, at_end, stops_between, least_between}
 use Rattle.cudf_referee.specs.Promises.Pages.{page_bound}
 
 abbrev every : List ℕ → PlainVpkg

@@ -1,5 +1,5 @@
 -- Recommended conjuncts that aren't satisfied, package by package.
-use Rattle.std.proofs.Common.{◌≡◌, ℕ, ◌+◌, ◌-◌, ◌<◌, ◌≤◌, ◌^◌, min, Bool, true, false, not, cond, List, [], ◌∷◌, ◌++◌, length, get_or, take, filter, Some, None, refl, ap, sym, ◌∙◌, arith}
+use Rattle.std.proofs.Common.{◌≡◌, ℕ, ◌+◌, ◌-◌, ◌<◌, ◌≤◌, ◌^◌, min, Bool, true, false, not, cond, List, [], ◌∷◌, ◌++◌, length, get_or, take, map, filter, Some, None, refl, ap, sym, ◌∙◌, arith}
 use Rattle.std.specs.Prelude.{slice_get, unwrap_or, option_and_then, if◌then◌else◌}
 use Rattle.std.specs.Option.{option_or}
 use Rattle.std.specs.List.{flat_map, count_by, enumerate_from}
@@ -15,7 +15,6 @@ use Rattle.cudf_problem.specs.Promises.Packages.{recommends_at}
 use Rattle.cudf_index.specs.Satisfaction.{Placed, members, satisfies_clause}
 use Rattle.cudf_referee.specs.Criteria.{at_most_max}
 use Rattle.cudf_referee.specs.Proposals.{Proposal, recommended}
-use Rattle.cudf_referee.specs.Violations.{at_each}
 use Rattle.cudf_referee.proofs.EntryLemmas.{enumerate-push}
 
 -- as many pass with their places as without
@@ -25,7 +24,7 @@ length-passing test n (x ∷ xs) = grind (arith, common_steps, length-passing te
 
 -- the triples of one package
 abbrev triples : Proposal → Placed → List (List ℕ × ℕ × ℕ)
-triples s p = at_each (λ place clause. (p.1.name, p.1.version, place)) (λ clause. not (satisfies_clause s.proposed clause)) (recommended s p)
+triples s p = map (λ c. (p.1.name, p.1.version, c.0)) (filter (λ c. not (satisfies_clause s.proposed c.1)) (enumerate_from 1 (recommended s p)))
 
 length-triples : (s : Proposal) (p : Placed) → length (triples s p) ≡ count_by (λ clause. not (satisfies_clause s.proposed clause)) (recommended s p)
 length-triples s p = length-map (filter (λ e. not (satisfies_clause s.proposed e.1)) (enumerate_from 1 (recommended s p))) (λ e. (p.1.name, p.1.version, e.0))

@@ -16,10 +16,10 @@ use Rattle.cudf_index.specs.Satisfaction.{Placed}
 use Rattle.cudf_referee.specs.declared.sites.candidate.Sites.{Sites}
 use Rattle.cudf_referee.specs.Instances.{PlainInstance}
 use Rattle.cudf_referee.specs.Proposals.{Proposal}
-use Rattle.cudf_referee.specs.Promises.Sites.{Site, unknown_stanza, Stop, at_site, package_stops, stop_cost, least_cost}
+use Rattle.cudf_referee.specs.Promises.Stops.{Stop, stop_at, package_stops, stop_cost, least_cost}
 use Rattle.cudf_referee.specs.Promises.Walks.{Walking}
 use Rattle.cudf_referee.specs.Violations.{unknown_instance}
-use Rattle.cudf_referee.specs.Working.Judged.{instance_at, given_at}
+use Rattle.cudf_referee.specs.Working.Judged.{given_at}
 use Rattle.cudf_referee.specs.Working.Searches.{Searches, Goes, first_given, sum_to_first, cost_to_first, least_to_first, or_later, unless_found, package_rest, packages_rest, unknown_rest}
 
 -- ---- several stops
@@ -109,26 +109,26 @@ searches-same a b new F found same searches = subst (λ (w : Walking). Searches 
 
 -- ---- a loop over places
 
-module _ (old now new : Walking) (all : List Stop) (F : List Site → List Stop) (adds : (y : Site) (ys : List Site) → F (y ∷ ys) ≡ at_site y ∷ F ys)
-    (xs : List Site) (x : Site) (ys : List Site) (is : xs ≡ x ∷ ys) (answer : Bool) where
+module _ (old now new : Walking) (all : List Stop) (F : List PlainInstance → List Stop) (adds : (y : PlainInstance) (ys : List PlainInstance) → F (y ∷ ys) ≡ stop_at y ∷ F ys)
+    (xs : List PlainInstance) (x : PlainInstance) (ys : List PlainInstance) (is : xs ≡ x ∷ ys) (answer : Bool) where
   abbrev given-if : Bool → Option PlainInstance
-  given-if b = cond b (Some (instance_at now.judged x)) None
+  given-if b = cond b (Some x) None
 
-  next-site : F xs ≡ at_site x ∷ F ys
+  next-site : F xs ≡ stop_at x ∷ F ys
   next-site = ap F is ∙ adds x ys
 
-  site-on : (b : Bool) → answer ≡ b → Searches now (at_site x ∷ []) (given-if answer) new → Goes old all None (F xs) now → Goes old all (given-if b) (F ys) new
+  site-on : (b : Bool) → answer ≡ b → Searches now (stop_at x ∷ []) (given-if answer) new → Goes old all None (F xs) now → Goes old all (given-if b) (F ys) new
   site-on b same searches goes =
-      goes-on old now new all _ (at_site x ∷ []) (F ys) (given-if b) next-site goes (subst (λ (c : Bool). Searches now (at_site x ∷ []) (given-if c) new) same searches)
+      goes-on old now new all _ (stop_at x ∷ []) (F ys) (given-if b) next-site goes (subst (λ (c : Bool). Searches now (stop_at x ∷ []) (given-if c) new) same searches)
 
-  pub sites-more : answer ≡ false → Searches now (at_site x ∷ []) (given-if answer) new → Goes old all None (F xs) now → Goes old all None (F ys) new
+  pub sites-more : answer ≡ false → Searches now (stop_at x ∷ []) (given-if answer) new → Goes old all None (F xs) now → Goes old all None (F ys) new
   sites-more is_not searches goes = site-on false is_not searches goes
 
-  pub sites-found : (i : PlainInstance) → answer ≡ true → i ≡ instance_at now.judged x → Searches now (at_site x ∷ []) (given-if answer) new
+  pub sites-found : (i : PlainInstance) → answer ≡ true → i ≡ x → Searches now (stop_at x ∷ []) (given-if answer) new
       → Goes old all None (F xs) now → Searches old all (Some i) new
   sites-found i is_so same searches goes = subst (λ (j : PlainInstance). Searches old all (Some j) new) (sym same) (goes-found (site-on true is_so searches goes))
 
-pub sites-end : (old now : Walking) (all : List Stop) (F : List Site → List Stop) (xs : List Site) → xs ≡ [] → Goes old all None (F xs) now → Goes old all None (F []) now
+pub sites-end : (old now : Walking) (all : List Stop) (F : List PlainInstance → List Stop) (xs : List PlainInstance) → xs ≡ [] → Goes old all None (F xs) now → Goes old all None (F []) now
 sites-end old now all F xs end goes = goes-at old now all _ _ (ap F end) goes
 
 -- nothing came, so nothing was left
@@ -214,6 +214,6 @@ unknown-found old new n u i judged position is same price =
       grows = omega (arith, price, least);
     }
   where
-    next : unknown_rest old.judged n ≡ at_site (unknown_stanza u) ∷ unknown_rest old.judged (n + 1)
-    next = at_drop_more (λ l. map at_site (map unknown_stanza l)) old.judged.unknown n u (slice_get_within old.judged.unknown n u is)
-        ∙ ap (λ x. at_site (unknown_stanza x) ∷ unknown_rest old.judged (n + 1)) (get_or_from_slice_get old.judged.unknown n u u is)
+    next : unknown_rest old.judged n ≡ stop_at (unknown_instance u) ∷ unknown_rest old.judged (n + 1)
+    next = at_drop_more (λ l. map stop_at (map unknown_instance l)) old.judged.unknown n u (slice_get_within old.judged.unknown n u is)
+        ∙ ap (λ x. stop_at (unknown_instance x) ∷ unknown_rest old.judged (n + 1)) (get_or_from_slice_get old.judged.unknown n u u is)

@@ -1,7 +1,7 @@
 -- Which places a list of packages with their places holds, where some of them were left out.
-use Rattle.std.proofs.Common.{◌≡◌, ℕ, zero, suc, ◌+◌, ◌<◌, Bool, true, false, ◌&&◌, ◌||◌, ◌==◌, List, [], ◌∷◌, ◌++◌, length, filter, cond, refl, ap, ◌∙◌, arith, eq-eqb}
-use Rattle.std.specs.List.{list_any, list_all, flat_map, enumerate_from}
-use Rattle.cudf_referee.proofs.ListLemmas.{and_true, or_true, and_left, and_right}
+use Rattle.std.proofs.Common.{◌≡◌, ℕ, zero, suc, ◌+◌, ◌<◌, Bool, true, false, ◌&&◌, ◌||◌, ◌==◌, List, [], ◌∷◌, length, filter, cond, refl, ap, ◌∙◌, arith, eq-eqb}
+use Rattle.std.specs.List.{list_any, list_all, enumerate_from}
+use Rattle.cudf_referee.proofs.ListLemmas.{or_true}
 use Rattle.std.proofs.lemmas.Grind.{common_steps}
 use Rattle.std.proofs.lemmas.Bool.Decides.{nat_tests}
 
@@ -40,13 +40,3 @@ holds-enumerate n (x ∷ xs) (suc i) h = ap (λ b. (n == n + suc i) || b) (ap (h
 
     below : i < length xs
     below = omega arith
-
--- what each element gives, where all places are there
-pub flat_map-held : {A B : Type 0} (t u : ℕ → Bool) (f : Bool → Bool → ℕ × A → List B) (zs xs : List (ℕ × A)) → list_all (λ p. holds zs p.0) xs ≡ true
-    → flat_map (λ p. f (t p.0 && holds zs p.0) (u p.0 && holds zs p.0) p) xs ≡ flat_map (λ p. f (t p.0) (u p.0) p) xs
-flat_map-held t u f zs [] h = refl
-flat_map-held t u f zs (x ∷ xs) h =
-    (λ i. f (here t i) (here u i) x ++ flat_map-held t u f zs xs (and_right (holds zs x.0) (list_all (λ p. holds zs p.0) xs) h) i)
-  where
-    here : (t : ℕ → Bool) → (t x.0 && holds zs x.0) ≡ t x.0
-    here t = ap (λ b. t x.0 && b) (and_left (holds zs x.0) (list_all (λ p. holds zs p.0) xs) h) ∙ and_true (t x.0)

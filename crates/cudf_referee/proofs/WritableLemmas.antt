@@ -1,7 +1,7 @@
 -- The keys of the listing can be written, where the places in lists and the numbers of stanzas are those of a `u64`.
-use Rattle.std.proofs.Common.{◌≡◌, ℕ, ◌+◌, ◌<◌, ◌≤◌, ◌^◌, Bool, true, false, ◌&&◌, ◌∙◌, nat_lt, List, [], ◌∷◌, ◌++◌, length, get_or, map, cond, Option, Some, None, arith, refl, sym, subst}
-use Rattle.std.specs.Prelude.{All, filter_map}
-use Rattle.std.specs.List.{flat_map, enumerate_from, cons_option}
+use Rattle.std.proofs.Common.{◌≡◌, ℕ, ◌+◌, ◌<◌, ◌≤◌, ◌^◌, Bool, true, false, ◌&&◌, ◌∙◌, nat_lt, List, [], ◌∷◌, ◌++◌, length, get_or, map, filter, cond, Option, Some, None, arith, refl, subst}
+use Rattle.std.specs.Prelude.{All}
+use Rattle.std.specs.List.{flat_map, enumerate_from}
 use Rattle.std.proofs.lemmas.Bool.{ltb-true, lt-ltb}
 use Rattle.std.proofs.lemmas.List.{length-map}
 use Rattle.std.proofs.lemmas.List.Elements.{All-nil, All-cons, All-head, All-tail, All-append}
@@ -9,6 +9,7 @@ use Rattle.cudf_value.specs.Vpkgs.{PlainVpkg}
 use Rattle.cudf_problem.specs.declared.package.Keep.{Keep}
 use Rattle.cudf_problem.specs.declared.package.Keep.TheVariants.{Version, Package, Feature, Nothing}
 use Rattle.cudf_problem.specs.declared.unknown.Unknown.{Unknown}
+use Rattle.cudf_problem.specs.Universe.{PlainRequest}
 use Rattle.cudf_problem.specs.Statuses.{PlainUnknown, ascend_above}
 use Rattle.cudf_problem.specs.Promises.Views.{unknown_view}
 use Rattle.cudf_index.specs.Satisfaction.{Placed}
@@ -17,28 +18,23 @@ use Rattle.cudf_job.specs.declared.key.Rule.{Rule}
 use Rattle.cudf_job.specs.declared.key.Rule.TheVariants as rule
 use Rattle.cudf_job.specs.declared.key.Aspect.{Aspect}
 use Rattle.cudf_job.specs.declared.key.Aspect.TheVariants.{Unsatisfied, Many, Lower}
-use Rattle.cudf_referee.specs.Instances.{PlainInstance}
+use Rattle.cudf_referee.specs.Instances.{keep_version, keep_package, keep_feature, PlainInstance}
 use Rattle.cudf_job.specs.Promises.Keys.{IsWritable}
 use Rattle.cudf_job.specs.Keys.{package_key, request_key, fits}
 use Rattle.cudf_referee.specs.Proposals.{Proposal, holds_place}
-use Rattle.cudf_referee.specs.Violations.{listing}
-use Rattle.cudf_referee.specs.Promises.Sites.{Site, conjunct, conflicts_entry, kept_version, kept_package, kept_feature, install_entry, remove_entry, upgrade_entry, unknown_stanza, site_key, needed_sites, kept_sites, package_sites, upgrade_sites, request_sites, sites}
-use Rattle.cudf_referee.specs.Working.Judged.{instance_at, is_violated, judged}
+use Rattle.cudf_referee.specs.Violations.{unknown_instance, needed_instances, kept_instances, package_instances, entry_instances, request_instances, instances, is_violated, listing}
+use Rattle.cudf_referee.specs.Working.RuleInstances.{depends_instance, conflicts_instance, keep_instance, install_instance, remove_instance, upgrade_instance}
 use Rattle.cudf_referee.specs.Working.Numbered.{IsListed, IsNumbered}
 use Rattle.cudf_referee.specs.Working.Places.{stanza_numbers}
 use Rattle.cudf_referee.proofs.ListLemmas.{and_left, and_right}
-use Rattle.cudf_referee.proofs.SiteLemmas.{key_at, listing-sites}
 
-abbrev Written : Site → Type 0
-Written site = IsWritable (site_key site)
-
-abbrev CanBeWritten : PlainInstance → Type 0
-CanBeWritten i = IsWritable i.key
+abbrev Written : PlainInstance → Type 0
+Written i = IsWritable i.key
 
 -- ---- numbered entries
 
 -- what is given of each numbered entry, with numbers from 1 to those of a `u64`
-flat_written : {A : Type 0} (Fits : A → Type 0) (f : ℕ × A → List Site)
+flat_written : {A : Type 0} (Fits : A → Type 0) (f : ℕ × A → List PlainInstance)
     → ((x : ℕ × A) → 0 < x.0 → x.0 < 2 ^ 64 → Fits x.1 → All Written (f x))
     → (n : ℕ) (xs : List A) → 0 < n → n + length xs ≤ 2 ^ 64 → All Fits xs → All Written (flat_map f (enumerate_from n xs))
 flat_written Fits f each n [] positive below fits = All-nil Written
@@ -47,13 +43,13 @@ flat_written Fits f each n (x ∷ xs) positive below fits =
     (each (n, x) positive (omega arith) (All-head Fits x xs fits))
     (flat_written Fits f each (n + 1) xs (omega arith) (omega arith) (All-tail Fits x xs fits))
 
-made_written : {A : Type 0} (make : ℕ × A → Site) → ((x : ℕ × A) → 0 < x.0 → x.0 < 2 ^ 64 → Written (make x))
+made_written : {A : Type 0} (make : ℕ × A → PlainInstance) → ((x : ℕ × A) → 0 < x.0 → x.0 < 2 ^ 64 → Written (make x))
     → (n : ℕ) (xs : List A) → 0 < n → n + length xs ≤ 2 ^ 64 → All Written (map make (enumerate_from n xs))
 made_written make each n [] positive below = All-nil Written
 made_written make each n (x ∷ xs) positive below =
     All-cons Written (make (n, x)) (map make (enumerate_from (n + 1) xs)) (each (n, x) positive (omega arith)) (made_written make each (n + 1) xs (omega arith) (omega arith))
 
-if_written : (test : Bool) (xs : List Site) → All Written xs → All Written (cond test xs [])
+if_written : (test : Bool) (xs : List PlainInstance) → All Written xs → All Written (cond test xs [])
 if_written true xs all = all
 if_written false xs all = All-nil Written
 
@@ -67,24 +63,24 @@ package_written p m r placed low counted small fit = record {
   place = small;
 }
 
-package_sites_written : (s : Proposal) (p : Placed) → 0 < p.0 → p.0 < 2 ^ 64 → IsListed p.1 → All Written (package_sites s p)
-package_sites_written s p placed low listed =
-    All-append Written (cond (holds_place s.proposed p.0) (needed_sites p) []) (cond (holds_place s.initial p.0) (kept_sites p.1.keep p) [])
-    (if_written (holds_place s.proposed p.0) (needed_sites p) needed)
-    (if_written (holds_place s.initial p.0) (kept_sites p.1.keep p) (kept p.1.keep))
+package_all_written : (s : Proposal) (p : Placed) → 0 < p.0 → p.0 < 2 ^ 64 → IsListed p.1 → All Written (package_instances s p)
+package_all_written s p placed low listed =
+    All-append Written (cond (holds_place s.proposed p.0) (needed_instances p) []) (cond (holds_place s.initial p.0) (kept_instances p.1.keep p) [])
+    (if_written (holds_place s.proposed p.0) (needed_instances p) needed)
+    (if_written (holds_place s.initial p.0) (kept_instances p.1.keep p) (kept p.1.keep))
   where
-    needed : All Written (needed_sites p)
-    needed = All-append Written (map (λ c. conjunct p c.0 c.1) (enumerate_from 1 p.1.depends)) (map (λ v. conflicts_entry p v.0 v.1) (enumerate_from 1 p.1.conflicts))
-        (made_written (λ c. conjunct p c.0 c.1) (λ x counted small. package_written p x.0 rule.Depends placed low counted small (λ n. refl)) 1 p.1.depends (omega arith) (omega (arith, listed.depends)))
-        (made_written (λ v. conflicts_entry p v.0 v.1) (λ x counted small. package_written p x.0 rule.Conflicts placed low counted small (λ n. refl)) 1 p.1.conflicts (omega arith) (omega (arith, listed.conflicts)))
+    needed : All Written (needed_instances p)
+    needed = All-append Written (map (λ c. depends_instance p c.0 c.1) (enumerate_from 1 p.1.depends)) (map (λ v. conflicts_instance p v.0 v.1) (enumerate_from 1 p.1.conflicts))
+        (made_written (λ c. depends_instance p c.0 c.1) (λ x counted small. package_written p x.0 rule.Depends placed low counted small (λ n. refl)) 1 p.1.depends (omega arith) (omega (arith, listed.depends)))
+        (made_written (λ v. conflicts_instance p v.0 v.1) (λ x counted small. package_written p x.0 rule.Conflicts placed low counted small (λ n. refl)) 1 p.1.conflicts (omega arith) (omega (arith, listed.conflicts)))
 
     kept_one : IsWritable (package_key p.0 rule.Keep 1)
     kept_one = package_written p 1 rule.Keep placed low (omega arith) (omega arith) (λ n. refl)
 
-    kept : (k : Keep) → All Written (kept_sites k p)
-    kept Version = All-cons Written (kept_version p) [] kept_one (All-nil Written)
-    kept Package = All-cons Written (kept_package p) [] kept_one (All-nil Written)
-    kept Feature = made_written (λ v. kept_feature p v.0 v.1) (λ x counted small. package_written p x.0 rule.Keep placed low counted small (λ n. refl)) 1 p.1.provides (omega arith) (omega (arith, listed.provides))
+    kept : (k : Keep) → All Written (kept_instances k p)
+    kept Version = All-cons Written (keep_instance p 1 keep_version) [] kept_one (All-nil Written)
+    kept Package = All-cons Written (keep_instance p 1 keep_package) [] kept_one (All-nil Written)
+    kept Feature = made_written (λ v. keep_instance p v.0 (keep_feature v.1)) (λ x counted small. package_written p x.0 rule.Keep placed low counted small (λ n. refl)) 1 p.1.provides (omega arith) (omega (arith, listed.provides))
     kept Nothing = All-nil Written
 
 -- ---- the request
@@ -100,38 +96,38 @@ request_written m r a counted small fit = record {
 abbrev Any : PlainVpkg → Type 0
 Any v = Unit {0}
 
-entry_written : (v : ℕ × PlainVpkg) → 0 < v.0 → v.0 < 2 ^ 64 → Any v.1 → All Written (upgrade_sites v)
-entry_written v counted small any =
-    All-cons Written (upgrade_entry v.0 v.1 Unsatisfied) (upgrade_entry v.0 v.1 Many ∷ upgrade_entry v.0 v.1 Lower ∷ []) (aspect Unsatisfied)
-    (All-cons Written (upgrade_entry v.0 v.1 Many) (upgrade_entry v.0 v.1 Lower ∷ []) (aspect Many)
-    (All-cons Written (upgrade_entry v.0 v.1 Lower) [] (aspect Lower) (All-nil Written)))
+entry_written : (r : PlainRequest) (v : ℕ × PlainVpkg) → 0 < v.0 → v.0 < 2 ^ 64 → Any v.1 → All Written (entry_instances r v)
+entry_written r v counted small any =
+    All-cons Written (upgrade_instance r Unsatisfied v.0 v.1) (upgrade_instance r Many v.0 v.1 ∷ upgrade_instance r Lower v.0 v.1 ∷ []) (aspect Unsatisfied)
+    (All-cons Written (upgrade_instance r Many v.0 v.1) (upgrade_instance r Lower v.0 v.1 ∷ []) (aspect Many)
+    (All-cons Written (upgrade_instance r Lower v.0 v.1) [] (aspect Lower) (All-nil Written)))
   where
     aspect : (a : Aspect) → IsWritable (request_key rule.Upgrade v.0 (Some a))
     aspect a = request_written v.0 rule.Upgrade (Some a) counted small refl
 
-request_sites_written : (s : Proposal) → IsNumbered s → All Written (request_sites s.problem.request)
-request_sites_written s n =
-    All-append Written (wanted ++ unwanted) (flat_map upgrade_sites (enumerate_from 1 s.problem.request.upgrade))
+request_all_written : (s : Proposal) → IsNumbered s → All Written (request_instances s.problem.request)
+request_all_written s n =
+    All-append Written (wanted ++ unwanted) (flat_map (entry_instances s.problem.request) (enumerate_from 1 s.problem.request.upgrade))
     (All-append Written wanted unwanted
-    (made_written (λ v. install_entry v.0 v.1) (λ x counted small. request_written x.0 rule.Install None counted small refl) 1 s.problem.request.install (omega arith) (omega (arith, n.install)))
-    (made_written (λ v. remove_entry v.0 v.1) (λ x counted small. request_written x.0 rule.Remove None counted small refl) 1 s.problem.request.remove (omega arith) (omega (arith, n.remove))))
-    (flat_written Any upgrade_sites entry_written 1 s.problem.request.upgrade (omega arith) (omega (arith, n.upgrade)) (λ k d inside. tt))
+    (made_written (λ v. install_instance s.problem.request v.0 v.1) (λ x counted small. request_written x.0 rule.Install None counted small refl) 1 s.problem.request.install (omega arith) (omega (arith, n.install)))
+    (made_written (λ v. remove_instance s.problem.request v.0 v.1) (λ x counted small. request_written x.0 rule.Remove None counted small refl) 1 s.problem.request.remove (omega arith) (omega (arith, n.remove))))
+    (flat_written Any (entry_instances s.problem.request) (entry_written s.problem.request) 1 s.problem.request.upgrade (omega arith) (omega (arith, n.upgrade)) (λ k d inside. tt))
   where
-    wanted : List Site
-    wanted = map (λ v. install_entry v.0 v.1) (enumerate_from 1 s.problem.request.install)
+    wanted : List PlainInstance
+    wanted = map (λ v. install_instance s.problem.request v.0 v.1) (enumerate_from 1 s.problem.request.install)
 
-    unwanted : List Site
-    unwanted = map (λ v. remove_entry v.0 v.1) (enumerate_from 1 s.problem.request.remove)
+    unwanted : List PlainInstance
+    unwanted = map (λ v. remove_instance s.problem.request v.0 v.1) (enumerate_from 1 s.problem.request.remove)
 
 -- ---- the solution
 
 abbrev IsSmall : PlainUnknown → Type 0
 IsSmall u = u.stanza < 2 ^ 64
 
-unknown_written : (n : ℕ) (us : List PlainUnknown) → ascend_above n us ≡ true → All IsSmall us → All Written (map unknown_stanza us)
+unknown_written : (n : ℕ) (us : List PlainUnknown) → ascend_above n us ≡ true → All IsSmall us → All Written (map unknown_instance us)
 unknown_written n [] ascends small = All-nil Written
 unknown_written n (u ∷ us) ascends small =
-    All-cons Written (unknown_stanza u) (map unknown_stanza us)
+    All-cons Written (unknown_instance u) (map unknown_instance us)
     (record {
       fits = lt-ltb 0 u.stanza (omega (arith, ltb-true n u.stanza (and_left (nat_lt n u.stanza) (ascend_above u.stanza us) ascends)));
       number = omega arith;
@@ -162,26 +158,25 @@ numbers_small unknown place last ascends whole is small =
 
 -- ---- the listing
 
-one_written : (violated : Bool) (i : PlainInstance) (is : List PlainInstance) → IsWritable i.key → All CanBeWritten is → All CanBeWritten (cons_option (cond violated (Some i) None) is)
-one_written true i is here below = All-cons CanBeWritten i is here below
-one_written false i is here below = below
+one_kept : (b : Bool) (i : PlainInstance) (is : List PlainInstance) → IsWritable i.key → All Written is → All Written (cond b (i ∷ is) is)
+one_kept true i is here below = All-cons Written i is here below
+one_kept false i is here below = below
 
-given_written : (s : Proposal) (xs : List Site) → All Written xs → All CanBeWritten (filter_map (judged s) xs)
-given_written s [] all = All-nil CanBeWritten
-given_written s (x ∷ xs) all = one_written (is_violated s x) (instance_at s x) (filter_map (judged s) xs)
-    (subst IsWritable (sym (key_at s x)) (All-head Written x xs all)) (given_written s xs (All-tail Written x xs all))
+kept_written : (test : PlainInstance → Bool) (is : List PlainInstance) → All Written is → All Written (filter test is)
+kept_written test [] all = All-nil Written
+kept_written test (i ∷ is) all = one_kept (test i) i (filter test is) (All-head Written i is all) (kept_written test is (All-tail Written i is all))
 
-sites_written : (s : Proposal) → ascend_above 0 s.unknown ≡ true → IsNumbered s → All Written (sites s)
-unfolding sites
-sites_written s ascends n =
-    All-append Written (packages ++ request_sites s.problem.request) (map unknown_stanza s.unknown)
-    (All-append Written packages (request_sites s.problem.request)
-    (flat_written IsListed (package_sites s) (package_sites_written s) 1 s.problem.packages (omega arith) (omega (arith, n.packages)) n.each)
-    (request_sites_written s n))
+all_written : (s : Proposal) → ascend_above 0 s.unknown ≡ true → IsNumbered s → All Written (instances s)
+all_written s ascends n =
+    All-append Written (packages ++ request_instances s.problem.request) (map unknown_instance s.unknown)
+    (All-append Written packages (request_instances s.problem.request)
+    (flat_written IsListed (package_instances s) (package_all_written s) 1 s.problem.packages (omega arith) (omega (arith, n.packages)) n.each)
+    (request_all_written s n))
     (unknown_written 0 s.unknown ascends n.stanzas)
   where
-    packages : List Site
-    packages = flat_map (package_sites s) (enumerate_from 1 s.problem.packages)
+    packages : List PlainInstance
+    packages = flat_map (package_instances s) (enumerate_from 1 s.problem.packages)
 
-pub listing_written : (s : Proposal) → ascend_above 0 s.unknown ≡ true → IsNumbered s → All CanBeWritten (listing s)
-listing_written s ascends n = subst (λ (is : List PlainInstance). All CanBeWritten is) (sym (listing-sites s)) (given_written s (sites s) (sites_written s ascends n))
+pub listing_written : (s : Proposal) → ascend_above 0 s.unknown ≡ true → IsNumbered s → All Written (listing s)
+unfolding listing
+listing_written s ascends n = kept_written (is_violated s) (instances s) (all_written s ascends n)

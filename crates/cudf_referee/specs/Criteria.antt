@@ -5,7 +5,7 @@ use Rattle.std.specs.List.{list_any, list_all, flat_map, count_by, enumerate_fro
 use Rattle.cudf_index.specs.Satisfaction.{Placed, satisfies_clause}
 use Rattle.cudf_job.specs.declared.criteria.Criteria.{Criteria}
 use Rattle.cudf_referee.specs.Proposals.{Proposal, holds_place, recommended}
-use Rattle.cudf_referee.specs.Violations.{at_each, has_package}
+use Rattle.cudf_referee.specs.Violations.{has_package}
 
 -- ---- names and versions
 
@@ -58,7 +58,7 @@ is_not_up_to_date s name =
 -- that the proposed status doesn't satisfy
 abbrev pub unsatisfied_recommends : Proposal → List (List ℕ × ℕ × ℕ)
 unsatisfied_recommends s =
-    flat_map (λ (place, p). at_each (λ number clause. (p.name, p.version, number)) (λ clause. not (satisfies_clause s.proposed clause)) (recommended s (place, p))) s.proposed
+    flat_map (λ (place, p). map (λ c. (p.name, p.version, c.0)) (filter (λ c. not (satisfies_clause s.proposed c.1)) (enumerate_from 1 (recommended s (place, p))))) s.proposed
 
 -- packages that are in one of the two statuses and not in the other; the name is own
 abbrev pub is_touched : Proposal → Placed → Bool

@@ -1,6 +1,6 @@
 pub mod Laws
 pub mod Pages
 pub mod PositionViews
-pub mod Sites
+pub mod Stops
 pub mod Views
 pub mod Walks

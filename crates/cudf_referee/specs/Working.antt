@@ -6,6 +6,7 @@ pub mod Needers
 pub mod Numbered
 pub mod Places
 pub mod RequestSites
+pub mod RuleInstances
 pub mod Searches
 pub mod SiteNumbers
 pub mod Standings

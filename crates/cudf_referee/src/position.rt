@@ -7,7 +7,7 @@ ghost use Rattle.cudf_job.specs.KeyViews.{key_view};
 ghost use Rattle.cudf_job.specs.Promises.Keys.{is_fitting};
 ghost use Rattle.cudf_referee.specs.Promises.Pages.{at_instance, least_search};
 ghost use Rattle.cudf_referee.specs.Promises.PositionViews.{position_view};
-ghost use Rattle.cudf_referee.specs.Promises.Sites.{at_key};
+ghost use Rattle.cudf_referee.specs.Promises.Stops.{at_key};
 ghost use Rattle.cudf_referee.specs.Promises.Views.{instance_view};
 ghost use Rattle.cudf_referee.specs.Working.Places.{stanza_numbers, BeginsAt, IsFitting};
 ghost use Rattle.cudf_referee.specs.Working.Searches.{unknown_left};

@@ -135,7 +135,7 @@ impl<'p, 't> Referee<'p, 't> {
     ghost use Rattle.cudf_referee.specs.Promises.Pages.{least_search};
     ghost use Rattle.cudf_job.specs.Promises.Keys.{IsWritable};
     ghost use Rattle.cudf_referee.specs.Proposals.{proposal};
-    ghost use Rattle.cudf_referee.specs.Promises.Sites.{at_start, at_key};
+    ghost use Rattle.cudf_referee.specs.Promises.Stops.{at_start, at_key};
     ghost use Rattle.cudf_referee.specs.Solutions.{is_solution};
     ghost use Rattle.cudf_referee.specs.Promises.Views.{instance_view};
     ghost use Rattle.cudf_referee.specs.Violations.{listing, rest, met_by};

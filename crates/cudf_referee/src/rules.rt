@@ -47,7 +47,7 @@ pub(crate) fn is_requested_violated(
     requires { IsWithin (length before.now) site }
     ensures judged { (s : Proposal) → s.proposed ≡ now.old.status → before.now ≡ map (greatest_before s.initial) s.problem.request.upgrade
         → StandsIn s.problem.request site.entry
-        → IsJudged s (request_site_view site.entry) result (now.old.steps + steps.old) (now.new.steps + steps.new) }
+        → IsJudged s (request_site_view s.problem.request site.entry) result (now.old.steps + steps.old) (now.new.steps + steps.new) }
     ensures status { now.new.status ≡ now.old.status }
 {
     match site {

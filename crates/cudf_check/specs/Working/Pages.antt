@@ -4,7 +4,7 @@ use Rattle.std.specs.List.{last_or}
 use Rattle.cudf_problem.specs.Documents.{is_empty}
 use Rattle.cudf_job.specs.Keys.{PlainKey, key_text, ascend}
 use Rattle.cudf_referee.specs.Promises.Pages.{cost_along}
-use Rattle.cudf_referee.specs.Promises.Sites.{PlainPosition, at_key}
+use Rattle.cudf_referee.specs.Promises.Stops.{PlainPosition, at_key}
 use Rattle.cudf_referee.specs.Promises.Walks.{Walking, left}
 use Rattle.cudf_job.specs.declared.key.Key.{Key}
 use Rattle.cudf_referee.specs.Instances.{PlainInstance}

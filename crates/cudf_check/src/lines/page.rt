@@ -5,7 +5,7 @@ ghost use Rattle.cudf_index.specs.Promises.Prices.{digits};
 ghost use Rattle.cudf_job.specs.Keys.{key_text};
 ghost use Rattle.cudf_job.specs.KeyViews.{key_view};
 ghost use Rattle.cudf_referee.specs.Promises.Pages.{behind, at_instance, calls, cost_along, page_price};
-ghost use Rattle.cudf_referee.specs.Promises.Sites.{cost_between};
+ghost use Rattle.cudf_referee.specs.Promises.Stops.{cost_between};
 ghost use Rattle.cudf_referee.specs.Promises.Walks.{left};
 ghost use Rattle.cudf_check.specs.Report.{line, instance_line, listed, check_text};
 ghost use Rattle.cudf_check.specs.Working.Pages.{Ascends, IsEnded, IsSpent, more_behind, page_size};

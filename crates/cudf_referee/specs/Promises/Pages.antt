@@ -8,7 +8,7 @@ use Rattle.cudf_job.specs.Keys.{PlainKey, key_text}
 use Rattle.cudf_job.specs.Promises.Keys.{IsWritable}
 use Rattle.cudf_referee.specs.Proposals.{Proposal}
 use Rattle.cudf_referee.specs.Violations.{listing, rest}
-use Rattle.cudf_referee.specs.Promises.Sites.{PlainPosition, at_start, at_key, at_end, cost_between}
+use Rattle.cudf_referee.specs.Promises.Stops.{PlainPosition, at_start, at_key, at_end, cost_between}
 
 -- ---- what is left of the listing
 

@@ -2,7 +2,7 @@
 use Rattle.cudf_referee.specs.declared.position.Position.{Position}
 use Rattle.cudf_referee.specs.declared.position.Position.TheVariants.{Start, At, End}
 use Rattle.cudf_job.specs.KeyViews.{key_view}
-use Rattle.cudf_referee.specs.Promises.Sites.{PlainPosition, at_start, at_key, at_end}
+use Rattle.cudf_referee.specs.Promises.Stops.{PlainPosition, at_start, at_key, at_end}
 
 abbrev pub position_view : Position → PlainPosition
 position_view Start = at_start

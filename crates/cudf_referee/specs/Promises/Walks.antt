@@ -4,7 +4,7 @@ use Rattle.std.specs.Iterator.{YieldsFirst}
 use Rattle.cudf_referee.specs.Instances.{PlainInstance}
 use Rattle.cudf_referee.specs.Promises.Pages.{left_at, at_instance}
 use Rattle.cudf_referee.specs.Proposals.{Proposal}
-use Rattle.cudf_referee.specs.Promises.Sites.{PlainPosition, cost_between, least_between}
+use Rattle.cudf_referee.specs.Promises.Stops.{PlainPosition, cost_between, least_between}
 
 -- what is judged, the position, and the steps so far
 pub record Walking : Type 0 where

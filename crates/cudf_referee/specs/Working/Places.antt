@@ -6,7 +6,7 @@ use Rattle.cudf_job.specs.declared.key.Part.TheVariants.{Package, Request, Solut
 use Rattle.cudf_referee.specs.Instances.{PlainInstance}
 use Rattle.cudf_job.specs.Promises.Keys.{is_fitting}
 use Rattle.cudf_referee.specs.Proposals.{Proposal}
-use Rattle.cudf_referee.specs.Promises.Sites.{PlainPosition, at_start, at_key, at_end, Stop, walk, is_ahead}
+use Rattle.cudf_referee.specs.Promises.Stops.{PlainPosition, at_start, at_key, at_end, Stop, walk, is_ahead}
 use Rattle.cudf_referee.specs.Working.Searches.{unknown_left}
 
 abbrev pub stanza_numbers : List PlainUnknown → List ℕ

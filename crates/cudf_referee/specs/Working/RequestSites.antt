@@ -10,7 +10,9 @@ use Rattle.cudf_job.specs.declared.key.Aspect.TheVariants.{Unsatisfied, Many, Lo
 use Rattle.cudf_referee.specs.declared.sites.RequestSite.{RequestSite}
 use Rattle.cudf_referee.specs.declared.sites.RequestSite.TheVariants.{Install, Remove, Upgrade}
 use Rattle.cudf_referee.specs.declared.sites.request_sites.RequestSites.{RequestSites}
-use Rattle.cudf_referee.specs.Promises.Sites.{Site, install_entry, remove_entry, upgrade_entry, upgrade_sites}
+use Rattle.cudf_referee.specs.Instances.{PlainInstance}
+use Rattle.cudf_referee.specs.Violations.{entry_instances}
+use Rattle.cudf_referee.specs.Working.RuleInstances.{install_instance, remove_instance, upgrade_instance}
 use Rattle.cudf_referee.specs.Working.SiteNumbers.{numbered}
 
 -- the aspects of an entry after one of them
@@ -20,27 +22,27 @@ later v Many = Some (v, Lower)
 later v Lower = None
 
 -- those from one of them on
-abbrev pub aspects_from : ℕ → PlainVpkg → Aspect → List Site
-aspects_from n v Unsatisfied = upgrade_entry n v Unsatisfied ∷ upgrade_entry n v Many ∷ upgrade_entry n v Lower ∷ []
-aspects_from n v Many = upgrade_entry n v Many ∷ upgrade_entry n v Lower ∷ []
-aspects_from n v Lower = upgrade_entry n v Lower ∷ []
+abbrev pub aspects_from : PlainRequest → ℕ → PlainVpkg → Aspect → List PlainInstance
+aspects_from r n v Unsatisfied = entry_instances r (n, v)
+aspects_from r n v Many = upgrade_instance r Many n v ∷ upgrade_instance r Lower n v ∷ []
+aspects_from r n v Lower = upgrade_instance r Lower n v ∷ []
 
-abbrev pub aspects_left : ℕ → Option (Vpkg × Aspect) → List Site
-aspects_left n None = []
-aspects_left n (Some e) = aspects_from n (vpkg_view e.0) e.1
+abbrev pub aspects_left : PlainRequest → ℕ → Option (Vpkg × Aspect) → List PlainInstance
+aspects_left r n None = []
+aspects_left r n (Some e) = aspects_from r n (vpkg_view e.0) e.1
 
--- ---- the places that are left
+-- ---- the places of a request that are left
 
-abbrev pub upgrades_view : RequestSites → List Site
-upgrades_view s = aspects_left s.upgraded s.entry ++ flat_map upgrade_sites (enumerate_from (s.upgraded + 1) (vpkgs_view s.upgrade))
+abbrev pub upgrades_view : PlainRequest → RequestSites → List PlainInstance
+upgrades_view r s = aspects_left r s.upgraded s.entry ++ flat_map (entry_instances r) (enumerate_from (s.upgraded + 1) (vpkgs_view s.upgrade))
 
-abbrev pub request_sites_view : RequestSites → List Site
-request_sites_view s = numbered install_entry s.installed (vpkgs_view s.install) ++ numbered remove_entry s.removed (vpkgs_view s.remove) ++ upgrades_view s
+abbrev pub request_sites_view : PlainRequest → RequestSites → List PlainInstance
+request_sites_view r s = numbered (install_instance r) s.installed (vpkgs_view s.install) ++ numbered (remove_instance r) s.removed (vpkgs_view s.remove) ++ upgrades_view r s
 
-abbrev pub request_site_view : RequestSite → Site
-request_site_view (Install n v) = install_entry n (vpkg_view v)
-request_site_view (Remove n v) = remove_entry n (vpkg_view v)
-request_site_view (Upgrade n v aspect) = upgrade_entry n (vpkg_view v) aspect
+abbrev pub request_site_view : PlainRequest → RequestSite → PlainInstance
+request_site_view r (Install n v) = install_instance r n (vpkg_view v)
+request_site_view r (Remove n v) = remove_instance r n (vpkg_view v)
+request_site_view r (Upgrade n v aspect) = upgrade_instance r aspect n (vpkg_view v)
 
 -- entries are numbered from 1, and one of `upgrade` is where its number says
 abbrev pub IsEntry : PlainRequest → ℕ → PlainVpkg → Type 0

@@ -8,17 +8,18 @@ use Rattle.cudf_referee.specs.declared.sites.candidate.Sites.{Sites}
 use Rattle.cudf_referee.specs.declared.sites.request_sites.RequestSites.{RequestSites}
 use Rattle.cudf_referee.specs.Instances.{PlainInstance}
 use Rattle.cudf_referee.specs.Proposals.{Proposal}
-use Rattle.cudf_referee.specs.Promises.Sites.{Site, unknown_stanza, site_key, site_price, look_ups, Stop, at_site, package_end, package_stops, stop_cost, least_cost}
+use Rattle.cudf_referee.specs.Promises.Stops.{cost, look_ups, Stop, stop_at, package_end, package_stops, stop_cost, least_cost}
 use Rattle.cudf_referee.specs.Promises.Walks.{Walking}
-use Rattle.cudf_referee.specs.Working.Judged.{is_violated, given_at}
+use Rattle.cudf_referee.specs.Violations.{is_violated, unknown_instance}
+use Rattle.cudf_referee.specs.Working.Judged.{given_at}
 use Rattle.cudf_referee.specs.Working.RequestSites.{request_sites_view}
 use Rattle.cudf_referee.specs.Working.SiteNumbers.{sites_in, sites_view}
 
--- a site is judged, and the steps went from one number to another
-pub record IsJudged (s : Proposal) (site : Site) (answer : Bool) (old new : ℕ) : Type 0 where
-  pub is : answer ≡ is_violated s site
-  pub price : new ≤ old + site_price s.proposed site
-  pub grows : old + look_ups s.proposed site ≤ new
+-- an instance is judged, and the steps went from one number to another
+pub record IsJudged (s : Proposal) (i : PlainInstance) (answer : Bool) (old new : ℕ) : Type 0 where
+  pub is : answer ≡ is_violated s i
+  pub price : new ≤ old + cost s.proposed i
+  pub grows : old + look_ups s.proposed i ≤ new
 
 -- ---- searches
 
@@ -61,12 +62,10 @@ pub record Goes (old : Walking) (all : List Stop) (found : Option PlainInstance)
 abbrev pub Searches : Walking → List Stop → Option PlainInstance → Walking → Type 0
 Searches old stops found new = Goes old stops found [] new
 
--- these stops came to one that gives this instance, and those are left after it
+-- these stops came to this instance, and those are left after it
 pub record Comes (all : List Stop) (i : PlainInstance) (left : List Stop) : Type 0 where
   pub before : List Stop
-  pub site : Site
-  pub is : all ≡ before ++ at_site site ∷ left
-  pub key : site_key site ≡ i.key
+  pub is : all ≡ before ++ stop_at i ∷ left
 
 -- or gave none, and none is left
 abbrev pub ComesTo : List Stop → Option PlainInstance → List Stop → Type 0
@@ -75,27 +74,27 @@ ComesTo all (Some i) left = Comes all i left
 
 -- ---- what is left
 
--- of a package, of which these sites are left
+-- of a package, of which these places are left
 abbrev pub package_left : Placed → Sites → List Stop
-package_left p sites = map at_site (sites_view p sites) ++ package_end p.0 ∷ []
+package_left p sites = map stop_at (sites_view p sites) ++ package_end p.0 ∷ []
 
 abbrev pub package_rest : Proposal → Option Sites → Placed → List Stop
-package_rest s sites p = map at_site (sites_in s sites p) ++ package_end p.0 ∷ []
+package_rest s sites p = map stop_at (sites_in s sites p) ++ package_end p.0 ∷ []
 
--- of these packages, where of the first one these sites are left
+-- of these packages, where of the first one these places are left
 abbrev pub packages_rest : Proposal → Option Sites → List Placed → List Stop
 packages_rest s sites [] = []
 packages_rest s sites (p ∷ ps) = package_rest s sites p ++ flat_map (package_stops s) ps
 
-abbrev pub request_rest : RequestSites → List Stop
-request_rest sites = map at_site (request_sites_view sites)
+abbrev pub request_rest : Proposal → RequestSites → List Stop
+request_rest s sites = map stop_at (request_sites_view s.problem.request sites)
 
 abbrev pub unknown_rest : Proposal → ℕ → List Stop
-unknown_rest s n = map at_site (map unknown_stanza (drop n s.unknown))
+unknown_rest s n = map stop_at (map unknown_instance (drop n s.unknown))
 
--- of all, after so many packages, with the sites of the next one and of the request that are left, after so many unknown stanzas
+-- of all, after so many packages, with the places of the next one and of the request that are left, after so many unknown stanzas
 abbrev pub stops_from : Proposal → Cursor → List Stop
-stops_from s c = packages_rest s c.sites (drop c.packages (enumerate_from 1 s.problem.packages)) ++ (request_rest c.request ++ unknown_rest s c.unknown)
+stops_from s c = packages_rest s c.sites (drop c.packages (enumerate_from 1 s.problem.packages)) ++ (request_rest s c.request ++ unknown_rest s c.unknown)
 
 -- the unknown stanzas with greater numbers
 abbrev pub unknown_left : ℕ → List PlainUnknown → List PlainUnknown

@@ -5,7 +5,7 @@ ghost use Rattle.cudf_problem.specs.Promises.Views.{unknown_view};
 ghost use Rattle.cudf_index.specs.Promises.Prices.{digits};
 ghost use Rattle.cudf_job.specs.KeyViews.{key_view};
 ghost use Rattle.cudf_referee.specs.Promises.Pages.{least_search};
-ghost use Rattle.cudf_referee.specs.Promises.Sites.{at_start, at_key};
+ghost use Rattle.cudf_referee.specs.Promises.Stops.{at_start, at_key};
 ghost use Rattle.cudf_referee.specs.Working.Walkers.{put_forward, Agrees};
 
 use crate::instance::Instance;
@@ -156,9 +156,9 @@ impl<'r, 'p, 't> Instances<'r, 'p, 't> {
     ghost use Rattle.std.specs.List.{enumerate_from};
     ghost use Rattle.cudf_problem.specs.Promises.Views.{package_view};
     ghost use Rattle.cudf_problem.specs.Universe.{PlainPackage};
-    ghost use Rattle.cudf_referee.specs.Promises.Sites.{at_site, package_end, package_sites, precedes, site_key};
+    ghost use Rattle.cudf_referee.specs.Promises.Stops.{stop_at, package_end, precedes};
     ghost use Rattle.cudf_referee.specs.Promises.Views.{instance_view};
-    ghost use Rattle.cudf_referee.specs.Working.Judged.{instance_at};
+    ghost use Rattle.cudf_referee.specs.Violations.{package_instances};
     ghost use Rattle.cudf_referee.specs.Working.Places.{ahead, BeginsAt};
     ghost use Rattle.cudf_referee.specs.Working.Searches.{Comes, ComesTo, Searches, package_left, packages_rest, request_rest, unknown_rest, stops_from};
     ghost use Rattle.cudf_referee.specs.Working.SiteNumbers.{placed_view, Fits, package_site_view, sites_in, StandsAt};
@@ -184,8 +184,8 @@ impl<'r, 'p, 't> Instances<'r, 'p, 't> {
     fn judge(&mut self, candidate: Candidate<'p, 't>, site: PackageSite<'t>) -> bool
         requires fits { Fits self.old.judged candidate }
         requires stands { StandsAt candidate.package.now.keep site }
-        ensures { let place = package_site_view (placed_view candidate.entry) site.entry in
-            Searches self.old (at_site place ∷ []) (if result then Some (instance_at self.old.judged place) else None) self.new }
+        ensures { let i = package_site_view (placed_view candidate.entry) site.entry in
+            Searches self.old (stop_at i ∷ []) (if result then Some i else None) self.new }
     {
         self.steps.tick();
         is_violated(&mut self.now, candidate, site)
@@ -194,8 +194,8 @@ impl<'r, 'p, 't> Instances<'r, 'p, 't> {
     /// Judges a place of the request.
     fn judge_requested(&mut self, site: RequestSite<'t>) -> bool
         requires { StandsIn self.old.judged.problem.request site }
-        ensures { let place = request_site_view site.entry in
-            Searches self.old (at_site place ∷ []) (if result then Some (instance_at self.old.judged place) else None) self.new }
+        ensures { let i = request_site_view self.old.judged.problem.request site.entry in
+            Searches self.old (stop_at i ∷ []) (if result then Some i else None) self.new }
     {
         self.steps.tick();
         is_requested_violated(&mut self.now, self.before, site, &mut self.steps)
@@ -254,8 +254,8 @@ impl<'r, 'p, 't> Instances<'r, 'p, 't> {
     /// The first instance of the request at the places that are left.
     fn search_request(&mut self, sites: &mut RequestSites<'t>) -> Option<Instance<'t>>
         requires { Remains self.old.judged.problem.request sites.old }
-        ensures searches { Searches self.old (request_rest sites.old) (option_map instance_view result) self.new }
-        ensures comes { ComesTo (request_rest sites.old) (option_map instance_view result) (request_rest sites.new) }
+        ensures searches { Searches self.old (request_rest self.old.judged sites.old) (option_map instance_view result) self.new }
+        ensures comes { ComesTo (request_rest self.old.judged sites.old) (option_map instance_view result) (request_rest self.old.judged sites.new) }
         ensures remains { Remains self.old.judged.problem.request sites.new }
     {
         let request = self.problem.request();
@@ -333,7 +333,7 @@ impl<'r, 'p, 't> Instances<'r, 'p, 't> {
     /// The places of the package after this many others that come after a key.
     fn behind_key(&self, index: usize, key: Key) -> Option<Sites<'t>>
         ensures { (p : PlainPackage) → slice_get self.entry.now.judged.problem.packages index ≡ Some p
-            → filter (λ x. precedes (key_view key) (site_key x)) (package_sites self.entry.now.judged (index + 1, p)) ≡ sites_in self.entry.now.judged result (index + 1, p) }
+            → filter (λ x. precedes (key_view key) x.key) (package_instances self.entry.now.judged (index + 1, p)) ≡ sites_in self.entry.now.judged result (index + 1, p) }
     {
         match self.problem.packages().get(index) {
             Some(package) => Some(self.candidate(index, package).behind(key)),

@@ -45,10 +45,9 @@ impl<'p, 't> Candidate<'p, 't> {
     ghost use Rattle.cudf_job.specs.KeyViews.{key_view};
     ghost use Rattle.cudf_job.specs.Keys.{fits};
     ghost use Rattle.cudf_referee.specs.Proposals.{Proposal};
-    ghost use Rattle.cudf_referee.specs.Promises.Sites.{package_sites, precedes, site_key};
+    ghost use Rattle.cudf_referee.specs.Promises.Stops.{precedes};
     ghost use Rattle.cudf_referee.specs.Promises.Views.{instance_view, what_view};
-    ghost use Rattle.cudf_referee.specs.Violations.{at_package};
-    ghost use Rattle.cudf_referee.specs.Working.Judged.{instance_at};
+    ghost use Rattle.cudf_referee.specs.Violations.{at_package, package_instances};
     ghost use Rattle.cudf_referee.specs.Working.SiteNumbers.{placed_view, Fits, depends_of, conflicts_of, features_of, candidate_sites, sites_view, sites_in, package_site_view, StandsAt};
 
     /// What is judged of what it needs: nothing, where it isn't to be installed.
@@ -117,7 +116,7 @@ impl<'p, 't> Candidate<'p, 't> {
     /// Its places that come after a key of it, whether or not a place has the key.
     pub(crate) fn behind(self, key: Key) -> Sites<'t>
         ensures { (s : Proposal) → Fits s self.entry
-            → filter (λ x. precedes (key_view key) (site_key x)) (package_sites s (placed_view self.entry)) ≡ sites_view (placed_view self.entry) result }
+            → filter (λ x. precedes (key_view key) x.key) (package_instances s (placed_view self.entry)) ≡ sites_view (placed_view self.entry) result }
     {
         let mut sites = self.sites();
         let mut left = sites;
@@ -159,7 +158,7 @@ impl<'p, 't> Candidate<'p, 't> {
     /// The instance that may be at a place.
     pub(crate) fn instance(self, site: PackageSite<'t>) -> Instance<'t>
         requires { StandsAt self.package.now.keep site }
-        ensures { (s : Proposal) → instance_view result ≡ instance_at s (package_site_view (placed_view self.entry) site.entry) }
+        ensures { instance_view result ≡ package_site_view (placed_view self.entry) site.entry }
     {
         match site {
             PackageSite::Conjunct(number, clause) => {

@@ -30,12 +30,13 @@ impl<'t> RequestSites<'t> {
     ghost use Rattle.cudf_problem.specs.Universe.{PlainRequest};
     ghost use Rattle.cudf_problem.specs.Promises.Views.{request_view};
     ghost use Rattle.cudf_job.specs.KeyViews.{key_view};
-    ghost use Rattle.cudf_referee.specs.Promises.Sites.{request_sites, precedes, site_key};
+    ghost use Rattle.cudf_referee.specs.Promises.Stops.{precedes};
+    ghost use Rattle.cudf_referee.specs.Violations.{request_instances};
     ghost use Rattle.cudf_referee.specs.Working.RequestSites.{request_sites_view, request_site_view, upgrades_view, Remains, StandsIn};
 
     /// All places of the request.
     pub(crate) fn of(request: &Request<'t>) -> Self
-        ensures sites { request_sites_view result ≡ request_sites (request_view request.now) }
+        ensures sites { request_sites_view (request_view request.now) result ≡ request_instances (request_view request.now) }
         ensures remains { Remains (request_view request.now) result }
     {
         RequestSites {
@@ -51,7 +52,7 @@ impl<'t> RequestSites<'t> {
 
     /// No place of the request.
     pub(crate) fn none_of(request: &Request<'t>) -> Self
-        ensures sites { request_sites_view result ≡ [] }
+        ensures sites { request_sites_view (request_view request.now) result ≡ [] }
         ensures remains { Remains (request_view request.now) result }
     {
         let none = VpkgList::empty();
@@ -68,7 +69,7 @@ impl<'t> RequestSites<'t> {
 
     /// The places of the request that come after a key of it, whether or not a place has the key.
     pub(crate) fn behind(request: &Request<'t>, key: Key) -> Self
-        ensures sites { filter (λ x. precedes (key_view key) (site_key x)) (request_sites (request_view request.now)) ≡ request_sites_view result }
+        ensures sites { filter (λ x. precedes (key_view key) x.key) (request_instances (request_view request.now)) ≡ request_sites_view (request_view request.now) result }
         ensures remains { Remains (request_view request.now) result }
     {
         let mut sites = Self::of(request);
@@ -84,7 +85,7 @@ impl<'t> RequestSites<'t> {
 
     /// The next place.
     pub(crate) fn next(&mut self) -> Option<RequestSite<'t>>
-        ensures gives { YieldsFirstBy request_site_view request_sites_view self.old result self.new }
+        ensures gives { (r : PlainRequest) → YieldsFirstBy (request_site_view r) (request_sites_view r) self.old result self.new }
         ensures stands { (r : PlainRequest) → Remains r self.old → IfSome result (StandsIn r) }
         ensures remains { (r : PlainRequest) → Remains r self.old → Remains r self.new }
     {
@@ -101,7 +102,7 @@ impl<'t> RequestSites<'t> {
 
     /// The next place of `upgrade`.
     fn next_upgrade(&mut self) -> Option<RequestSite<'t>>
-        ensures gives { YieldsFirstBy request_site_view upgrades_view self.old result self.new }
+        ensures gives { (r : PlainRequest) → YieldsFirstBy (request_site_view r) (upgrades_view r) self.old result self.new }
         ensures stands { (r : PlainRequest) → Remains r self.old → IfSome result (StandsIn r) }
         ensures remains { (r : PlainRequest) → Remains r self.old → Remains r self.new }
         ensures install { (self.new.install ≡ self.old.install) × (self.new.installed ≡ self.old.installed) }

@@ -1,9 +1,7 @@
 //! What is at a place of the request.
 ghost use Rattle.std.specs.Prelude.{◌≡◌};
 ghost use Rattle.cudf_problem.specs.Promises.Views.{request_view};
-ghost use Rattle.cudf_referee.specs.Proposals.{Proposal};
 ghost use Rattle.cudf_referee.specs.Promises.Views.{instance_view};
-ghost use Rattle.cudf_referee.specs.Working.Judged.{instance_at};
 ghost use Rattle.cudf_referee.specs.Working.RequestSites.{request_site_view, StandsIn, later};
 
 use crate::instance::{Instance, What};
@@ -26,7 +24,7 @@ pub(super) fn later<'t>(vpkg: Vpkg<'t>, aspect: Aspect) -> Option<(Vpkg<'t>, Asp
 /// The instance that may be at a place.
 pub(crate) fn requested_instance<'t>(request: &Request<'t>, site: RequestSite<'t>) -> Instance<'t>
     requires { StandsIn (request_view request.now) site }
-    ensures { (s : Proposal) → s.problem.request ≡ request_view request.now → instance_view result ≡ instance_at s (request_site_view site.entry) }
+    ensures { instance_view result ≡ request_site_view (request_view request.now) site.entry }
 {
     match site {
         RequestSite::Install(number, vpkg) => {

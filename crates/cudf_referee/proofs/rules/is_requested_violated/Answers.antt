@@ -19,7 +19,7 @@ returns-in-Upgrade-default-default-Lower-clause-judged c = λ s proposed before 
     let at : c.args.site ≡ Upgrade number vpkg Lower = c.in-Upgrade-default-default-Lower.is ∙ ap (Upgrade number vpkg) aspect in
     let entry : slice_get s.problem.request.upgrade (number - 1) ≡ Some (vpkg_view vpkg) = (subst (StandsIn s.problem.request) at stands).1 in
     let greatest = greatest-at s.initial s.problem.request.upgrade c.args.before.now (number - 1) (vpkg_view vpkg) c.number_before-greatest.result before entry c.number_before-greatest.ensures.number in
-    subst (λ (x : RequestSite). IsJudged s (request_site_view x) c.has_lower.result (c.args.now.now.steps + c.args.steps.now) (c.has_lower.new.now.steps + c.number_before-greatest.new.steps)) (sym at) (record {
+    subst (λ (x : RequestSite). IsJudged s (request_site_view s.problem.request x) c.has_lower.result (c.args.now.now.steps + c.args.steps.now) (c.has_lower.new.now.steps + c.number_before-greatest.new.steps)) (sym at) (record {
       is = c.has_lower.ensures.answer (numbers_of vpkg.name.now s.initial) greatest
           ∙ ap (λ (status : List Placed). are_lower (numbers_of vpkg.name.now s.initial) (numbers_of vpkg.name.now status)) (sym proposed);
       price = omega (arith, c.has_lower.ensures.price, c.number_before-greatest.ensures.price);

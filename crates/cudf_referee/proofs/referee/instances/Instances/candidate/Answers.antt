@@ -1,16 +1,14 @@
-use Rattle.std.proofs.Common.{◌≡◌, ◌≤◌, ◌+◌, false, length, Some, ap, sym, ◌∙◌, arith}
+use Rattle.std.proofs.Common.{◌≡◌, ◌+◌, false, length, Some, ap, sym, ◌∙◌, arith}
 use Rattle.std.specs.Prelude.{slice_get}
 use Rattle.std.specs.FinSet as set
 use Rattle.std.proofs.lemmas.List.{length-map}
 use Rattle.std.proofs.lemmas.Option.{slice_get_within}
-use Rattle.cudf_value.specs.Promises.Views.{list_view}
 use Rattle.cudf_problem.specs.Promises.Views.{package_view}
 use Rattle.cudf_problem.specs.Statuses.{is_initial}
-use Rattle.cudf_index.specs.Promises.Prices.{own_cost}
 use Rattle.cudf_referee.specs.Promises.Walks.{Walking}
 use Rattle.cudf_referee.specs.Proposals.{holds_place}
 use Rattle.cudf_referee.specs.Working.Named.{has_kept_name}
-use Rattle.cudf_referee.proofs.GroundLemmas.{held-at, initial-at, own-at, flag-at, fits-same}
+use Rattle.cudf_referee.proofs.GroundLemmas.{held-at, initial-at, flag-at, fits-same}
 use Rattle.cudf_referee.proofs.referee.instances.Instances.candidate.Goals as goal
 
 pub bounds-self-inside-index : goal.bounds-self-inside-index
@@ -32,11 +30,8 @@ returns-clause-fits c =
     let is = set.contains i.solution.now.status in
     let here : slice_get problem.packages c.args.index ≡ Some p = ap (λ (w : Walking). slice_get w.judged.problem.packages c.args.index) c.self.view_is ∙ c.requires in
     let below = slice_get_within problem.packages c.args.index p here in
-    let own : own_cost i.now.status (c.args.index + 1) ≤ length (list_view c.args.package.now.provides) + 1 =
-    omega (arith, own-at is problem.packages c.args.index p here, ap (λ ps. own_cost ps (c.args.index + 1)) agrees.is) in
     fits-same _ _ _ c.self.view_is (record {
       was = held-at (is_initial problem) problem.packages c.args.index below ∙ initial-at problem c.args.index p here;
       is = ap (λ ps. holds_place ps (c.args.index + 1)) agrees.is ∙ held-at is problem.packages c.args.index below ∙ sym c.holds.ensures;
       named = flag-at (has_kept_name i.now.status) i.named.now problem.packages c.args.index p false agrees.flags here;
-      own = own;
     })

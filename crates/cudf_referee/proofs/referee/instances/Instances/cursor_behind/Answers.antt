@@ -1,7 +1,9 @@
-use Rattle.std.proofs.Common.{◌≡◌, filter, ap, sym, ◌∙◌, subst}
+use Rattle.std.proofs.Common.{◌≡◌, [], filter, ap, sym, ◌∙◌, subst}
 use Rattle.cudf_problem.specs.Universe.{PlainRequest}
 use Rattle.cudf_job.specs.KeyViews.{key_view}
-use Rattle.cudf_referee.specs.Promises.Sites.{Site, request_sites, precedes, site_key}
+use Rattle.cudf_referee.specs.Instances.{PlainInstance}
+use Rattle.cudf_referee.specs.Promises.Stops.{precedes}
+use Rattle.cudf_referee.specs.Violations.{request_instances}
 use Rattle.cudf_referee.specs.Promises.Walks.{Walking}
 use Rattle.cudf_referee.specs.Working.RequestSites.{Remains, request_sites_view}
 use Rattle.cudf_referee.proofs.CursorLemmas.{count-same, behind-package, behind-request, behind-solution}
@@ -12,7 +14,7 @@ returns-in-Package-clause-stops c =
     let s = c.args.self.now.judged in
     let same = c.request-request.ensures ∙ ap (λ (w : Walking). w.judged.problem.request) c.self.view_is in
     behind-package s (key_view c.args.key) c.part.ensures.fits c.in-Package.place c.behind_key.result c.of.result c.args.unknown (sym c.part.ensures.value ∙ c.in-Package.is)
-    (c.of.ensures.sites ∙ ap request_sites same)
+    (subst (λ (r : PlainRequest). request_sites_view r c.of.result ≡ request_instances r) same c.of.ensures.sites)
     c.requires c.behind_key.ensures
 
 pub returns-in-Package-clause-remains : goal.returns-in-Package-clause-remains
@@ -22,12 +24,12 @@ returns-in-Package-clause-remains c =
 pub returns-in-Request-clause-stops : goal.returns-in-Request-clause-stops
 returns-in-Request-clause-stops c =
     let s = c.args.self.now.judged in
-    let later = λ (x : Site). precedes (key_view c.args.key) (site_key x) in
+    let later = λ (x : PlainInstance). precedes (key_view c.args.key) x.key in
     let same = c.request-request.ensures ∙ ap (λ (w : Walking). w.judged.problem.request) c.self.view_is in
     behind-request s (key_view c.args.key) c.part.ensures.fits _ c.behind.result c.args.unknown
     (count-same _ _ _ c.packages.ensures.packages c.self.view_is) (sym c.part.ensures.value ∙ c.in-Request.is)
     c.requires
-    (subst (λ (r : PlainRequest). filter later (request_sites r) ≡ request_sites_view c.behind.result) same c.behind.ensures.sites)
+    (subst (λ (r : PlainRequest). filter later (request_instances r) ≡ request_sites_view r c.behind.result) same c.behind.ensures.sites)
 
 pub returns-in-Request-clause-remains : goal.returns-in-Request-clause-remains
 returns-in-Request-clause-remains c =
@@ -37,7 +39,8 @@ pub returns-in-Solution-clause-stops : goal.returns-in-Solution-clause-stops
 returns-in-Solution-clause-stops c =
     let s = c.args.self.now.judged in
     behind-solution s (key_view c.args.key) c.part.ensures.fits _ c.none_of.result c.args.unknown
-    (count-same _ _ _ c.packages-in-Solution.ensures.packages c.self.view_is) c.none_of.ensures.sites (sym c.part.ensures.value ∙ c.in-Solution.is)
+    (count-same _ _ _ c.packages-in-Solution.ensures.packages c.self.view_is)
+    (subst (λ (r : PlainRequest). request_sites_view r c.none_of.result ≡ []) (c.request-request.ensures ∙ ap (λ (w : Walking). w.judged.problem.request) c.self.view_is) c.none_of.ensures.sites) (sym c.part.ensures.value ∙ c.in-Solution.is)
     c.requires
 
 pub returns-in-Solution-clause-remains : goal.returns-in-Solution-clause-remains

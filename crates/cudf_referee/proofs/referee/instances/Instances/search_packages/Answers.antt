@@ -1,7 +1,7 @@
 use Rattle.std.proofs.Common.{◌≡◌, length, [], ◌∷◌, ◌++◌, map, option_map, refl, ap, ◌∙◌, subst, arith}
 use Rattle.std.proofs.lemmas.List.{length-map}
 use Rattle.cudf_problem.specs.Promises.Views.{package_view}
-use Rattle.cudf_referee.specs.Promises.Sites.{at_site, package_end}
+use Rattle.cudf_referee.specs.Promises.Stops.{stop_at, package_end}
 use Rattle.cudf_referee.specs.Promises.Views.{instance_view}
 use Rattle.cudf_referee.specs.Promises.Walks.{Walking}
 use Rattle.cudf_referee.specs.Proposals.{Proposal}
@@ -25,7 +25,7 @@ returns-in-Some-clause-searches c =
     package-here c.args.self.now.judged c.loop-index.self.judged c.packages-packages.result.now c.loop-index.index c.index-packages-index.result
     (c.packages-packages.ensures.packages ∙ ap (λ (w : Walking). w.judged.problem.packages) c.self.view_is) c.loop-index.invariant.0.judged c.loop-index-test.true c.index-packages-index.is in
     goes-found (packages-on _ _ _ _ c.loop-index.sites c.loop-index.index _ _ here c.loop-index.invariant.0
-    (searches-at _ _ _ _ _ _ (ap (λ l. map at_site l ++ package_end c.candidate-candidate.result.place ∷ []) (c.left-left.ensures c.loop-index.self.judged c.candidate-candidate.ensures.fits) ∙ ap (package_rest c.loop-index.self.judged c.loop-index.sites) c.candidate-candidate.ensures.placed) (ap (option_map instance_view) c.in-Some.is) c.search_package.ensures.searches))
+    (searches-at _ _ _ _ _ _ (ap (λ l. map stop_at l ++ package_end c.candidate-candidate.result.place ∷ []) (c.left-left.ensures c.loop-index.self.judged c.candidate-candidate.ensures.fits) ∙ ap (package_rest c.loop-index.self.judged c.loop-index.sites) c.candidate-candidate.ensures.placed) (ap (option_map instance_view) c.in-Some.is) c.search_package.ensures.searches))
 
 pub returns-in-Some-clause-comes : goal.returns-in-Some-clause-comes
 returns-in-Some-clause-comes c =
@@ -46,7 +46,7 @@ loop-index-preserved c =
     package-here c.args.self.now.judged c.args.self.now.judged c.packages-packages.result.now c.loop-index.index c.index-packages-index.result
     (c.packages-packages.ensures.packages ∙ ap (λ (w : Walking). w.judged.problem.packages) c.self.view_is) refl c.loop-index-test.true c.index-packages-index.is in (
       packages-on _ _ _ _ c.loop-index.sites c.loop-index.index _ _ here c.loop-index.invariant.0
-          (searches-at _ _ _ _ _ _ (ap (λ l. map at_site l ++ package_end c.candidate-candidate.result.place ∷ []) (c.left-left.ensures c.loop-index.self.judged c.candidate-candidate.ensures.fits) ∙ ap (package_rest c.loop-index.self.judged c.loop-index.sites) c.candidate-candidate.ensures.placed) (ap (option_map instance_view) c.in_default.is) c.search_package.ensures.searches),
+          (searches-at _ _ _ _ _ _ (ap (λ l. map stop_at l ++ package_end c.candidate-candidate.result.place ∷ []) (c.left-left.ensures c.loop-index.self.judged c.candidate-candidate.ensures.fits) ∙ ap (package_rest c.loop-index.self.judged c.loop-index.sites) c.candidate-candidate.ensures.placed) (ap (option_map instance_view) c.in_default.is) c.search_package.ensures.searches),
       tail-past _ _ _ _ (packages-next c.args.self.now.judged c.loop-index.sites c.loop-index.index _ first) c.loop-index.invariant.1,
       c.loop-index.invariant.2,
     )

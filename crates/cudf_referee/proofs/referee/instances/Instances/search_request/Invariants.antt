@@ -6,7 +6,9 @@ use Rattle.cudf_referee.proofs.referee.instances.Instances.search_request.Given 
 
 abbrev pub invariant-loop-site : goal.invariant-loop-site
 invariant-loop-site l =
-    Goes l.fn.self (request_rest l.fn.sites) None (request_rest l.sites) l.self × Remains l.fn.self.judged.problem.request l.sites × IsTail (request_rest l.fn.sites) (request_rest l.sites)
+    Goes l.fn.self (request_rest l.fn.self.judged l.fn.sites) None (request_rest l.fn.self.judged l.sites) l.self
+    × Remains l.fn.self.judged.problem.request l.sites
+    × IsTail (request_rest l.fn.self.judged l.fn.sites) (request_rest l.fn.self.judged l.sites)
 
 abbrev pub decreases-loop-site : goal.decreases-loop-site
-decreases-loop-site l = length (request_sites_view l.sites)
+decreases-loop-site l = length (request_sites_view l.fn.self.judged.problem.request l.sites)

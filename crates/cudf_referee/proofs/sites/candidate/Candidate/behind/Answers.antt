@@ -15,14 +15,14 @@ loop-site-init c = (
 pub returns-then-precedes : goal.returns-then-precedes
 returns-then-precedes c = λ s fits.
     let is = sym c.loop-site.invariant.0 ∙ c.in-Some.ensures.gives in
-    behind-here _ _ _ _ _ (behind-same _ _ _ _ _ is (c.loop-site.invariant.1 s fits)) (of-place s _ _ _ _ _ (c.instance.ensures s) c.precedes.ensures c.if-precedes.true) ∙ sym is
+    behind-here _ _ _ _ _ (behind-same _ _ _ _ _ is (c.loop-site.invariant.1 s fits)) (of-place _ _ _ _ _ c.instance.ensures c.precedes.ensures c.if-precedes.true) ∙ sym is
 
 pub loop-site-preserved : goal.loop-site-preserved
 loop-site-preserved c = (
   refl,
   λ s fits.
       let is = sym c.loop-site.invariant.0 ∙ c.in-Some.ensures.gives in
-      behind-on _ _ _ _ _ (behind-same _ _ _ _ _ is (c.loop-site.invariant.1 s fits)) (of-place s _ _ _ _ _ (c.instance.ensures s) c.precedes.ensures c.if-precedes.false),
+      behind-on _ _ _ _ _ (behind-same _ _ _ _ _ is (c.loop-site.invariant.1 s fits)) (of-place _ _ _ _ _ c.instance.ensures c.precedes.ensures c.if-precedes.false),
 )
 
 pub returns : goal.returns

@@ -1,17 +1,17 @@
 use Rattle.std.proofs.Common.{◌≡◌, [], ◌∷◌, length}
 use Rattle.cudf_problem.specs.Promises.Views.{request_view}
 use Rattle.cudf_job.specs.KeyViews.{key_view}
-use Rattle.cudf_referee.specs.Promises.Sites.{request_sites}
+use Rattle.cudf_referee.specs.Violations.{request_instances}
 use Rattle.cudf_referee.specs.Working.RequestSites.{Remains, request_sites_view}
 use Rattle.cudf_referee.proofs.SiteNumberLemmas.{IsBehind}
 use Rattle.cudf_referee.proofs.sites.request_sites.RequestSites.behind.Given as goal
 
 abbrev pub invariant-loop-site : goal.invariant-loop-site
 invariant-loop-site l =
-    (request_sites_view l.left ≡ request_sites_view l.sites)
-    × IsBehind (key_view l.key) (3 ∷ []) (request_sites (request_view l.request)) (request_sites_view l.sites)
+    (request_sites_view (request_view l.request) l.left ≡ request_sites_view (request_view l.request) l.sites)
+    × IsBehind (key_view l.key) (3 ∷ []) (request_instances (request_view l.request)) (request_sites_view (request_view l.request) l.sites)
     × Remains (request_view l.request) l.left
     × Remains (request_view l.request) l.sites
 
 abbrev pub decreases-loop-site : goal.decreases-loop-site
-decreases-loop-site l = length (request_sites_view l.left)
+decreases-loop-site l = length (request_sites_view (request_view l.request) l.left)
