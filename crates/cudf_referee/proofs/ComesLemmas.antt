@@ -90,9 +90,9 @@ module _ (s : Proposal) (old new : Cursor) where
       subst (λ (l : List Stop). Comes (stops_from s old) i l) (λ k. sym none k ++ (sym none' k ++ unknown_rest s new.unknown))
       (record {
         before = (P old ++ request_rest s old.request) ++ comes.before;
-              is = sym (append_assoc (P old) (request_rest s old.request) (unknown_rest s old.unknown)) ∙ ap (λ l. (P old ++ request_rest s old.request) ++ l) comes.is
+        is = sym (append_assoc (P old) (request_rest s old.request) (unknown_rest s old.unknown)) ∙ ap (λ l. (P old ++ request_rest s old.request) ++ l) comes.is
             ∙ sym (append_assoc (P old ++ request_rest s old.request) comes.before (stop_at i ∷ unknown_rest s new.unknown));
-            })
+      })
 
   -- found after both, or nowhere
   pub in-last : (found : Option PlainInstance) → P new ≡ [] → request_rest s new.request ≡ [] → ComesTo (unknown_rest s old.unknown) found (unknown_rest s new.unknown) → ComesTo (stops_from s old) found (stops_from s new)
