@@ -1,5 +1,5 @@
 -- The report of a run: a function of the job and the inputs to a text and an outcome. Own.
-use Rattle.std.specs.Prelude.{ℕ, ◌-◌, Bool, true, false, ◌||◌, nat_lt, List, [], ◌∷◌, ◌++◌, length, map, filter_map, take, slice_get, codes, decimal, Option, Some, None, unwrap_or, option_map, option_and_then, if◌then◌else◌}
+use Rattle.std.specs.Prelude.{ℕ, ◌-◌, Bool, false, ◌||◌, nat_lt, List, [], ◌∷◌, ◌++◌, length, map, filter_map, find, take, slice_get, codes, decimal, Option, Some, None, unwrap_or, option_map, option_and_then, if◌then◌else◌}
 use Rattle.std.specs.List.{flat_map, last_or, enumerate_from}
 use Rattle.std.specs.Option.{option_map_or}
 use Rattle.std.specs.Str.{is_utf8}
@@ -15,17 +15,13 @@ use Rattle.cudf_document.specs.Details.{PlainDetail, fault_detail}
 use Rattle.cudf_document.specs.Faults.{least}
 use Rattle.cudf_document.specs.ProblemFaults.{problem_faults}
 use Rattle.cudf_document.specs.SolutionFaults.{solution_faults}
-use Rattle.cudf_problem.specs.declared.package.Keep.{Keep}
-use Rattle.cudf_problem.specs.declared.package.Keep.TheVariants.{Version, Package, Feature, Nothing}
-use Rattle.cudf_problem.specs.Universe.{PlainPackage, PlainProblem, PlainRequest, plain_problem, package_at}
+use Rattle.cudf_problem.specs.Universe.{PlainPackage, PlainProblem, plain_problem, package_at}
 use Rattle.cudf_index.specs.Satisfaction.{Placed}
 use Rattle.cudf_problem.specs.Statuses.{is_initial, is_proposed, unknown_stanzas}
 use Rattle.cudf_problem.specs.Ids.{Id}
 use Rattle.cudf_job.specs.Aims.{aim_text, count_of, count_text}
 use Rattle.cudf_job.specs.declared.aims.Aim.{Aim}
-use Rattle.cudf_job.specs.declared.key.Part.{Part}
 use Rattle.cudf_job.specs.declared.key.Part.TheVariants as part
-use Rattle.cudf_job.specs.declared.key.Rule.{Rule}
 use Rattle.cudf_job.specs.declared.key.Rule.TheVariants as rule
 use Rattle.cudf_job.specs.declared.key.Aspect.{Aspect}
 use Rattle.cudf_job.specs.declared.key.Aspect.TheVariants.{Unsatisfied, Many, Lower}
@@ -35,11 +31,12 @@ use Rattle.cudf_job.specs.declared.criteria.Criteria.{Criteria}
 use Rattle.cudf_job.specs.Vectors.{paranoid, trendy}
 use Rattle.cudf_referee.specs.Criteria.{criteria}
 use Rattle.cudf_problem.specs.Documents.{is_empty}
-use Rattle.cudf_job.specs.Keys.{PlainKey, key_text}
+use Rattle.std.specs.Ordering.{is_eq}
+use Rattle.cudf_job.specs.Keys.{PlainKey, key_cmp, key_text}
 use Rattle.cudf_job.specs.KeyViews.{key_view}
 use Rattle.cudf_referee.specs.Instances.{PlainWhat, needs, conflicts_with, keep_version, keep_package, keep_feature, install, remove, upgrade, unknown, PlainInstance}
 use Rattle.cudf_referee.specs.Proposals.{Proposal, proposal}
-use Rattle.cudf_referee.specs.Violations.{instance, listing, rest, met_by}
+use Rattle.cudf_referee.specs.Violations.{needed_instances, kept_instances, request_instances, listing, rest, met_by}
 use Rattle.cudf_referee.specs.Solutions.{is_solution}
 use Rattle.cudf_lrat.specs.Answers as lrat
 use Rattle.cudf_lrat.specs.Kinds.{kind_text}
@@ -251,38 +248,12 @@ cnf_answer problem = unless_too_large problem (record { text = cnf_text problem;
 
 -- ---- refutations
 
--- an entry by its number from 1
-abbrev pub entry_at : {A : Type 0} → List A → ℕ → Option A
-entry_at entries number = slice_get entries (number - 1)
-
--- what a package's rule says of an entry
-abbrev pub kept_what : Keep → Option PlainVpkg → Option PlainWhat
-kept_what Version entry = Some keep_version
-kept_what Package entry = Some keep_package
-kept_what Feature entry = option_map keep_feature entry
-kept_what Nothing entry = None
-
-abbrev pub package_what : PlainPackage → Rule → ℕ → Option PlainWhat
-package_what p rule.Depends number = option_map needs (entry_at p.depends number)
-package_what p rule.Conflicts number = option_map conflicts_with (entry_at p.conflicts number)
-package_what p rule.Keep number = kept_what p.keep (entry_at p.provides number)
-package_what p _ number = None
-
--- and a rule of the request
-abbrev pub request_what : PlainRequest → Rule → ℕ → Option PlainWhat
-request_what r rule.Install number = option_map install (entry_at r.install number)
-request_what r rule.Remove number = option_map remove (entry_at r.remove number)
-request_what r rule.Upgrade number = option_map upgrade (entry_at r.upgrade number)
-request_what r _ number = None
-
--- the instance of a rule that a key names, whatever the status
-abbrev pub part_instance : PlainProblem → PlainKey → Part → Option PlainInstance
-part_instance problem key (part.Package place) = option_and_then (λ p. option_map (instance key p.line (Some (p.name, p.version))) (package_what p key.rule key.place)) (package_at problem place)
-part_instance problem key part.Request = option_map (instance key problem.request.line None) (request_what problem.request key.rule key.place)
-part_instance problem key part.Solution = None
+-- all instances of a problem, whatever the statuses, and the one of a key
+abbrev pub problem_instances : PlainProblem → List PlainInstance
+problem_instances problem = flat_map (λ p. needed_instances p ++ kept_instances p.1.keep p) (enumerate_from 1 problem.packages) ++ request_instances problem.request
 
 abbrev pub instance_of : PlainProblem → PlainKey → Option PlainInstance
-instance_of problem key = part_instance problem key key.part
+instance_of problem key = find (λ i. is_eq (key_cmp i.key key)) (problem_instances problem)
 
 -- another package that meets an entry
 abbrev pub also_text : Option PlainPackage → List ℕ

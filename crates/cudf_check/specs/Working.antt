@@ -2,6 +2,7 @@ pub mod Answering
 pub mod Encoded
 pub mod Found
 pub mod InTurn
+pub mod Instances
 pub mod Judged
 pub mod Named
 pub mod Pages

@@ -1,11 +1,12 @@
-//! The instance of a rule that a key names.
+//! The instance of a key.
 ghost use Rattle.std.specs.Prelude.{◌≡◌, ◌-◌, option_map, slice_get};
 ghost use Rattle.cudf_value.specs.Promises.Views.{clause_view, formula_view, list_view, vpkg_view};
 ghost use Rattle.cudf_problem.specs.Promises.Views.{package_view, request_view};
 ghost use Rattle.cudf_job.specs.KeyViews.{key_view};
 ghost use Rattle.cudf_job.specs.declared.key.Part.TheVariants as part;
 ghost use Rattle.cudf_referee.specs.Promises.Views.{instance_view, what_view};
-ghost use Rattle.cudf_check.specs.Report.{entry_at, instance_of, kept_what, package_what, part_instance, request_what};
+ghost use Rattle.cudf_check.specs.Report.{instance_of};
+ghost use Rattle.cudf_check.specs.Working.Instances.{entry_at, if_first, kept_what, package_what, part_instance, request_what};
 
 use crate::lines::package_at;
 use cudf_document::{Keep, Package, Problem, Request};
@@ -40,13 +41,20 @@ fn vpkg_at(list: VpkgList<'_>, number: u64) -> Option<Vpkg<'_>>
     None
 }
 
+/// This, where the number is 1.
+fn if_first<'t>(number: u64, what: What<'t>) -> Option<What<'t>>
+    ensures { option_map what_view result ≡ if_first number (what_view what.entry) }
+{
+    if number == 1 { Some(what) } else { None }
+}
+
 /// What is to be kept of a package, by the number of an entry.
 fn kept_what<'t>(package: &Package<'t>, number: u64) -> Option<What<'t>>
-    ensures { option_map what_view result ≡ kept_what «package».now.keep (entry_at (list_view «package».now.provides) number) }
+    ensures { option_map what_view result ≡ kept_what «package».now.keep number (list_view «package».now.provides) }
 {
     match package.keep {
-        Keep::Version => Some(What::KeepVersion),
-        Keep::Package => Some(What::KeepPackage),
+        Keep::Version => if_first(number, What::KeepVersion),
+        Keep::Package => if_first(number, What::KeepPackage),
         Keep::Feature => Some(What::KeepFeature(vpkg_at(package.provides, number)?)),
         Keep::Nothing => None,
     }
@@ -104,7 +112,7 @@ fn of_request<'t>(problem: &Problem<'t>, key: Key) -> Option<Instance<'t>>
     })
 }
 
-/// The instance of a rule of the problem that the key names, whatever the status.
+/// The instance of the problem that has the key, whatever the status.
 pub(crate) fn instance_of<'t>(problem: &Problem<'t>, key: Key) -> Option<Instance<'t>>
     ensures { option_map instance_view result ≡ instance_of problem.now (key_view key) }
 {
