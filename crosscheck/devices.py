@@ -9,20 +9,21 @@ writer is killed, a file that grows; a pipe whose reader leaves, a full device, 
 standard descriptors closed, and one descriptor left for two files. The functions below say what is wanted.
 
 That comes from README.md, docs/FORMAT.md and the man page, and for the front of an input from the second
-implementation. Each wrong row is printed, and then how many rows there were. The exit status is 1 where one is wrong,
-and 2 where there is no program. Without gcc what needs shim.c is left out, and this is said. For Linux and glibc.
+implementation. Without gcc what needs shim.c is left out. For Linux and glibc.
 """
 import errno
 import itertools
 import os
 import resource
+import shutil
 import signal
 import subprocess
 
 import made
 import shim
+from common import limit, split, start
 from second import reports
-from shim import EVER, limit, rule, split
+from shim import EVER, rule
 
 PROBLEM = "package: car\nversion: 1\ndepends: wheel > 2\ninstalled: true\n\npackage: wheel\nversion: 2\n\nrequest:\n"
 GOOD = "package: wheel\nversion: 2\ninstalled: true\n"
@@ -62,12 +63,16 @@ UNWRITTEN = (
 
 
 class Trial(shim.Trial):
-    """Runs the program, and says which calls it made."""
+    """Runs the program on FILES, and says which calls it made."""
+
+    def __init__(self, *words):
+        super().__init__(*words)
+        self.enter(FILES)
 
     def calls(self, words, *rules, data=""):
         """The answer, and the calls on the files that the arguments name and on the standard descriptors."""
         words = split(words)
-        ran, calls, _ = self.shim.run([self.program, *words], *rules, data=data)
+        ran, calls, _ = self.shim.run([self.program, *words], *rules, data=data.encode())
         return ran.decoded(), [it for it in calls if it.name in (*words, "0", "1", "2")]
 
 
@@ -282,15 +287,5 @@ UNDER_SHIM = (
 )
 PLAIN = (unreadable_files, unsteady_files, unwritable_outputs, descriptors)
 
-
-def main(program):
-    with shim.folder_of(FILES) as folder:
-        trial = Trial(program, folder)
-        for rows in (*UNDER_SHIM, *PLAIN) if trial.shim else PLAIN:
-            rows(trial)
-    print(f"{trial.rows} rows, {trial.wrong} wrong")
-    return 1 if trial.wrong else 0
-
-
 if __name__ == "__main__":
-    shim.start(main, __doc__)
+    start(__doc__, *(UNDER_SHIM if shutil.which("gcc") else ()), *PLAIN, make=Trial)
