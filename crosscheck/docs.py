@@ -9,20 +9,18 @@ usage: docs.py PROGRAM
   and runs that are ended from outside; and the totals and the page that come of them.
 
 dash and bash run the scripts, or else sh, and GNU parallel, gnuplot and the program time where they are installed.
-Prints what isn't as wanted, and then how many. Status 1: something is wrong. 2: there is no program. For Linux;
-Python's standard library alone.
 """
 import contextlib
 import html
 import os
 import re
 import shutil
-import subprocess
-import sys
 import tempfile
 import time
 
-ROOT = os.path.dirname(os.path.dirname(os.path.abspath(__file__)))
+import common
+from common import ROOT
+
 SCRIPTS = f"{ROOT}/examples/competition"
 COMPETITION, DIFFERENCES = "docs/COMPETITION.md", "docs/DIFFERENCES.md"
 PAGES = ("README.md", "examples/README.md", COMPETITION, DIFFERENCES, "docs/MAINTAINERS.md", "docs/CI.md")
@@ -32,56 +30,28 @@ SHELLS = [name for name in ("dash", "bash") if shutil.which(name)] or ["sh"]
 BLOCK = r"((?:(?!```).*\n)*)```$"
 
 
-class Trial:
-    """Runs scripts, and counts what is as wanted. What they call as sh is the shell that runs them."""
+class Trial(common.Trial):
+    """Runs scripts, which call the program as cudf_check, and as sh the shell that runs them."""
 
-    def __init__(self, folder):
-        self.passed, self.failed, self.folder = 0, 0, folder
+    def __init__(self, *words):
+        super().__init__(*words)
         for shell in {*SHELLS, "sh"}:
-            os.mkdir(f"{folder}/{shell}")
-            os.symlink(shutil.which(shell), f"{folder}/{shell}/sh")
+            os.mkdir(self.place(shell))
+            os.symlink(shutil.which(shell), self.place(f"{shell}/sh"))
+        os.symlink(self.program, self.place("cudf_check"))
+        os.environ.update(PATH=f"{self.folder}:{os.environ['PATH']}", LC_ALL="C", grace="1", seconds="2")
 
-    def run(self, script, folder, shell="sh", **more):
-        """The status and the texts on both outputs, of a script or the words of a command, in a folder."""
+    def script(self, script, folder, shell="sh", **more):
+        """What a script gives, or the words of a command, in a folder."""
         words = [shell, "-c", script] if isinstance(script, str) else script
-        environment = {**os.environ, "PATH": f"{self.folder}/{shell}:{os.environ['PATH']}", **more}
-        try:
-            ran = subprocess.run(words, cwd=folder, env=environment, stdin=subprocess.DEVNULL, capture_output=True,
-                                 timeout=120, check=False)
-            return ran.returncode, ran.stdout.decode(), ran.stderr.decode()
-        except subprocess.TimeoutExpired:
-            return "no end", "", ""
-
-    def note(self, name, given, wanted):
-        if given == wanted:
-            self.passed += 1
-        else:
-            self.failed += 1
-            print(f"{name}:\n  {given}, wanted\n  {wanted}", flush=True)
+        environment = {**os.environ, "PATH": f"{self.place(shell)}:{os.environ['PATH']}", **more}
+        return common.run(words, cwd=folder, env=environment).decoded()
 
     def expect(self, script, folder, shell, status, output, errors="", **more):
         """One run, with what is wanted of it. Errors that don't end a line are a part of all, and None is some text."""
-        *given, printed = self.run(script, folder, shell, **more)
+        *given, printed = self.script(script, folder, shell, **more)
         is_part = printed if errors is None else errors and errors[-1] != "\n" and errors in printed
-        self.note(f"{script}, {shell}, {more}", (*given, errors if is_part else printed), (status, output, errors))
-
-
-def start(usage, parts):
-    """Tries the parts of a script with the program that the command line names."""
-    if len(sys.argv) != 2:
-        sys.exit(usage)
-    program = shutil.which(os.path.abspath(sys.argv[1]))
-    if program is None:
-        print(f"{sys.argv[1]} is no program: rt run in crates/cudf_program builds it", file=sys.stderr)
-        sys.exit(2)
-    with tempfile.TemporaryDirectory() as folder:
-        os.symlink(program, f"{folder}/cudf_check")
-        os.environ.update(PATH=f"{folder}:{os.environ['PATH']}", LC_ALL="C", grace="1", seconds="2")
-        trial = Trial(folder)
-        for part in parts:
-            part(trial)
-    print(f"{trial.passed} passed, {trial.failed} failed")
-    sys.exit(1 if trial.failed else 0)
+        self.same(f"{script}, {shell}, {more}", (*given, errors if is_part else printed), (status, output, errors))
 
 
 def read(folder, name):
@@ -101,9 +71,9 @@ def links(trial):
             path, _, heading = target.partition("#")
             file = os.path.normpath(os.path.join(os.path.dirname(name), path)) if path else name
             leads = os.path.exists(f"{ROOT}/{file}") and (not heading or heading in headings(read(ROOT, file)))
-            trial.note(f"{name}: link to {target}", leads, True)
+            trial.same(f"{name}: link to {target}", leads, True)
     named = set(re.findall(r"`(?:sh |sbatch )?(\w+\.sh)\b", read(ROOT, COMPETITION)))
-    trial.note(f"{COMPETITION}: scripts", named, {name for name in os.listdir(SCRIPTS) if name.endswith(".sh")})
+    trial.same(f"{COMPETITION}: scripts", named, {name for name in os.listdir(SCRIPTS) if name.endswith(".sh")})
 
 
 def shown_in(text):
@@ -119,7 +89,7 @@ def shown(trial):
     for name, shell, commands, wanted in cases:
         with tempfile.TemporaryDirectory() as folder:
             shutil.copytree(f"{ROOT}/examples", f"{folder}/examples")
-            trial.note(f"{name}, {shell}: {commands}", trial.run(commands, folder, shell)[1:], (wanted, ""))
+            trial.same(f"{name}, {shell}: {commands}", trial.script(commands, folder, shell)[1:], (wanted, ""))
 
 
 def by_pages(trial):
@@ -128,11 +98,11 @@ def by_pages(trial):
     with tempfile.TemporaryDirectory() as folder:
         os.symlink(f"{ROOT}/examples/rules.problem.cudf", f"{folder}/P")
         os.symlink(f"{ROOT}/examples/rules.answer.cudf", f"{folder}/S")
-        whole = trial.run("cudf_check check P S", folder)[1].splitlines()
+        whole = trial.script("cudf_check check P S", folder)[1].splitlines()
         for shell, limit in ((shell, limit) for shell in SHELLS for limit in (1, 5, 13, 1000)):
-            lines = trial.run(walk.replace("1000", str(limit)), folder, shell)[1].splitlines()
+            lines = trial.script(walk.replace("1000", str(limit)), folder, shell)[1].splitlines()
             listed = [line for line in lines if not line.startswith(("more after", "solution"))]
-            trial.note(f"walk by pages of {limit}, {shell}", [*listed, lines[-1]], whole)
+            trial.same(f"walk by pages of {limit}, {shell}", [*listed, lines[-1]], whole)
 
 
 def document(cell):
@@ -166,9 +136,9 @@ def differences(trial):
         with tempfile.TemporaryDirectory() as folder:
             leave(f"{folder}/P", problem(row))
             leave(f"{folder}/S", document(row.get("Answer", "")))
-            given = trial.run("cudf_check check P S" if "Answer" in row else "cudf_check lint P", folder)[1]
+            given = trial.script("cudf_check check P S" if "Answer" in row else "cudf_check lint P", folder)[1]
         wanted = row.get("Here", "`problem ok`").strip("`").split("`, `")
-        trial.note(f"{DIFFERENCES}: {cells[:2]}", given.splitlines(), wanted)
+        trial.same(f"{DIFFERENCES}: {cells[:2]}", given.splitlines(), wanted)
 
 
 def packages(*pairs):
@@ -310,7 +280,7 @@ def bad_names(trial):
         with competition(files) as folder:
             for shell in SHELLS:
                 trial.expect(f"sh {script}.sh", folder, shell, 1, "", errors)
-                trial.note(f"jobs, {shell}, {errors}", os.path.exists(f"{folder}/jobs"), False)
+                trial.same(f"jobs, {shell}, {errors}", os.path.exists(f"{folder}/jobs"), False)
 
 
 def of_run(line, begun):
@@ -346,45 +316,45 @@ def solved(trial, folder, runs, shell):
     trial.expect("sh jobs.sh", folder, shell, 0, "")
     pending(trial, folder, shell, [f"{solver} cars.cudf" for solver in names], dict.fromkeys(names, "pending"))
     begun = int(time.time())
-    trial.note(name, trial.run(runs, folder, shell)[:2], (0, ""))
+    trial.same(name, trial.script(runs, folder, shell)[:2], (0, ""))
     ended = [of_run(line, begun) for line in sorted(read(folder, "ended").splitlines())]
-    trial.note(f"{name}: ended", ended, [(f"{solver} cars.cudf {RUNS[solver][1]}", True) for solver in names])
+    trial.same(f"{name}: ended", ended, [(f"{solver} cars.cudf {RUNS[solver][1]}", True) for solver in names])
     pending(trial, folder, shell, [], {solver: RUNS[solver][2] for solver in names})
     wanted = {**dict.fromkeys(("deaf", "slow", "crashes", "prints"), OLD), "at-last": NEW}
-    trial.note(f"{name}: kept", {solver: read(folder, f"raw/{solver}/cars.cudf") for solver in wanted}, wanted)
+    trial.same(f"{name}: kept", {solver: read(folder, f"raw/{solver}/cars.cudf") for solver in wanted}, wanted)
     printed = sorted(read(folder, "raw/prints/cars.cudf.err").splitlines())
-    trial.note(f"{name}: printed", printed, ["on its errors", "on its output"])
+    trial.same(f"{name}: printed", printed, ["on its errors", "on its output"])
 
 
 def verdicts(trial, folder):
     """The column Exitval has each cell as a status; a file that isn't there can't be opened; a long report is cut."""
-    trial.run("sh verdicts.sh", folder)
+    trial.script("sh verdicts.sh", folder)
     lines = [line.split("\t") for line in read(folder, "verdicts").splitlines()[1:]]
     statuses = {"FAIL": "3", "missing": "5", "stopped": "5", "no": "1"}
     wanted = [(name, statuses.get(cell, "0")) for name, (_, _, cell) in sorted(RUNS.items())]
-    trial.note("verdicts", sorted((line[8].split("/")[2], line[6]) for line in lines), wanted)
+    trial.same("verdicts", sorted((line[8].split("/")[2], line[6]) for line in lines), wanted)
     report = read(folder, "reports/1/ghosts/2/cars.cudf/stdout").splitlines()
-    trial.note("a long report", (len(report), report[-1]), (1002, "solution no"))
+    trial.same("a long report", (len(report), report[-1]), (1002, "solution no"))
 
 
 def other_runs(trial):
     """A run that is ended from outside, its rerun, a solver that answers when its time is over, and no program time."""
     solvers = {f"solvers/{solver}": RUNS[solver][0] for solver in ("at-last", "prints", "slow")}
     with competition({"problems/cars.cudf": CARS, **solvers}) as folder:
-        trial.run("sh jobs.sh; sh run.sh prints cars.cudf", folder)
+        trial.script("sh jobs.sh; sh run.sh prints cars.cudf", folder)
         # as Slurm ends a task, when its solver has written its answer
         wait = "until [ -e raw/slow/cars.cudf ]; do sleep 0.1; done"
-        trial.run(f"setsid sh run.sh slow cars.cudf & {wait}; kill -s KILL -- -$!", folder)
+        trial.script(f"setsid sh run.sh slow cars.cudf & {wait}; kill -s KILL -- -$!", folder)
         cells = {"at-last": "pending", "prints": "1", "slow": "pending"}
         pending(trial, folder, "sh", ["at-last cars.cudf", "slow cars.cudf"], cells)
-        trial.run("sh pending.sh > rest; sh xargs.sh rest", folder, anytime="yes", timer="/nowhere")
+        trial.script("sh pending.sh > rest; sh xargs.sh rest", folder, anytime="yes", timer="/nowhere")
         # the first may be late, and sleep ends by the signal
         pending(trial, folder, "sh", [], {"at-last": "2", "prints": "1", "slow": "stopped"})
         ended = {line.split(" ")[0]: line.split(" ")[2:] for line in read(folder, "ended").splitlines()}
         given = [(ended[name][0], int(ended[name][2]) >= 2, *ended[name][3:]) for name in ("at-last", "slow")]
-        trial.note("without time", given, [("0", True, "-", "-", "-"), ("143", True, "-", "-", "-")])
+        trial.same("without time", given, [("0", True, "-", "-", "-"), ("143", True, "-", "-", "-")])
         # the last of two lines counts
-        trial.run("sh run.sh slow cars.cudf; echo 'prints cars.cudf 139 0 0 - - -' >> ended", folder)
+        trial.script("sh run.sh slow cars.cudf; echo 'prints cars.cudf 139 0 0 - - -' >> ended", folder)
         pending(trial, folder, "sh", [], {"at-last": "1", "prints": "stopped", "slow": "stopped"})
         for words in ("", "ash", "slow none", "none cars.cudf", "'' ''", ". ."):
             trial.expect(f"sh run.sh {words}", folder, "sh", 4, "", "run.sh: no solvers/")
@@ -420,7 +390,7 @@ def odd_in(text):
 
 def html_page(trial, folder, shell, gnuplot):
     """The page with plots or without."""
-    status, output, errors = trial.run(f"sh page.sh '{TITLE}' '<2026>'", folder, shell, gnuplot=gnuplot)
+    status, output, errors = trial.script(f"sh page.sh '{TITLE}' '<2026>'", folder, shell, gnuplot=gnuplot)
     plain, ids = re.sub("<svg.*?</svg>", "", output, flags=re.S), re.findall(r"id=[\"']([^\"']*)", output)
     texts = [(tag, html.unescape(text)) for tag, text in re.findall(r"<(t[hd]|h1|title)\b[^>]*>([^<]*)<", plain)]
     plots = 2 * (gnuplot == "gnuplot")
@@ -433,7 +403,7 @@ def html_page(trial, folder, shell, gnuplot):
         ("plots", (output.count("<svg"), "No plots: gnuplot" in output), (plots, not plots)),
         ("names twice", len(ids) - len(set(ids)), 0),
     ):
-        trial.note(f"page.sh, {gnuplot}, {shell}: {what}", given, wanted)
+        trial.same(f"page.sh, {gnuplot}, {shell}: {what}", given, wanted)
 
 
 def html_pages(trial):
@@ -453,9 +423,10 @@ def html_pages(trial):
     ended = "".join(f"{run} - - -\n" for run in ("ash p 0 1 0.2", "ash q 0 1 0.2", "elm p 0 1 0.4", "elm q 0 1 0.4"))
     with competition({"table": "problem ash elm\np 1 1\nq 1 2\n", "ended": ended}) as folder:
         for shell in SHELLS * len(plotters):
-            output = trial.run("sh page.sh T D", folder, shell)[1].partition("<title>scatter<")[2]
-            trial.note(f"axes, {shell}", re.findall(r"<text> *([\d.]+)<", output), ["0.1", "1"] * 2)
+            output = trial.script("sh page.sh T D", folder, shell)[1].partition("<title>scatter<")[2]
+            trial.same(f"axes, {shell}", re.findall(r"<text> *([\d.]+)<", output), ["0.1", "1"] * 2)
 
 
 if __name__ == "__main__":
-    start(__doc__, (links, shown, by_pages, differences, odd_answers, bad_names, many_runs, other_runs, html_pages))
+    tests = (links, shown, by_pages, differences, odd_answers, bad_names, many_runs, other_runs, html_pages)
+    common.start(__doc__, *tests, make=Trial)

@@ -8,16 +8,15 @@ usage: fails.py PROGRAM
   that isn't there; wrong arguments; names with spaces. Some with cadical itself, if it is installed and writes LRAT.
 - fails.sh on a folder of answers, also with a solver that fails, and on the page's own.
 
-dash and bash run the scripts where they are installed. Prints what isn't as wanted, and then how many. Status 1:
-something is wrong. 2: there is no program. Python's standard library alone.
+dash and bash run the scripts where they are installed.
 """
 import hashlib
 import os
 import shutil
-import subprocess
 import tempfile
 
-from docs import CARS, OLD, SCRIPTS, SHELLS, competition, leave, packages, read, start
+from common import run, start
+from docs import CARS, OLD, SCRIPTS, SHELLS, Trial, competition, leave, packages, read
 from refutations import A, SHOP, SHOP_CORE, SHOP_PROOF
 
 # the last two arguments are the CNF and the proof; the status is $ENDS (0) where it has no answer
@@ -100,7 +99,7 @@ class Setting:
             self.trial.expect(script, folder, self.shell, status, output, errors, **more)
             found = {name: read(folder, name) for name in set(os.listdir(folder)) - before}
             name = f"left by fail.sh {words}, {self.shell}, {self.cadical}: {problem}"
-            self.trial.note(name, (found, os.listdir(scratch)), (left or {}, []))
+            self.trial.same(name, (found, os.listdir(scratch)), (left or {}, []))
 
     def judged(self):
         for name, problem, words, status, output, left in ROWS:
@@ -133,19 +132,19 @@ class Setting:
             self.judge_all(folder, 5, "shop right\ntwo wrong\n", f"open: {BROKEN}", ENDS="1")
             self.judge_all(folder, 0, "open not decided\nshop right\ntwo wrong\n")
             self.judge_all(folder, 127, "", "cudf_check", PATH="/nowhere")
-            self.trial.note(f"a report, {self.shell}", read(folder, "judged/shop"), SHOP_CORE)
-            self.trial.note(f"a witness, {self.shell}", read(folder, "judged/two.witness"), WITNESS)
+            self.trial.same(f"a report, {self.shell}", read(folder, "judged/shop"), SHOP_CORE)
+            self.trial.same(f"a witness, {self.shell}", read(folder, "judged/two.witness"), WITNESS)
         # on the page oak answers FAIL to `server.cudf`
         with competition({}) as folder:
             shutil.copytree(SCRIPTS, folder, dirs_exist_ok=True)
             self.judge_all(folder, 0, "server.cudf wrong\n")
             witness = read(folder, "judged/server.cudf.witness")
-            self.trial.note(f"the page's witness, {self.shell}", witness, packages(("server", 1)) + "\n")
+            self.trial.same(f"the page's witness, {self.shell}", witness, packages(("server", 1)) + "\n")
 
 
 def judge(trial):
     cadical = shutil.which("cadical")
-    has_lrat = cadical and b"--lrat" in subprocess.run([cadical, "--help"], capture_output=True, check=False).stdout
+    has_lrat = cadical and b"--lrat" in run([cadical, "--help"]).output
     for shell in SHELLS:
         setting = Setting(trial, shell)
         setting.judged()
@@ -158,4 +157,4 @@ def judge(trial):
 
 
 if __name__ == "__main__":
-    start(__doc__, [judge])
+    start(__doc__, judge, make=Trial)
