@@ -4,15 +4,12 @@
 usage: mutations.py PROGRAM SEED COUNT [PROBLEM..]
 
 These are each front of examples/car-and-wheel.cudf; COUNT mutations of problems and solutions (those of examples/,
-generated ones, and each PROBLEM with the status that it has installed); and COUNT / 10 files of random bytes. What
-differs is printed, and how many runs there were. The exit status is 1 where one is wrong.
+generated ones, and each PROBLEM with the status that it has installed); and COUNT / 10 files of random bytes.
 """
 import random
-import sys
-import tempfile
 
-import programs
 import spoilt
+from common import start, write
 from second import reports
 
 
@@ -28,7 +25,7 @@ def documents(seed, count, problems):
 
 def runs(folder, problem, solution):
     """The jobs on a problem and a solution, in two files and in one input, and what is wanted."""
-    words = [programs.write(folder, "problem", problem), programs.write(folder, "solution", solution)]
+    words = [write(folder, "problem", problem), write(folder, "solution", solution)]
     second, both = reports.Second(problem, solution), reports.joined(problem + solution)
     for option in ([], ["--explain"]):
         explains = bool(option)
@@ -38,19 +35,12 @@ def runs(folder, problem, solution):
     yield ["score", *words], b"", second.score()
 
 
-def main(path, seed, count, *problems):
-    program, total, wrong = programs.Program(path), 0, 0
-    with tempfile.TemporaryDirectory() as folder:
-        pairs = documents(seed, int(count), problems)
-        for pair, (job, data, wanted) in ((pair, it) for pair in pairs for it in runs(folder, *pair)):
-            given = program.run(job, data)
-            total += 1
-            if given != wanted:
-                wrong += 1
-                print(f"WRONG: {job[:2]}, {pair}: {given}, wanted {wanted}", flush=True)
-    print(f"{total} runs, {wrong} wrong")
-    return 1 if wrong else 0
+def mutations(trial):
+    seed, count, *problems = trial.more
+    for pair in documents(seed, int(count), problems):
+        for words, data, wanted in runs(trial.folder, *pair):
+            yield (words[:2], pair), trial.answer(words, data), wanted
 
 
 if __name__ == "__main__":
-    sys.exit(main(*sys.argv[1:]) if len(sys.argv) > 3 else __doc__)
+    start(__doc__, mutations, counts=range(3, 99))

@@ -4,17 +4,15 @@
 usage: refutations.py PROGRAM [SEED [COUNT]]
 
 Of each of COUNT (200) problems the clauses that a status falsifies are those of the rules that it violates, and if none
-satisfies all, a proof is accepted. If a corrupted proof is accepted, each status violates a printed rule. Prints each
-wrong row, and how many rows there were. The status is 1 if one is wrong. Python's standard library alone.
+satisfies all, a proof is accepted. If a corrupted proof is accepted, each status violates a printed rule.
 """
 import os
 import random
 import re
-import sys
-import tempfile
 
+import common
+from common import write
 from inputs import Inputs
-from programs import Program, write
 from second.cnf import Rules, is_satisfied, statuses
 from second.judge import Judgement
 from second.lrat import KINDS, Proof, Prover
@@ -118,27 +116,18 @@ OTHERS = (
 )
 
 
-class Trial:
-    def __init__(self, path, folder):
-        self.program, self.folder, self.rows, self.wrong = Program(path), folder, 0, 0
-
-    def note(self, what, given, wanted):
-        self.rows += 1
-        if given != wanted:
-            self.wrong += 1
-            print(f"{what}\n  given:  {given}\n  wanted: {wanted}", flush=True)
-
+class Trial(common.Trial):
     def expect(self, command, wanted, *texts, options=()):
         """One run on files of these bytes."""
         files = [write(self.folder, f"file{at}", text) for at, text in enumerate(texts)]
-        self.note((command, *options, *texts), self.program.run([command, *files, *options]), wanted)
+        self.same((command, *options, *texts), self.answer([command, *files, *options]), wanted)
 
     def refute(self, problem, proof, wanted=(None, None)):
         """A proof, without and with `--explain`, by the second implementation and by the program."""
         for options, answer in zip(((), ("--explain",)), wanted):
             second = proof_answer(problem, proof, explains=bool(options))
             if answer:
-                self.note(("second", problem, proof, options), second, answer)
+                self.same(("second", problem, proof, options), second, answer)
             self.expect("refute", answer or second, problem, proof, options=options)
 
 
@@ -173,7 +162,7 @@ def cnf_rows(trial):
         packages, listed = Rules(problem).packages, clauses.split("|") if clauses else []
         lines = [f"c p{package.place} {package.words()}" for package in packages]
         wanted = [*lines, f"p cnf {len(packages)} {len(listed)}", *listed], 0
-        trial.note(("second", problem), cnf_answer(problem.encode()), wanted)
+        trial.same(("second", problem), cnf_answer(problem.encode()), wanted)
         trial.expect("cnf", wanted, problem.encode())
 
 
@@ -193,7 +182,7 @@ def proof_rows(trial):
     shop, none, no_request = write(trial.folder, "shop", SHOP.encode()), os.devnull, "problem line 1: E13 no request"
     wanted = {("refute", shop, none): (1, 8), ("refute", none, shop): no_request, ("cnf", none): no_request}
     for words, answer in wanted.items():
-        trial.note(words, trial.program.run(words), by_hand(answer)[0])
+        trial.same(words, trial.answer(words), by_hand(answer)[0])
 
 
 def spoilt(chance, data):
@@ -262,28 +251,23 @@ def random_problem(trial, seed):
         chosen = installing(package for package in rules.packages if package.place in status)
         violated[status] = {key for key, _, _ in Judgement(problem.decode(), chosen).instances}
         falsified = {key for key, clause in rules.clauses if not is_satisfied(clause, status)}
-        trial.note(("keys", problem, sorted(status)), falsified, violated[status])
+        trial.same(("keys", problem, sorted(status)), falsified, violated[status])
     prover = Prover(len(rules.packages), [clause for _, clause in rules.clauses])
-    trial.note(("refuted", problem), prover.is_refuted, all(violated.values()))
+    trial.same(("refuted", problem), prover.is_refuted, all(violated.values()))
     proof = prover.text()
     for data in (proof, *(spoilt(chance, proof or b"1 0 0\n") for _ in range(3))):
         trial.refute(problem, data)
         lines, status = proof_answer(problem, data)
         if status == 0:
             keys = {line.split(" ")[0] for line in lines[:-1]}
-            trial.note(("core", problem, data), all(keys & found for found in violated.values()), True)
+            trial.same(("core", problem, data), all(keys & found for found in violated.values()), True)
 
 
-def main(path, seed="1", count="200"):
-    with tempfile.TemporaryDirectory() as folder:
-        trial = Trial(path, folder)
-        cnf_rows(trial)
-        proof_rows(trial)
-        for number in range(int(count)):
-            random_problem(trial, f"{seed}/{number}")
-    print(f"{trial.rows} rows, {trial.wrong} wrong")
-    return 1 if trial.wrong else 0
+def random_problems(trial):
+    seed, count = (*trial.more, *("1", "200")[len(trial.more):])
+    for number in range(int(count)):
+        random_problem(trial, f"{seed}/{number}")
 
 
 if __name__ == "__main__":
-    sys.exit(main(*sys.argv[1:]) if 2 <= len(sys.argv) <= 4 else __doc__)
+    common.start(__doc__, cnf_rows, proof_rows, random_problems, counts=(1, 2, 3), make=Trial)
