@@ -61,7 +61,7 @@ def run_alike(words, folder=ROOT, **more):
     return run(words, cwd=folder, env={**ENVIRONMENT, **more})
 
 
-def printed(*words, **more):
+def output_of(*words, **more):
     """The text that a command prints."""
     return run_alike(words, **more).decoded().output
 
@@ -134,7 +134,7 @@ def short(value):
 
 
 class Trial:
-    """The program that is tried, further arguments, a folder for what is made, and the numbers of rows."""
+    """The program that is tried, the other arguments, a folder for what is made, and the numbers of rows."""
 
     def __init__(self, folder, program=None, *more):
         self.folder, self.program, self.more, self.rows, self.wrong = folder, program, more, 0, 0
@@ -169,22 +169,22 @@ class Trial:
             print(f"WRONG: {short(name)}:\n  {short(given)}, wanted\n  {short(wanted)}", flush=True)
 
 
-def start(usage, *tests, counts=(1,), needs=lambda program, *_: [program], make=Trial):
+def start(usage, *tests, counts=(1,), files=1, make=Trial):
     """Runs the tests of a script, which get a trial, and may yield rows of a name, a value, and what is wanted.
 
-    `counts` are the numbers of arguments that there may be, of which the first is the program.
+    `counts` are the numbers of arguments that there may be. So many of them are files, of which the first is a program.
     """
     words = sys.argv[1:]
     if len(words) not in counts:
         print(usage, file=sys.stderr)
         sys.exit(2)
-    for path in needs(*words):
-        if not os.path.isfile(path) or path == words[0] and not os.access(path, os.X_OK):
+    for path in words[:files]:
+        if not os.path.exists(path) or path == words[0] and not os.access(path, os.X_OK):
             print(f"{path} isn't there: rt ci leaves what it built where it has passed", file=sys.stderr)
             sys.exit(2)
     sys.stdout.reconfigure(errors="backslashreplace")
     with tempfile.TemporaryDirectory() as folder:
-        trial = make(folder, *map(os.path.abspath, words[:1]), *words[1:])
+        trial = make(folder, *map(os.path.abspath, words[:files]), *words[files:])
         for test in tests:
             for row in test(trial) or ():
                 trial.same(*row)

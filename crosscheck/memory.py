@@ -115,7 +115,7 @@ def refused_commands(trial, case):
 
 def refused_calls(trial):
     """Growths in calls of the library, and the blocks that these hold at their end."""
-    (tests,) = map(os.path.abspath, trial.more)
+    (tests,) = trial.more
     listed = run([tests, "--list"]).decoded().output.split()
     names = sorted({name.rstrip(":") for name in listed if name.startswith("memory::")})
     trial.same("there are tests", NONE in names and len(names) > 1, True)
@@ -277,4 +277,4 @@ def under_shim(trial):
 
 if __name__ == "__main__":
     tests = (files, endless, limits, *[under_shim] * bool(shutil.which("gcc")))
-    start(__doc__, *tests, counts=(1, 2), needs=lambda *words: words, make=shim.Trial)
+    start(__doc__, *tests, counts=(1, 2), files=2, make=shim.Trial)

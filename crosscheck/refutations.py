@@ -240,27 +240,51 @@ class Small:
         return ("".join(map(self.package, pairs)) + "request:\n" + wishes).encode()
 
 
+class Encoded:
+    """A problem without error, and of each status the keys of the clauses that it falsifies."""
+
+    def __init__(self, problem):
+        self.problem, self.rules = problem, Rules(problem.decode())
+        self.falsified = {
+            status: {key for key, clause in self.rules.clauses if not is_satisfied(clause, status)}
+            for status in statuses(len(self.rules.packages))
+        }
+
+    def chosen(self, status):
+        return [package for package in self.rules.packages if package.place in status]
+
+    def solution(self, status):
+        """A document that installs these packages."""
+        return installing(self.chosen(status))
+
+    def is_core(self, lines):
+        """Whether each status violates an instance of a printed line."""
+        return all(keys_in(lines) & found for found in self.falsified.values())
+
+
+def keys_in(lines):
+    return {line.split(" ")[0] for line in lines[:-1]}
+
+
 def random_problem(trial, seed):
     inputs, chance = Inputs(seed), random.Random(seed)
     odd, problem = inputs.problem(inputs.pairs()), Small(chance).problem(5)
     trial.refute(odd, b"")
     for data in (odd, problem):
         trial.expect("cnf", cnf_answer(data), data)
-    rules, violated = Rules(problem.decode()), {}
-    for status in statuses(len(rules.packages)):
-        chosen = installing(package for package in rules.packages if package.place in status)
-        violated[status] = {key for key, _, _ in Judgement(problem.decode(), chosen).instances}
-        falsified = {key for key, clause in rules.clauses if not is_satisfied(clause, status)}
-        trial.same(("keys", problem, sorted(status)), falsified, violated[status])
+    encoded = Encoded(problem)
+    for status, keys in encoded.falsified.items():
+        violated = {key for key, _, _ in Judgement(problem.decode(), encoded.solution(status)).instances}
+        trial.same(("keys", problem, sorted(status)), keys, violated)
+    rules = encoded.rules
     prover = Prover(len(rules.packages), [clause for _, clause in rules.clauses])
-    trial.same(("refuted", problem), prover.is_refuted, all(violated.values()))
+    trial.same(("refuted", problem), prover.is_refuted, all(encoded.falsified.values()))
     proof = prover.text()
     for data in (proof, *(spoilt(chance, proof or b"1 0 0\n") for _ in range(3))):
         trial.refute(problem, data)
         lines, status = proof_answer(problem, data)
         if status == 0:
-            keys = {line.split(" ")[0] for line in lines[:-1]}
-            trial.same(("core", problem, data), all(keys & found for found in violated.values()), True)
+            trial.same(("core", problem, data), encoded.is_core(lines), True)
 
 
 def random_problems(trial):

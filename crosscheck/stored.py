@@ -273,4 +273,4 @@ def shown(_):
 
 if __name__ == "__main__":
     tests = (answered_rows, answered_vectors, shown)
-    start(__doc__, *tests, *[arguments] * (len(sys.argv) == 2), counts=(0, 1), needs=lambda *words: words)
+    start(__doc__, *tests, *[arguments] * (len(sys.argv) == 2), counts=(0, 1))
