@@ -19,13 +19,13 @@ import sys
 from dataclasses import dataclass
 
 import common
-from common import contents, limit, write
+from common import limit, sections, write
 from made import GREATEST_INPUT
 
 MEGABYTE = 1 << 20
 # from this exit status on, an error is wanted and no report
 FIRST_ERROR = 4
-# what the program is started as, by the head of a section; it is no word of the command line. None is a path of `cudf_check`
+# what the program is started as, by the head of a section: None is a path of `cudf_check`
 NAMES = {
     "by its own name": (None, "cudf_check"),
     "by each name": (None, "cudf_check", "--", "--criteria", "", "-", "lint"),
@@ -50,14 +50,6 @@ class Row:
     def __str__(self):
         line = self.line.replace("@", self.value)[:100]
         return line if self.name is None else f"{line} (started as '{self.name}')"
-
-
-def sections(name, mark):
-    """The head and the body of each section of a file beside this one; the line of a head begins with the mark."""
-    text = "\n" + contents("crosscheck", name).decode().removesuffix("\n")
-    for section in text.split("\n" + mark)[1:]:
-        head, _, body = section.partition("\n")
-        yield head, body
 
 
 def lines_of(body):
@@ -95,8 +87,8 @@ class Table:
 
     def __init__(self):
         self.files, self.rows = {}, []
-        self.texts = dict(sections("help.txt", "$ "))
-        for head, body in sections("commands.txt", "== "):
+        self.texts = {head: body.removesuffix("\n") for head, body in sections("crosscheck/help.txt", "$ ")}
+        for head, body in sections("crosscheck/commands.txt"):
             body = body.strip("\n")
             if head.startswith("file "):
                 text = body + "\n" if body else ""

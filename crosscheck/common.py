@@ -117,11 +117,15 @@ def contents(*names):
         return file.read()
 
 
+def sections(path, mark="== "):
+    """The titles of a table's sections, each after a mark, with what is below."""
+    found = re.split(rf"^{re.escape(mark)}", contents(path).decode(), flags=re.M)[1:]
+    return [section.partition("\n")[::2] for section in found]
+
+
 def section(table, title):
-    """What is below the title `== title` in a table of this folder, without comments."""
-    text = contents("crosscheck", table).decode()
-    found = re.search(rf"^== {re.escape(title)}\n((?:(?!== ).*\n)*)", text, re.M)
-    return re.sub(r"^#.*\n", "", found[1], flags=re.M)
+    """What is below a title in a table of this folder, without comments."""
+    return re.sub(r"^#.*\n", "", dict(sections(f"crosscheck/{table}"))[title], flags=re.M)
 
 
 # ---- rows

@@ -12,7 +12,7 @@ import re
 import sys
 from collections import namedtuple
 
-from common import EMPTY, ROOT, contents, lines_of, run, start, write
+from common import EMPTY, ROOT, contents, lines_of, run, sections, start, write
 from second import calls, documents, keys, reports
 
 TABLES = [f"crates/cudf_tests/src/rows/{name}.rt" for name in ("worked", "faults", "lists")]
@@ -31,13 +31,6 @@ ASCENDING = (
     "p18446744073709551615.keep.18446744073709551615", "r.install.1", "r.remove.1", "r.remove.10",
     "r.upgrade.1.unsatisfied", "r.upgrade.1.many", "r.upgrade.1.lower", "r.upgrade.2.unsatisfied", "s.unknown.1",
     "s.unknown.18446744073709551615",
-)
-# invalid arguments beside those of commands.py; P is a file
-INVALID = (
-    "", "check P --after", "check P --after r.install.1 --after r.install.1", "check P --limit x", "check P --limit 0",
-    "check P --after p1.depends.01", "check P --after p0.keep.1", "check P --limit -1", "score P --limit 1",
-    "check P --limit 18446744073709551616", "check P --unknown", "rank --criteria=-new --strict P P --strict",
-    "score --explain P P --criteria=-new",
 )
 # the report is its lines
 Row = namedtuple("Row", "name job problem solutions report status")
@@ -59,11 +52,11 @@ def tested_rows():
             yield Row(name, job, problem, tuple(solutions), report.decode().split("\n")[:-1], status)
 
 
-def sections(path):
+def lines_below(path):
     """The head and the lines of each section, without a blank line at the end."""
-    for section in ("\n" + read(path)).split("\n== ")[1:]:
-        head, *lines = section.split("\n")
-        yield head, lines[:-1] if lines and not lines[-1] else lines
+    for head, text in sections(path):
+        *lines, last = text.removesuffix("\n").split("\n")
+        yield head, [*lines, last] if last else lines
 
 
 def bytes_of(text):
@@ -86,7 +79,7 @@ def document_of(lines, before):
 def stored_rows():
     """The rows of the data with their answers."""
     problem = b""
-    given = zip(sections("crates/cudf_rows/stdin"), sections("crates/cudf_rows/stdout"), strict=True)
+    given = zip(lines_below("crates/cudf_rows/stdin"), lines_below("crates/cudf_rows/stdout"), strict=True)
     for (head, lines), (answer, report) in given:
         (name, job), (answered, status) = head.rsplit(": ", 1), answer.rsplit(": ", 1)
         if answered != name:
@@ -177,9 +170,6 @@ def arguments(trial):
         if call in ("key", "criterion"):
             wanted = ([], reports.USAGE) if answer.startswith("not a ") else ([*lines, "solution yes"], reports.YES)
             yield words, trial.answer(words, EMPTY), wanted
-    file = write(trial.folder, "P", b"")
-    for words in INVALID:
-        yield words, trial.answer([file if word == "P" else word for word in words.split()]), ([], reports.USAGE)
 
 
 # ---- what is shown by which vectors, rows and tests
@@ -262,7 +252,7 @@ def section_rows(head, lines, names, vectors):
 
 def shown(_):
     """The list beside the pages, the data and the tests."""
-    tested, vectors, found = [row.name for row in tested_rows()], list(stored_vectors()), dict(sections(SHOWN))
+    tested, vectors, found = [row.name for row in tested_rows()], list(stored_vectors()), dict(lines_below(SHOWN))
     names = [row.name for row in stored_rows()] + tested
     yield "names of several rows", [name for name in names if names.count(name) > 1], []
     yield f"{SHOWN}, worked examples", {it for it in found.pop("worked examples") if not is_test(it)}, set(tested)
