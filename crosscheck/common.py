@@ -117,6 +117,11 @@ def contents(*names):
         return file.read()
 
 
+def unescaped(text):
+    """The bytes of a text with Python's escapes."""
+    return text.encode().decode("unicode_escape").encode("latin-1")
+
+
 def sections(path, mark="== "):
     """The titles of a table's sections, each after a mark, with what is below."""
     found = re.split(rf"^{re.escape(mark)}", contents(path).decode(), flags=re.M)[1:]
