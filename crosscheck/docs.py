@@ -19,7 +19,7 @@ import tempfile
 import time
 
 import common
-from common import ROOT
+from common import ROOT, section
 
 SCRIPTS = f"{ROOT}/examples/competition"
 COMPETITION, DIFFERENCES = "docs/COMPETITION.md", "docs/DIFFERENCES.md"
@@ -165,7 +165,8 @@ FAULTY = "package: car\n\nrequest: r\n"
 CUT, BUS, GHOST = "package: car\nversion: 1\ninst", packages(("bus", 1)), packages(("ghost", 1))
 BINARY, FAIL, LATE_FAIL = "\0\1\2\u0080 ELF", "FAIL\n", "# time is over\nFAIL\nno answer\n"
 # what a solver may leave that isn't a text
-NONE, FOLDER, LONG, UNREADABLE, BROKEN_LINK = range(5)
+NONE, FOLDER, LONG, WIDE, UNREADABLE, BROKEN_LINK = range(6)
+SIZES = {LONG: 300_000_000, WIDE: 200_000_000}
 SOLVERS = ("ash", "ash-2", "ash.1", "mccs", "mccs-lpsolve", "the_solver_whose_name_has_41_letters_in_i")
 # Problems, what each of these solvers left for them, and its cells, worked out by hand. By -removed,-changed the counts
 # in `cars.cudf` are 0 2, 0 0, 0 1, 0 1, FAIL, 0 2: the two of 0 1 share the second place, those of 0 2 the fourth. A
@@ -199,26 +200,10 @@ LINTED = "problems/faulty.cudf: problem line 1: E12 no version\n"
 # Names that can't be in a line of words or in raw/.
 BAD_NAMES = ("v l c.cudf", "-x", "a.err", "a&b", "two\nlines", "caf\u00e9", "*", "a\\cb")
 KEEPS, CHANGES = f"printf '%s' '{OLD}' > \"$2\"", f"cat > \"$2\" << END\n{NEW}END\n"
-# Solvers that end in many ways, with their status and cell; the listing of `ghosts` has more than 1,000 lines.
+# the solvers of competition.txt, each with its script, its status and its cell
 RUNS = {
-    "prints": (f"{KEEPS}; echo on its output; echo on its errors >&2", 0, "1"),
-    "writes": (CHANGES, 0, "4"),
-    "habit": (f"{KEEPS}; exit 10", 10, "1"),
-    "says-no": ("echo FAIL > \"$2\"", 0, "FAIL"),
-    # asked to end, these go on, end, and write their answer
-    "deaf": (f"trap '' TERM; {KEEPS}; sleep 60", 137, "stopped"),
-    "slow": (f"{KEEPS}; exec sleep 60", 124, "stopped"),
-    "at-last": (f"trap '{CHANGES}exit 0' TERM; sleep 60 & wait", 124, "stopped"),
-    "crashes": (f"{KEEPS}; kill -SEGV $$", 139, "stopped"),
-    # as numbers these two would be one
-    "1.1": ("exit 130", 130, "stopped"),
-    "1.10": (KEEPS, 0, "1"),
-    "idle": ("exit 0", 0, "missing"),
-    "leaves.a.folder": ("mkdir \"$2\"", 0, "missing"),
-    "absent": ("exec ./no-such-solver", 127, "stopped"),
-    "floods": ("exec truncate -s 2G \"$2\"", 153, "stopped"),
-    "ghosts": ("seq 1100 | sed 's/.*/package: g\\nversion: &\\ninstalled: true\\n/' > \"$2\"", 0, "no"),
-    "reads": ("cat > \"$2\"", 0, "no"),
+    name: (script.format(keeps=KEEPS, changes=CHANGES), int(status), cell)
+    for name, status, cell, script in re.findall(r"(\S+) (\d+) (\S+) (.*)\n", section("competition.txt", "solvers"))
 }
 
 
@@ -231,8 +216,8 @@ def leave(place, answer):
         os.symlink("/proc/self/mem" if answer == UNREADABLE else "/nowhere", place)
     elif answer != NONE:
         with open(place, "w", encoding="latin-1") as file:
-            file.write("" if answer == LONG else answer)
-            file.truncate(300_000_000 if answer == LONG else None)
+            file.write("request:\n#" if answer in SIZES else answer)
+            file.truncate(SIZES.get(answer))
 
 
 @contextlib.contextmanager
@@ -265,6 +250,15 @@ def odd_answers(trial):
             trial.expect("sh table.sh", folder, shell, 4, "", None, PATH="/usr/bin:/bin")
         lines = r"s/^cudf_check [0-9]\S*$/version/; s/^[0-9a-f]{64}  -$/sum/"
         trial.expect(f"sh judge.sh | sed -E '{lines}'", folder, "sh", 0, "version\nsum\n")
+
+
+def little_memory(trial):
+    """An answer and a problem with a line for which there is no memory."""
+    for problem, answer, cell in ((QUIET, WIDE, "unread"), (WIDE, OLD, "unranked")):
+        with competition({"problems/p": problem, "answers/ash/p": answer}) as folder:
+            for shell in SHELLS:
+                limited = "ulimit -v 100000; sh table.sh"
+                trial.expect(limited, folder, shell, 0, table([("problem", "ash"), ("p", cell)]))
 
 
 def bad_names(trial):
@@ -428,5 +422,5 @@ def html_pages(trial):
 
 
 if __name__ == "__main__":
-    tests = (links, shown, by_pages, differences, odd_answers, bad_names, many_runs, other_runs, html_pages)
-    common.start(__doc__, *tests, make=Trial)
+    of_pages, of_scripts = (links, shown, by_pages, differences), (odd_answers, little_memory, bad_names)
+    common.start(__doc__, *of_pages, *of_scripts, many_runs, other_runs, html_pages, make=Trial)
