@@ -19,20 +19,18 @@ import shutil
 import signal
 import subprocess
 
+import commands
 import made
 import shim
 from common import limit, split, start
 from second import reports
 from shim import EVER, rule
 
-PROBLEM = "package: car\nversion: 1\ndepends: wheel > 2\ninstalled: true\n\npackage: wheel\nversion: 2\n\nrequest:\n"
-GOOD = "package: wheel\nversion: 2\ninstalled: true\n"
-BAD = "package: car\nversion: 1\ninstalled: true\n"
+# those of commands.txt, one with both documents, and one with an error
+FILES = commands.Table().files
+PROBLEM, GOOD, BAD = (FILES[name] for name in ("p", "good", "bad"))
 BOTH = PROBLEM.replace("2\n\nrequest:", "2\ninstalled: true\n\nrequest: r") + "\n" + BAD
-FILES = {
-    "p": PROBLEM, "good": GOOD, "bad": BAD, "fail": "FAIL\n", "invalid": "?\n", "empty": "", "both": BOTH,
-    "--criteria": GOOD, " p": PROBLEM, " p ": "", " ": BAD,
-}
+FILES |= {"both": BOTH, "invalid": "?\n"}
 OK, YES, UNMET = "problem ok\n", "solution yes\n", "p1.depends.1 car 1 line 1: needs wheel > 2\nsolution no\n"
 COUNTS = "removed 1\nnew 1\nchanged 2\nnotuptodate 0\nunsat_recommends 0\nparanoid 1 2\ntrendy 1 0 0 1\n"
 RANKED = "1 solution 2 yes -removed 1\n2 solution 1 no\n3 solution 3 FAIL\n"

@@ -12,7 +12,7 @@ import re
 import sys
 from collections import namedtuple
 
-from common import EMPTY, ROOT, contents, lines_of, run, sections, start, write
+from common import EMPTY, ROOT, contents, lines_of, run, section, sections, start, unescaped, write
 from second import calls, documents, keys, reports
 
 TABLES = [f"crates/cudf_tests/src/rows/{name}.rt" for name in ("worked", "faults", "lists")]
@@ -20,18 +20,6 @@ STATUSES = {"Yes": 0, "No": 1, "Faulty": 2, "Fail": 3}
 SHOWN = "crosscheck/shown.txt"
 NAMED = "--with-filename"
 COMMENT = b"\n#" + b"." * 2000
-# vectors that are only given to the second implementation and the program
-MORE_VECTORS = [("key", text, "not a key") for text in (
-    "p1.depends.18446744073709551616", "r.keep.1", "r.upgrade.1.lower.1", "p1.keep.1\n",
-)] + [("criterion", text, "not a list") for text in (
-    "-new, -removed", "-new,,-new", "-newer", "-new;+new", "-new\n",
-)] + [("criterion", "+touched,-changed", "[+touched, -changed]")]
-ASCENDING = (
-    "p1.depends.1", "p1.depends.2", "p1.conflicts.1", "p1.keep.1", "p2.keep.9", "p10.depends.1",
-    "p18446744073709551615.keep.18446744073709551615", "r.install.1", "r.remove.1", "r.remove.10",
-    "r.upgrade.1.unsatisfied", "r.upgrade.1.many", "r.upgrade.1.lower", "r.upgrade.2.unsatisfied", "s.unknown.1",
-    "s.unknown.18446744073709551615",
-)
 # the report is its lines
 Row = namedtuple("Row", "name job problem solutions report status")
 
@@ -106,7 +94,8 @@ def stored_vectors():
 
 
 def every_vector():
-    return *stored_vectors(), *((0, call, text.encode(), answer) for call, text, answer in MORE_VECTORS)
+    more = re.findall(r"(\w+) (.*) -> (.*)\n", section("vectors.txt", "vectors"))
+    return *stored_vectors(), *((0, call, unescaped(text), answer) for call, text, answer in more)
 
 
 # ---- what both answer
@@ -157,7 +146,7 @@ def answered_vectors(_):
     for number, call, data, wanted in every_vector():
         last = data if call == "problem" else last
         yield f"vector {number}: {call} {data}", calls.answer(call, data, last), wanted
-    parsed = list(map(keys.parse, ASCENDING))
+    parsed = list(map(keys.parse, section("vectors.txt", "keys in order").split()))
     yield "keys in order", parsed, sorted(key for key in parsed if key)
 
 
