@@ -77,9 +77,9 @@ def installed_distribution(step):
             others = [chance.randrange(1, count // within + 1) * within for _ in range(10)]
             clauses = [f"lib-{others[0]} >= {version_of(others[0])}", f"missing | lib-{others[1]}"]
             clauses += [f"lib-{other}" for other in others[2:]]
+            conflicts, provides = f"lib-{number}, missing-{number % 991}", f"lib-{number} = 9, feature-{number % 997}"
             yield stanza(f"lib-{number}", version_of(number), f"depends: {', '.join(clauses)}",
-                         f"conflicts: lib-{number}, missing-{number % 991}", f"provides: lib-{number} = 9, feature-{number % 997}",
-                         *about(number, number % step == 0))
+                         f"conflicts: {conflicts}", f"provides: {provides}", *about(number, number % step == 0))
         yield f"{REQUEST}install: lib-{step}\n"
     return document
 

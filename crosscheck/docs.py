@@ -19,7 +19,7 @@ import tempfile
 import time
 
 import common
-from common import ROOT, section
+from common import ROOT, section, unescaped
 
 SCRIPTS = f"{ROOT}/examples/competition"
 COMPETITION, DIFFERENCES = "docs/COMPETITION.md", "docs/DIFFERENCES.md"
@@ -145,8 +145,8 @@ def packages(*pairs):
     return "\n".join(f"package: {name}\nversion: {version}\ninstalled: true\n" for name, version in pairs)
 
 
-def rows(text):
-    return [line.split() for line in text.splitlines()]
+def rows(title):
+    return [line.split() for line in section(TABLES, title).splitlines() if line]
 
 
 def table(cells):
@@ -155,46 +155,19 @@ def table(cells):
     return "".join("  ".join(f"{cell:>{width}}" for cell, width in zip(row, wide)) + "\n" for row in cells)
 
 
-# car 1 is installed and a car requested: OLD changes nothing, NEW one name, BOTH two; the empty status is no solution
-OLD, NEW, BOTH = packages(("car", 1)), packages(("car", 2)), packages(("car", 2), ("bus", 1))
-CARS = f"{OLD}\npackage: car\nversion: 2\n\npackage: bus\nversion: 1\n\nrequest: r\ninstall: car\n"
-# nothing is installed and nothing is wanted: the empty status is the best answer
-QUIET = "package: car\nversion: 1\n\npackage: car\nversion: 2\n\nrequest: r\n"
-FAULTY = "package: car\n\nrequest: r\n"
-# answers that end within a line, and after a stanza, where bus 1 would have been followed by a car
-CUT, BUS, GHOST = "package: car\nversion: 1\ninst", packages(("bus", 1)), packages(("ghost", 1))
-BINARY, FAIL, LATE_FAIL = "\0\1\2\u0080 ELF", "FAIL\n", "# time is over\nFAIL\nno answer\n"
-# what a solver may leave that isn't a text
-NONE, FOLDER, LONG, WIDE, UNREADABLE, BROKEN_LINK = range(6)
-SIZES = {LONG: 300_000_000, WIDE: 200_000_000}
-SOLVERS = ("ash", "ash-2", "ash.1", "mccs", "mccs-lpsolve", "the_solver_whose_name_has_41_letters_in_i")
-# Problems, what each of these solvers left for them, and its cells, worked out by hand. By -removed,-changed the counts
-# in `cars.cudf` are 0 2, 0 0, 0 1, 0 1, FAIL, 0 2: the two of 0 1 share the second place, those of 0 2 the fourth. A
-# malformed problem has no ranking, whatever the answers are. In `none.cudf` no answer has a car, and in `nothing.cudf`
-# no file can be ranked. In `odd.cudf` there is one solution, and bus 1 is no car. In `quiet.cudf` the first two change
-# nothing and share the first place, the fourth changes one name and is third, and ghost 1 isn't in the problem. In the
-# last problem the empty status has no car.
-PROBLEMS = {
-    "cars.cudf": (CARS, (BOTH, OLD, NEW, NEW, FAIL, BOTH), "4 1 2 2 FAIL 4"),
-    "faulty.cudf": (FAULTY, (OLD, OLD, NEW, FAIL, CUT, NONE), "unranked " * 6),
-    "none.cudf": (CARS, ("", BUS, "# nothing\n", FAIL, GHOST, FAIL), "no no no FAIL no FAIL"),
-    "nothing.cudf": (CARS, (NONE, CUT, FOLDER, NONE, BINARY, LONG), "missing faulty folder missing faulty long"),
-    "odd.cudf": (CARS, (FOLDER, LATE_FAIL, UNREADABLE, NEW, BROKEN_LINK, BUS), "folder FAIL unread 1 missing no"),
-    "quiet.cudf": (QUIET, ("", "# nothing\n", NONE, NEW, GHOST, FAIL), "1 1 missing 3 no FAIL"),
-    "rand692b_with_a_name_of_forty-one_letters": (
-        CARS, (NONE, "", LONG, BINARY, CUT, OLD), "missing no long faulty faulty 1"),
+TABLES = "competition.txt"
+DOCUMENTS = {
+    name: unescaped(text).decode("latin-1")
+    for name, text in re.findall(r"(\S+) = ?(.*)\n", section(TABLES, "documents"))
 }
-TABLE = [("problem", *SOLVERS), *([name, *cells.split()] for name, (_, _, cells) in PROBLEMS.items())]
-# By the table: 6 solvers, so FAIL has 12 points, stopped and missing 18, and what is no solution 24.
-TOTALS = rows("""\
-solver points solved best FAIL stopped no faulty seconds
-mccs 60 3 1 1 1 0 1 -
-the_solver_whose_name_has_41_letters_in_i 77 2 1 2 0 1 1 -
-ash-2 86 2 2 1 0 2 1 -
-ash 89 2 1 0 2 1 1 -
-ash.1 116 1 0 0 1 1 3 -
-mccs-lpsolve 126 0 0 1 1 2 2 -
-""")
+CARS, OLD, NEW, QUIET = (DOCUMENTS[name] for name in ("CARS", "OLD", "NEW", "QUIET"))
+# what a solver may leave that isn't a text: the first can be opened by every user, and fails at its first read
+LINKS = {"UNREADABLE": "/proc/self/mem", "BROKEN_LINK": "/nowhere"}
+SIZES = {"LONG": 300_000_000, "WIDE": 200_000_000}
+SOLVERS = ("ash", "ash-2", "ash.1", "mccs", "mccs-lpsolve", "the_solver_whose_name_has_41_letters_in_i")
+PROBLEMS = [line.split(" | ") for line in section(TABLES, "problems").splitlines() if line]
+TABLE = [("problem", *SOLVERS), *([name, *cells.split()] for name, _, _, cells in PROBLEMS)]
+TOTALS, ODD_TABLE, ODD_TOTALS = (rows(title) for title in ("totals", "a table with odd names", "its totals"))
 # The stanza on line 1 has no version.
 LINTED = "problems/faulty.cudf: problem line 1: E12 no version\n"
 # Names that can't be in a line of words or in raw/.
@@ -203,18 +176,17 @@ KEEPS, CHANGES = f"printf '%s' '{OLD}' > \"$2\"", f"cat > \"$2\" << END\n{NEW}EN
 # the solvers of competition.txt, each with its script, its status and its cell
 RUNS = {
     name: (script.format(keeps=KEEPS, changes=CHANGES), int(status), cell)
-    for name, status, cell, script in re.findall(r"(\S+) (\d+) (\S+) (.*)\n", section("competition.txt", "solvers"))
+    for name, status, cell, script in re.findall(r"(\S+) (\d+) (\S+) (.*)\n", section(TABLES, "solvers"))
 }
 
 
 def leave(place, answer):
-    """What a solver left at this place."""
-    if answer == FOLDER:
+    """What a solver left at this place: a text, or what a word of competition.txt says."""
+    if answer == "FOLDER":
         os.mkdir(place)
-    elif answer in (UNREADABLE, BROKEN_LINK):
-        # the first is a file that every user can open and that fails at its first read
-        os.symlink("/proc/self/mem" if answer == UNREADABLE else "/nowhere", place)
-    elif answer != NONE:
+    elif answer in LINKS:
+        os.symlink(LINKS[answer], place)
+    elif answer != "NONE":
         with open(place, "w", encoding="latin-1") as file:
             file.write("request:\n#" if answer in SIZES else answer)
             file.truncate(SIZES.get(answer))
@@ -233,8 +205,9 @@ def competition(files):
 
 def odd_answers(trial):
     """The scripts with worse names and files than the page has."""
-    files = {f"problems/{name}": text for name, (text, _, _) in PROBLEMS.items()}
-    for name, (_, answers, _) in PROBLEMS.items():
+    files = {f"problems/{name}": DOCUMENTS[problem] for name, problem, _, _ in PROBLEMS}
+    for name, _, left, _ in PROBLEMS:
+        answers = (DOCUMENTS.get(word, word) for word in left.split())
         files |= {f"answers/{solver}/{name}": answer for solver, answer in zip(SOLVERS, answers)}
     csv = "".join(",".join(row) + "\n" for row in TOTALS)
     with competition(files) as folder:
@@ -254,7 +227,7 @@ def odd_answers(trial):
 
 def little_memory(trial):
     """An answer and a problem with a line for which there is no memory."""
-    for problem, answer, cell in ((QUIET, WIDE, "unread"), (WIDE, OLD, "unranked")):
+    for problem, answer, cell in ((QUIET, "WIDE", "unread"), ("WIDE", OLD, "unranked")):
         with competition({"problems/p": problem, "answers/ash/p": answer}) as folder:
             for shell in SHELLS:
                 limited = "ulimit -v 100000; sh table.sh"
@@ -354,14 +327,6 @@ def other_runs(trial):
             trial.expect(f"sh run.sh {words}", folder, "sh", 4, "", "run.sh: no solvers/")
 
 
-# Names as nobody should have them, and a tie of the first two, which their seconds decide: b has 3 + 4, a 5 + 4.
-ODD_TABLE = rows("problem a b <i>&\"' d;`date`\n<p>.cudf 1 1 FAIL 3\ntwo 1 1 3 stopped\n"
-                 "late pending unranked pending unranked")
-ODD_ENDED = ("a <p>.cudf 0 9 99 - - -\na <p>.cudf 0 9 5.00 - - -\na two 0 9 4.00 - - -\nb <p>.cudf 0 9 3.00 - - -\n"
-             "b two 0 9 4.00 - - -\n<i>&\"' <p>.cudf 0 9 0.00 1 1 1\n<i>&\"' two 0 9 0.00 1 1 1\n"
-             "d;`date` <p>.cudf 0 9 7 - - -\nb late 0 9 50 - - -\n")
-ODD_TOTALS = TOTALS[:1] + rows("b 2 2 2 0 0 0 0 7.00\na 2 2 2 0 0 0 0 9.00\n<i>&\"' 11 1 0 1 0 0 0 0.00\n"
-                               "d;`date` 15 1 0 0 1 0 0 7.00")
 TITLE, WARNING = "A & <script>alert(1)</script> \"\u00e9\"", "totals.sh: 2 runs are pending\n"
 # elements without an end, and such as a page mustn't have
 ALONE = ("meta", "path", "circle", "rect", "use", "feFlood", "feComposite", "polygon", "ellipse")
@@ -403,7 +368,8 @@ def html_page(trial, folder, shell, gnuplot):
 def html_pages(trial):
     """The page of a table with odd names, with and without plots; the totals by time; and the scatter plot's axes."""
     plotters = ["gnuplot"] * bool(shutil.which("gnuplot"))
-    with competition({"table": table(ODD_TABLE), "ended": ODD_ENDED}) as folder:
+    ended = "".join(" ".join(row) + "\n" for row in rows("how its runs ended"))
+    with competition({"table": table(ODD_TABLE), "ended": ended}) as folder:
         for shell in SHELLS:
             trial.expect("sh totals.sh", folder, shell, 0, table(ODD_TOTALS), WARNING)
             for gnuplot in ["/nowhere", *plotters]:

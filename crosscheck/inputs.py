@@ -341,9 +341,10 @@ class Inputs(Faults):
         """A key with one thing changed; it may still be a key."""
         text = self.key()
         at = self.chance.randrange(len(text))
+        front, back = text[:at], text[at:]
         return self.pick((
-            text + self.pick(WORDS.odd_ends), text[:at] + text[at + 1:], text[:at] + self.pick("0p.rsA-+ 1") + text[at:],
-            text.upper(), text[:at], text.replace(".", self.pick(("..", ":", "-"))), self.pick(WORDS.odd_ends) + text,
+            text + self.pick(WORDS.odd_ends), front + back[1:], front + self.pick("0p.rsA-+ 1") + back, text.upper(),
+            front, text.replace(".", self.pick(("..", ":", "-"))), self.pick(WORDS.odd_ends) + text,
         ))
 
     def page(self):

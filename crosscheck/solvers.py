@@ -228,7 +228,8 @@ def optima(trial, seed, count):
 
 
 def libcudf(trial, seed, count):
-    dice, given, answer, tally = random.Random(int(seed)), *map(trial.place, ("problem", "answer")), collections.Counter()
+    dice, tally = random.Random(int(seed)), collections.Counter()
+    given, answer = trial.place("problem"), trial.place("answer")
     for text in (problem(dice, False) for _ in range(count)):
         leave(given, text)
         known = re.findall(r"^package: (\S+)\nversion: (\d+)\n((?:.+\n)*)", text, re.M)
