@@ -19,7 +19,6 @@ from second.lrat import KINDS, Proof, Prover
 from second.reasons import Reasons
 from second.reports import error_answer
 from second.universe import installing
-from spoilt import EXAMPLES
 
 SHOP, SHOP_PROOF = (contents(f"examples/{name}").decode() for name in ("shop.problem.cudf", "shop.lrat"))
 SHOP_EXPLAINED = (
@@ -96,7 +95,7 @@ def proof_rows(trial):
     for problem, proof, wanted in (parts for _, parts in table("refute")):
         trial.refute(problem.encode(), proof.encode(), by_hand(wanted))
     # longer proofs, of which a cut may leave another number
-    together = [(EXAMPLES / name).read_bytes() for name in ("together.problem.cudf", "together.lrat")]
+    together = [contents(f"examples/{name}") for name in ("together.problem.cudf", "together.lrat")]
     for problem, proof in (together, (SHOP.encode(), ODD_NUMBERS.encode())):
         for end in range(len(proof)):
             trial.expect("refute", proof_answer(problem, proof[:end]), problem, proof[:end])
