@@ -151,12 +151,13 @@ def answered_vectors(_):
 
 
 def arguments(trial):
-    """Arguments, by the program; a problem without packages violates nothing, and its counts are 0."""
+    """Keys and lists, by the program; a problem without packages violates nothing, and its counts are 0."""
     for _, call, data, answer in every_vector():
-        words, lines, text = ["check", "-", "--after", data.decode()], [], data.decode()
-        if call == "criterion":
-            words, lines = ["score", "-", f"--criteria={text}"], [aim + " 0" for aim in text.split(",")]
         if call in ("key", "criterion"):
+            text, lines = data.decode(), []
+            words = ["check", "-", "--after", text]
+            if call == "criterion":
+                words, lines = ["score", "-", f"--criteria={text}"], [f"{aim} 0" for aim in text.split(",")]
             wanted = ([], reports.USAGE) if answer.startswith("not a ") else ([*lines, "solution yes"], reports.YES)
             yield words, trial.answer(words, EMPTY), wanted
 
