@@ -20,9 +20,8 @@ from dataclasses import dataclass
 
 import common
 from common import limit, sections, write
-from made import GREATEST_INPUT
 
-MEGABYTE = 1 << 20
+MEGABYTE, GREATEST_INPUT = 1 << 20, 1 << 28
 # from this exit status on, an error is wanted and no report
 FIRST_ERROR = 4
 # what the program is started as, by the head of a section: None is a path of `cudf_check`
@@ -110,9 +109,18 @@ class Table:
         """The text with what is named in it."""
         return re.sub(r"\{([a-z][\w -]*)(?:: ([^{}]*))?\}", self.named, text)
 
+    def said(self, text, line_end="\n"):
+        """What is printed of a text."""
+        return unescaped(self.replaced(text)) + line_end
+
+    def report(self, line):
+        """A command line with its status and its whole report."""
+        row = next(row for row in self.rows if row.line == line and "..." not in row.wanted)
+        return line, row.status, self.said(row.wanted)
+
     def text(self, text, row):
         """The text as it is meant in the row."""
-        return unescaped(self.replaced(text)).replace("@", row.value)
+        return self.said(text, "").replace("@", row.value)
 
     def command(self, row):
         """The words of the row, the mark of its redirection, and what comes after the mark."""
@@ -135,6 +143,8 @@ class Table:
             pieces[-1] += self.usage(words) if pieces[0].startswith("error: ") else "\n"
         return ([""], pieces) if row.status >= FIRST_ERROR else (pieces, [""])
 
+
+TABLE = Table()
 
 # ---- redirections
 
@@ -188,8 +198,8 @@ class Trial(common.Trial):
 
     def __init__(self, *words):
         super().__init__(*words)
-        self.table, self.installed = Table(), os.path.join(os.path.dirname(self.program), "cudf_check")
-        self.enter(self.table.files)
+        self.installed = os.path.join(os.path.dirname(self.program), "cudf_check")
+        self.enter(TABLE.files)
 
     def started(self, words, name=None, **how):
         """The exit status and both outputs, where the program is started by this name or by a path."""
@@ -197,10 +207,10 @@ class Trial(common.Trial):
 
     def expect(self, row, **how):
         """Runs a row, with these arguments for `common.run` too."""
-        words, mark, target = self.table.command(row)
-        with redirected(mark, target, self.table.files) as redirection:
+        words, mark, target = TABLE.command(row)
+        with redirected(mark, target, TABLE.files) as redirection:
             given = self.started(words, row.name, **redirection, **how)
-        outputs = self.table.outputs(row, words)
+        outputs = TABLE.outputs(row, words)
         is_right = given.status == row.status and all(map(is_made_of, given[1:], outputs))
         wanted = (row.status, *map("...".join, outputs))
         self.same(row, given, given if is_right else wanted)
@@ -217,7 +227,7 @@ def is_made_of(text, pieces):
 def rows_of_table(trial):
     with open("long", "wb") as file:
         file.truncate(GREATEST_INPUT + 1)
-    for row in trial.table.rows:
+    for row in TABLE.rows:
         trial.expect(row)
 
 
@@ -240,7 +250,7 @@ def many_solutions(trial):
     """A thousand solutions in one command, of four kinds in turn; then the last of them is missing, or is invalid."""
     kinds = dict(zip(range(1, 1001), itertools.cycle(("empty", "bad", "fail", "good"))))
     for place, kind in kinds.items():
-        write("", f"s{place}", trial.table.files[kind].encode())
+        write("", f"s{place}", TABLE.files[kind].encode())
     shown = {"good": "yes +new 1", "empty": "yes +new 0", "bad": "no", "fail": "FAIL"}
     best_first = [place for kind in shown for place in kinds if kinds[place] == kind]
     report = "\n".join(f"{rank} solution {place} {shown[kinds[place]]}" for rank, place in enumerate(best_first, 1))
@@ -272,7 +282,7 @@ def too_many_words(trial):
 
 
 def unused(trial):
-    trial.same("texts that no row uses", trial.table.unused, set())
+    trial.same("texts that no row uses", TABLE.unused, set())
 
 
 if __name__ == "__main__":

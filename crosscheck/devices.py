@@ -19,28 +19,23 @@ import shutil
 import signal
 import subprocess
 
-import commands
 import made
 import shim
+from commands import GREATEST_INPUT, TABLE
 from common import limit, split, start
 from second import reports
 from shim import EVER, rule
 
-# those of commands.txt, one with both documents, and one with an error
-FILES = commands.Table().files
+# those of commands.txt, and one with both documents
+FILES = TABLE.files
 PROBLEM, GOOD, BAD = (FILES[name] for name in ("p", "good", "bad"))
-BOTH = PROBLEM.replace("2\n\nrequest:", "2\ninstalled: true\n\nrequest: r") + "\n" + BAD
-FILES |= {"both": BOTH, "invalid": "?\n"}
-OK, YES, UNMET = "problem ok\n", "solution yes\n", "p1.depends.1 car 1 line 1: needs wheel > 2\nsolution no\n"
-COUNTS = "removed 1\nnew 1\nchanged 2\nnotuptodate 0\nunsat_recommends 0\nparanoid 1 2\ntrendy 1 0 0 1\n"
-RANKED = "1 solution 2 yes -removed 1\n2 solution 1 no\n3 solution 3 FAIL\n"
-INVALID = "{} line 1: E2 not a property, continuation, comment or blank line\n"
+BOTH = FILES["both"] = PROBLEM.replace("2\n\nrequest:", "2\ninstalled: true\n\nrequest: r") + "\n" + BAD
+OK, YES, UNMET, UNWRITTEN = map(TABLE.said, ("problem ok", "solution yes", "{unmet}", "{unwritten}"))
 # arguments, the status and the report
-REPORTS = (
-    ("lint p", 0, OK), ("check p bad", 1, UNMET), ("rank --criteria=-removed p bad good fail", 0, RANKED),
-    ("score p bad --criteria=-new", 1, "-new 0\nsolution no\n"), ("lint invalid", 2, INVALID.format("problem")),
-    ("check p invalid", 2, INVALID.format("solution")), ("score p good", 0, COUNTS + YES),
-)
+REPORTS = list(map(TABLE.report, (
+    "lint p", "check p bad", "rank --criteria=-removed p bad good fail", "score p bad --criteria=-new", "lint faulty",
+    "check p faulty", "score p good",
+)))
 FOUR_FILES = "rank --criteria=-removed p bad fail good"
 HELP = ("--version", "--help", "lint --help", "check -h", "help score", "rank --help")
 BYTES_A_READ, BYTES_A_WRITE, BYTES_OF_HELP_A_WRITE = 9, 7, 301
@@ -54,10 +49,6 @@ OPEN_ERRORS = (errno.ENOENT, errno.EACCES, errno.EMFILE, errno.ELOOP)
 HINTS = {errno.ENOENT: "; check the name, and run again"}
 UNOPENED = "cudf_check: {} can't be opened: {}\n"
 UNREAD = "cudf_check: {} could not be read to its end: {}; check that it is a file that can be read, and run again\n"
-UNWRITTEN = (
-    "cudf_check: the report could not be written to its end: the disk is full, or what reads it ended, as head does; "
-    "check --limit gives a shorter report\n"
-)
 
 
 class Trial(shim.Trial):
@@ -166,17 +157,17 @@ def long_reports(trial):
 def too_long(trial):
     """After an input that is too long none is read."""
     with open("huge", "wb") as file:
-        file.truncate(made.GREATEST_INPUT + 1)
+        file.truncate(GREATEST_INPUT + 1)
     for words in ("check huge bad", "rank --criteria=-new huge good bad", "rank --criteria=-new p huge bad"):
         ran, calls = trial.calls(words)
-        trial.same(words, (ran, answers(calls, "read", "bad")), ((5, "", made.TOO_LONG.format("huge")), []))
+        trial.same(words, (ran, answers(calls, "read", "bad")), ((5, "", TABLE.said("{too long: huge}")), []))
 
 
 def orders(trial):
     """Standard input is tried by a read of no byte where it is named. Then the files are opened in the order of the
     arguments, and then all are read in this order. No other is opened, nor standard input read if it isn't named."""
     for words, data in (
-        ("lint p", ""), ("check p bad", ""), ("check invalid fail", ""), ("score p good", ""), ("check - bad", PROBLEM),
+        ("lint p", ""), ("check p bad", ""), ("check faulty fail", ""), ("score p good", ""), ("check - bad", PROBLEM),
         ("check p -", BAD), ("rank p good empty --criteria=-removed bad", ""), ("lint -", "?\n"),
         ("rank --criteria=-removed p bad - good --strict fail", GOOD), ("rank --criteria=-removed - bad good", PROBLEM),
         ("rank --criteria=-new p -- - --criteria", GOOD), (["check", "p", " "], ""), (["check", " p", " p "], ""),

@@ -5,9 +5,6 @@ import re
 
 from common import HERE, Ran
 
-GREATEST_INPUT = 1 << 28
-TOO_LONG = "cudf_check: {} is longer than 268435456 bytes; give a shorter one\n"
-
 # the bound of memory is as it is written, or None
 Case = collections.namedtuple("Case", "name size most documents commands")
 Command = collections.namedtuple("Command", "words status report")

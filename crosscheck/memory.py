@@ -33,6 +33,7 @@ import subprocess
 
 import made
 import shim
+from commands import GREATEST_INPUT, TABLE
 from common import ROOT, Ran, limit, run, short, start
 from refutations import SHOP, SHOP_CORE, SHOP_PROOF
 
@@ -40,9 +41,7 @@ MEGABYTE, GREATEST_MEMORY = 1 << 20, 600 << 20
 SMALL_STACK = limit(resource.RLIMIT_STACK, 128 << 10)
 INVALID_ARGUMENTS, UNREAD, NO_MEMORY = 4, 5, 6
 NOT_LOADED = (127, -signal.SIGKILL, "OSError")
-NO_ROOM = "cudf_check: there is not enough memory for this input; free some, and run again\n"
-NO_ROOM_FOR_ARGUMENTS = "cudf_check: there is not enough memory; free some, and run again\n"
-UNMET = "p1.depends.1 car 1 line 1: needs wheel > 2\nsolution no\n"
+NO_ROOM, NO_ROOM_FOR_ARGUMENTS, UNMET = map(TABLE.said, ("{no room}", "{no room for words}", "{unmet}"))
 
 # ---- growths that are refused
 
@@ -136,7 +135,7 @@ def refused_calls(trial):
 def endless(trial):
     """A device that never ends is too long."""
     for words in ("lint /dev/zero", "check /dev/zero", "check S /dev/zero", "check /dev/zero S"):
-        trial.same(words, trial.run(words), (UNREAD, "", made.TOO_LONG.format("/dev/zero")))
+        trial.same(words, trial.run(words), (UNREAD, "", TABLE.said("{too long: /dev/zero}")))
     most = 1024 * resource.getrusage(resource.RUSAGE_CHILDREN).ru_maxrss
     trial.same("memory of the greatest run", most < GREATEST_MEMORY or most, True)
 
@@ -250,9 +249,9 @@ def large_inputs(trial, case):
 
 def greatest_inputs(trial):
     """Inputs with a hole of zeros, which takes no room."""
-    too_long = Ran(UNREAD, "", made.TOO_LONG.format("G"))
+    too_long = Ran(UNREAD, "", TABLE.said("{too long: G}"))
     for words, front, end, report in GREATEST:
-        for size, wanted in ((made.GREATEST_INPUT, Ran(0, report, "")), (made.GREATEST_INPUT + 1, too_long)):
+        for size, wanted in ((GREATEST_INPUT, Ran(0, report, "")), (GREATEST_INPUT + 1, too_long)):
             with open("G", "wb") as file:
                 file.write(front.encode())
                 file.truncate(size - len(end))
