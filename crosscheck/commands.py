@@ -213,7 +213,7 @@ class Trial(common.Trial):
         outputs = TABLE.outputs(row, words)
         is_right = given.status == row.status and all(map(is_made_of, given[1:], outputs))
         wanted = (row.status, *map("...".join, outputs))
-        self.same(row, given, given if is_right else wanted)
+        self.same(str(row), given, given if is_right else wanted)
 
 
 def is_made_of(text, pieces):
