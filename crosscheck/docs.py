@@ -227,11 +227,12 @@ def odd_answers(trial):
 
 def little_memory(trial):
     """An answer and a problem with a line for which there is no memory."""
-    for problem, answer, cell in ((QUIET, "WIDE", "unread"), ("WIDE", OLD, "unranked")):
+    lacking = "there is not enough memory"
+    for problem, answer, cell, errors in ((QUIET, "WIDE", "unread", ""), ("WIDE", OLD, "unranked", lacking)):
+        cells = table([("problem", "ash"), ("p", cell)])
         with competition({"problems/p": problem, "answers/ash/p": answer}) as folder:
             for shell in SHELLS:
-                limited = "ulimit -v 100000; sh table.sh"
-                trial.expect(limited, folder, shell, 0, table([("problem", "ash"), ("p", cell)]))
+                trial.expect("ulimit -v 100000; sh table.sh", folder, shell, 0, cells, errors)
 
 
 def bad_names(trial):
