@@ -10,7 +10,7 @@ import os
 import random
 
 from common import contents, start, write
-from inputs import Inputs
+from inputs import WORDS, Inputs
 from second import reports
 from second.documents import faults_of
 from second.universe import Problem, installing
@@ -18,11 +18,6 @@ from second.universe import Problem, installing
 PAIRS = [("car", "car.good"), ("car", "car.broken"), ("car", "car.fail")] + [("producer", "producer.solution")] * 3
 GENERATED = 40
 ODD_BYTES = b"\n\n\n  \t\r:##,,||==<>![]\"\\0123+-aZ_\x00\x7f\x80\xc3\xa9\xff"
-WORDS = (
-    b"package: a", b"version: 1", b"depends: a | b", b"conflicts: a", b"provides: a = 1", b"installed: true",
-    b"keep: feature", b"preamble: ", b"property: a: int", b"request: ", b"install: a", b"upgrade: a", b"FAIL", b"# ",
-    b" ", b"\n", b"\n", b"\n",
-)
 
 
 def example(name):
@@ -69,7 +64,7 @@ def noise(chance):
         return chance.randbytes(length)
     if way == 1:
         return bytes(chance.choice(ODD_BYTES) for _ in range(length))
-    return b"".join(chance.choice(WORDS) + chance.choice((b"", b"\n", b"\n")) for _ in range(length // 8))
+    return b"".join((chance.choice(WORDS.noise) + chance.choice(("", "\n", "\n"))).encode() for _ in range(length // 8))
 
 
 def documents(seed, count, problems):

@@ -21,13 +21,7 @@ from second.reports import error_answer
 from second.universe import installing
 
 SHOP, SHOP_PROOF = (contents(f"examples/{name}").decode() for name in ("shop.problem.cudf", "shop.lrat"))
-SHOP_EXPLAINED = (
-    "r.install.1 line 21: needs shop; shop 1 line 1 would do\n"
-    "p1.depends.1 shop 1 line 1: needs server | proxy; server 2 line 5 would do\n"
-    "p2.depends.1 server 2 line 5: needs tls >= 3; nothing in the problem would do\n"
-    "p3.conflicts.1 proxy 1 line 9: conflicts with mailer, met by mailer 4\n"
-    "p1.depends.2 shop 1 line 1: needs mailer; mailer 4 line 13 would do\n"
-)
+SHOP_EXPLAINED = section("refutations.txt", "core").rstrip("\n") + "\n"
 SHOP_CORE = re.sub("; .*", "", SHOP_EXPLAINED) + "no solution exists\n"
 A = "package: a\nversion: 1\n"
 ODD_NUMBERS = "007 3 0 6 3 1 0\n18446744073709551614 4 0 6 2 00\n18446744073709551615 0 7 18446744073709551614 4 0\n"
