@@ -50,20 +50,6 @@ def chosen(is_chosen):
     return each(lambda number, _: installed(f"lib-{number}", version_of(number)) if is_chosen(number) else "", "")
 
 
-def sized(head, text_of, end, room):
-    """A document with texts up to a number of megabytes, with room for the end."""
-    def document(megabytes):
-        yield head
-        size, number = len(head), 0
-        while size < megabytes * 1_000_000 - room:
-            number += 1
-            text = text_of(number)
-            size += len(text)
-            yield text
-        yield end
-    return document
-
-
 def about(number, is_installed):
     """The last lines of a distribution's package."""
     lines = "recommends: true!", f"source: source of lib-{number}", f"priority: {number % 7 - 3}", "architecture: amd64"
@@ -81,22 +67,19 @@ def distribution(count):
     yield REQUEST + "install: lib-1\n"
 
 
-def installed_distribution(step, conflicting=0):
-    """Every step-th package is installed, and its dependencies are; each `conflicting`-th conflicts with another."""
+def installed_distribution(step):
+    """Every step-th package is installed, and its dependencies are."""
     def document(count):
-        chance, partner = random.Random(1), random.Random(2)
+        chance = random.Random(1)
         yield PREAMBLE
         for number in range(1, count + 1):
             within = step if number % step == 0 else 1
             others = [chance.randrange(1, count // within + 1) * within for _ in range(10)]
             clauses = [f"lib-{others[0]} >= {version_of(others[0])}", f"missing | lib-{others[1]}"]
             clauses += [f"lib-{other}" for other in others[2:]]
-            conflicts = [f"lib-{number}", f"missing-{number % 991}"]
-            if conflicting and number % conflicting == 0:
-                conflicts.append(f"lib-{partner.randrange(1, count + 1)}")
+            conflicts, provides = f"lib-{number}, missing-{number % 991}", f"lib-{number} = 9, feature-{number % 997}"
             yield stanza(f"lib-{number}", version_of(number), f"depends: {', '.join(clauses)}",
-                         f"conflicts: {', '.join(conflicts)}", f"provides: lib-{number} = 9, feature-{number % 997}",
-                         *about(number, number % step == 0))
+                         f"conflicts: {conflicts}", f"provides: {provides}", *about(number, number % step == 0))
         yield f"{REQUEST}install: lib-{step}\n"
     return document
 
@@ -160,16 +143,8 @@ def own(entry, conflict=None, other=None):
 
 
 KINDS = {
-    # a problem and an empty answer in one document
-    "small": ("megabytes of small stanzas", sized("", lambda number: stanza(
-        f"pkg-{number}", number % 9 + 1, f"depends: pkg-{number // 2 + 1}", "installed: true"), REQUEST + "\n", 20)),
-    "formula": ("megabytes, of one installed package of one long formula", sized(
-        "package: root\nversion: 1\ndepends: root", lambda number: f", root >= 1 | lib-{number % 1000} < {number}",
-        f"\ninstalled: true\n\n{REQUEST}\n", 100)),
     # problems for reading
     "distribution": ("as a distribution's, ten dependencies a package, every twentieth installed", distribution),
-    "one-name": ("all packages have one name", each(lambda number, _: stanza("same", number, "depends: same > 1"))),
-    "long-names": ("names that share 200 letters", each(lambda number, _: stanza("a" * 200 + str(number), 1))),
     "alike-names": ("names that share 120 letters, with dependencies on such names", each(lambda number, _: stanza(
         "b" * 120 + str(number), 1, "depends: {0}{1}, {0}{2} = 1".format("b" * 120, number // 2 + 1, number)))),
     "properties": ("so many properties declared, and set in one package", properties),
@@ -183,7 +158,6 @@ KINDS = {
     "half": ("a distribution with a half installed: chosen-half", installed_distribution(2)),
     "all": ("a distribution with all installed: chosen-all", installed_distribution(1)),
     "broken": ("five missing dependencies a package, a line of report each: chosen-all", each(broken)),
-    "conflicting": ("all, and each tenth conflicts with another one: chosen-most", installed_distribution(1, 10)),
     "ascending": ("one name in ascending versions: versions", versions(list.sort)),
     "descending": ("one name in descending versions: versions", versions(list.reverse)),
     "shuffled": ("one name in shuffled versions: versions", versions(lambda order: random.Random(1).shuffle(order))),
@@ -203,12 +177,9 @@ KINDS = {
     "chosen-tenth": ("each tenth package", chosen(lambda number: number % 10 == 0)),
     "chosen-half": ("each second package", chosen(lambda number: number % 2 == 0)),
     "chosen-all": ("all packages", chosen(lambda number: True)),
-    "chosen-most": ("all but each ninth", chosen(lambda number: number % 9 != 0)),
     "versions": ("one name in all versions", each(lambda number, _: installed("same", number), "")),
     "own": ("the package of own-entries and own-names", lambda _: [installed("own")[:-1]]),
     "own-two": ("the packages of own-and-other and own-bounds", lambda _: [installed("own"), installed("other")[:-1]]),
-    "absent": ("packages of a distribution, none installed", each(
-        lambda number, _: stanza(f"lib-{number}", number % 9 + 1, "installed: false"), "")),
     "unknown": ("so many stanzas that no problem has, a line of report each", each(
         lambda number, _: installed(f"ghost-{number}"), "")),
     "short-stanzas": ("so many stanzas of one short property, none of a package", each(lambda *_: "request:\n\n", "")),
@@ -217,6 +188,7 @@ KINDS = {
 
 if __name__ == "__main__":
     if len(sys.argv) != 3 or sys.argv[1] not in KINDS or not sys.argv[2].isdigit():
-        sys.exit("\n".join([__doc__, *(f"    {name:14} {what}" for name, (what, _) in KINDS.items())]))
+        print(__doc__, *(f"    {name:14} {what}" for name, (what, _) in KINDS.items()), sep="\n", file=sys.stderr)
+        sys.exit(2)
     with open(sys.stdout.fileno(), "w", encoding="utf-8", newline="\n", buffering=1 << 20) as out:
         out.writelines(KINDS[sys.argv[1]][1](int(sys.argv[2])))

@@ -6,14 +6,14 @@ usage: measure.py times [-k TIMES] [-n SITTINGS] [-s SHARE] [-b COMMAND] [-d FOL
        measure.py calls PROGRAM LIBRARY_FOLDER
        measure.py minutes COMMAND [WORD..]
 
-PLAIN is the command of another program with the same command line. Inputs are those of generate.py. For Linux; Python's
-standard library alone.
+PLAIN is the command of another program with the same command line. Inputs are those of generate.py. For Linux, with a
+C compiler; Python's standard library alone.
 
-- times: the GROUPs reading, judging, hostile and pages, or some of them, SITTINGS (1) times. The least processor time
-  of TIMES (7) runs counts, in turns with PLAIN, and the greatest memory, at least this script's. Sizes are multiplied
-  by SHARE. With -b distributions are also given to COMMAND; {P} and {S} in it are the files. With -d inputs are kept in
-  FOLDER. `doubled`: the time divided by that of half the size; `by lint`: by that of `lint`; `by input`: memory by
-  size. Compare ratios of one sitting, never times of two.
+- times: the GROUPs of measured.txt, or some of them, SITTINGS (1) times. The least processor time of TIMES (7) runs
+  counts, in turns with PLAIN, and the greatest memory. Sizes are multiplied by SHARE. With -b distributions are also
+  given to COMMAND; {P} and {S} in it are the files. With -d inputs are kept in FOLDER. `doubled`: the time divided by
+  that of half the size; `by lint`: by that of `lint`; `by input`: memory by size. Compare ratios of one sitting, never
+  times of two.
 - instructions: each job once under valgrind's callgrind, by stripped copies of the programs. Counts have no noise.
 - calls: the least time of five for 1,000 calls of libcudf_check.a by a program in C, and 1,000 starts of the program.
 - minutes: the time of a command that proves crates, and the processor minutes of each crate in its session. The last
@@ -35,6 +35,11 @@ from generate import KINDS
 
 HERE = os.path.dirname(os.path.abspath(__file__))
 ROOT = os.path.dirname(HERE)
+
+
+def refuse():
+    print(__doc__, file=sys.stderr)
+    sys.exit(2)
 
 
 def show(*cells):
@@ -67,54 +72,34 @@ JOBS = {
     "lint": "lint {P}", "check": "check {P} {S}", "the first page of 20": "check {P} {S} --limit 20",
     "20 after the middle": "check {P} {S} --after p{middle}.depends.5 --limit 20",
 }
-# each input: its name, the kind of its problem, and sizes
-GROUPS = {
-    "reading": (
-        ("distribution", "tenth", 156_000, 624_000), ("distribution, all installed", "all", 134_000, 536_000),
-    ),
-    "judging": (
-        ("a tenth installed", "tenth", 50_000, 200_000), ("half installed", "half", 50_000, 200_000),
-        ("all installed", "all", 50_000, 200_000), ("five faults a package", "broken", 100_000),
-        ("one name, ascending", "ascending", 100_000), ("one name, descending", "descending", 100_000),
-        ("one name, shuffled", "shuffled", 100_000), ("one feature", "one-feature", 10_000),
-        ("met by the last entry", "last-entry", 100_000), ("own entries of one name", "own-entries", 20_000),
-        ("own entries of many names", "own-names", 20_000),
-        ("own entries and another's", "own-and-other", 10_000, 40_000),
-        ("the same by each operator", "own-bounds", 10_000, 40_000), ("keep: package", "kept", 50_000),
-    ),
-    "hostile": (
-        ("lists on many lines", "commented", 100_000), ("names sharing 120 bytes", "alike-names", 100_000),
-        ("declared properties", "properties", 100_000), ("an enum", "enum", 50_000),
-        ("a comment, ASCII", "comment", 100), ("a comment, other letters", "comment-other", 100),
-        ("unknown stanzas", "unknown", 1_000_000), ("stanzas of one property", "short-stanzas", 1_000_000),
-        ("continuations", "continuations", 100_000),
-    ),
-    "pages": (("a long listing", "broken", 100_000),),
-}
+# the inputs of each group: a name, the kind of a problem, its size, and whether docs/FIGURES.md shows it
+GROUPS = collections.defaultdict(list)
+for line in Path(HERE, "measured.txt").read_text().splitlines()[2:]:
+    group, *of_input, sizes = line.split(" | ")
+    GROUPS[group] += [(*of_input, int(size.rstrip("*")), size[-1] == "*") for size in sizes.split()]
 # answers without a problem of their own
 ANSWERS = ("unknown", "short-stanzas")
 COLUMNS = ("size MB", "ms", "plain ms", "ratio", "doubled", "by lint", "beside by ours", "MB", "plain MB",
            "memory ratio", "by input", "status")
-# the inputs that docs/FIGURES.md shows
-SHOWN = ("distribution, 156000", "distribution, 624000", "distribution, all installed, 134000",
-         "half installed, 200000", "five faults a package, 100000", "one name, descending, 100000",
-         "met by the last entry, 100000", "the same by each operator, 40000", "lists on many lines, 100000",
-         "a comment, other letters, 100", "unknown stanzas, 1000000")
 
 
 class Series:
     """The runs of one command: the least time in seconds, the greatest memory in bytes, the last status."""
 
-    def __init__(self, words):
+    def __init__(self, *words):
         self.words, self.time, self.memory, self.status = words, float("inf"), 0, None
 
     def run(self):
-        places = [(os.POSIX_SPAWN_OPEN, number, os.devnull, os.O_RDWR, 0) for number in range(3)]
-        child = os.posix_spawnp(self.words[0], self.words, os.environ, file_actions=places)
-        _, status, usage = os.wait4(child, 0)
-        self.status = os.waitstatus_to_exitcode(status)
-        self.time = min(self.time, usage.ru_utime + usage.ru_stime)
-        self.memory = max(self.memory, usage.ru_maxrss * 1024)
+        self.status, time, memory, _ = map(int, subprocess.check_output(self.words).split())
+        self.time = min(self.time, time / 1e6)
+        self.memory = max(self.memory, memory * 1024)
+
+
+def compiled(folder, name, *more):
+    """The path of a program of this folder in C."""
+    words = ["-std=c99", "-O2", f"-I{ROOT}/include", f"{HERE}/{name}.c", *more, "-o", f"{folder}/{name}"]
+    subprocess.run(["cc", *words], check=True)
+    return words[-1]
 
 
 def ratio(part, whole):
@@ -136,7 +121,7 @@ def measured(options, folder, kind, count, is_paged):
     files, linted = {number: files_of(folder, kind, number) for number in (half, whole)}, {}
     jobs = ["lint"] * (kind not in ANSWERS) + ["check"] * ("S" in files[whole])
     for job in JOBS if is_paged else jobs:
-        series = {(number, who): Series(words) for number in files
+        series = {(number, who): Series(options.runs, "1", *words) for number in files
                   for who, words in commands_of(options, kind, job, files[number], number).items()}
         order = list(series.values())
         for turn in range(options.k):
@@ -160,7 +145,7 @@ def measured(options, folder, kind, count, is_paged):
 def sitting(options, folder, group, found):
     """Prints the rows of a group, and adds them to what was found."""
     heads(group, *COLUMNS)
-    for name, kind, count in ((name, kind, count) for name, kind, *counts in GROUPS[group] for count in counts):
+    for name, kind, count, _ in GROUPS[group]:
         for number, job, cells in measured(options, folder, kind, count, group == "pages"):
             show(f"{name}, {number}: {job}", *cells)
             found[f"{name}, {number}", job].append(dict(zip(COLUMNS, cells)))
@@ -176,12 +161,13 @@ def times(*words):
     read.add_argument("groups", nargs="*", default=list(GROUPS))
     options, found = read.parse_args(words), collections.defaultdict(list)
     if not GROUPS.keys() >= set(options.groups):
-        sys.exit(__doc__)
+        refuse()
     with tempfile.TemporaryDirectory() as folder:
+        options.runs = compiled(folder, "runs")
         for group in options.groups * options.n:
             sitting(options, options.d or folder, group, found)
     heads("Input", "MB", "`lint`", "`check`", "Doubled", "Memory")
-    for name in SHOWN:
+    for name in (f"{name}, {size}" for rows in GROUPS.values() for name, _, size, is_shown in rows if is_shown):
         lint, check = found[name, "lint"], found[name, "check"]
         for last in (check or lint)[:1]:
             columns = (lint, "ratio"), (check, "ratio"), (check or lint, "doubled")
@@ -234,16 +220,15 @@ CALLS, TURNS = 1_000, 5
 
 def calls(program, library):
     """A start also reads its files, which a call doesn't."""
-    start, turns = Series([os.path.abspath(program), "check", *FILES]), []
+    turns = []
     with tempfile.TemporaryDirectory() as folder:
-        path, sources = f"{folder}/calls", [f"{HERE}/calls.c", f"{library}/libcudf_check.a"]
-        subprocess.run(["cc", "-std=c99", "-O2", f"-I{ROOT}/include", *sources, "-o", path], check=True)
+        caller, runs = compiled(folder, "calls", f"{library}/libcudf_check.a"), compiled(folder, "runs")
         for _ in range(TURNS):
-            called, begun = int(subprocess.check_output([path, *FILES, str(CALLS)])), time.monotonic()
-            for _ in range(CALLS):
-                start.run()
-            turns.append((called / 1e6, (time.monotonic() - begun) * 1e3))
-    if start.status != 1:
+            called = int(subprocess.check_output([caller, *FILES, str(CALLS)]))
+            words = [runs, str(CALLS), os.path.abspath(program), "check", *FILES]
+            status, *_, started = map(int, subprocess.check_output(words).split())
+            turns.append((called / 1e6, started / 1e3))
+    if status != 1:
         sys.exit(f"{program} doesn't answer `solution no`")
     called, started = map(min, zip(*turns))
     heads(f"{CALLS:,} times", "ms", "by calls")
@@ -305,5 +290,5 @@ COMMANDS = {"times": (times, range(2, 99)), "instructions": (instructions, [2]),
 if __name__ == "__main__":
     name, *words = sys.argv[1:] or [""]
     if name not in COMMANDS or len(words) not in COMMANDS[name][1]:
-        sys.exit(__doc__)
+        refuse()
     sys.exit(COMMANDS[name][0](*words))

@@ -4,7 +4,7 @@ import itertools
 import re
 import struct
 
-from common import contents, section
+from common import contents, section, unescaped
 
 # the calls as library.c numbers them, each with its arguments after the documents as Python's functions have them
 CALLS = {
@@ -16,11 +16,6 @@ LONGEST, GREATEST = 268_435_456, 2**64 - 1
 # as library.c has them
 KINDS, GUARD, PATTERN, REFUSED = ("written", "zeroes", "null", "claimed", "unreadable"), 64, b"\xa5", 70
 LONG = f"zeroes:{LONGEST + 1}|unreadable:{LONGEST + 1}|claimed:{LONGEST + 1}|claimed:{GREATEST}"
-
-
-def unescaped(text):
-    """The bytes of a text with Python's escapes."""
-    return text.encode().decode("unicode_escape").encode("latin-1")
 
 
 NAME = b"a" * 90

@@ -6,9 +6,7 @@ usage: commands.py PROGRAM
 The rows are in commands.txt, whose head says how one is written. The texts of help are in help.txt. Rows that need more
 than a command line are here: limits of the system, a closed pipe, a thousand solutions.
 
-What is wanted was worked out by hand from README.md, docs/FORMAT.md, docs/DECISIONS.md and the man page. Each row that
-isn't as wanted is printed, and then how many rows there were. The exit status is 1 where one is wrong, and 2 where
-there is no program. For Linux; Python's standard library alone.
+What is wanted was worked out by hand from README.md, docs/FORMAT.md, docs/DECISIONS.md and the man page.
 """
 import contextlib
 import itertools
@@ -17,18 +15,16 @@ import re
 import resource
 import shlex
 import socket
-import subprocess
 import sys
-import tempfile
 from dataclasses import dataclass
 
-HERE = os.path.dirname(os.path.abspath(__file__))
-LIMIT_SECONDS = 120
-MEGABYTE = 1 << 20
-GREATEST_INPUT = 268_435_456
+import common
+from common import limit, sections, write
+
+MEGABYTE, GREATEST_INPUT = 1 << 20, 1 << 28
 # from this exit status on, an error is wanted and no report
 FIRST_ERROR = 4
-# what the program is started as, by the head of a section; it is no word of the command line. None is a path of `cudf_check`
+# what the program is started as, by the head of a section: None is a path of `cudf_check`
 NAMES = {
     "by its own name": (None, "cudf_check"),
     "by each name": (None, "cudf_check", "--", "--criteria", "", "-", "lint"),
@@ -53,15 +49,6 @@ class Row:
     def __str__(self):
         line = self.line.replace("@", self.value)[:100]
         return line if self.name is None else f"{line} (started as '{self.name}')"
-
-
-def sections(name, mark):
-    """The head and the body of each section of a file beside this one; the line of a head begins with the mark."""
-    with open(os.path.join(HERE, name), encoding="ascii") as file:
-        text = "\n" + file.read().removesuffix("\n")
-    for section in text.split("\n" + mark)[1:]:
-        head, _, body = section.partition("\n")
-        yield head, body
 
 
 def lines_of(body):
@@ -99,8 +86,8 @@ class Table:
 
     def __init__(self):
         self.files, self.rows = {}, []
-        self.texts = dict(sections("help.txt", "$ "))
-        for head, body in sections("commands.txt", "== "):
+        self.texts = {head: body.removesuffix("\n") for head, body in sections("crosscheck/help.txt", "$ ")}
+        for head, body in sections("crosscheck/commands.txt"):
             body = body.strip("\n")
             if head.startswith("file "):
                 text = body + "\n" if body else ""
@@ -122,9 +109,18 @@ class Table:
         """The text with what is named in it."""
         return re.sub(r"\{([a-z][\w -]*)(?:: ([^{}]*))?\}", self.named, text)
 
+    def said(self, text, line_end="\n"):
+        """What is printed of a text."""
+        return unescaped(self.replaced(text)) + line_end
+
+    def report(self, line):
+        """A command line with its status and its whole report."""
+        row = next(row for row in self.rows if row.line == line and "..." not in row.wanted)
+        return line, row.status, self.said(row.wanted)
+
     def text(self, text, row):
         """The text as it is meant in the row."""
-        return unescaped(self.replaced(text)).replace("@", row.value)
+        return self.said(text, "").replace("@", row.value)
 
     def command(self, row):
         """The words of the row, the mark of its redirection, and what comes after the mark."""
@@ -147,6 +143,8 @@ class Table:
             pieces[-1] += self.usage(words) if pieces[0].startswith("error: ") else "\n"
         return ([""], pieces) if row.status >= FIRST_ERROR else (pieces, [""])
 
+
+TABLE = Table()
 
 # ---- redirections
 
@@ -179,11 +177,11 @@ def opened(mark, target, files):
 
 @contextlib.contextmanager
 def redirected(mark, target, files):
-    """The arguments of subprocess.run for a redirection."""
+    """The arguments of `common.run` for a redirection."""
     if not mark:
         yield {}
     elif mark == "<&-":
-        yield {"stdin": None, "preexec_fn": lambda: os.close(0)}
+        yield {"stdin": None, "before": lambda: os.close(0)}
     else:
         descriptor = opened(mark, target, files)
         try:
@@ -192,46 +190,30 @@ def redirected(mark, target, files):
             os.close(descriptor)
 
 
-def limited(limit, size):
-    """What sets a limit of the system for the program, before it starts."""
-    return lambda: resource.setrlimit(limit, (size, size))
-
-
 # ---- runs of the program
 
 
-class Trial:
-    """Runs the program, counts the rows, and prints the wrong ones."""
+class Trial(common.Trial):
+    """Runs the program, whose help names it by the last part of what it is started as."""
 
-    def __init__(self, path):
-        self.path, self.table, self.rows, self.wrong = os.path.abspath(path), Table(), 0, 0
-        # help names the program by the last part of what it is started as
-        self.installed = os.path.join(os.path.dirname(self.path), "cudf_check")
+    def __init__(self, *words):
+        super().__init__(*words)
+        self.installed = os.path.join(os.path.dirname(self.program), "cudf_check")
+        self.enter(TABLE.files)
 
-    def run(self, words, name=None, **arguments):
-        """The exit status and both outputs."""
-        arguments = {"stdin": subprocess.DEVNULL, "stdout": subprocess.PIPE, "stderr": subprocess.PIPE, **arguments}
-        command = [self.installed if name is None else name, *words]
-        try:
-            ran = subprocess.run(command, executable=self.path, timeout=LIMIT_SECONDS, check=False, **arguments)
-        except subprocess.TimeoutExpired:
-            return "no end", "", ""
-        return ran.returncode, os.fsdecode(ran.stdout or b""), os.fsdecode(ran.stderr)
+    def started(self, words, name=None, **how):
+        """The exit status and both outputs, where the program is started by this name or by a path."""
+        return common.run([self.installed if name is None else name, *words], executable=self.program, **how).decoded()
 
-    def expect(self, row, **arguments):
-        """Runs a row, with these arguments for subprocess.run too."""
-        words, mark, target = self.table.command(row)
-        with redirected(mark, target, self.table.files) as redirection:
-            given = self.run(words, row.name, **redirection, **arguments)
-        outputs = self.table.outputs(row, words)
-        is_right = given[0] == row.status and all(map(is_made_of, given[1:], outputs))
-        self.note(row, is_right, given, (row.status, *map("...".join, outputs)))
-
-    def note(self, row, is_right, given, wanted):
-        self.rows += 1
-        if not is_right:
-            self.wrong += 1
-            print(f"{row}: {given}, wanted {wanted}", flush=True)
+    def expect(self, row, **how):
+        """Runs a row, with these arguments for `common.run` too."""
+        words, mark, target = TABLE.command(row)
+        with redirected(mark, target, TABLE.files) as redirection:
+            given = self.started(words, row.name, **redirection, **how)
+        outputs = TABLE.outputs(row, words)
+        is_right = given.status == row.status and all(map(is_made_of, given[1:], outputs))
+        wanted = (row.status, *map("...".join, outputs))
+        self.same(str(row), given, given if is_right else wanted)
 
 
 def is_made_of(text, pieces):
@@ -243,7 +225,9 @@ def is_made_of(text, pieces):
 
 
 def rows_of_table(trial):
-    for row in trial.table.rows:
+    with open("long", "wb") as file:
+        file.truncate(GREATEST_INPUT + 1)
+    for row in TABLE.rows:
         trial.expect(row)
 
 
@@ -251,7 +235,7 @@ def too_many_files(trial):
     """More files than may be open: the error names the first that is too many."""
     wanted = "cudf_check: good can't be opened: Too many open files (os error 24)"
     row = Row("rank --criteria=-new p" + " good" * 20, 5, wanted)
-    trial.expect(row, preexec_fn=limited(resource.RLIMIT_NOFILE, 20))
+    trial.expect(row, before=limit(resource.RLIMIT_NOFILE, 20))
 
 
 def closed_pipe(trial):
@@ -266,7 +250,7 @@ def many_solutions(trial):
     """A thousand solutions in one command, of four kinds in turn; then the last of them is missing, or is invalid."""
     kinds = dict(zip(range(1, 1001), itertools.cycle(("empty", "bad", "fail", "good"))))
     for place, kind in kinds.items():
-        write(f"s{place}", trial.table.files[kind])
+        write("", f"s{place}", TABLE.files[kind].encode())
     shown = {"good": "yes +new 1", "empty": "yes +new 0", "bad": "no", "fail": "FAIL"}
     best_first = [place for kind in shown for place in kinds if kinds[place] == kind]
     report = "\n".join(f"{rank} solution {place} {shown[kinds[place]]}" for rank, place in enumerate(best_first, 1))
@@ -279,56 +263,28 @@ def many_solutions(trial):
 
 def too_little_memory(trial):
     """Too little memory for a line of 200 megabytes."""
-    write("wide", "request:\n" + "#" * (200 * MEGABYTE))
+    write("", "wide", b"request:\n" + b"#" * (200 * MEGABYTE))
     for line in (
         "lint wide", "check wide", "check p wide", "score wide p", "rank --criteria=-new wide good",
         "rank --criteria=-new p good wide",
     ):
-        trial.expect(Row(line, 6, "{no room}"), preexec_fn=limited(resource.RLIMIT_AS, 100 * MEGABYTE))
+        trial.expect(Row(line, 6, "{no room}"), before=limit(resource.RLIMIT_AS, 100 * MEGABYTE))
 
 
 def too_many_words(trial):
     """Too little memory for the words: enough for a few of them, and not for as many as need some ten megabytes."""
-    limits = {size: limited(resource.RLIMIT_AS, size) for size in range(2 * MEGABYTE, 200 * MEGABYTE, MEGABYTE)}
-    least = next((size for size, limit in limits.items() if trial.run(["--version"], preexec_fn=limit)[0] == 0), 0)
-    limit = limited(resource.RLIMIT_AS, least + 3 * MEGABYTE)
+    sizes = range(2 * MEGABYTE, 200 * MEGABYTE, MEGABYTE)
+    fits = (size for size in sizes if trial.run("--version", before=limit(resource.RLIMIT_AS, size)).status == 0)
+    little = limit(resource.RLIMIT_AS, next(fits, 0) + 3 * MEGABYTE)
     line = "rank --criteria=-new p"
-    trial.expect(Row(line + " good" * 100_000, 6, "{no room for words}"), preexec_fn=limit)
-    trial.expect(Row(line + " good", 0, "1 solution 1 yes -new 1"), preexec_fn=limit)
+    trial.expect(Row(line + " good" * 100_000, 6, "{no room for words}"), before=little)
+    trial.expect(Row(line + " good", 0, "1 solution 1 yes -new 1"), before=little)
 
 
-# ---- all of it
-
-
-def write(name, text):
-    with open(name, "w", encoding="ascii") as file:
-        file.write(text)
-
-
-def main(path):
-    trial = Trial(path)
-    with tempfile.TemporaryDirectory() as folder:
-        os.chdir(folder)
-        for name, text in trial.table.files.items():
-            write(name, text)
-        with open("long", "wb") as file:
-            os.truncate(file.fileno(), GREATEST_INPUT + 1)
-        for rows in (rows_of_table, too_many_files, closed_pipe, many_solutions, too_little_memory, too_many_words):
-            rows(trial)
-        os.chdir("/")
-    unused = trial.table.unused
-    trial.note("texts that no row uses", not unused, unused, set())
-    print(f"{trial.rows} rows, {trial.wrong} wrong")
-    return 1 if trial.wrong else 0
-
-
-def start(path):
-    if os.path.isfile(path) and os.access(path, os.X_OK):
-        return main(path)
-    left = "rt ci leaves it there where it has passed, and rt run in crates/cudf_program"
-    print(f"{path} is no program: {left}", file=sys.stderr)
-    return 2
+def unused(trial):
+    trial.same("texts that no row uses", TABLE.unused, set())
 
 
 if __name__ == "__main__":
-    sys.exit(start(sys.argv[1]) if len(sys.argv) == 2 else __doc__)
+    tests = (rows_of_table, too_many_files, closed_pipe, many_solutions, too_little_memory, too_many_words, unused)
+    common.start(__doc__, *tests, make=Trial)

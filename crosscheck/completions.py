@@ -9,8 +9,8 @@ import re
 import select
 import shlex
 
-import programs
-from common import ENVIRONMENT, ROOT, contents, output, run
+from common import ENVIRONMENT, ROOT, contents, output_of, write
+from common import run_alike as run
 
 WAIT_SECONDS = 10
 # the completions, with how a shell is started in a terminal and reads them
@@ -37,12 +37,12 @@ OPTION = re.compile(r"(?<![\w-])(?:-\w|--\w[\w-]*)\b")
 
 def known_to(program):
     """The program's commands, the options of each and of none, and its counts, by its help and its error for a list."""
-    text = output(program, "--help")
+    text = output_of(program, "--help")
     commands = re.findall(r"^  (\w+) ", re.search(r"^Commands:\n((?:  .*\n)+)", text, re.M)[1], re.M)
     options = {"help": set()}
     for command in ["", *commands]:
         if command != "help":
-            text = output(program, *command.split(), "--help")
+            text = output_of(program, *command.split(), "--help")
             lines = re.search(r"^Options:\n((?: .*\n|\n)+)", text, re.M)[1]
             named = re.findall(r"^ +((?:-\w, )?--[\w-]+)", lines, re.M)
             options[command] = {word for words in named for word in words.split(", ")}
@@ -146,8 +146,8 @@ def completed(shell, folder, known):
             continue
         else:
             command = f"source {file}; complete -C 'cudf_check {line}'"
-            printed = output("fish", "--no-config", "-c", command, folder=folder)
-            offered = [offer.split("\t")[0] for offer in printed.splitlines()]
+            lines = output_of("fish", "--no-config", "-c", command, folder=folder).splitlines()
+            offered = [offer.split("\t")[0] for offer in lines]
         offered = {re.split("[=,]", word.removesuffix("="))[-1] for word in offered}
         yield f"{shell}, offered for {line!r}", offered, wanted
     if terminal:
@@ -169,7 +169,7 @@ def completions(trial):
     folder = trial.place("typed")
     os.mkdir(folder)
     for name in ("answer.cudf", "a b.cudf"):
-        programs.write(folder, name, b"")
+        write(folder, name, b"")
     for shell in SHELLS:
         if trial.has("completion", shell):
             yield from completed(shell, folder, known)

@@ -9,39 +9,33 @@ writer is killed, a file that grows; a pipe whose reader leaves, a full device, 
 standard descriptors closed, and one descriptor left for two files. The functions below say what is wanted.
 
 That comes from README.md, docs/FORMAT.md and the man page, and for the front of an input from the second
-implementation. Each wrong row is printed, and then how many rows there were. The exit status is 1 where one is wrong,
-and 2 where there is no program. Without gcc what needs shim.c is left out, and this is said. For Linux and glibc.
+implementation. Without gcc what needs shim.c is left out. For Linux and glibc.
 """
 import errno
 import itertools
 import os
 import resource
+import shutil
 import signal
 import subprocess
 
 import made
 import shim
+from commands import GREATEST_INPUT, TABLE
+from common import limit, split, start
 from second import reports
-from shim import EVER, limit, rule, split
+from shim import EVER, rule
 
-PROBLEM = "package: car\nversion: 1\ndepends: wheel > 2\ninstalled: true\n\npackage: wheel\nversion: 2\n\nrequest:\n"
-GOOD = "package: wheel\nversion: 2\ninstalled: true\n"
-BAD = "package: car\nversion: 1\ninstalled: true\n"
-BOTH = PROBLEM.replace("2\n\nrequest:", "2\ninstalled: true\n\nrequest: r") + "\n" + BAD
-FILES = {
-    "p": PROBLEM, "good": GOOD, "bad": BAD, "fail": "FAIL\n", "invalid": "?\n", "empty": "", "both": BOTH,
-    "--criteria": GOOD, " p": PROBLEM, " p ": "", " ": BAD,
-}
-OK, YES, UNMET = "problem ok\n", "solution yes\n", "p1.depends.1 car 1 line 1: needs wheel > 2\nsolution no\n"
-COUNTS = "removed 1\nnew 1\nchanged 2\nnotuptodate 0\nunsat_recommends 0\nparanoid 1 2\ntrendy 1 0 0 1\n"
-RANKED = "1 solution 2 yes -removed 1\n2 solution 1 no\n3 solution 3 FAIL\n"
-INVALID = "{} line 1: E2 not a property, continuation, comment or blank line\n"
+# those of commands.txt, and one with both documents
+FILES = TABLE.files
+PROBLEM, GOOD, BAD = (FILES[name] for name in ("p", "good", "bad"))
+BOTH = FILES["both"] = PROBLEM.replace("2\n\nrequest:", "2\ninstalled: true\n\nrequest: r") + "\n" + BAD
+OK, YES, UNMET, UNWRITTEN = map(TABLE.said, ("problem ok", "solution yes", "{unmet}", "{unwritten}"))
 # arguments, the status and the report
-REPORTS = (
-    ("lint p", 0, OK), ("check p bad", 1, UNMET), ("rank --criteria=-removed p bad good fail", 0, RANKED),
-    ("score p bad --criteria=-new", 1, "-new 0\nsolution no\n"), ("lint invalid", 2, INVALID.format("problem")),
-    ("check p invalid", 2, INVALID.format("solution")), ("score p good", 0, COUNTS + YES),
-)
+REPORTS = list(map(TABLE.report, (
+    "lint p", "check p bad", "rank --criteria=-removed p bad good fail", "score p bad --criteria=-new", "lint faulty",
+    "check p faulty", "score p good",
+)))
 FOUR_FILES = "rank --criteria=-removed p bad fail good"
 HELP = ("--version", "--help", "lint --help", "check -h", "help score", "rank --help")
 BYTES_A_READ, BYTES_A_WRITE, BYTES_OF_HELP_A_WRITE = 9, 7, 301
@@ -55,19 +49,19 @@ OPEN_ERRORS = (errno.ENOENT, errno.EACCES, errno.EMFILE, errno.ELOOP)
 HINTS = {errno.ENOENT: "; check the name, and run again"}
 UNOPENED = "cudf_check: {} can't be opened: {}\n"
 UNREAD = "cudf_check: {} could not be read to its end: {}; check that it is a file that can be read, and run again\n"
-UNWRITTEN = (
-    "cudf_check: the report could not be written to its end: the disk is full, or what reads it ended, as head does; "
-    "check --limit gives a shorter report\n"
-)
 
 
 class Trial(shim.Trial):
-    """Runs the program, and says which calls it made."""
+    """Runs the program on FILES, and says which calls it made."""
+
+    def __init__(self, *words):
+        super().__init__(*words)
+        self.enter(FILES)
 
     def calls(self, words, *rules, data=""):
         """The answer, and the calls on the files that the arguments name and on the standard descriptors."""
         words = split(words)
-        ran, calls, _ = self.shim.run([self.program, *words], *rules, data=data)
+        ran, calls, _ = self.shim.run([self.program, *words], *rules, data=data.encode())
         return ran.decoded(), [it for it in calls if it.name in (*words, "0", "1", "2")]
 
 
@@ -163,17 +157,17 @@ def long_reports(trial):
 def too_long(trial):
     """After an input that is too long none is read."""
     with open("huge", "wb") as file:
-        file.truncate(made.GREATEST_INPUT + 1)
+        file.truncate(GREATEST_INPUT + 1)
     for words in ("check huge bad", "rank --criteria=-new huge good bad", "rank --criteria=-new p huge bad"):
         ran, calls = trial.calls(words)
-        trial.same(words, (ran, answers(calls, "read", "bad")), ((5, "", made.TOO_LONG.format("huge")), []))
+        trial.same(words, (ran, answers(calls, "read", "bad")), ((5, "", TABLE.said("{too long: huge}")), []))
 
 
 def orders(trial):
     """Standard input is tried by a read of no byte where it is named. Then the files are opened in the order of the
     arguments, and then all are read in this order. No other is opened, nor standard input read if it isn't named."""
     for words, data in (
-        ("lint p", ""), ("check p bad", ""), ("check invalid fail", ""), ("score p good", ""), ("check - bad", PROBLEM),
+        ("lint p", ""), ("check p bad", ""), ("check faulty fail", ""), ("score p good", ""), ("check - bad", PROBLEM),
         ("check p -", BAD), ("rank p good empty --criteria=-removed bad", ""), ("lint -", "?\n"),
         ("rank --criteria=-removed p bad - good --strict fail", GOOD), ("rank --criteria=-removed - bad good", PROBLEM),
         ("rank --criteria=-new p -- - --criteria", GOOD), (["check", "p", " "], ""), (["check", " p", " p "], ""),
@@ -282,15 +276,5 @@ UNDER_SHIM = (
 )
 PLAIN = (unreadable_files, unsteady_files, unwritable_outputs, descriptors)
 
-
-def main(program):
-    with shim.folder_of(FILES) as folder:
-        trial = Trial(program, folder)
-        for rows in (*UNDER_SHIM, *PLAIN) if trial.shim else PLAIN:
-            rows(trial)
-    print(f"{trial.rows} rows, {trial.wrong} wrong")
-    return 1 if trial.wrong else 0
-
-
 if __name__ == "__main__":
-    shim.start(main, __doc__)
+    start(__doc__, *(UNDER_SHIM if shutil.which("gcc") else ()), *PLAIN, make=Trial)

@@ -9,20 +9,18 @@ usage: docs.py PROGRAM
   and runs that are ended from outside; and the totals and the page that come of them.
 
 dash and bash run the scripts, or else sh, and GNU parallel, gnuplot and the program time where they are installed.
-Prints what isn't as wanted, and then how many. Status 1: something is wrong. 2: there is no program. For Linux;
-Python's standard library alone.
 """
 import contextlib
 import html
 import os
 import re
 import shutil
-import subprocess
-import sys
 import tempfile
 import time
 
-ROOT = os.path.dirname(os.path.dirname(os.path.abspath(__file__)))
+import common
+from common import ROOT, section, unescaped
+
 SCRIPTS = f"{ROOT}/examples/competition"
 COMPETITION, DIFFERENCES = "docs/COMPETITION.md", "docs/DIFFERENCES.md"
 PAGES = ("README.md", "examples/README.md", COMPETITION, DIFFERENCES, "docs/MAINTAINERS.md", "docs/CI.md")
@@ -32,56 +30,28 @@ SHELLS = [name for name in ("dash", "bash") if shutil.which(name)] or ["sh"]
 BLOCK = r"((?:(?!```).*\n)*)```$"
 
 
-class Trial:
-    """Runs scripts, and counts what is as wanted. What they call as sh is the shell that runs them."""
+class Trial(common.Trial):
+    """Runs scripts, which call the program as cudf_check, and as sh the shell that runs them."""
 
-    def __init__(self, folder):
-        self.passed, self.failed, self.folder = 0, 0, folder
+    def __init__(self, *words):
+        super().__init__(*words)
         for shell in {*SHELLS, "sh"}:
-            os.mkdir(f"{folder}/{shell}")
-            os.symlink(shutil.which(shell), f"{folder}/{shell}/sh")
+            os.mkdir(self.place(shell))
+            os.symlink(shutil.which(shell), self.place(f"{shell}/sh"))
+        os.symlink(self.program, self.place("cudf_check"))
+        os.environ.update(PATH=f"{self.folder}:{os.environ['PATH']}", LC_ALL="C", grace="1", seconds="2")
 
-    def run(self, script, folder, shell="sh", **more):
-        """The status and the texts on both outputs, of a script or the words of a command, in a folder."""
+    def script(self, script, folder, shell="sh", **more):
+        """What a script gives, or the words of a command, in a folder."""
         words = [shell, "-c", script] if isinstance(script, str) else script
-        environment = {**os.environ, "PATH": f"{self.folder}/{shell}:{os.environ['PATH']}", **more}
-        try:
-            ran = subprocess.run(words, cwd=folder, env=environment, stdin=subprocess.DEVNULL, capture_output=True,
-                                 timeout=120, check=False)
-            return ran.returncode, ran.stdout.decode(), ran.stderr.decode()
-        except subprocess.TimeoutExpired:
-            return "no end", "", ""
-
-    def note(self, name, given, wanted):
-        if given == wanted:
-            self.passed += 1
-        else:
-            self.failed += 1
-            print(f"{name}:\n  {given}, wanted\n  {wanted}", flush=True)
+        environment = {**os.environ, "PATH": f"{self.place(shell)}:{os.environ['PATH']}", **more}
+        return common.run(words, cwd=folder, env=environment).decoded()
 
     def expect(self, script, folder, shell, status, output, errors="", **more):
         """One run, with what is wanted of it. Errors that don't end a line are a part of all, and None is some text."""
-        *given, printed = self.run(script, folder, shell, **more)
+        *given, printed = self.script(script, folder, shell, **more)
         is_part = printed if errors is None else errors and errors[-1] != "\n" and errors in printed
-        self.note(f"{script}, {shell}, {more}", (*given, errors if is_part else printed), (status, output, errors))
-
-
-def start(usage, parts):
-    """Tries the parts of a script with the program that the command line names."""
-    if len(sys.argv) != 2:
-        sys.exit(usage)
-    program = shutil.which(os.path.abspath(sys.argv[1]))
-    if program is None:
-        print(f"{sys.argv[1]} is no program: rt run in crates/cudf_program builds it", file=sys.stderr)
-        sys.exit(2)
-    with tempfile.TemporaryDirectory() as folder:
-        os.symlink(program, f"{folder}/cudf_check")
-        os.environ.update(PATH=f"{folder}:{os.environ['PATH']}", LC_ALL="C", grace="1", seconds="2")
-        trial = Trial(folder)
-        for part in parts:
-            part(trial)
-    print(f"{trial.passed} passed, {trial.failed} failed")
-    sys.exit(1 if trial.failed else 0)
+        self.same(f"{script}, {shell}, {more}", (*given, errors if is_part else printed), (status, output, errors))
 
 
 def read(folder, name):
@@ -101,9 +71,9 @@ def links(trial):
             path, _, heading = target.partition("#")
             file = os.path.normpath(os.path.join(os.path.dirname(name), path)) if path else name
             leads = os.path.exists(f"{ROOT}/{file}") and (not heading or heading in headings(read(ROOT, file)))
-            trial.note(f"{name}: link to {target}", leads, True)
+            trial.same(f"{name}: link to {target}", leads, True)
     named = set(re.findall(r"`(?:sh |sbatch )?(\w+\.sh)\b", read(ROOT, COMPETITION)))
-    trial.note(f"{COMPETITION}: scripts", named, {name for name in os.listdir(SCRIPTS) if name.endswith(".sh")})
+    trial.same(f"{COMPETITION}: scripts", named, {name for name in os.listdir(SCRIPTS) if name.endswith(".sh")})
 
 
 def shown_in(text):
@@ -119,7 +89,7 @@ def shown(trial):
     for name, shell, commands, wanted in cases:
         with tempfile.TemporaryDirectory() as folder:
             shutil.copytree(f"{ROOT}/examples", f"{folder}/examples")
-            trial.note(f"{name}, {shell}: {commands}", trial.run(commands, folder, shell)[1:], (wanted, ""))
+            trial.same(f"{name}, {shell}: {commands}", trial.script(commands, folder, shell)[1:], (wanted, ""))
 
 
 def by_pages(trial):
@@ -128,11 +98,11 @@ def by_pages(trial):
     with tempfile.TemporaryDirectory() as folder:
         os.symlink(f"{ROOT}/examples/rules.problem.cudf", f"{folder}/P")
         os.symlink(f"{ROOT}/examples/rules.answer.cudf", f"{folder}/S")
-        whole = trial.run("cudf_check check P S", folder)[1].splitlines()
+        whole = trial.script("cudf_check check P S", folder)[1].splitlines()
         for shell, limit in ((shell, limit) for shell in SHELLS for limit in (1, 5, 13, 1000)):
-            lines = trial.run(walk.replace("1000", str(limit)), folder, shell)[1].splitlines()
+            lines = trial.script(walk.replace("1000", str(limit)), folder, shell)[1].splitlines()
             listed = [line for line in lines if not line.startswith(("more after", "solution"))]
-            trial.note(f"walk by pages of {limit}, {shell}", [*listed, lines[-1]], whole)
+            trial.same(f"walk by pages of {limit}, {shell}", [*listed, lines[-1]], whole)
 
 
 def document(cell):
@@ -166,17 +136,17 @@ def differences(trial):
         with tempfile.TemporaryDirectory() as folder:
             leave(f"{folder}/P", problem(row))
             leave(f"{folder}/S", document(row.get("Answer", "")))
-            given = trial.run("cudf_check check P S" if "Answer" in row else "cudf_check lint P", folder)[1]
+            given = trial.script("cudf_check check P S" if "Answer" in row else "cudf_check lint P", folder)[1]
         wanted = row.get("Here", "`problem ok`").strip("`").split("`, `")
-        trial.note(f"{DIFFERENCES}: {cells[:2]}", given.splitlines(), wanted)
+        trial.same(f"{DIFFERENCES}: {cells[:2]}", given.splitlines(), wanted)
 
 
 def packages(*pairs):
     return "\n".join(f"package: {name}\nversion: {version}\ninstalled: true\n" for name, version in pairs)
 
 
-def rows(text):
-    return [line.split() for line in text.splitlines()]
+def rows(title):
+    return [line.split() for line in section(TABLES, title).splitlines() if line]
 
 
 def table(cells):
@@ -185,84 +155,41 @@ def table(cells):
     return "".join("  ".join(f"{cell:>{width}}" for cell, width in zip(row, wide)) + "\n" for row in cells)
 
 
-# car 1 is installed and a car requested: OLD changes nothing, NEW one name, BOTH two; the empty status is no solution
-OLD, NEW, BOTH = packages(("car", 1)), packages(("car", 2)), packages(("car", 2), ("bus", 1))
-CARS = f"{OLD}\npackage: car\nversion: 2\n\npackage: bus\nversion: 1\n\nrequest: r\ninstall: car\n"
-# nothing is installed and nothing is wanted: the empty status is the best answer
-QUIET = "package: car\nversion: 1\n\npackage: car\nversion: 2\n\nrequest: r\n"
-FAULTY = "package: car\n\nrequest: r\n"
-# answers that end within a line, and after a stanza, where bus 1 would have been followed by a car
-CUT, BUS, GHOST = "package: car\nversion: 1\ninst", packages(("bus", 1)), packages(("ghost", 1))
-BINARY, FAIL, LATE_FAIL = "\0\1\2\u0080 ELF", "FAIL\n", "# time is over\nFAIL\nno answer\n"
-# what a solver may leave that isn't a text
-NONE, FOLDER, LONG, UNREADABLE, BROKEN_LINK = range(5)
-SOLVERS = ("ash", "ash-2", "ash.1", "mccs", "mccs-lpsolve", "the_solver_whose_name_has_41_letters_in_i")
-# Problems, what each of these solvers left for them, and its cells, worked out by hand. By -removed,-changed the counts
-# in `cars.cudf` are 0 2, 0 0, 0 1, 0 1, FAIL, 0 2: the two of 0 1 share the second place, those of 0 2 the fourth. A
-# malformed problem has no ranking, whatever the answers are. In `none.cudf` no answer has a car, and in `nothing.cudf`
-# no file can be ranked. In `odd.cudf` there is one solution, and bus 1 is no car. In `quiet.cudf` the first two change
-# nothing and share the first place, the fourth changes one name and is third, and ghost 1 isn't in the problem. In the
-# last problem the empty status has no car.
-PROBLEMS = {
-    "cars.cudf": (CARS, (BOTH, OLD, NEW, NEW, FAIL, BOTH), "4 1 2 2 FAIL 4"),
-    "faulty.cudf": (FAULTY, (OLD, OLD, NEW, FAIL, CUT, NONE), "unranked " * 6),
-    "none.cudf": (CARS, ("", BUS, "# nothing\n", FAIL, GHOST, FAIL), "no no no FAIL no FAIL"),
-    "nothing.cudf": (CARS, (NONE, CUT, FOLDER, NONE, BINARY, LONG), "missing faulty folder missing faulty long"),
-    "odd.cudf": (CARS, (FOLDER, LATE_FAIL, UNREADABLE, NEW, BROKEN_LINK, BUS), "folder FAIL unread 1 missing no"),
-    "quiet.cudf": (QUIET, ("", "# nothing\n", NONE, NEW, GHOST, FAIL), "1 1 missing 3 no FAIL"),
-    "rand692b_with_a_name_of_forty-one_letters": (
-        CARS, (NONE, "", LONG, BINARY, CUT, OLD), "missing no long faulty faulty 1"),
+TABLES = "competition.txt"
+DOCUMENTS = {
+    name: unescaped(text).decode("latin-1")
+    for name, text in re.findall(r"(\S+) = ?(.*)\n", section(TABLES, "documents"))
 }
-TABLE = [("problem", *SOLVERS), *([name, *cells.split()] for name, (_, _, cells) in PROBLEMS.items())]
-# By the table: 6 solvers, so FAIL has 12 points, stopped and missing 18, and what is no solution 24.
-TOTALS = rows("""\
-solver points solved best FAIL stopped no faulty seconds
-mccs 60 3 1 1 1 0 1 -
-the_solver_whose_name_has_41_letters_in_i 77 2 1 2 0 1 1 -
-ash-2 86 2 2 1 0 2 1 -
-ash 89 2 1 0 2 1 1 -
-ash.1 116 1 0 0 1 1 3 -
-mccs-lpsolve 126 0 0 1 1 2 2 -
-""")
+CARS, OLD, NEW, QUIET = (DOCUMENTS[name] for name in ("CARS", "OLD", "NEW", "QUIET"))
+# what a solver may leave that isn't a text: the first can be opened by every user, and fails at its first read
+LINKS = {"UNREADABLE": "/proc/self/mem", "BROKEN_LINK": "/nowhere"}
+SIZES = {"LONG": 300_000_000, "WIDE": 200_000_000}
+SOLVERS = ("ash", "ash-2", "ash.1", "mccs", "mccs-lpsolve", "the_solver_whose_name_has_41_letters_in_i")
+PROBLEMS = [line.split(" | ") for line in section(TABLES, "problems").splitlines() if line]
+TABLE = [("problem", *SOLVERS), *([name, *cells.split()] for name, _, _, cells in PROBLEMS)]
+TOTALS, ODD_TABLE, ODD_TOTALS = (rows(title) for title in ("totals", "a table with odd names", "its totals"))
 # The stanza on line 1 has no version.
 LINTED = "problems/faulty.cudf: problem line 1: E12 no version\n"
 # Names that can't be in a line of words or in raw/.
 BAD_NAMES = ("v l c.cudf", "-x", "a.err", "a&b", "two\nlines", "caf\u00e9", "*", "a\\cb")
 KEEPS, CHANGES = f"printf '%s' '{OLD}' > \"$2\"", f"cat > \"$2\" << END\n{NEW}END\n"
-# Solvers that end in many ways, with their status and cell; the listing of `ghosts` has more than 1,000 lines.
+# the solvers of competition.txt, each with its script, its status and its cell
 RUNS = {
-    "prints": (f"{KEEPS}; echo on its output; echo on its errors >&2", 0, "1"),
-    "writes": (CHANGES, 0, "4"),
-    "habit": (f"{KEEPS}; exit 10", 10, "1"),
-    "says-no": ("echo FAIL > \"$2\"", 0, "FAIL"),
-    # asked to end, these go on, end, and write their answer
-    "deaf": (f"trap '' TERM; {KEEPS}; sleep 60", 137, "stopped"),
-    "slow": (f"{KEEPS}; exec sleep 60", 124, "stopped"),
-    "at-last": (f"trap '{CHANGES}exit 0' TERM; sleep 60 & wait", 124, "stopped"),
-    "crashes": (f"{KEEPS}; kill -SEGV $$", 139, "stopped"),
-    # as numbers these two would be one
-    "1.1": ("exit 130", 130, "stopped"),
-    "1.10": (KEEPS, 0, "1"),
-    "idle": ("exit 0", 0, "missing"),
-    "leaves.a.folder": ("mkdir \"$2\"", 0, "missing"),
-    "absent": ("exec ./no-such-solver", 127, "stopped"),
-    "floods": ("exec truncate -s 2G \"$2\"", 153, "stopped"),
-    "ghosts": ("seq 1100 | sed 's/.*/package: g\\nversion: &\\ninstalled: true\\n/' > \"$2\"", 0, "no"),
-    "reads": ("cat > \"$2\"", 0, "no"),
+    name: (script.format(keeps=KEEPS, changes=CHANGES), int(status), cell)
+    for name, status, cell, script in re.findall(r"(\S+) (\d+) (\S+) (.*)\n", section(TABLES, "solvers"))
 }
 
 
 def leave(place, answer):
-    """What a solver left at this place."""
-    if answer == FOLDER:
+    """What a solver left at this place: a text, or what a word of competition.txt says."""
+    if answer == "FOLDER":
         os.mkdir(place)
-    elif answer in (UNREADABLE, BROKEN_LINK):
-        # the first is a file that every user can open and that fails at its first read
-        os.symlink("/proc/self/mem" if answer == UNREADABLE else "/nowhere", place)
-    elif answer != NONE:
+    elif answer in LINKS:
+        os.symlink(LINKS[answer], place)
+    elif answer != "NONE":
         with open(place, "w", encoding="latin-1") as file:
-            file.write("" if answer == LONG else answer)
-            file.truncate(300_000_000 if answer == LONG else None)
+            file.write("request:\n#" if answer in SIZES else answer)
+            file.truncate(SIZES.get(answer))
 
 
 @contextlib.contextmanager
@@ -278,8 +205,9 @@ def competition(files):
 
 def odd_answers(trial):
     """The scripts with worse names and files than the page has."""
-    files = {f"problems/{name}": text for name, (text, _, _) in PROBLEMS.items()}
-    for name, (_, answers, _) in PROBLEMS.items():
+    files = {f"problems/{name}": DOCUMENTS[problem] for name, problem, _, _ in PROBLEMS}
+    for name, _, left, _ in PROBLEMS:
+        answers = (DOCUMENTS.get(word, word) for word in left.split())
         files |= {f"answers/{solver}/{name}": answer for solver, answer in zip(SOLVERS, answers)}
     csv = "".join(",".join(row) + "\n" for row in TOTALS)
     with competition(files) as folder:
@@ -297,6 +225,16 @@ def odd_answers(trial):
         trial.expect(f"sh judge.sh | sed -E '{lines}'", folder, "sh", 0, "version\nsum\n")
 
 
+def little_memory(trial):
+    """An answer and a problem with a line for which there is no memory."""
+    lacking = "there is not enough memory"
+    for problem, answer, cell, errors in ((QUIET, "WIDE", "unread", ""), ("WIDE", OLD, "unranked", lacking)):
+        cells = table([("problem", "ash"), ("p", cell)])
+        with competition({"problems/p": problem, "answers/ash/p": answer}) as folder:
+            for shell in SHELLS:
+                trial.expect("ulimit -v 100000; sh table.sh", folder, shell, 0, cells, errors)
+
+
 def bad_names(trial):
     """Refused are names of problems, solvers and folders of answers that would break a line of words; empty folders."""
     problem, solver, answer = {"problems/p": CARS}, {"solvers/ash": ""}, {"answers/ash/p": OLD}
@@ -310,7 +248,7 @@ def bad_names(trial):
         with competition(files) as folder:
             for shell in SHELLS:
                 trial.expect(f"sh {script}.sh", folder, shell, 1, "", errors)
-                trial.note(f"jobs, {shell}, {errors}", os.path.exists(f"{folder}/jobs"), False)
+                trial.same(f"jobs, {shell}, {errors}", os.path.exists(f"{folder}/jobs"), False)
 
 
 def of_run(line, begun):
@@ -346,58 +284,50 @@ def solved(trial, folder, runs, shell):
     trial.expect("sh jobs.sh", folder, shell, 0, "")
     pending(trial, folder, shell, [f"{solver} cars.cudf" for solver in names], dict.fromkeys(names, "pending"))
     begun = int(time.time())
-    trial.note(name, trial.run(runs, folder, shell)[:2], (0, ""))
+    trial.same(name, trial.script(runs, folder, shell)[:2], (0, ""))
     ended = [of_run(line, begun) for line in sorted(read(folder, "ended").splitlines())]
-    trial.note(f"{name}: ended", ended, [(f"{solver} cars.cudf {RUNS[solver][1]}", True) for solver in names])
+    trial.same(f"{name}: ended", ended, [(f"{solver} cars.cudf {RUNS[solver][1]}", True) for solver in names])
     pending(trial, folder, shell, [], {solver: RUNS[solver][2] for solver in names})
     wanted = {**dict.fromkeys(("deaf", "slow", "crashes", "prints"), OLD), "at-last": NEW}
-    trial.note(f"{name}: kept", {solver: read(folder, f"raw/{solver}/cars.cudf") for solver in wanted}, wanted)
+    trial.same(f"{name}: kept", {solver: read(folder, f"raw/{solver}/cars.cudf") for solver in wanted}, wanted)
     printed = sorted(read(folder, "raw/prints/cars.cudf.err").splitlines())
-    trial.note(f"{name}: printed", printed, ["on its errors", "on its output"])
+    trial.same(f"{name}: printed", printed, ["on its errors", "on its output"])
 
 
 def verdicts(trial, folder):
     """The column Exitval has each cell as a status; a file that isn't there can't be opened; a long report is cut."""
-    trial.run("sh verdicts.sh", folder)
+    trial.script("sh verdicts.sh", folder)
     lines = [line.split("\t") for line in read(folder, "verdicts").splitlines()[1:]]
     statuses = {"FAIL": "3", "missing": "5", "stopped": "5", "no": "1"}
     wanted = [(name, statuses.get(cell, "0")) for name, (_, _, cell) in sorted(RUNS.items())]
-    trial.note("verdicts", sorted((line[8].split("/")[2], line[6]) for line in lines), wanted)
+    trial.same("verdicts", sorted((line[8].split("/")[2], line[6]) for line in lines), wanted)
     report = read(folder, "reports/1/ghosts/2/cars.cudf/stdout").splitlines()
-    trial.note("a long report", (len(report), report[-1]), (1002, "solution no"))
+    trial.same("a long report", (len(report), report[-1]), (1002, "solution no"))
 
 
 def other_runs(trial):
     """A run that is ended from outside, its rerun, a solver that answers when its time is over, and no program time."""
     solvers = {f"solvers/{solver}": RUNS[solver][0] for solver in ("at-last", "prints", "slow")}
     with competition({"problems/cars.cudf": CARS, **solvers}) as folder:
-        trial.run("sh jobs.sh; sh run.sh prints cars.cudf", folder)
+        trial.script("sh jobs.sh; sh run.sh prints cars.cudf", folder)
         # as Slurm ends a task, when its solver has written its answer
         wait = "until [ -e raw/slow/cars.cudf ]; do sleep 0.1; done"
-        trial.run(f"setsid sh run.sh slow cars.cudf & {wait}; kill -s KILL -- -$!", folder)
+        trial.script(f"setsid sh run.sh slow cars.cudf & {wait}; kill -s KILL -- -$!", folder)
         cells = {"at-last": "pending", "prints": "1", "slow": "pending"}
         pending(trial, folder, "sh", ["at-last cars.cudf", "slow cars.cudf"], cells)
-        trial.run("sh pending.sh > rest; sh xargs.sh rest", folder, anytime="yes", timer="/nowhere")
+        trial.script("sh pending.sh > rest; sh xargs.sh rest", folder, anytime="yes", timer="/nowhere")
         # the first may be late, and sleep ends by the signal
         pending(trial, folder, "sh", [], {"at-last": "2", "prints": "1", "slow": "stopped"})
         ended = {line.split(" ")[0]: line.split(" ")[2:] for line in read(folder, "ended").splitlines()}
         given = [(ended[name][0], int(ended[name][2]) >= 2, *ended[name][3:]) for name in ("at-last", "slow")]
-        trial.note("without time", given, [("0", True, "-", "-", "-"), ("143", True, "-", "-", "-")])
+        trial.same("without time", given, [("0", True, "-", "-", "-"), ("143", True, "-", "-", "-")])
         # the last of two lines counts
-        trial.run("sh run.sh slow cars.cudf; echo 'prints cars.cudf 139 0 0 - - -' >> ended", folder)
+        trial.script("sh run.sh slow cars.cudf; echo 'prints cars.cudf 139 0 0 - - -' >> ended", folder)
         pending(trial, folder, "sh", [], {"at-last": "1", "prints": "stopped", "slow": "stopped"})
         for words in ("", "ash", "slow none", "none cars.cudf", "'' ''", ". ."):
             trial.expect(f"sh run.sh {words}", folder, "sh", 4, "", "run.sh: no solvers/")
 
 
-# Names as nobody should have them, and a tie of the first two, which their seconds decide: b has 3 + 4, a 5 + 4.
-ODD_TABLE = rows("problem a b <i>&\"' d;`date`\n<p>.cudf 1 1 FAIL 3\ntwo 1 1 3 stopped\n"
-                 "late pending unranked pending unranked")
-ODD_ENDED = ("a <p>.cudf 0 9 99 - - -\na <p>.cudf 0 9 5.00 - - -\na two 0 9 4.00 - - -\nb <p>.cudf 0 9 3.00 - - -\n"
-             "b two 0 9 4.00 - - -\n<i>&\"' <p>.cudf 0 9 0.00 1 1 1\n<i>&\"' two 0 9 0.00 1 1 1\n"
-             "d;`date` <p>.cudf 0 9 7 - - -\nb late 0 9 50 - - -\n")
-ODD_TOTALS = TOTALS[:1] + rows("b 2 2 2 0 0 0 0 7.00\na 2 2 2 0 0 0 0 9.00\n<i>&\"' 11 1 0 1 0 0 0 0.00\n"
-                               "d;`date` 15 1 0 0 1 0 0 7.00")
 TITLE, WARNING = "A & <script>alert(1)</script> \"\u00e9\"", "totals.sh: 2 runs are pending\n"
 # elements without an end, and such as a page mustn't have
 ALONE = ("meta", "path", "circle", "rect", "use", "feFlood", "feComposite", "polygon", "ellipse")
@@ -420,7 +350,7 @@ def odd_in(text):
 
 def html_page(trial, folder, shell, gnuplot):
     """The page with plots or without."""
-    status, output, errors = trial.run(f"sh page.sh '{TITLE}' '<2026>'", folder, shell, gnuplot=gnuplot)
+    status, output, errors = trial.script(f"sh page.sh '{TITLE}' '<2026>'", folder, shell, gnuplot=gnuplot)
     plain, ids = re.sub("<svg.*?</svg>", "", output, flags=re.S), re.findall(r"id=[\"']([^\"']*)", output)
     texts = [(tag, html.unescape(text)) for tag, text in re.findall(r"<(t[hd]|h1|title)\b[^>]*>([^<]*)<", plain)]
     plots = 2 * (gnuplot == "gnuplot")
@@ -433,13 +363,14 @@ def html_page(trial, folder, shell, gnuplot):
         ("plots", (output.count("<svg"), "No plots: gnuplot" in output), (plots, not plots)),
         ("names twice", len(ids) - len(set(ids)), 0),
     ):
-        trial.note(f"page.sh, {gnuplot}, {shell}: {what}", given, wanted)
+        trial.same(f"page.sh, {gnuplot}, {shell}: {what}", given, wanted)
 
 
 def html_pages(trial):
     """The page of a table with odd names, with and without plots; the totals by time; and the scatter plot's axes."""
     plotters = ["gnuplot"] * bool(shutil.which("gnuplot"))
-    with competition({"table": table(ODD_TABLE), "ended": ODD_ENDED}) as folder:
+    ended = "".join(" ".join(row) + "\n" for row in rows("how its runs ended"))
+    with competition({"table": table(ODD_TABLE), "ended": ended}) as folder:
         for shell in SHELLS:
             trial.expect("sh totals.sh", folder, shell, 0, table(ODD_TOTALS), WARNING)
             for gnuplot in ["/nowhere", *plotters]:
@@ -453,9 +384,10 @@ def html_pages(trial):
     ended = "".join(f"{run} - - -\n" for run in ("ash p 0 1 0.2", "ash q 0 1 0.2", "elm p 0 1 0.4", "elm q 0 1 0.4"))
     with competition({"table": "problem ash elm\np 1 1\nq 1 2\n", "ended": ended}) as folder:
         for shell in SHELLS * len(plotters):
-            output = trial.run("sh page.sh T D", folder, shell)[1].partition("<title>scatter<")[2]
-            trial.note(f"axes, {shell}", re.findall(r"<text> *([\d.]+)<", output), ["0.1", "1"] * 2)
+            output = trial.script("sh page.sh T D", folder, shell)[1].partition("<title>scatter<")[2]
+            trial.same(f"axes, {shell}", re.findall(r"<text> *([\d.]+)<", output), ["0.1", "1"] * 2)
 
 
 if __name__ == "__main__":
-    start(__doc__, (links, shown, by_pages, differences, odd_answers, bad_names, many_runs, other_runs, html_pages))
+    of_pages, of_scripts = (links, shown, by_pages, differences), (odd_answers, little_memory, bad_names)
+    common.start(__doc__, *of_pages, *of_scripts, many_runs, other_runs, html_pages, make=Trial)

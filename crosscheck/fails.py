@@ -8,17 +8,17 @@ usage: fails.py PROGRAM
   that isn't there; wrong arguments; names with spaces. Some with cadical itself, if it is installed and writes LRAT.
 - fails.sh on a folder of answers, also with a solver that fails, and on the page's own.
 
-dash and bash run the scripts where they are installed. Prints what isn't as wanted, and then how many. Status 1:
-something is wrong. 2: there is no program. Python's standard library alone.
+dash and bash run the scripts where they are installed.
 """
 import hashlib
 import os
 import shutil
-import subprocess
 import tempfile
 
-from docs import CARS, OLD, SCRIPTS, SHELLS, competition, leave, packages, read, start
+from common import contents, run, start
+from docs import CARS, OLD, SCRIPTS, SHELLS, Trial, competition, leave, packages, read
 from refutations import A, SHOP, SHOP_CORE, SHOP_PROOF
+from second.cnf import Rules
 
 # the last two arguments are the CNF and the proof; the status is $ENDS (0) where it has no answer
 STAND_IN = """#!/bin/sh
@@ -31,18 +31,14 @@ exit ${ENDS:-0}
 # what fail.sh calls besides cudf_check and cadical
 TOOLS = ("awk", "cat", "cp", "cut", "mktemp", "rm", "sha256sum", "sh")
 NOTHING, FAULTY = "request:\n", "package: a\n\nrequest:\n"
-# Problems and their CNF by docs/RULES.md: nothing in LACKING gives b, and server 1 alone is a solution on the page.
+# nothing in LACKING gives b, and server 1 alone is a solution on the page
 TWO = A + "\npackage: b\nversion: 2\ndepends: a\n\nrequest: r\ninstall: b\n"
 LACKING = A + "\nrequest: r\ninstall: a, b\n"
-TWO_CNF, LACKING_CNF = "c p1 a 1\nc p2 b 2\np cnf 2 2\n-2 1 0\n2 0\n", "c p1 a 1\np cnf 1 2\n1 0\n0\n"
-SHOP_CNF = ("c p1 shop 1\nc p2 server 2\nc p3 proxy 1\nc p4 mailer 4\nc p5 tls 2\np cnf 5 6\n"
-            "-1 2 3 0\n-1 4 0\n-2 0\n-3 -4 0\n5 0\n1 0\n")
-SERVER_CNF = ("c p1 mail 1\nc p2 mail 2\nc p3 library 1\nc p4 library 2\nc p5 server 1\np cnf 5 3\n"
-              "-2 4 0\n-5 -1 0\n5 0\n")
-KNOWN = {
-    SHOP_CNF: ("proof", SHOP_PROOF), TWO_CNF: ("model", "s SATISFIABLE\nv 1 2 0\n"), LACKING_CNF: ("proof", ""),
-    "p cnf 0 0\n": ("model", "s SATISFIABLE\nv 0\n"), SERVER_CNF: ("model", "s SATISFIABLE\nv -1 -2 -3 -4 5 0\n"),
-}
+SERVER = contents("examples/competition/problems/server.cudf").decode()
+KNOWN = (
+    (SHOP, "proof", SHOP_PROOF), (TWO, "model", "s SATISFIABLE\nv 1 2 0\n"), (LACKING, "proof", ""),
+    (NOTHING, "model", "s SATISFIABLE\nv 0\n"), (SERVER, "model", "s SATISFIABLE\nv -1 -2 -3 -4 5 0\n"),
+)
 WITNESS = packages(("a", 1), ("b", 2)) + "\n"
 YES, UNKNOWN = "solution yes\n", "not decided\n"
 # of cadical before 1.7, which ends with 1, and of one that crashes or is killed
@@ -58,10 +54,10 @@ ROWS = (
 )
 # what must not be believed: another's proof, one that was cut off, a model of less
 WRONG = (
-    (SHOP, SHOP_CNF, ("proof", "7 0 1 2 0\n"), "proof line 1: L6 hint is not unit\n"),
-    (SHOP, SHOP_CNF, ("proof", "7 3 0 6 3 1 0\n"), "proof line 1: L8 proof ends early\n"),
-    (TWO, TWO_CNF, ("model", "s SATISFIABLE\nv -1 2 0\n"), "p2.depends.1 b 2 line 4: needs a\nsolution no\n"),
-    (TWO, TWO_CNF, ("proof", "3 0 2 1 0\n"), "proof line 1: L7 hints without conflict\n"),
+    (SHOP, "proof", "7 0 1 2 0\n", "proof line 1: L6 hint is not unit\n"),
+    (SHOP, "proof", "7 3 0 6 3 1 0\n", "proof line 1: L8 proof ends early\n"),
+    (TWO, "model", "s SATISFIABLE\nv -1 2 0\n", "p2.depends.1 b 2 line 4: needs a\nsolution no\n"),
+    (TWO, "proof", "3 0 2 1 0\n", "proof line 1: L7 hints without conflict\n"),
 )
 
 
@@ -82,9 +78,10 @@ class Setting:
         return tempfile.mkdtemp(dir=self.trial.folder)
 
     def stored(self, answers):
-        """A folder with answers of the stand-in."""
+        """A folder with answers of the stand-in to problems, by the CNFs of the second implementation."""
         folder = self.folder()
-        for cnf, (kind, text) in answers.items():
+        for problem, kind, text in answers:
+            cnf = "".join(line + "\n" for line in Rules(problem).dimacs())
             leave(f"{folder}/{hashlib.sha256(cnf.encode()).hexdigest()}.{kind}", text)
         return folder
 
@@ -100,16 +97,16 @@ class Setting:
             self.trial.expect(script, folder, self.shell, status, output, errors, **more)
             found = {name: read(folder, name) for name in set(os.listdir(folder)) - before}
             name = f"left by fail.sh {words}, {self.shell}, {self.cadical}: {problem}"
-            self.trial.note(name, (found, os.listdir(scratch)), (left or {}, []))
+            self.trial.same(name, (found, os.listdir(scratch)), (left or {}, []))
 
     def judged(self):
         for name, problem, words, status, output, left in ROWS:
             self.expect([name, *words], problem, status, output, "", left)
 
     def rejected(self):
-        nothing = self.stored({})
-        for problem, cnf, answer, lines in WRONG:
-            self.expect(["p"], problem, 3, lines + UNKNOWN, ANSWERS=self.stored({cnf: answer}))
+        nothing = self.stored([])
+        for *answer, lines in WRONG:
+            self.expect(["p"], answer[0], 3, lines + UNKNOWN, ANSWERS=self.stored([answer]))
         self.expect(["p"], SHOP, 3, UNKNOWN, ANSWERS=nothing)
         for ends in ENDS:
             self.expect(["p"], SHOP, 5, "", BROKEN, ANSWERS=nothing, ENDS=ends)
@@ -133,19 +130,19 @@ class Setting:
             self.judge_all(folder, 5, "shop right\ntwo wrong\n", f"open: {BROKEN}", ENDS="1")
             self.judge_all(folder, 0, "open not decided\nshop right\ntwo wrong\n")
             self.judge_all(folder, 127, "", "cudf_check", PATH="/nowhere")
-            self.trial.note(f"a report, {self.shell}", read(folder, "judged/shop"), SHOP_CORE)
-            self.trial.note(f"a witness, {self.shell}", read(folder, "judged/two.witness"), WITNESS)
+            self.trial.same(f"a report, {self.shell}", read(folder, "judged/shop"), SHOP_CORE)
+            self.trial.same(f"a witness, {self.shell}", read(folder, "judged/two.witness"), WITNESS)
         # on the page oak answers FAIL to `server.cudf`
         with competition({}) as folder:
             shutil.copytree(SCRIPTS, folder, dirs_exist_ok=True)
             self.judge_all(folder, 0, "server.cudf wrong\n")
             witness = read(folder, "judged/server.cudf.witness")
-            self.trial.note(f"the page's witness, {self.shell}", witness, packages(("server", 1)) + "\n")
+            self.trial.same(f"the page's witness, {self.shell}", witness, packages(("server", 1)) + "\n")
 
 
 def judge(trial):
     cadical = shutil.which("cadical")
-    has_lrat = cadical and b"--lrat" in subprocess.run([cadical, "--help"], capture_output=True, check=False).stdout
+    has_lrat = cadical and b"--lrat" in run([cadical, "--help"]).output
     for shell in SHELLS:
         setting = Setting(trial, shell)
         setting.judged()
@@ -158,4 +155,4 @@ def judge(trial):
 
 
 if __name__ == "__main__":
-    start(__doc__, [judge])
+    start(__doc__, judge, make=Trial)

@@ -1,70 +1,29 @@
 """Random problems, solutions and arguments; errors are put in on purpose. Python's standard library alone."""
 import random
+import re
+import types
 
+from common import contents, unescaped
 from second.criteria import COUNTS
 from second.documents import WISHES
 from second.keys import ASPECTS
 from second.values import BLANKS, ENTRIES, OPERATORS, PROPERTIES, RESERVED
 
-NAMES = ("a", "b", "c", "f")
-ODD_NAMES = ("true", "1", "a:i", "g++", "a b", "")
-ODD_NUMBERS = ("+2", "01", "0", "18446744073709551615", "18446744073709551616", "-1", "x")
-DECLARATIONS = (
-    "x: int", "x: nat = [3]", "x : posint = 2", "recommends: vpkgformula = [true!]", 'note: string = ["a, \\"b\\""]',
-    "note: string", 'e: enum[red, green] = "red"', "e:enum [red]=[green]", "e: enum[red,green] = [green]",
-    "x: bool = [tru]", "version: int", "l: vpkglist = []", "i: ident = [a1]", "x: typedecl", "s: string = [x][y]",
-    "q: veqpkglist = [a = 1]", "x: int = []", "n: pkgname = [b:c]", "v: vpkg = [a >= 2]", 'w: veqpkg = "a"',
-)
-ODD_LINES = "# comment|#|junk|é: x| cont|\t| x|a b: c|FAIL|x:|1a: b|property: x: int|note: 1".split("|")
-RECOMMENDS = tuple("recommends: " + text for text in (
-    "vpkgformula", "vpkgformula = []", "vpkgformula = [true!]", "vpkgformula = [a | b > 1, c]", "vpkgformula = f",
-    "vpkgformula=[ false! ]", "vpkglist = [a]", "string",
-))
-# declarations without a default, each with lines that a package may have
-NEEDED = {
-    "x: int": ("x: -1", "x:+0"), "note: string": ("note:", "note: any"), "e: enum[red, green]": ("e: red", "e:green"),
-    "size: nat": ("size: 3", "size: 0"),
-}
-ODD_LISTS = (
-    "", "removed", "-removed,", ",-new", "- removed", "-Removed", "-new,,+new", "-new, +new", "--new", "-size",
-    "-changed +new", "-paranoid", "-\u00e9", "+", "-new;+new", "-newer", "-unsat-recommends", " -new", "-new\n",
-)
-ODD_LIMITS = " 2\t|+1|003|18446744073709551615|18446744073709551616|0|-1|x||1.0|1 1|\n1".split("|")
-ODD_ENDS = ("", ".", ".1", "0", " ", "\n", ".lower", "\u00e9", "e3", "18446744073709551615")
 FAILS = (b"FAIL", b"# c\n FAIL\r\nx")
 ODD_SOLUTIONS = (*FAILS, b"\nFAIL\t\n\xff", b"FAIL x\n", b"fail\n")
-# invalid values by the word of the type; of a list one entry is invalid
-WRONG = {
-    "posint": ("0", "-1", "x", "", "1 1", "18446744073709551616"), "nat": ("-1", "x", "", "1.0"),
-    "int": ("x", "", "+-1", "1,2"), "bool": ("True", "", "yes", "1"), "pkgname": ("a b", "", "a!", "a,b"),
-    "ident": ("1a", "", "a b", "-a"), "enum": ("blue", "", "red, green", "Red"),
-    "vpkg": ("a 2", "", "a, b", "true!", "a | b"), "veqpkg": ("a > 2", "", "a = 0", "a, b"),
-    "vpkgformula": ("a b", "", "a | ", "| a", "a || b", "a = 0", "true !"),
-    "vpkglist": ("a b", "", "true!", "a | b", "a >", "a = 0"), "veqpkglist": ("a > 1", "", "a != 2", "a = 0", "a b"),
-}
 BUILT_IN = {name: kind.word for name, kind in PROPERTIES.items() if name not in ("package", "was-installed")}
-# names that a preamble may declare; some are those of the request
-DECLARED = ("x", "e", "recommends", "install", "upgrade", "property", "size-2", "E_")
-FIRST = "version: 1|depends: a|Package: a|x:|installed: true|property: x: int|preambles: |requests:".split("|")
-UNDECLARED = "size: 3|install: a|request: r|preamble:|property: x: int|Version: 1|recommend: a|e1: red".split("|")
-IGNORED = {
-    "package": ("was-installed: x",), "request": ("note: x", "size: 1", "property: x"),
-    "preamble": ("maker: x", "size: 1"),
-}
-STRAY = "package: a|version: 1|keep: none|was-installed: x|preamble: x|request: r|instal: a|recommends: a".split("|")
-REPEATED_VERSIONS = ("{}", "0{}", "+{}", "+00{} ")
-GOOD_DECLARATIONS = (
-    "k{}: int", "k{} : nat = [3]", 'k{}: string = ["a, \\"b\\" [c"]', "k{}: enum[red, green] = [red]",
-    "k{}: vpkglist = [a, b > 1]", "k{}:vpkgformula = [true!, a | b]", "k{}: veqpkglist = []",
-)
-WRONG_DECLARATIONS = (
-    "", "k", "k:", "k int", "k: typedecl", "k: int = [x]", "k: bool =", "1k: int", "k: enum", "k: enum[]",
-    "k: enum[a b]", 'k: int = "3"', 'k: string = "a" b', "k: nat [3]", 'k: enum[a, b] = "c"', "k: vpkglist = [a b]",
-)
-BROKEN = (
-    'k: string = "a', 'k: string = ["a\\n"]', "k: int = [3", "k: int]", "k: int = 3]4", "k: enum[a[b]]",
-    'k: string = ["a\\"]', "]", "[", '"',
-)
+
+
+def words_by_name():
+    """The texts of inputs.txt, by their names and their kinds."""
+    text, found = contents("crosscheck/inputs.txt").decode().replace("\n¦", "¦"), {}
+    for name, kind, line in re.findall(r"^([a-z_]+)(?:, (.+?))? = (.*)$", text, re.M):
+        texts = tuple(unescaped(part).decode() for part in line.split("¦"))
+        found[name] = {**found.get(name, {}), kind: texts} if kind else texts
+    return types.SimpleNamespace(**found)
+
+
+WORDS = words_by_name()
 
 
 class Faults:
@@ -99,38 +58,38 @@ class Faults:
 
     def begins_otherwise(self, stanzas):
         stanza = self.of_kind(stanzas, "package")
-        stanza[:1] = [self.pick(FIRST)] * self.pick((0, 1))
+        stanza[:1] = [self.pick(WORDS.first)] * self.pick((0, 1))
         if not stanza or stanza[0].startswith("package:"):
-            stanza.insert(0, self.pick(FIRST))
+            stanza.insert(0, self.pick(WORDS.first))
 
     def follows(self, stanzas):
         """One or two stanzas after the request."""
         self.of_kind(stanzas, "request")
         late = [["request:"], ["package: a", "version: 1"], ["package: z", "size: 3"], ["preamble:"]]
-        stanzas += self.chance.sample(late + [[self.pick(FIRST)]], self.pick((1, 1, 2)))
+        stanzas += self.chance.sample(late + [[self.pick(WORDS.first)]], self.pick((1, 1, 2)))
 
     def repeats(self, stanzas):
         stanza = self.pick(stanzas or [self.of_kind(stanzas, "package")])
         mark = stanza[0].split(":")[0]
-        if self.pick((False, True)) and mark in IGNORED:
-            stanza += [self.pick(IGNORED[mark])] * 2
+        if self.pick((False, True)) and mark in WORDS.ignored:
+            stanza += [self.pick(WORDS.ignored[mark])] * 2
             return
         line = self.pick(stanza)
         if ":" in line:
             self.put(stanza, line if self.pick((False, True)) else line.split(":")[0] + ":")
 
     def undeclared(self, stanzas):
-        self.put(self.of_kind(stanzas, "package"), self.pick(UNDECLARED))
+        self.put(self.of_kind(stanzas, "package"), self.pick(WORDS.undeclared))
 
     def out_of_place(self, stanzas):
         """A name in a preamble or a request that mostly has no meaning there."""
-        self.put(self.of_kind(stanzas, self.pick(("preamble", "request"))), self.pick(STRAY))
+        self.put(self.of_kind(stanzas, self.pick(("preamble", "request"))), self.pick(WORDS.stray))
 
     def repeats_package(self, stanzas):
         """A package again, its version written in another way."""
         stanza = self.of_kind(stanzas, "package")
         version = next((line for line in stanza if line.startswith("version:")), "version: 1").split(":")[1]
-        again = [stanza[0], "version: " + self.pick(REPEATED_VERSIONS).format(version.strip(BLANKS).lstrip("+"))]
+        again = [stanza[0], "version: " + self.pick(WORDS.repeated_versions).format(version.strip(BLANKS).lstrip("+"))]
         self.put(again, "installed: false")
         stanzas.insert(self.chance.randrange(stanzas.index(stanza) + 1, len(stanzas) + 1), again)
 
@@ -143,13 +102,13 @@ class Faults:
 
     def wrong(self, word):
         """A value that is not of the type, as pieces of a list."""
-        piece = self.pick(WRONG[word])
+        piece = self.pick(WORDS.wrong[word])
         if word not in ENTRIES:
             return [piece]
         pieces = [self.pick(("a", "b = 2", "f", "c=1")) for _ in range(self.chance.randrange(6))]
         pieces.insert(self.chance.randrange(len(pieces) + 1), piece)
         if self.pick((False, False, True)):
-            pieces.insert(self.chance.randrange(len(pieces) + 1), self.pick(WRONG[word]))
+            pieces.insert(self.chance.randrange(len(pieces) + 1), self.pick(WORDS.wrong[word]))
         # the empty text is a list
         return pieces + ["a"] * (pieces == [""])
 
@@ -172,14 +131,14 @@ class Faults:
         self.set_wrong(self.of_kind(stanzas, "package"), name, word)
 
     def wrong_name(self, stanzas):
-        self.of_kind(stanzas, "package")[0] = "package: " + self.pick(WRONG["pkgname"])
+        self.of_kind(stanzas, "package")[0] = "package: " + self.pick(WORDS.wrong["pkgname"])
 
     def wrong_wish(self, stanzas):
         self.set_wrong(self.of_kind(stanzas, "request"), self.pick(WISHES), "vpkglist")
 
     def declared_value(self, stanzas):
         """A value that is not of the declared type."""
-        name, word = self.pick(DECLARED), self.word(WRONG)
+        name, word = self.pick(WORDS.declared), self.word(WORDS.wrong)
         preamble = self.of_kind(stanzas, "preamble")
         text = name + self.pick((": ", ":")) + word + ("[red, green]" if word == "enum" else "")
         earlier = [self.pick(("k1: int = 1", "k2: nat"))] * self.pick((0, 1))
@@ -189,7 +148,7 @@ class Faults:
     def declarations(self, most, first):
         """Valid ones, whose names have numbers from the first on."""
         numbers = range(first, first + self.chance.randrange(most))
-        return [self.pick(GOOD_DECLARATIONS).format(number) for number in numbers]
+        return [self.pick(WORDS.good_declarations).format(number) for number in numbers]
 
     def bad_declaration(self, stanzas):
         """An invalid piece at any place of a value, which may come after others."""
@@ -202,10 +161,10 @@ class Faults:
         at = self.chance.randrange(len(pieces) + 1)
         known = [f"k{number}" for number in range(1, first + at)] or ["k1"]
         pieces.insert(at, self.pick((
-            self.pick(WRONG_DECLARATIONS), self.pick(WRONG_DECLARATIONS), self.pick(RESERVED) + ": int",
-            self.pick(known) + ": nat", self.pick(known) + ": string", self.pick(BROKEN),
+            self.pick(WORDS.wrong_declarations), self.pick(WORDS.wrong_declarations), self.pick(RESERVED) + ": int",
+            self.pick(known) + ": nat", self.pick(known) + ": string", self.pick(WORDS.broken),
         )))
-        pieces += [self.pick(WRONG_DECLARATIONS)] * self.pick((0, 0, 1))
+        pieces += [self.pick(WORDS.wrong_declarations)] * self.pick((0, 0, 1))
         preamble += self.property_lines("property", pieces)
 
 
@@ -214,12 +173,12 @@ class Inputs(Faults):
 
     def __init__(self, seed):
         super().__init__(seed)
-        self.recommends = self.pick(RECOMMENDS) if self.now_and_then(0.3) else None
+        self.recommends = self.pick(WORDS.recommends) if self.now_and_then(0.3) else None
         # a long input has no error, so that its listing is long; in a wide one packages provide 62 entries and more
         self.is_long = self.now_and_then(0.001)
         self.is_wide = not self.is_long and self.now_and_then(0.15)
         # names declared without a default, how often a package lacks one, and how often a solution repeats a pair
-        self.needed = self.chance.sample(list(NEEDED), self.pick((1, 1, 2, 4))) if self.now_and_then(0.25) else []
+        self.needed = self.chance.sample(list(WORDS.needed), self.pick((1, 1, 2, 4))) if self.now_and_then(0.25) else []
         self.gap = 0 if self.is_long else self.pick((0, 0, 0.1, 0.5))
         self.again = 0 if self.is_long else self.pick((0, 0, 0.4))
 
@@ -230,10 +189,10 @@ class Inputs(Faults):
         return self.now_and_then(share) and not (self.is_long or self.is_wide)
 
     def name(self):
-        return self.pick(ODD_NAMES if self.oddly(0.03) else NAMES)
+        return self.pick(WORDS.odd_names if self.oddly(0.03) else WORDS.names)
 
     def number(self):
-        return self.pick(ODD_NUMBERS if self.oddly(0.03) else "123")
+        return self.pick(WORDS.odd_numbers if self.oddly(0.03) else "123")
 
     def vpkg(self):
         if self.now_and_then(0.5):
@@ -247,7 +206,7 @@ class Inputs(Faults):
     def clause(self):
         # single versions are seldom installed, so clauses of them are often violated
         if self.now_and_then(0.2):
-            return " | ".join(f"{self.pick(NAMES)} = {self.pick('123')}" for _ in range(self.pick((2, 3))))
+            return " | ".join(f"{self.pick(WORDS.names)} = {self.pick('123')}" for _ in range(self.pick((2, 3))))
         separator, count = self.pick((" | ", "|")), self.pick((1, 1, 1, 2, 3))
         atoms = (self.pick(("true!", "false!")) if self.now_and_then(0.2) else self.vpkg() for _ in range(count))
         return separator.join(atoms)
@@ -268,7 +227,7 @@ class Inputs(Faults):
         lines += ["keep: " + self.pick(("version", "package", "feature", "none"))] * self.now_and_then(0.4)
         lines += ["installed: " + self.pick(("true", "true", "false"))] * self.now_and_then(0.6)
         lines += ["was-installed: x"] * self.now_and_then(0.05)
-        lines += [self.pick(NEEDED[declared]) for declared in self.needed if not self.now_and_then(self.gap)]
+        lines += [self.pick(WORDS.needed[declared]) for declared in self.needed if not self.now_and_then(self.gap)]
         if self.recommends and self.now_and_then(0.5 if "=" in self.recommends else 1 - self.gap):
             lines.append("recommends: " + self.entries(self.vpkg if "list" in self.recommends else self.clause))
         lines += [self.pick(("x: 1", "e: red", "recommends: a | b", "note: any"))] * self.oddly(0.05)
@@ -277,7 +236,7 @@ class Inputs(Faults):
 
     def preamble(self):
         kept = range(self.chance.randrange(3))
-        kept = [f"property: {self.entries(lambda: self.pick(DECLARATIONS), 2)}" for _ in kept]
+        kept = [f"property: {self.entries(lambda: self.pick(WORDS.declarations), 2)}" for _ in kept]
         declared = self.needed + ([self.recommends] if self.recommends else [])
         if declared or self.is_long:
             together = [", ".join(declared)] if self.now_and_then(0.5) else declared
@@ -290,17 +249,17 @@ class Inputs(Faults):
 
     def repetition(self, name, version):
         """A stanza of a solution that may repeat a pair."""
-        lines = [f"version: {self.pick(REPEATED_VERSIONS).format(version)}"]
+        lines = [f"version: {self.pick(WORDS.repeated_versions).format(version)}"]
         lines += self.pick((["installed: true"], ["installed: false"], []))
         self.chance.shuffle(lines)
         return [f"package: {name}", *lines]
 
     def pairs(self):
         """Names and versions of packages."""
-        known = [(name, version) for name in NAMES for version in range(1, 500 if self.is_long else 4)]
+        known = [(name, version) for name in WORDS.names for version in range(1, 500 if self.is_long else 4)]
         wanted = self.chance.randrange(300, 2000) if self.is_long else self.chance.randrange(7)
         pairs = self.chance.sample(known, min(wanted, len(known)))
-        return pairs + pairs[:1] * self.oddly(0.03) + [("a", self.pick(ODD_NUMBERS))] * self.oddly(0.03)
+        return pairs + pairs[:1] * self.oddly(0.03) + [("a", self.pick(WORDS.odd_numbers))] * self.oddly(0.03)
 
     def problem(self, pairs):
         stanzas = [self.preamble()] if self.recommends or self.needed or self.now_and_then(0.2) else []
@@ -354,7 +313,7 @@ class Inputs(Faults):
         """The lines with odd ones among them, and lists on two lines; some are missing or doubled."""
         for line in lines:
             if self.now_and_then(0.02):
-                yield self.pick(ODD_LINES)
+                yield self.pick(WORDS.odd_lines)
             if ", " in line and self.now_and_then(0.1):
                 front, back = line.split(", ", 1)
                 yield from [front + ","] + ["# between"] * self.now_and_then(0.5)
@@ -365,7 +324,7 @@ class Inputs(Faults):
     def aims(self):
         """A list of criteria, in which a count may have both signs or come twice; now and then no list."""
         if self.now_and_then(0.1):
-            return self.pick(ODD_LISTS)
+            return self.pick(WORDS.odd_lists)
         return ",".join(self.pick("-+") + self.pick(COUNTS) for _ in range(self.pick((1, 1, 2, 2, 3, 4, 9))))
 
     def key(self):
@@ -382,9 +341,10 @@ class Inputs(Faults):
         """A key with one thing changed; it may still be a key."""
         text = self.key()
         at = self.chance.randrange(len(text))
+        front, back = text[:at], text[at:]
         return self.pick((
-            text + self.pick(ODD_ENDS), text[:at] + text[at + 1:], text[:at] + self.pick("0p.rsA-+ 1") + text[at:],
-            text.upper(), text[:at], text.replace(".", self.pick(("..", ":", "-"))), self.pick(ODD_ENDS) + text,
+            text + self.pick(WORDS.odd_ends), front + back[1:], front + self.pick("0p.rsA-+ 1") + back, text.upper(),
+            front, text.replace(".", self.pick(("..", ":", "-"))), self.pick(WORDS.odd_ends) + text,
         ))
 
     def page(self):
@@ -393,5 +353,5 @@ class Inputs(Faults):
         if self.now_and_then(0.8):
             words["after"] = self.odd_key() if self.now_and_then(0.4) else self.key()
         if self.now_and_then(0.5):
-            words["limit"] = self.pick(ODD_LIMITS) if self.now_and_then(0.3) else str(self.chance.randrange(1, 6))
+            words["limit"] = self.pick(WORDS.odd_limits) if self.now_and_then(0.3) else str(self.chance.randrange(1, 6))
         return words

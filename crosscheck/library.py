@@ -13,8 +13,7 @@ LIBRARY_FOLDER has libcudf_check.a and libcudf_check.so.1.
 - calls.txt: what no command line can ask for; null pointers; buffers of each length; each growth of memory refused.
 - A report of a million lines, which takes no memory; 10,000 calls by eight threads, also under sanitizers.
 
-Prints what isn't as wanted, then what had to be left out, then how many were right and wrong. The status is 1 if one is
-wrong, and 2 if there is no program or library. For Linux and glibc; Python's standard library alone.
+What needs a tool that isn't installed is left out. For Linux and glibc.
 """
 import dataclasses
 import doctest
@@ -26,12 +25,13 @@ import shutil
 import sys
 
 import common
-import programs
 from calls import CALLS, DOCUMENTS, FAIL, FAULTY, GREATEST, MEMORY, NO, REFUSED, USAGE, YES, Request, answers, table
-from common import DONE, ROOT, contents, run
+from common import DONE, ROOT, contents, write
+from common import run_alike as run
 from inputs import Inputs
-from memory import Refuser, in_turn
+from memory import in_turn
 from refutations import Small, spoilt
+from shim import Shim
 from second.cnf import Rules
 from second.lrat import Prover
 
@@ -62,8 +62,8 @@ SANITIZERS = {"address": b"LeakSanitizer: detected memory leaks", "thread": b"Th
 
 def kinds(trial):
     """What links to each of the library's files."""
-    shared = [os.path.join(trial.library, SHARED), "-Wl,-rpath," + trial.library]
-    return ("static", [os.path.join(trial.library, STATIC)]), ("shared", shared)
+    (library,) = trial.more
+    return ("static", [f"{library}/{STATIC}"]), ("shared", [f"{library}/{SHARED}", f"-Wl,-rpath,{library}"])
 
 
 def compiled(trial):
@@ -85,7 +85,8 @@ def compiled(trial):
 
 def shown(trial):
     """The example in Python, which finds the library by its file or name; and what docs/EMBEDDING.md shows of all."""
-    for how in ({"CUDF_CHECK_LIBRARY": os.path.join(trial.library, SHARED)}, {"LD_LIBRARY_PATH": trial.library}):
+    (library,) = trial.more
+    for how in ({"CUDF_CHECK_LIBRARY": f"{library}/{SHARED}"}, {"LD_LIBRARY_PATH": library}):
         printed = run([sys.executable, f"{ROOT}/embedding/python/example.py"], trial.folder, **how)
         yield f"example.py, {how}", printed, (0, EXAMPLE, b"")
     ends = {"c": "c", "cpp": "cpp", "python": "py", "ocaml": "ml"}
@@ -98,7 +99,7 @@ def shown(trial):
 
 def python_module(trial):
     """The module of embedding/python, which calls the library that is tried."""
-    os.environ["CUDF_CHECK_LIBRARY"] = os.path.join(trial.library, SHARED)
+    os.environ["CUDF_CHECK_LIBRARY"] = f"{trial.more[0]}/{SHARED}"
     sys.path.insert(0, f"{ROOT}/embedding/python")
     return importlib.import_module("cudf_check")
 
@@ -118,7 +119,7 @@ def python(trial):
 def asked(trial, request):
     """The program's status, its report and its error. A null pointer is an empty file."""
     texts = [text if isinstance(text, bytes) else b"" for text in request.texts]
-    files = [programs.write(trial.folder, f"text{at}", text) for at, text in enumerate(texts)]
+    files = [write(trial.folder, f"text{at}", text) for at, text in enumerate(texts)]
     return run([trial.program, *request.words(files)])
 
 
@@ -259,7 +260,7 @@ def driver(trial, name, *words):
 
 def requests_of(trial, rows):
     """A file of requests for the driver."""
-    return programs.write(trial.folder, "requests", b"".join(request.written() for _, request, *_ in rows))
+    return write(trial.folder, "requests", b"".join(request.written() for _, request, *_ in rows))
 
 
 def through_c(trial, path, rows):
@@ -290,11 +291,11 @@ def without_room(trial, path):
 
 def refused_growths(trial, path, rows):
     """Each growth of memory in a call refused, alone and with all later ones: status 6, and nothing is written."""
-    refuser = Refuser(trial.folder)
+    shim = Shim(trial.folder)
     for name, request, *report in rows:
         right, refused, in_call = request.left(*report), request.left(MEMORY, b""), 0
         words = [path, requests_of(trial, [(name, request)])]
-        for growth, later, (status, output, _, marks) in in_turn(refuser, words):
+        for growth, later, (status, output, _, marks) in in_turn(shim, words):
             is_refused = b"g" in marks
             if is_refused and status == REFUSED:
                 continue
@@ -316,14 +317,12 @@ def at_once(trial, path, rows):
             path = yield from driver(trial, flag, *words, *kinds(trial)[0][1])
             drivers.append((path, 0))
         else:
-            trial.left_out.append(f"calls at once, -fsanitize={flag}: it doesn't report a wrong program here")
+            print(f"left out: calls at once, -fsanitize={flag}: it doesn't report a wrong program here")
     requests = requests_of(trial, rows[:: len(rows) // SOME])
     for path, stack in drivers:
         given = run([path, requests, str(THREADS), str(TURNS), str(stack)])
         yield f"{TURNS} calls by {THREADS} threads, {path}", given, (0, b"0\n", b"")
 
 
-TESTS = (compiled, shown, python, beside)
-
 if __name__ == "__main__":
-    sys.exit(common.main(__doc__, TESTS, lambda program, library: (program, os.path.join(library, SHARED))))
+    common.start(__doc__, compiled, shown, python, beside, counts=[2], files=2)

@@ -3,11 +3,7 @@ import collections
 import os
 import re
 
-from shim import Ran
-
-GREATEST_INPUT = 1 << 28
-TOO_LONG = "cudf_check: {} is longer than 268435456 bytes; give a shorter one\n"
-HERE = os.path.dirname(os.path.abspath(__file__))
+from common import HERE, Ran
 
 # the bound of memory is as it is written, or None
 Case = collections.namedtuple("Case", "name size most documents commands")

@@ -18,9 +18,8 @@ usage: memory.py PROGRAM [TESTS]
   that take memory, and say where one answered that a growth was refused: each is refused as above. At their ends they
   hold no more blocks than `memory::none`, which takes no memory, and passes with every growth refused.
 
-What was measured is printed, and what is wrong; in the last line how often a growth was refused, how often the answer
-was right where one was or none was left, and how many other rows there were. The exit status is 1 where one is wrong,
-and 2 where there is no program. Without gcc what needs shim.c is left out, and this is said. For Linux and glibc.
+What was measured is printed. A row is also each run in which a growth was refused or none was left. Without gcc what
+needs shim.c is left out. For Linux and glibc.
 """
 import contextlib
 import errno
@@ -34,17 +33,15 @@ import subprocess
 
 import made
 import shim
+from commands import GREATEST_INPUT, TABLE
+from common import ROOT, Ran, limit, run, short, start
 from refutations import SHOP, SHOP_CORE, SHOP_PROOF
-from shim import Ran, limit, short
 
-EXAMPLES = os.path.join(os.path.dirname(made.HERE), "examples")
 MEGABYTE, GREATEST_MEMORY = 1 << 20, 600 << 20
 SMALL_STACK = limit(resource.RLIMIT_STACK, 128 << 10)
 INVALID_ARGUMENTS, UNREAD, NO_MEMORY = 4, 5, 6
 NOT_LOADED = (127, -signal.SIGKILL, "OSError")
-NO_ROOM = "cudf_check: there is not enough memory for this input; free some, and run again\n"
-NO_ROOM_FOR_ARGUMENTS = "cudf_check: there is not enough memory; free some, and run again\n"
-UNMET = "p1.depends.1 car 1 line 1: needs wheel > 2\nsolution no\n"
+NO_ROOM, NO_ROOM_FOR_ARGUMENTS, UNMET = map(TABLE.said, ("{no room}", "{no room for words}", "{unmet}"))
 
 # ---- growths that are refused
 
@@ -54,23 +51,20 @@ NONE, IN_CALL = "memory::none", b"refused in the call"
 MARKS = {"open": "o", "read": "r", "grow": "g", "shrink": "b"}
 
 
-class Refuser(shim.Shim):
-    """Runs commands with growths of memory refused."""
-
-    def refuse(self, words, number, later):
-        """The status, both outputs, and marks of the calls, which are none where no growth was refused."""
-        refused = shim.rule("memory", "heap", -errno.ENOMEM, number, shim.EVER if later == "1" else number)
-        ran, calls, _ = self.run(words, refused, seconds=60)
-        # of the files that are opened those of the command alone
-        marks = "".join(MARKS.get(it.call, "") for it in calls if it.call != "open" or it.name in words)
-        return (*ran, marks.encode() if "g" in marks or "b" in marks else b"")
+def refuse(shimmed, words, number, later):
+    """The status and both outputs where a growth is refused, and marks of the calls, which are none where none was."""
+    refused = shim.rule("memory", "heap", -errno.ENOMEM, number, shim.EVER if later == "1" else number)
+    ran, calls, _ = shimmed.run(words, refused, seconds=60)
+    # of the files that are opened those of the command alone
+    marks = "".join(MARKS.get(it.call, "") for it in calls if it.call != "open" or it.name in words)
+    return (*ran, marks.encode() if "g" in marks or "b" in marks else b"")
 
 
-def in_turn(refuser, words):
+def in_turn(shimmed, words):
     """The runs of a command: each growth, with `0` where it alone is refused, and last the run in which none is."""
     for number in itertools.count(1):
         for later in "01":
-            ended = refuser.refuse(words, number, later)
+            ended = refuse(shimmed, words, number, later)
             yield number, later, ended
             if not ended[3]:
                 return
@@ -80,13 +74,9 @@ def refuse_each(trial, name, words, is_refused, is_right):
     """Each run has to end as refused, or with the right answer. Returns the messages of those that were refused."""
     messages = set()
     for number, later, ended in in_turn(trial.shim, words):
-        if ended[3] and is_refused(ended):
-            trial.tally["refused"] += 1
-            messages.add(ended[2].decode())
-        elif is_right(ended, later):
-            trial.tally["right"] += 1
-        else:
-            trial.same(f"{name}: growth {number}, and later ones: {later}", ended, "a refusal")
+        refused = bool(ended[3]) and is_refused(ended)
+        messages |= {ended[2].decode()} if refused else set()
+        trial.same(f"{name}: growth {number}, later ones {later}", refused or is_right(ended, later) or ended, True)
     print(f"{name}: {number - 1} growths")
     return messages
 
@@ -122,12 +112,13 @@ def refused_commands(trial, case):
         trial.same(f"{command.words}: messages", messages, {NO_ROOM_FOR_ARGUMENTS, *[NO_ROOM] * reads_files})
 
 
-def refused_calls(trial, tests):
+def refused_calls(trial):
     """Growths in calls of the library, and the blocks that these hold at their end."""
-    listed = subprocess.run([tests, "--list"], capture_output=True, text=True, check=True).stdout.split()
+    (tests,) = trial.more
+    listed = run([tests, "--list"]).decoded().output.split()
     names = sorted({name.rstrip(":") for name in listed if name.startswith("memory::")})
     trial.same("there are tests", NONE in names and len(names) > 1, True)
-    trial.same(f"{NONE} with every growth refused", trial.shim.refuse([tests, NONE], 1, "1")[0], 0)
+    trial.same(f"{NONE} with every growth refused", refuse(trial.shim, [tests, NONE], 1, "1")[0], 0)
     least = trial.shim.run([tests, NONE])[2].blocks
     for name in names:
         ran, _, counts = trial.shim.run([tests, name])
@@ -144,7 +135,7 @@ def refused_calls(trial, tests):
 def endless(trial):
     """A device that never ends is too long."""
     for words in ("lint /dev/zero", "check /dev/zero", "check S /dev/zero", "check /dev/zero S"):
-        trial.same(words, trial.run(words), (UNREAD, "", made.TOO_LONG.format("/dev/zero")))
+        trial.same(words, trial.run(words), (UNREAD, "", TABLE.said("{too long: /dev/zero}")))
     most = 1024 * resource.getrusage(resource.RUSAGE_CHILDREN).ru_maxrss
     trial.same("memory of the greatest run", most < GREATEST_MEMORY or most, True)
 
@@ -258,9 +249,9 @@ def large_inputs(trial, case):
 
 def greatest_inputs(trial):
     """Inputs with a hole of zeros, which takes no room."""
-    too_long = Ran(UNREAD, "", made.TOO_LONG.format("G"))
+    too_long = Ran(UNREAD, "", TABLE.said("{too long: G}"))
     for words, front, end, report in GREATEST:
-        for size, wanted in ((made.GREATEST_INPUT, Ran(0, report, "")), (made.GREATEST_INPUT + 1, too_long)):
+        for size, wanted in ((GREATEST_INPUT, Ran(0, report, "")), (GREATEST_INPUT + 1, too_long)):
             with open("G", "wb") as file:
                 file.write(front.encode())
                 file.truncate(size - len(end))
@@ -269,23 +260,20 @@ def greatest_inputs(trial):
             try_jobs(trial, words, [made.Job(words.split(), None, [size], wanted)], GREATEST_BYTES_PER_BYTE)
 
 
-def main(program, tests=None):
-    with shim.folder_of({"S": "request:\n#", "P": SHOP}) as folder:
-        shutil.copytree(EXAMPLES, folder, dirs_exist_ok=True)
-        trial = shim.Trial(program, folder, Refuser)
-        endless(trial)
-        limits(trial)
-        for table, try_case in (("refused.txt", refused_commands), ("growth.txt", large_inputs)):
-            for case in made.cases(table).values() if trial.shim else ():
-                try_case(trial, case)
-        if trial.shim:
-            greatest_inputs(trial)
-        if trial.shim and tests:
-            refused_calls(trial, tests)
-    refused, right = trial.tally["refused"], trial.tally["right"]
-    print(f"refused {refused}, right answers {right}, other rows {trial.rows}, wrong {trial.wrong}")
-    return 1 if trial.wrong or trial.shim and not refused else 0
+def files(trial):
+    trial.enter({"S": "request:\n#", "P": SHOP})
+    shutil.copytree(f"{ROOT}/examples", trial.folder, dirs_exist_ok=True)
+
+
+def under_shim(trial):
+    for table, try_case in (("refused.txt", refused_commands), ("growth.txt", large_inputs)):
+        for case in made.cases(table).values():
+            try_case(trial, case)
+    greatest_inputs(trial)
+    if trial.more:
+        refused_calls(trial)
 
 
 if __name__ == "__main__":
-    shim.start(main, __doc__, most_programs=2)
+    tests = (files, endless, limits, *[under_shim] * bool(shutil.which("gcc")))
+    start(__doc__, *tests, counts=(1, 2), files=2, make=shim.Trial)

@@ -12,8 +12,7 @@ PROGRAM and ARCHIVE are what rt built of crates/cudf_program and crates/cudf_c. 
 - Both packages have the same bytes if they are made in another folder, with other modes, time zone and language.
   Owners, times and modes are right, and no path of this machine is in them.
 
-Prints what isn't as wanted, then what had to be left out, then how many were right and wrong. The status is 1 if one is
-wrong, and 2 if there is no program or archive. For Linux; Python's standard library alone.
+What needs a tool that isn't installed is left out.
 """
 import gzip
 import io
@@ -24,8 +23,8 @@ import sys
 import tarfile
 
 import common
-import programs
-from common import ROOT, contents, output, run, section
+from common import ROOT, contents, output_of, section, write
+from common import run_alike as run
 from completions import Terminal, completions
 
 VERSION = re.search(r'#define CUDF_CHECK_VERSION "(.*)"', contents("include/cudf_check.h").decode())[1]
@@ -45,7 +44,7 @@ OF_A_BUILD = re.compile(rb"/(?:home|root|work|tmp|build|opt|mnt|srv)/[\w.-]+")
 def commands(trial, title, **variables):
     """Rows of the commands in a section of packages.txt, each with its status and what it prints on both outputs."""
     variables = {
-        "PROGRAM": trial.program, "ARCHIVE": trial.library, "LIBRARY": trial.place("lib"), "DIST": trial.place("dist"),
+        "PROGRAM": trial.program, "ARCHIVE": trial.more[0], "LIBRARY": trial.place("lib"), "DIST": trial.place("dist"),
         "WORK": trial.folder, "version": VERSION, "BASE": "", "CHROOT": "", **variables,
     }
     if os.geteuid():
@@ -57,14 +56,14 @@ def commands(trial, title, **variables):
         if needed and not trial.has(title, *(variables.get(tool, tool) for tool in needed[1].split())):
             continue
         for command, wanted in re.findall(r"^\$ (.*)\n?((?:(?!\$ ).+\n?)*)", block, re.M):
-            status, printed, errors = run(["sh", "-c", command], **variables)
+            status, output, errors = run(["sh", "-c", command], **variables)
             wanted = wanted.rstrip("\n").replace("$version", VERSION)
-            yield f"{title}: {command}", (status, (printed + errors).decode(errors="replace").rstrip("\n")), (0, wanted)
+            yield f"{title}: {command}", (status, (output + errors).decode(errors="replace").rstrip("\n")), (0, wanted)
 
 
 def sources(*places):
     """The files below these places that git knows, or all if it knows none."""
-    listed = output("git", "ls-files", "-z", *places) or output("find", *places, "!", "-type", "d", "-print0")
+    listed = output_of("git", "ls-files", "-z", *places) or output_of("find", *places, "!", "-type", "d", "-print0")
     return set(listed.split("\0")[:-1])
 
 
@@ -83,7 +82,7 @@ def files(trial):
     both = program | library
     # for the commands of packages.txt
     for title, names in (("program", program), ("library", library), ("both", both), ("deb", debian)):
-        programs.write(trial.folder, f"{title}.files", "".join(f"{name}\n" for name in sorted(names)).encode())
+        write(trial.folder, f"{title}.files", "".join(f"{name}\n" for name in sorted(names)).encode())
     return both, debian
 
 
@@ -93,13 +92,13 @@ def versions(trial):
         name, _, pattern = place.partition(" ")
         found = re.findall(pattern or r"\b\d+\.\d+\.\d+\b", contents(name).decode())
         yield f"version in {name}", set(found), {VERSION}
-    yield "version of the program", output(trial.program, "--version"), f"cudf_check {VERSION}\n"
+    yield "version of the program", output_of(trial.program, "--version"), f"cudf_check {VERSION}\n"
 
 
 def packages(trial):
     """The library, and both packages of it, made here and at another place under other circumstances."""
     yield from commands(trial, "the library as it is linked")
-    known = output("git", "log", "-1", "--format=%ct").strip()
+    known = output_of("git", "log", "-1", "--format=%ct").strip()
     # where git knows no time, one that isn't over
     time = known or "2000000000"
     os.mkdir(trial.place("a copy"))
@@ -119,7 +118,7 @@ def entries(trial, name, tar, time):
 
     Bytes 3 to 7 of what gzip packed say whether it has a name, and its time.
     """
-    ours = [place.encode() for place in (ROOT, trial.folder, *map(os.path.dirname, (trial.program, trial.library)))]
+    ours = [place.encode() for place in (ROOT, trial.folder, *map(os.path.dirname, (trial.program, *trial.more)))]
     names, odd, machine = set(), [], []
     for entry in tar:
         if (entry.uid, entry.gid, entry.mtime) != (0, 0, time) or not (entry.issym() or entry.mode in (0o755, 0o644)):
@@ -187,7 +186,5 @@ def installs(trial):
     yield from commands(trial, "where nothing was built", **never)
 
 
-TESTS = (versions, completions, packages, installs)
-
 if __name__ == "__main__":
-    sys.exit(common.main(__doc__, TESTS, lambda program, archive: (program, archive)))
+    common.start(__doc__, versions, completions, packages, installs, counts=[2], files=2)

@@ -5,18 +5,17 @@ usage: random_inputs.py PROGRAM SEED COUNT [WORKERS]
 
 It is asked for all that it does with a problem and solutions, with all options at any place, valid and invalid
 arguments, and files as standard input. More than half of the inputs have an error, one of seven has long lists, one of
-a thousand is long. Prints what is answered otherwise, how many lines of each kind there were, and how many runs. The
-status is 1 if an answer differed. Input N of a seed is the same whatever COUNT and WORKERS (processes) are. Python's
-standard library alone.
+a thousand is long. Prints how many lines of each kind were wanted. Input N of a seed is the same whatever COUNT and
+WORKERS (processes) are.
 """
 import collections
 import multiprocessing
 import re
-import sys
 import tempfile
 
+import common
+from common import write
 from inputs import Inputs
-from programs import Program, write
 from second import reports
 
 BLOCK = 50
@@ -26,11 +25,11 @@ RULES = "depends|conflicts|keep|install|remove|unsatisfied|many|lower|unknown"
 KIND = re.compile(rf"^more|\bE\d+|\b(?:{RULES}|yes|no|FAIL)\b")
 
 
-class Trial:
-    """One input, and what the program is asked: words, standard input, and the answer of the second implementation."""
+class Input:
+    """A random problem with solutions, and runs: words, the bytes of standard input, and what is wanted."""
 
     def __init__(self, seed, number, folder):
-        self.inputs, self.folder, self.wrong = Inputs(f"{seed}/{number}"), folder, []
+        self.inputs, self.folder = Inputs(f"{seed}/{number}"), folder
         pairs = self.inputs.pairs()
         self.problem, self.solution = self.inputs.problem(pairs), self.inputs.solution(pairs)
         self.solutions = self.inputs.solutions(pairs)
@@ -104,49 +103,41 @@ class Trial:
     def walk(self, size):
         """The listing page by page; the pages together are the whole."""
         walked, keys, explains = [], [None], self.inputs.now_and_then(0.5)
-        while keys and not self.wrong:
+        while keys:
             words, data, wanted = self.page(keys[0], str(size), explains)
             yield words, data, wanted
             keys = [line.removeprefix(MORE) for line in wanted[0] if line.startswith(MORE)]
             walked += wanted[0][:-1 - len(keys)]
-        self.note(f"pages of {size}", walked, self.second.check(explains=explains)[0][:-1])
-
-    def note(self, what, given, wanted):
-        if given != wanted:
-            self.wrong.append(f"{what}\n  given:  {given}\n  wanted: {wanted}")
+        (*_, verdict), status = self.second.check(explains=explains)
+        words = ["check", *self.files] + EXPLAIN * explains + ["--strict"] * self.is_strict
+        yield words, b"", ([*walked, verdict], status)
 
 
 def compare_block(job):
-    """How many runs, inputs with an error and lines of each kind there were, and what was answered otherwise."""
+    """The numbers of rows and of wrong ones, and of inputs with an error and lines of each kind."""
     program, seed, numbers = job
-    counts, wrong = collections.Counter(), []
+    counts = collections.Counter()
     with tempfile.TemporaryDirectory() as folder:
+        trial = common.Trial(folder, program)
         for number in numbers:
-            trial = Trial(seed, number, folder)
-            for words, data, wanted in trial.runs():
-                trial.note(f"{words}\n  input:  {data}", program.run(words, data), wanted)
-                kinds = (KIND.search(line) or re.match(r"\S+", line) for line in wanted[0])
-                counts.update(["runs", *(kind.group() for kind in kinds)])
-            counts["inputs with an error"] += trial.second.check()[1] == reports.FAULTY
-            if trial.wrong:
-                wrong.append("\n  ".join([f"input {number}:", str(trial.problem), str(trial.solution), *trial.wrong]))
-    return counts, wrong
+            it = Input(seed, number, folder)
+            for words, data, wanted in it.runs():
+                trial.same((number, words, data, it.problem, it.solution), trial.answer(words, data), wanted)
+                counts.update((KIND.search(line) or re.match(r"\S+", line)).group() for line in wanted[0])
+            counts["inputs with an error"] += it.second.check()[1] == reports.FAULTY
+    return trial.rows, trial.wrong, counts
 
 
-def main(path, seed, count, workers="1"):
-    program, last = Program(path), int(count) + 1
-    jobs = [(program, seed, range(first, min(first + BLOCK, last))) for first in range(1, last, BLOCK)]
-    counts, differing = collections.Counter(), 0
-    with multiprocessing.Pool(int(workers)) as pool:
-        for more, wrong in pool.imap(compare_block, jobs):
+def random_inputs(trial):
+    seed, count, workers = *trial.more[:2], int((*trial.more, "1")[2])
+    last, counts = int(count) + 1, collections.Counter()
+    jobs = [(trial.program, seed, range(first, min(first + BLOCK, last))) for first in range(1, last, BLOCK)]
+    with multiprocessing.Pool(workers) as pool:
+        for rows, wrong, more in pool.imap(compare_block, jobs):
+            trial.rows, trial.wrong = trial.rows + rows, trial.wrong + wrong
             counts.update(more)
-            differing += len(wrong)
-            print(*wrong, sep="\n", end="\n" * bool(wrong), flush=True)
-    runs = counts.pop("runs", 0)
     print(", ".join(f"{kind} {number}" for kind, number in sorted(counts.items())))
-    print(f"inputs {count}, runs {runs}, differing {differing}")
-    return 1 if differing else 0
 
 
 if __name__ == "__main__":
-    sys.exit(main(*sys.argv[1:]) if len(sys.argv) in (4, 5) else __doc__)
+    common.start(__doc__, random_inputs, counts=(3, 4))

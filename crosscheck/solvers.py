@@ -22,25 +22,20 @@ usage: solvers.py answers PROGRAM SEED COUNT [FILE..]
   is accepted by `refute`, with the lines of the second checker. It answers as that checker to SPOILT (500) proofs that
   are changed, or another problem's. Where a proof is accepted, every status violates an instance of a line.
 
-What isn't so is printed, and then the status is 1. fail.sh and the last part need cadical 1.7 or later. Python's
-standard library alone.
+Each part also prints how many there were of what. fail.sh and the last part need cadical 1.7 or later.
 """
 import collections
 import os
 import random
 import re
 import shutil
-import subprocess
 import sys
 import tempfile
 
+from common import contents, run, start, write
 from docs import SCRIPTS, leave, packages, read
-from programs import write
-from refutations import KINDS, Small, spoilt
-from second.cnf import Rules, statuses
+from refutations import Encoded, Small, keys_in, proof_answer, spoilt
 from second.judge import violated_packages, violated_request
-from second.lrat import Proof
-from second.reasons import Reasons
 
 NAMES, FEATURES = ["car", "wheel", "door", "engine", "glass", "tyre"], ["drive", "light"]
 OPERATORS, KEEPS = ["=", "!=", ">=", ">", "<=", "<"], ["version", "package", "none", "feature"]
@@ -123,16 +118,6 @@ def counted_alike(text):
     return "\n\n".join(stanzas)
 
 
-def ran(words, limit=None, errors=subprocess.DEVNULL, env=None):
-    """The status of a command, None if its time is over, and its output."""
-    try:
-        done = subprocess.run(words, stdin=subprocess.DEVNULL, stdout=subprocess.PIPE, stderr=errors, text=True,
-                              env=env, timeout=limit, check=False)
-        return done.returncode, done.stdout
-    except subprocess.TimeoutExpired:
-        return None, ""
-
-
 def words_of(solver, given, answer, criteria=("removed", "changed")):
     """The command of a solver; packup needs a folder of its own."""
     named = ",".join("-" + name for name in criteria)
@@ -144,67 +129,57 @@ def words_of(solver, given, answer, criteria=("removed", "changed")):
     }[solver]
 
 
-class Tally(collections.Counter):
-    """Counts what was tried, and prints what isn't as expected."""
-    odd = 0
-
-    def note(self, *texts):
-        self.odd += 1
-        print(*texts, sep="\n", flush=True)
-
-
-def judged(solvers, program, kind, given, tally):
-    """Counts what comes of the answers to a problem."""
+def judged(trial, solvers, kind, given):
+    """Counts what comes of the answers to a problem; yields the kind and the name of each."""
     found, verdict = {}, ""
     with tempfile.TemporaryDirectory() as folder:
         for solver in solvers:
             os.mkdir(f"{folder}/{solver}")
             answer = f"{folder}/{solver}/answer"
-            ended, _ = ran(words_of(solver, given, answer), limit=30)
-            is_there = ended is not None and os.path.isfile(answer)
-            found[solver], report = ran([program, "check", given, answer]) if is_there else (None, "")
-            if kind == "plain" and solver != "packup" and ended == 0 and found[solver] not in (0, 3, None):
-                tally.note(read("", given), f"---- {solver} answered", read("", answer), f"---- judged\n{report}")
+            ended = run(words_of(solver, given, answer), seconds=30).status
+            is_there = ended != "TimeoutExpired" and os.path.isfile(answer)
+            found[solver], report, _ = trial.run(["check", given, answer]) if is_there else (None, "", "")
+            if kind == "plain" and solver != "packup" and ended == 0 and is_there:
+                name = f"{read('', given)}---- {solver} answered\n{read('', answer)}---- judged\n{report}"
+                trial.same(name, found[solver] in (0, 3), True)
         if 3 in found.values():
-            os.symlink(program, f"{folder}/cudf_check")
+            os.symlink(trial.program, f"{folder}/cudf_check")
             environment = {**os.environ, "PATH": f"{folder}:{os.environ['PATH']}"}
-            status, _ = ran(["sh", f"{SCRIPTS}/fail.sh", given, f"{folder}/witness"], env=environment)
+            status = run(["sh", f"{SCRIPTS}/fail.sh", given, f"{folder}/witness"], env=environment).status
             verdict = {0: "right", 1: "wrong"}.get(status, "not decided")
     for solver, status in found.items():
-        tally[solver, {0: "solutions", 1: "no solutions", 3: "FAILs"}.get(status, "no answers")] += 1
-        tally[solver, verdict] += status == 3
-        tally[solver, "beside a solution"] += status == 3 and 0 in found.values()
+        yield solver, {0: "solutions", 1: "no solutions", 3: "FAILs"}.get(status, "no answers")
+        if status == 3:
+            yield solver, verdict
+            yield from [(solver, "beside a solution")] * (0 in found.values())
         if status == 3 and kind == "file":
             print(f"{given}: {solver} FAIL {verdict}", flush=True)
-    if verdict == "right" and 0 in found.values():
-        tally.note(f"{kind}: FAIL is right, and yet there is a solution: {found}")
+    trial.same(f"{kind}, FAIL is {verdict}: {found}", verdict == "right" and 0 in found.values(), False)
 
 
-def answers(program, seed, count, folder, tally, *files):
-    dice = random.Random(int(seed))
-    solvers = [name for name in ("mccs", "aspcud", "packup") if shutil.which(name)]
-    if not solvers:
-        sys.exit("solvers.py answers needs a solver")
+def answers(trial, seed, count, *files):
+    dice, tally = random.Random(int(seed)), collections.Counter()
+    solvers = [name for name in ("mccs", "aspcud", "packup") if trial.has("a solver", name)]
     makers = {"plain": lambda: problem(dice, True), "other": lambda: problem(dice, False),
               "small": lambda: Small(dice).problem(8).decode()}
     for kind in [kind for kind in makers for _ in range(count)]:
-        leave(f"{folder}/problem", makers[kind]())
-        judged(solvers, program, kind, f"{folder}/problem", tally)
+        leave(trial.place("problem"), makers[kind]())
+        tally.update(judged(trial, solvers, kind, trial.place("problem")))
     for given in files:
-        judged(solvers, program, "file", given, tally)
+        tally.update(judged(trial, solvers, "file", given))
     for solver in solvers:
         print(f"{solver}: " + ", ".join(f"{what} {tally[solver, what]}" for what in COUNTED))
-    print(f"problems {3 * count + len(files)}, not as expected {tally.odd}")
 
 
 class Answer:
     """A solver's answer for a list of criteria, and the program's counts of it."""
 
-    def __init__(self, program, solver, folder, criteria):
-        self.solver, self.criteria, self.path = solver, criteria, f"{folder}/{'-'.join([solver, *criteria])}"
-        ended, _ = ran(words_of(solver, f"{folder}/problem", self.path, criteria))
+    def __init__(self, trial, solver, criteria):
+        given, self.path = trial.place("problem"), trial.place("-".join([solver, *criteria]))
+        self.solver, self.criteria = solver, criteria
+        ended = run(words_of(solver, given, self.path, criteria)).status
         self.text = read("", self.path) if ended == 0 else None
-        lines = ["broken off"] if ended else ran([program, "score", f"{folder}/problem", self.path])[1].splitlines()
+        lines = ["broken off"] if ended else trial.answer(["score", given, self.path])[0]
         self.verdict, self.counted = lines[-1], dict(line.split(" ", 1) for line in lines[:-1])
         self.counts = self.counts_by(criteria)
         # mccs writes the empty status where nothing bears on the last criterion; aspcud counts `changed` by packages
@@ -216,7 +191,7 @@ class Answer:
         return [int(self.counted[name]) for name in criteria] if self.counted else None
 
 
-def differences(program, folder, every, criteria):
+def differences(trial, every, criteria):
     """What is wrong with the counts of the answers for a list, and with the ranking of all answers by it."""
     mccs, aspcud = (answer for answer in every if answer.criteria == criteria)
     if mccs.is_compared and list(map(float, mccs.objective)) != mccs.counts[-1:]:
@@ -224,8 +199,8 @@ def differences(program, folder, every, criteria):
     if mccs.is_optimal and aspcud.is_optimal and mccs.counts != aspcud.counts:
         yield f"mccs {mccs.counts}, aspcud {aspcud.counts}"
     given = [answer for answer in every if answer.text is not None]
-    words = [f"--criteria={','.join('-' + name for name in criteria)}", f"{folder}/problem"]
-    lines = ran([program, "rank", *words, *(answer.path for answer in given)])[1].splitlines()
+    words = [f"--criteria={','.join('-' + name for name in criteria)}", trial.place("problem")]
+    lines, _ = trial.answer(["rank", *words, *(answer.path for answer in given)])
     ranked = [line.split(" ") for line in lines if " yes " in line]
     found = [(given[int(line[2]) - 1], [int(count) for count in line[5::2]]) for line in ranked]
     solutions = [answer for answer in given if answer.verdict == "solution yes"]
@@ -238,41 +213,37 @@ def differences(program, folder, every, criteria):
             yield f"{answer.path} {counts}, but the first has {found[0][1]}"
 
 
-def optima(program, seed, count, folder, tally):
-    dice = random.Random(int(seed))
+def optima(trial, seed, count):
+    dice, tally = random.Random(int(seed)), collections.Counter()
     for _ in range(count):
         text = counted_alike(with_recommends(dice, problem(dice, True)))
-        leave(f"{folder}/problem", text)
-        every = [Answer(program, solver, folder, criteria) for criteria in LISTS for solver in ("mccs", "aspcud")]
-        tally.update((answer.solver, answer.verdict) for answer in every)
+        leave(trial.place("problem"), text)
+        every = [Answer(trial, solver, criteria) for criteria in LISTS for solver in ("mccs", "aspcud")]
+        tally.update(f"{answer.solver} {answer.verdict}" for answer in every)
         for criteria in LISTS:
-            tally["compared", ""] += all(answer.is_compared for answer in every if answer.criteria == criteria)
-            if found := list(differences(program, folder, every, criteria)):
-                tally.note(text, *criteria, *found, *(f"---- {answer.path}\n{answer.text}" for answer in every))
-    for key, number in sorted(tally.items()):
-        print(*key, number)
-    print(f"problems {count}, lists of criteria {len(LISTS)}, rankings {count * len(LISTS)}, differing {tally.odd}")
+            tally["compared"] += all(answer.is_compared for answer in every if answer.criteria == criteria)
+            answered = "".join(f"---- {answer.path}\n{answer.text}" for answer in every)
+            trial.same(f"{text}{criteria}\n{answered}", list(differences(trial, every, criteria)), [])
+    print(", ".join(f"{key} {number}" for key, number in sorted(tally.items())))
 
 
-def libcudf(program, seed, count, folder, tally):
-    dice, given, answer = random.Random(int(seed)), f"{folder}/problem", f"{folder}/answer"
+def libcudf(trial, seed, count):
+    dice, tally = random.Random(int(seed)), collections.Counter()
+    given, answer = trial.place("problem"), trial.place("answer")
     for text in (problem(dice, False) for _ in range(count)):
         leave(given, text)
         known = re.findall(r"^package: (\S+)\nversion: (\d+)\n((?:.+\n)*)", text, re.M)
         for share in (0.05, 0.2, 0.5):
             pairs = [pair for *pair, rest in known if ("installed: true" in rest) != (dice.random() < share)]
-            proposed = packages(*pairs)
-            leave(answer, proposed)
-            _, ours = ran([program, "check", given, answer])
-            _, theirs = ran(["cudf-check", "-cudf", given, "-sol", answer], errors=subprocess.STDOUT)
-            verdicts = *ours.splitlines()[-1:], *re.findall(r"is_solution: (true|false)", theirs)
-            tally[verdicts[:1]] += 1
-            if verdicts not in (("solution yes", "true"), ("solution no", "false")):
-                tally.note(text, f"---- answer\n{proposed}---- ours\n{ours}---- theirs\n{theirs}")
-    solutions = tally["solution yes",]
-    if solutions in (0, tally.total()):
-        tally.note("all answers have the same verdict")
-    print(f"statuses {tally.total()}, solutions {solutions}, differing {tally.odd}")
+            leave(answer, packages(*pairs))
+            (*_, verdict), _ = trial.answer(["check", given, answer])
+            theirs = "".join(run(["cudf-check", "-cudf", given, "-sol", answer]).decoded()[1:])
+            tally[verdict] += 1
+            found = re.findall(r"is_solution: (true|false)", theirs)
+            wanted = {"solution yes": ["true"], "solution no": ["false"]}.get(verdict)
+            trial.same(f"{text}---- answer\n{packages(*pairs)}---- ours: {verdict}, theirs\n{theirs}", found, wanted)
+    trial.same("both verdicts came", len(tally), 2)
+    print(", ".join(f"{verdict} {number}" for verdict, number in tally.items()))
 
 
 class Mild(Small):
@@ -287,33 +258,12 @@ class Nothing:
         return lambda *_: ""
 
 
-def mask(literals, sign=1):
-    """The places of the literals of one sign, as bits."""
-    return sum(1 << place for place in {literal * sign for literal in literals} if place > 0)
+class Asked(Encoded):
+    """A random problem, of which the program and cadical are asked."""
 
-
-def keys_in(report):
-    return {line.split(" ")[0] for line in report.splitlines()[:-1]}
-
-
-class Encoded:
-    """A problem, and for each status, as bits, the keys of the clauses that it doesn't satisfy."""
-
-    def __init__(self, text, program, folder, tally):
-        self.text, self.program, self.folder, self.tally = text, program, folder, tally
-        self.rules = Rules(text.decode())
-        masks = [(key, mask(clause), mask(clause, -1)) for key, clause in self.rules.clauses]
-        self.falsified = {
-            status: {key for key, some, none in masks if not some & status and none & status == none}
-            for status in map(mask, statuses(len(self.rules.packages)))
-        }
-
-    def chosen(self, status):
-        return [package for package in self.rules.packages if status >> package.place & 1]
-
-    def solution(self, status):
-        """A document that installs these packages."""
-        return packages(*((package.name, package.version) for package in self.chosen(status))).encode()
+    def __init__(self, problem, trial, tally):
+        super().__init__(problem)
+        self.trial, self.tally, self.file = trial, tally, write(trial.folder, "problem", problem)
 
     def violated(self, status):
         """The keys of the violated instances, by the second judge."""
@@ -321,80 +271,64 @@ class Encoded:
         found = {key for key, _, _ in violated_packages(rules.packages, chosen, Nothing())}
         return found | {f"r.{key}" for key, _, _ in violated_request(rules.request, rules.initial, chosen, Nothing())}
 
-    def answer(self, proof):
-        """The status and the report of a proof, and the keys of its lines, by the second checker."""
-        shown = Proof(len(self.rules.packages), [clause for _, clause in self.rules.clauses], proof)
-        if shown.fault:
-            line, kind = shown.fault
-            return (1, f"proof line {line}: L{kind} {KINDS[kind]}\n"), set()
-        reasons = Reasons(self.rules, shown.core)
-        return (0, "".join(line + "\n" for line in [*reasons.lines, "no solution exists"])), set(reasons.told)
+    def ask(self, job, document):
+        """The program's answer for the problem and another document."""
+        return self.trial.answer([job, self.file, write(self.trial.folder, "document", document)])
 
-    def is_core(self, keys):
-        return all(keys & found for found in self.falsified.values())
-
-    def ask(self, job, *document):
-        """The program's status and report for the problem and another document."""
-        files = [write(self.folder, name, data) for name, data in zip(("problem", "document"), (self.text, *document))]
-        return ran([self.program, job, *files])
-
-    def compare(self, name, given, wanted, count="rows", what=""):
-        self.tally.update(dict.fromkeys(["rows", count], 1))
-        if given != wanted:
-            self.tally.note(self.text, f"{name} {what}", f"  given:  {given}", f"  wanted: {wanted}")
+    def compare(self, count, given, wanted, what=""):
+        self.tally[count] += 1
+        self.trial.same((count, what, self.problem), given, wanted)
 
     def judge(self, checks):
         """Each status, by the second implementation and, if it checks, by the program."""
         for status, keys in self.falsified.items():
-            self.compare("judge", self.violated(status), keys, "statuses", status)
+            self.compare("statuses", self.violated(status), keys, status)
             if checks:
-                _, report = self.ask("check", self.solution(status))
-                self.compare("check", keys_in(report), keys, "statuses by check", status)
+                lines, _ = self.ask("check", self.solution(status).encode())
+                self.compare("statuses by check", keys_in(lines), keys, status)
 
     def solve(self):
         """What cadical finds; a proof is returned."""
-        _, output = self.ask("cnf")
-        self.compare("cnf", output.splitlines(), self.rules.dimacs())
-        path = f"{self.folder}/proof"
-        cnf = write(self.folder, "cnf", output.encode())
-        status, output = ran(["cadical", "-q", "--lrat", "--no-binary", cnf, path])
-        self.compare("solved", status, REFUTED if all(self.falsified.values()) else SATISFIABLE)
-        if status == SATISFIABLE:
-            model = mask(int(word) for line in output.splitlines() if line[:1] == "v" for word in line.split()[1:])
-            self.compare("model", self.ask("check", self.solution(model)), (0, "solution yes\n"), "solutions", model)
+        encoded, path = self.trial.run(["cnf", self.file]).output, self.trial.place("proof")
+        self.compare("problems", encoded.splitlines(), self.rules.dimacs())
+        cnf = write(self.trial.folder, "cnf", encoded.encode())
+        ended = run(["cadical", "-q", "--lrat", "--no-binary", cnf, path]).decoded()
+        self.compare("solved", ended.status, REFUTED if all(self.falsified.values()) else SATISFIABLE)
+        if ended.status == SATISFIABLE:
+            words = [word for line in ended.output.splitlines() if line[:1] == "v" for word in line.split()[1:]]
+            model = {int(word) for word in words}
+            self.compare("solutions", self.ask("check", self.solution(model).encode()), (["solution yes"], 0), model)
             return None
-        with open(path, "rb") as file:
-            proof = file.read()
-        wanted, keys = self.answer(proof)
-        self.compare("refute", self.ask("refute", proof), (0, wanted[1]), "proofs", proof)
-        self.compare("core", (wanted[0], self.is_core(keys)), (0, True), "rows", proof)
-        self.tally.update({"steps": proof.count(b"\n"), "lines of cores": len(keys)})
+        proof = contents(path)
+        self.tally.update({"steps": proof.count(b"\n"), "lines of cores": len(self.refuted("proofs", proof)) - 1})
         return proof
+
+    def refuted(self, count, proof):
+        """Compares the answers to a proof, which is cadical's own or changed; returns the lines of a core."""
+        lines, status = proof_answer(self.problem, proof)
+        self.compare(count, self.ask("refute", proof), (lines, status), proof)
+        if status == 0 or count == "proofs":
+            self.compare(f"{count}, accepted", (status, self.is_core(lines)), (0, True), proof)
+        return lines
 
     def spoil(self, proof, chance):
         """Tries a proof that was changed, or that is another problem's."""
         for _ in range(chance.choice((1, 1, 2, 3))):
             proof = spoilt(chance, proof or b"1 0 0\n")
-        wanted, keys = self.answer(proof)
-        status, report = self.ask("refute", proof)
-        self.compare("spoilt", (status, report), wanted, "spoilt", proof)
-        if status == 0:
-            core = keys_in(report), self.is_core(keys_in(report))
-            self.compare("its core", core, (keys, True), "spoilt and accepted", proof)
+        self.refuted("spoilt", proof)
 
 
-def cadical(program, seed, count, folder, tally, most_spoilt="500", checked="100"):
-    dice, before = random.Random(seed), None
+def cadical(trial, seed, count, most_spoilt="500", checked="100"):
+    dice, before, tally = random.Random(seed), None, collections.Counter()
     for number in range(count):
-        encoded = Encoded((Mild if number % 2 else Small)(dice).problem(8), program, folder, tally)
-        encoded.judge(number < int(checked))
-        proof = encoded.solve()
+        asked = Asked((Mild if number % 2 else Small)(dice).problem(8), trial, tally)
+        asked.judge(number < int(checked))
+        proof = asked.solve()
         # an empty proof is of an empty clause, and then no proof is read
         before = proof or before
         if tally["spoilt"] < int(most_spoilt) and before and (proof or dice.random() < 0.2):
-            encoded.spoil(before, dice)
-    counts = ", ".join(f"{name} {number}" for name, number in tally.items())
-    print(f"problems {count}, {counts}, wrong {tally.odd}")
+            asked.spoil(before, dice)
+    print(", ".join(f"{name} {number}" for name, number in tally.items()))
 
 
 # the parts, each with the programs that it needs
@@ -402,15 +336,14 @@ PARTS = {"answers": (answers, []), "optima": (optima, ["mccs", "aspcud"]), "libc
          "cadical": (cadical, ["cadical"])}
 
 
-def main(part, program, seed, count, *more):
-    run, needed = PARTS[part]
-    if not all(map(shutil.which, [program, *needed])):
-        sys.exit(f"solvers.py {part} needs {' and '.join([program, *needed])}")
-    tally = Tally()
-    with tempfile.TemporaryDirectory() as folder:
-        run(os.path.abspath(program), seed, int(count), folder, tally, *more)
-    return 1 if tally.odd else 0
+def main(part):
+    try_part, needed = PARTS.get(part, (None, []))
+    if missing := [program for program in needed if not shutil.which(program)]:
+        print(f"solvers.py {part} needs {' and '.join(missing)}", file=sys.stderr)
+        sys.exit(2)
+    tests = (lambda trial: try_part(trial, trial.more[0], int(trial.more[1]), *trial.more[2:]),)
+    start(__doc__, *tests, counts=range(3, 99) if try_part else ())
 
 
 if __name__ == "__main__":
-    sys.exit(main(*sys.argv[1:]) if len(sys.argv) >= 5 and sys.argv[1] in PARTS else __doc__)
+    main(sys.argv.pop(1) if len(sys.argv) > 1 else "")

@@ -4,45 +4,22 @@
 usage: stored.py [PROGRAM]
 
 The rows are data of cudf_rows and tables of cudf_tests, the vectors data of cudf_vectors, of which the program is given
-the keys and the lists of criteria. Then shown.txt is compared with the pages, the data and the tests. Prints what is
-wrong, and how much there was. The status is 1 if anything is wrong. Python's standard library alone.
+the keys and the lists of criteria. Then shown.txt is compared with the pages, the data and the tests.
 """
 import ast
+import os
 import re
-import subprocess
 import sys
-import tempfile
 from collections import namedtuple
-from pathlib import Path
 
-from programs import EMPTY, LIMIT_SECONDS, Program, lines_of, write
+from common import EMPTY, ROOT, contents, lines_of, run, section, sections, start, unescaped, write
 from second import calls, documents, keys, reports
 
-TOP = Path(__file__).resolve().parent.parent
 TABLES = [f"crates/cudf_tests/src/rows/{name}.rt" for name in ("worked", "faults", "lists")]
 STATUSES = {"Yes": 0, "No": 1, "Faulty": 2, "Fail": 3}
 SHOWN = "crosscheck/shown.txt"
 NAMED = "--with-filename"
 COMMENT = b"\n#" + b"." * 2000
-# vectors that are only given to the second implementation and the program
-MORE_VECTORS = [("key", text, "not a key") for text in (
-    "p1.depends.18446744073709551616", "r.keep.1", "r.upgrade.1.lower.1", "p1.keep.1\n",
-)] + [("criterion", text, "not a list") for text in (
-    "-new, -removed", "-new,,-new", "-newer", "-new;+new", "-new\n",
-)] + [("criterion", "+touched,-changed", "[+touched, -changed]")]
-ASCENDING = (
-    "p1.depends.1", "p1.depends.2", "p1.conflicts.1", "p1.keep.1", "p2.keep.9", "p10.depends.1",
-    "p18446744073709551615.keep.18446744073709551615", "r.install.1", "r.remove.1", "r.remove.10",
-    "r.upgrade.1.unsatisfied", "r.upgrade.1.many", "r.upgrade.1.lower", "r.upgrade.2.unsatisfied", "s.unknown.1",
-    "s.unknown.18446744073709551615",
-)
-# invalid arguments beside those of commands.py; P is a file
-INVALID = (
-    "", "check P --after", "check P --after r.install.1 --after r.install.1", "check P --limit x", "check P --limit 0",
-    "check P --after p1.depends.01", "check P --after p0.keep.1", "check P --limit -1", "score P --limit 1",
-    "check P --limit 18446744073709551616", "check P --unknown", "rank --criteria=-new --strict P P --strict",
-    "score --explain P P --criteria=-new",
-)
 # the report is its lines
 Row = namedtuple("Row", "name job problem solutions report status")
 
@@ -51,7 +28,7 @@ Row = namedtuple("Row", "name job problem solutions report status")
 
 
 def read(path):
-    return (TOP / path).read_bytes().decode()
+    return contents(path).decode()
 
 
 def tested_rows():
@@ -63,11 +40,11 @@ def tested_rows():
             yield Row(name, job, problem, tuple(solutions), report.decode().split("\n")[:-1], status)
 
 
-def sections(path):
+def lines_below(path):
     """The head and the lines of each section, without a blank line at the end."""
-    for section in ("\n" + read(path)).split("\n== ")[1:]:
-        head, *lines = section.split("\n")
-        yield head, lines[:-1] if lines and not lines[-1] else lines
+    for head, text in sections(path):
+        *lines, last = text.removesuffix("\n").split("\n")
+        yield head, [*lines, last] if last else lines
 
 
 def bytes_of(text):
@@ -90,7 +67,7 @@ def document_of(lines, before):
 def stored_rows():
     """The rows of the data with their answers."""
     problem = b""
-    given = zip(sections("crates/cudf_rows/stdin"), sections("crates/cudf_rows/stdout"), strict=True)
+    given = zip(lines_below("crates/cudf_rows/stdin"), lines_below("crates/cudf_rows/stdout"), strict=True)
     for (head, lines), (answer, report) in given:
         (name, job), (answered, status) = head.rsplit(": ", 1), answer.rsplit(": ", 1)
         if answered != name:
@@ -116,6 +93,11 @@ def stored_vectors():
             raise ValueError(f"line {number} of stdin is its own answer")
 
 
+def every_vector():
+    more = re.findall(r"(\w+) (.*) -> (.*)\n", section("vectors.txt", "vectors"))
+    return *stored_vectors(), *((0, call, unescaped(text), answer) for call, text, answer in more)
+
+
 # ---- what both answer
 
 
@@ -137,58 +119,47 @@ def second_answer(job, problem, solutions):
     return reports.named_joined(answer, "P", problem)
 
 
-def program_answer(program, job, problem, solutions):
+def program_answer(trial, job, problem, solutions):
     """The problem is standard input, unless file names are printed."""
     command, *options = job.split()
     names, first, data = [f"S{place}" for place in range(1, len(solutions) + 1)], "-", problem
     if NAMED in options:
         first, data = "P", b""
-    with tempfile.TemporaryDirectory() as folder:
-        for name, text in zip(["P", *names], [problem, *solutions]):
-            write(folder, name, text)
-        words = [program.path, command, first, *names, *options]
-        to = {"stdout": subprocess.PIPE, "stderr": subprocess.DEVNULL}
-        ran = subprocess.run(words, cwd=folder, input=data, timeout=LIMIT_SECONDS, check=False, **to)
-    return lines_of(ran.stdout), ran.returncode
+    for name, text in zip(["P", *names], [problem, *solutions]):
+        write(trial.folder, name, text)
+    ran = run([trial.program, command, first, *names, *options], data, cwd=trial.folder)
+    return lines_of(ran.output), ran.status
 
 
-def wrong_rows(known, program):
-    """Rows, if their job says so also with a long comment, that are answered otherwise."""
-    for row in known:
+def answered_rows(trial):
+    """Rows, if their job says so also with a long comment, by both implementations."""
+    for row in (*stored_rows(), *tested_rows()):
         job = row.job.replace(" --also-long", "")
         for problem in [row.problem] if job == row.job else [row.problem, row.problem + COMMENT]:
-            given = [second_answer(job, problem, row.solutions)]
-            given += [program_answer(program, job, problem, row.solutions)] if program else []
-            wrong = [answer for answer in given if answer != (row.report, row.status)]
-            yield from (f"{row.name}: {answer}, not {row.report, row.status}" for answer in wrong)
+            yield f"second, {row.name}", second_answer(job, problem, row.solutions), (row.report, row.status)
+            if trial.program:
+                yield row.name, program_answer(trial, job, problem, row.solutions), (row.report, row.status)
 
 
-def wrong_vectors(vectors):
+def answered_vectors(_):
     last = None
-    for number, call, data, wanted in vectors:
+    for number, call, data, wanted in every_vector():
         last = data if call == "problem" else last
-        if (found := calls.answer(call, data, last)) != wanted:
-            yield f"stdin line {number}: {call}\n  by hand: {wanted}\n  second:  {found}"
-    parsed = list(map(keys.parse, ASCENDING))
-    if None in parsed or sorted(parsed) != parsed:
-        yield f"keys in order: {parsed}"
+        yield f"vector {number}: {call} {data}", calls.answer(call, data, last), wanted
+    parsed = list(map(keys.parse, section("vectors.txt", "keys in order").split()))
+    yield "keys in order", parsed, sorted(key for key in parsed if key)
 
 
-def wrong_arguments(program, vectors):
-    """Arguments that the program takes otherwise; a problem without packages violates nothing, and its counts are 0."""
-    asked = [(call, data.decode(), it) for _, call, data, it in vectors if call in ("key", "criterion")]
-    for call, text, answer in asked:
-        words, lines = ["check", "-", "--after", text], []
-        if call == "criterion":
-            words, lines = ["score", "-", f"--criteria={text}"], [aim + " 0" for aim in text.split(",")]
-        wanted = ([], reports.USAGE) if answer.startswith("not a ") else ([*lines, "solution yes"], reports.YES)
-        if program.run(words, EMPTY) != wanted:
-            yield f"{words}: {program.run(words, EMPTY)}"
-    for words in INVALID:
-        with tempfile.NamedTemporaryFile(suffix=".cudf") as file:
-            given = program.run([file.name if word == "P" else word for word in words.split()])
-        if given != ([], reports.USAGE):
-            yield f"{words}: {given}"
+def arguments(trial):
+    """Keys and lists, by the program; a problem without packages violates nothing, and its counts are 0."""
+    for _, call, data, answer in every_vector():
+        if call in ("key", "criterion"):
+            text, lines = data.decode(), []
+            words = ["check", "-", "--after", text]
+            if call == "criterion":
+                words, lines = ["score", "-", f"--criteria={text}"], [f"{aim} 0" for aim in text.split(",")]
+            wanted = ([], reports.USAGE) if answer.startswith("not a ") else ([*lines, "solution yes"], reports.YES)
+            yield words, trial.answer(words, EMPTY), wanted
 
 
 # ---- what is shown by which vectors, rows and tests
@@ -250,52 +221,36 @@ def table_cells(page, heading):
 def is_test(text):
     """Whether `FILE NAME` is a test or what makes rows in a script, or `FILE NAME [ROWS]` a table of tests in use."""
     path, name, count = (text.split(" ") + ["", ""])[:3]
-    source = read(path) if (TOP / path).is_file() else ""
+    source = read(path) if os.path.isfile(os.path.join(ROOT, path)) else ""
     if name.islower():
         return (f"def {name}(" if path.endswith(".py") else f"#[test]\nfn {name}(") in source
     found = re.search(rf"^const {name}: (?:\[.*; ([0-9]+)\]|&str) =", source, re.MULTILINE)
     return found is not None and len(re.findall(rf"\b{name}\b", source)) > 1 and count in ("", found[1])
 
 
-def wrong_section(head, lines, names, vectors):
+def section_rows(head, lines, names, vectors):
     shown, (page, _, heading) = dict(line.split(" -> ") for line in lines), head.partition(": ")
-    called = {call for _, call, _, _ in vectors}
-    there = {"calls": called, "in words": shown}.get(page) or table_cells(page, heading)
-    yield from (f"{head}: {cell} is only in {SHOWN} or only there" for cell in sorted(set(there) ^ set(shown)))
+    there = {"calls": [call for _, call, _, _ in vectors], "in words": shown}.get(page) or table_cells(page, heading)
+    yield f"{SHOWN}, {head}", set(shown), set(there)
     for cell, text in shown.items():
         items = text.split("; ")
         if head in (LINES, *PATTERNS):
             count = sum(is_shown(head, cell.replace("`", ""), *vector[1:]) for vector in vectors)
-            if items.pop(0) != f"{count} vectors" or count == 0:
-                yield f"{head}: {cell} is shown by {count} vectors"
-        items = [item for item in items if item not in names and not is_test(item)]
-        yield from (f"{head}, {cell}: no row or test is {item}" for item in items)
+            yield f"{SHOWN}, {head}: {cell}", items.pop(0), f"{count or 'more'} vectors"
+        yield f"{head}, {cell}: no rows or tests", [it for it in items if it not in names and not is_test(it)], []
 
 
-def wrong_shown(stored, tested, vectors):
-    """Where the list and the pages, the data and the tests differ."""
-    names, found = [row.name for row in stored + tested], dict(sections(SHOWN))
-    if len(set(names)) < len(names):
-        yield "two rows have one name"
-    listed = {line for line in found.pop("worked examples") if not is_test(line)}
-    for name in sorted(listed ^ {row.name for row in tested}):
-        yield f"worked examples: {name} is only in {SHOWN} or only in a table of tests"
-    yield from (f"{SHOWN} has no section {head}" for head in (LINES, *PATTERNS) if head not in found)
+def shown(_):
+    """The list beside the pages, the data and the tests."""
+    tested, vectors, found = [row.name for row in tested_rows()], list(stored_vectors()), dict(lines_below(SHOWN))
+    names = [row.name for row in stored_rows()] + tested
+    yield "names of several rows", [name for name in names if names.count(name) > 1], []
+    yield f"{SHOWN}, worked examples", {it for it in found.pop("worked examples") if not is_test(it)}, set(tested)
+    yield f"sections that {SHOWN} lacks", {LINES, *PATTERNS} - found.keys(), set()
     for head, lines in found.items():
-        yield from wrong_section(head, lines, set(names), vectors)
-
-
-def main(path=None):
-    stored, tested, vectors = list(stored_rows()), list(tested_rows()), list(stored_vectors())
-    every = vectors + [(0, call, text.encode(), answer) for call, text, answer in MORE_VECTORS]
-    program = Program(path) if path else None
-    wrong = [*wrong_rows(stored + tested, program), *wrong_vectors(every), *wrong_shown(stored, tested, vectors)]
-    wrong += wrong_arguments(program, every) if program else []
-    print(*wrong, sep="\n", end="\n" * bool(wrong))
-    lines = sum(len(lines) for _, lines in sections(SHOWN))
-    print(f"rows {len(stored)}, of tests {len(tested)}, vectors {len(every)}, shown {lines}, wrong {len(wrong)}")
-    return 1 if wrong else 0
+        yield from section_rows(head, lines, names, vectors)
 
 
 if __name__ == "__main__":
-    sys.exit(main(*sys.argv[1:]) if len(sys.argv) < 3 else __doc__)
+    tests = (answered_rows, answered_vectors, shown)
+    start(__doc__, *tests, *[arguments] * (len(sys.argv) == 2), counts=(0, 1))

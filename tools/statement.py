@@ -317,9 +317,7 @@ def differences(given, computed):
     """How the table of docs/PROOFS.md differs from the computed one, a line each."""
     found = [f"docs/PROOFS.md lacks `{line.strip()}`" for line in computed if line not in given]
     found += [f"docs/PROOFS.md has `{line.strip()}`, which isn't computed" for line in given if line not in computed]
-    if not found and given != computed:
-        found.append("docs/PROOFS.md has the files in another order")
-    return found + ["`tools/statement.py --write` writes the table anew"] * bool(found)
+    return found + ["the table isn't as computed: `tools/statement.py --write` writes it anew"] * (given != computed)
 
 
 def main(arguments):
