@@ -236,17 +236,16 @@ def calls(program, library):
     show("starts of the program", f"{started:.1f}", f"{started / called:.0f}")
 
 
-PARTS = "proofs", "tests", "wrong bodies"
+PARTS = "proofs", "tests", "mutants"
 TICKS_A_MINUTE = 60 * os.sysconf("SC_CLK_TCK")
 
 
 def checked(words, folder):
-    """The crate that a process checks, and which part: outside of the crate's own folder these are wrong bodies."""
+    """The crate that a process checks, and which part: outside of the crate's own folder these are mutants."""
     if os.path.basename(words[0]) != "rattle" or "--crate-name" not in words:
         return None
     crate = words[words.index("--crate-name") + 1]
-    is_own = folder.endswith(f"/crates/{crate}") and "/wrong-bodies-" not in folder
-    return crate, PARTS["--test" in words] if is_own else PARTS[2]
+    return crate, PARTS["--test" in words] if folder.endswith(f"/crates/{crate}") else PARTS[2]
 
 
 def look_over(ticks):

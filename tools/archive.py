@@ -4,19 +4,16 @@
     archive.py
 
 The archive is crates/cudf_c/out/libcudf_c.a. `rt lib` proves the libraries below first; this script takes those that rt ci
-left in out/rlib, and so only proves cudf_c again. It uses rt as a module: `crates_below`, `lock` and `Crate.build_static`.
+left in out/rlib, and so only proves cudf_c again. It uses `crates_below`, `lock` and `Crate.build_static` of the command rt.
 The exit status is the build's.
 """
 import os
-import shutil
 import sys
-from importlib import machinery, util
+
+from toolchain import rt
 
 
 def main():
-    loader = machinery.SourceFileLoader("rt", os.path.realpath(shutil.which("rt")))
-    rt = util.module_from_spec(util.spec_from_loader("rt", loader))
-    loader.exec_module(rt)
     root = os.path.dirname(os.path.dirname(os.path.abspath(__file__)))
     crate = next(it for it in rt.rtlib.crates_below(root) if it.name == "cudf_c")
     crate.held = rt.rtlib.lock([*crate.below(), crate])
