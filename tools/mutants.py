@@ -1,9 +1,8 @@
 #!/usr/bin/env python3
 """Tries the mutants: small wrong changes of functions' bodies, each of which the prover must refuse.
 
-    mutants.py [--jobs N] [--verbose] [CRATE..]
-    mutants.py --read
-    mutants.py --selftest
+    mutants.py [--jobs N] [CRATE..]
+    mutants.py --read | --selftest
 
 A mutant is a file crates/CRATE/mutants/*.edit: a line 'file: src/a.rt', a line 'fn: a::f' with the function's name as a check
 prints it behind the crate's, and then pairs of lines 'old: TEXT', which stands in that file once, and 'new: TEXT'.
@@ -16,11 +15,12 @@ answer was written for another body. What isn't refused so is tried again alone,
 The libraries below a crate must be built, by rt ci, or by rt check in the crate's folder. Crates are tried side by side, as
 many as there are processors, and 4 GB of memory for each; the checks of one crate go on from each other's work.
 
---read only says which mutants can't be planted. --selftest tries a mutant among changes that are none.
+Told are the mutants that fail, and all of a crate that is named. --read only tells which can't be planted. --selftest tries
+a mutant among changes that are none.
 
-It rests on `crates_below`, `guarded`, `checked`, `processors` and `free` of the command rt, and on the lines of a check
-'fn NAME: proved' and 'fn NAME: .. `search` did not prove `GOAL`, `GOAL`; ..'. If no check has a line of a mutant's function,
-nothing can be said, and the status is 2. Else it is 0 if each mutant was refused, and 1 if one wasn't.
+It rests on `crates_below`, `is_built`, `guarded`, `checked`, `processors` and `free` of the command rt, and on the lines
+'fn NAME: proved' and 'fn NAME: .. `search` did not prove `GOAL`, `GOAL`; ..' of a check. If no check has a line of a mutant's
+function, nothing can be said, and the status is 2. Else it is 0 if each mutant was refused, and 1 if one wasn't.
 """
 import argparse
 import re
@@ -33,19 +33,17 @@ from pathlib import Path
 from toolchain import rt
 
 ROOT = Path(__file__).resolve().parent.parent
-MEMORY = 4_000_000_000
 
 STATUS = re.compile(r"^fn (\S+): (.*)$", re.M)
 OPEN = re.compile(r"`search` did not prove ([^;]*)")
 ANSWERED = re.compile(r"^pub (\S+) : goal\.", re.M)
 
 EDIT = "file: src/{}.rt\nfn: {}\nold: {}\nnew: {}\n"
-READ = "read_stanza(alloc, self.place, properties, &mut self.others)?;"
 # changes of cudf_text: whether each must be refused, its file and function, the old and the new text
 SAMPLES = {
     "wrong": (True, "source", "source::lf_count", r"**byte == b'\n'", r"**byte == b'\r'"),
     "equal, and calls the wrong one": (False, "source", "source::source_of", "Ok(source) => Ok(source),", "Ok(it) => Ok(it),"),
-    "equal, and an answer breaks": (False, "cursor", "cursor::Stanzas::read", f"(next, place) = {READ}", f"(it, place) = {READ} let next = it;"),
+    "equal, and an answer breaks": (False, "scan", "scan::split_run", "s_bytes(), class))", "s_bytes(), class).min(text.len()))"),
     "comment": (False, "scan", "scan::before", "// Both cut", "// Each cuts"),
     "wrong type": (False, "scan", "scan::run_len", "let mut n = 0;", "let mut n = true;"),
     "no such text": (False, "scan", "scan::run_len", "let mut m = 0;", "let mut m = 1;"),
@@ -126,7 +124,6 @@ def try_crate(mutants):
 def main():
     parser = argparse.ArgumentParser(description=__doc__.partition("\n")[0])
     parser.add_argument("--jobs", type=int, help="how many crates side by side")
-    parser.add_argument("--verbose", action="store_true", help="tell of each mutant")
     parser.add_argument("--read", action="store_true", help="only tell which can't be planted")
     parser.add_argument("--selftest", action="store_true", help="try changes that are no mutants")
     parser.add_argument("crate", nargs="*", help="all crates, if none is named")
@@ -145,14 +142,16 @@ def main():
         bad = [f"{it.name}: {it.told}" for it in mutants if not it.plant({})]
         print("\n".join([*bad, f"{len(mutants)} mutants, {len(bad)} can't be planted"]))
         return 1 if bad else 0
-    if lacking := [it.name for some in trials for it in some[0].crate.below() if not Path(it.rlib).is_dir()]:
-        stop(f"the library {lacking[0]} isn't built: rt ci builds all, rt check in a crate's folder those below it")
+    # (rt ci leaves what it built without a stamp)
+    below = {lib for some in trials for lib in some[0].crate.below()}
+    if lacking := [it.name for it in below if not (it.is_built() or Path(it.rlib).is_dir() and not Path(it.rlib).with_name("stamp").exists())]:
+        stop(f"the library {min(lacking)} isn't built: rt ci builds all, rt check in a crate's folder those below it")
     rt.rtlib.guarded()
-    with ThreadPoolExecutor(given.jobs or max(1, min(rt.processors(), int(rt.free() / MEMORY)))) as pool:
+    with ThreadPoolExecutor(given.jobs or max(1, min(rt.processors(), int(rt.free() / 4e9)))) as pool:
         if not any([*pool.map(try_crate, trials)]):
             stop("no check has a line 'fn NAME: ..' of a mutant's function: see the head of tools/mutants.py")
     wrong = [it for it in mutants if it.is_refused != it.must_be_refused]
-    for it in mutants if given.verbose else wrong:
+    for it in mutants if given.crate else wrong:
         print(f"{it.name}: {'' if it.is_refused else 'not '}refused: {it.told or 'no check has a line of its function'}")
     used = resource.getrusage(resource.RUSAGE_CHILDREN)
     print(f"{(used.ru_utime + used.ru_stime) / 60:.1f} minutes of processor time, at most {used.ru_maxrss // 1024} MB a check")
