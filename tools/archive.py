@@ -7,15 +7,13 @@ The archive is crates/cudf_c/out/libcudf_c.a. `rt lib` proves the libraries belo
 left in out/rlib, and so only proves cudf_c again. It uses `crates_below`, `lock` and `Crate.build_static` of the command rt.
 The exit status is the build's.
 """
-import os
 import sys
 
-from toolchain import rt
+from toolchain import ROOT, rt
 
 
 def main():
-    root = os.path.dirname(os.path.dirname(os.path.abspath(__file__)))
-    crate = next(it for it in rt.rtlib.crates_below(root) if it.name == "cudf_c")
+    crate = next(it for it in rt.rtlib.crates_below(ROOT) if it.name == "cudf_c")
     crate.held = rt.rtlib.lock([*crate.below(), crate])
     sys.exit(crate.build_static(["--jobs", "4"]))
 

@@ -9,8 +9,9 @@ prints it behind the crate's, and then pairs of lines 'old: TEXT', which stands 
 
 Many are planted in one copy of the crate and checked together, no two in one function. That is sound: a function is proved
 from its own body and the contracts of what it calls, and other bodies aren't seen. A mutant is refused if the check says
-that a goal of its function was tried and not proved, and no answer is written in proofs/ for a goal of the same clause: an
-answer was written for another body. What isn't refused so is tried again alone, and fails if it isn't refused then.
+that a goal of its function was tried and not proved, which it only tries if no answer is written for it in proofs/: an
+answer was written for another body. If the mutant adds a branch, goals have other names; then no goal of the same clause may
+have an answer. What isn't refused so is tried again alone, and fails if it isn't refused then.
 
 The libraries below a crate must be built, by rt ci, or by rt check in the crate's folder. Crates are tried side by side, as
 many as there are processors, and 4 GB of memory for each; the checks of one crate go on from each other's work.
@@ -30,13 +31,12 @@ import tempfile
 from concurrent.futures import ThreadPoolExecutor
 from pathlib import Path
 
-from toolchain import rt
-
-ROOT = Path(__file__).resolve().parent.parent
+from toolchain import ROOT, rt
 
 STATUS = re.compile(r"^fn (\S+): (.*)$", re.M)
 OPEN = re.compile(r"`search` did not prove ([^;]*)")
 ANSWERED = re.compile(r"^pub (\S+) : goal\.", re.M)
+BRANCH = re.compile(r"\b(?:if|else|match|for|while|loop|return|break|continue)\b|=>|\?|&&|\|\|")
 
 EDIT = "file: src/{}.rt\nfn: {}\nold: {}\nnew: {}\n"
 # changes of cudf_text: whether each must be refused, its file and function, the old and the new text
@@ -89,7 +89,8 @@ class Mutant:
         file = Path(self.crate.folder, "proofs", *self.function.split("::"), "Answers.antt")
         answered = set(map(clause_of, ANSWERED.findall(file.read_text(encoding="utf-8")))) if file.is_file() else set()
         goals = [it for some in OPEN.findall(self.told) for it in re.findall(r"`([^`]+)`", some)]
-        self.is_refused = any(clause_of(it) not in answered for it in goals)
+        adds_branch = any(len(BRANCH.findall(new)) > len(BRANCH.findall(old)) for old, new in self.changes)
+        self.is_refused = any(not adds_branch or clause_of(it) not in answered for it in goals)
 
 
 def check(mutants, kept):
@@ -128,10 +129,8 @@ def main():
     parser.add_argument("--selftest", action="store_true", help="try changes that are no mutants")
     parser.add_argument("crate", nargs="*", help="all crates, if none is named")
     given = parser.parse_args()
-    crates = {it.name: it for it in rt.rtlib.crates_below(str(ROOT))}
-    if lacking := set(given.crate) - set(crates):
-        stop(f"there is no crate {min(lacking)}")
-    named = [crates[it] for it in given.crate or crates]
+    crates = {it.name: it for it in rt.rtlib.crates_below(ROOT)}
+    named = [crates.get(it) or stop(f"there is no crate {it}") for it in given.crate or crates]
     trials = [[Mutant(it, file.name, file.read_text(encoding="utf-8")) for file in sorted(Path(it.folder, "mutants").glob("*.edit"))] for it in named]
     if given.selftest:
         trials = [[Mutant(crates["cudf_text"], name, EDIT.format(*edit), wanted) for name, (wanted, *edit) in SAMPLES.items()]]
