@@ -38,12 +38,14 @@ OPEN = re.compile(r"`search` did not prove ([^;]*)")
 ANSWERED = re.compile(r"^pub (\S+) : goal\.", re.M)
 BRANCH = re.compile(r"\b(?:if|else|match|for|while|loop|return|break|continue)\b|=>|\?|&&|\|\|")
 
+SPLIT = "text.split_at(run_len(text.as_bytes(), class))"
 EDIT = "file: src/{}.rt\nfn: {}\nold: {}\nnew: {}\n"
 # changes of cudf_text: whether each must be refused, its file and function, the old and the new text
 SAMPLES = {
     "wrong": (True, "source", "source::lf_count", r"**byte == b'\n'", r"**byte == b'\r'"),
     "equal, and calls the wrong one": (False, "source", "source::source_of", "Ok(source) => Ok(source),", "Ok(it) => Ok(it),"),
-    "equal, and an answer breaks": (False, "scan", "scan::split_run", "s_bytes(), class))", "s_bytes(), class).min(text.len()))"),
+    "equal, and an answer breaks": (False, "scan", "scan::split_run", SPLIT, f"{SPLIT[:-1]}.min(text.len()))"),
+    "equal, and adds a branch": (False, "scan", "scan::split_run", SPLIT, f"if text.is_empty() {{ return {SPLIT}; }} {SPLIT}"),
     "comment": (False, "scan", "scan::before", "// Both cut", "// Each cuts"),
     "wrong type": (False, "scan", "scan::run_len", "let mut n = 0;", "let mut n = true;"),
     "no such text": (False, "scan", "scan::run_len", "let mut m = 0;", "let mut m = 1;"),
@@ -151,7 +153,7 @@ def main():
             stop("no check has a line 'fn NAME: ..' of a mutant's function: see the head of tools/mutants.py")
     wrong = [it for it in mutants if it.is_refused != it.must_be_refused]
     for it in mutants if given.crate else wrong:
-        print(f"{it.name}: {'' if it.is_refused else 'not '}refused: {it.told or 'no check has a line of its function'}")
+        print(f"{it.name}: {'' if it.is_refused else 'not '}refused: {it.told or 'no check has a line of its function: does it compile?'}")
     used = resource.getrusage(resource.RUSAGE_CHILDREN)
     print(f"{(used.ru_utime + used.ru_stime) / 60:.1f} minutes of processor time, at most {used.ru_maxrss // 1024} MB a check")
     print(f"{len(mutants) - len(wrong)} passed, {len(wrong)} failed", flush=True)
