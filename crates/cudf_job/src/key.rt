@@ -97,6 +97,7 @@ impl Key {
     }
 
     /// Whether it comes before the other.
+    #[tactic(auto, using(crate::proofs::KeyLemmas::key_ranked))]
     pub fn precedes(self, other: Key) -> bool
         ensures { result ≡ is_lt (key_cmp (key_view self) (key_view other)) }
     {

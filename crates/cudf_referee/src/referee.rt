@@ -243,6 +243,7 @@ impl<'p, 't> Referee<'p, 't> {
 
     /// The walk over the violated instances whose keys come after this one, in key order. The key needn't be that
     /// of an instance. It costs at most the binary digits of the number of unknown stanzas.
+    #[tactic(auto, using(std::proofs::lemmas::Grind::common_steps))]
     pub fn after(&self, key: Key) -> Instances<'_, 'p, 't>
         ensures judged { result.judged ≡ self.entry.now }
         ensures position { result.position ≡ at_key (key_view key) }
