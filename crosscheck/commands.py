@@ -30,7 +30,6 @@ NAMES = {
     "by each name": (None, "cudf_check", "--", "--criteria", "", "-", "lint"),
 }
 REDIRECTIONS = ("<", "<<", "<<<", "<!", "<&-", ">")
-ESCAPED = {b"n": b"\n", b"t": b"\t", b"\\": b"\\"}
 
 
 # ---- the table
@@ -74,11 +73,8 @@ def rows_of(body, names):
 
 
 def unescaped(text):
-    r"""The text with the bytes of its escapes, which are \n, \t, \\ and \xNN."""
-    def byte(found):
-        return bytes.fromhex(found[1].decode()) if found[1] else ESCAPED[found[2]]
-
-    return os.fsdecode(re.sub(rb"\\(?:x([0-9a-f]{2})|([nt\\]))", byte, os.fsencode(text)))
+    """The text with the bytes of its escapes."""
+    return os.fsdecode(common.unescaped(text))
 
 
 class Table:

@@ -117,6 +117,11 @@ def contents(*names):
         return file.read()
 
 
+def read(*names):
+    """The text of a file; a relative path is one of the repository."""
+    return contents(*names).decode()
+
+
 def unescaped(text):
     """The bytes of a text with Python's escapes."""
     return text.encode().decode("unicode_escape").encode("latin-1")
@@ -124,7 +129,7 @@ def unescaped(text):
 
 def sections(path, mark="== "):
     """The titles of a table's sections, each after a mark, with what is below."""
-    found = re.split(rf"^{re.escape(mark)}", contents(path).decode(), flags=re.M)[1:]
+    found = re.split(rf"^{re.escape(mark)}", read(path), flags=re.M)[1:]
     return [section.partition("\n")[::2] for section in found]
 
 

@@ -9,7 +9,7 @@ import re
 import select
 import shlex
 
-from common import ENVIRONMENT, ROOT, contents, output_of, write
+from common import ENVIRONMENT, ROOT, output_of, read, write
 from common import run_alike as run
 
 WAIT_SECONDS = 10
@@ -104,7 +104,7 @@ class Terminal:
         printed = self.typed(f"cudf_check {keys}\n", self.words)
         if not os.path.exists(self.words):
             return ["no words", printed]
-        given = contents(self.words).decode().split("\0")[:-1]
+        given = read(self.words).split("\0")[:-1]
         os.remove(self.words)
         return given
 
@@ -161,7 +161,7 @@ def completions(trial):
     known = known_to(trial.program)
     yield "number of counts", len(known[2]), 6
     for shell, named_in in (("zsh", named_in_zsh), ("fish", named_in_fish)):
-        text = contents(SHELLS[shell][0]).decode()
+        text = read(SHELLS[shell][0])
         commands, options = named_in(text)
         yield f"commands of {shell}", commands, known[0]
         yield f"options of {shell}", options, known[1]

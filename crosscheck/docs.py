@@ -19,7 +19,7 @@ import tempfile
 import time
 
 import common
-from common import ROOT, section, unescaped
+from common import ROOT, read, section, unescaped
 
 SCRIPTS = f"{ROOT}/examples/competition"
 COMPETITION, DIFFERENCES = "docs/COMPETITION.md", "docs/DIFFERENCES.md"
@@ -54,11 +54,6 @@ class Trial(common.Trial):
         self.same(f"{script}, {shell}, {more}", (*given, errors if is_part else printed), (status, output, errors))
 
 
-def read(folder, name):
-    with open(os.path.join(folder, name), encoding="utf-8") as file:
-        return file.read()
-
-
 def headings(text):
     """What links call the headings of a page."""
     found = re.findall(r"^#+ (.*)$", re.sub(rf"^```.*\n{BLOCK}", "", text, flags=re.M), re.M)
@@ -67,12 +62,12 @@ def headings(text):
 
 def links(trial):
     for name in sorted(LINKED):
-        for target in re.findall(r"\]\(([^()\s]+)\)", read(ROOT, name)):
+        for target in re.findall(r"\]\(([^()\s]+)\)", read(name)):
             path, _, heading = target.partition("#")
             file = os.path.normpath(os.path.join(os.path.dirname(name), path)) if path else name
-            leads = os.path.exists(f"{ROOT}/{file}") and (not heading or heading in headings(read(ROOT, file)))
+            leads = os.path.exists(f"{ROOT}/{file}") and (not heading or heading in headings(read(file)))
             trial.same(f"{name}: link to {target}", leads, True)
-    named = set(re.findall(r"`(?:sh |sbatch )?(\w+\.sh)\b", read(ROOT, COMPETITION)))
+    named = set(re.findall(r"`(?:sh |sbatch )?(\w+\.sh)\b", read(COMPETITION)))
     trial.same(f"{COMPETITION}: scripts", named, {name for name in os.listdir(SCRIPTS) if name.endswith(".sh")})
 
 
@@ -85,7 +80,7 @@ def shown_in(text):
 
 def shown(trial):
     """What a command writes stays out of the repository."""
-    cases = [(name, shell, *case) for name in PAGES for case in shown_in(read(ROOT, name)) for shell in SHELLS]
+    cases = [(name, shell, *case) for name in PAGES for case in shown_in(read(name)) for shell in SHELLS]
     for name, shell, commands, wanted in cases:
         with tempfile.TemporaryDirectory() as folder:
             shutil.copytree(f"{ROOT}/examples", f"{folder}/examples")
@@ -94,7 +89,7 @@ def shown(trial):
 
 def by_pages(trial):
     """The walk by pages of examples/README.md on a listing of thirteen lines: the pages without their last lines."""
-    (walk,) = re.findall(rf"^```sh\n(?=page=){BLOCK}", read(ROOT, "examples/README.md"), re.M)
+    (walk,) = re.findall(rf"^```sh\n(?=page=){BLOCK}", read("examples/README.md"), re.M)
     with tempfile.TemporaryDirectory() as folder:
         os.symlink(f"{ROOT}/examples/rules.problem.cudf", f"{folder}/P")
         os.symlink(f"{ROOT}/examples/rules.answer.cudf", f"{folder}/S")
@@ -127,7 +122,7 @@ def problem(row):
 def differences(trial):
     """The examples, by the columns that the head of each table names; `\\|` is a bar in a cell."""
     head = []
-    for line in re.findall(r"^\| .*", read(ROOT, DIFFERENCES), re.M):
+    for line in re.findall(r"^\| .*", read(DIFFERENCES), re.M):
         cells = [cell.strip().replace(r"\|", "|") for cell in re.split(r"(?<!\\)\|", line)[1:-1]]
         if cells[0] in ("Of a problem", "Of an answer", "What"):
             head = cells
@@ -139,10 +134,6 @@ def differences(trial):
             given = trial.script("cudf_check check P S" if "Answer" in row else "cudf_check lint P", folder)[1]
         wanted = row.get("Here", "`problem ok`").strip("`").split("`, `")
         trial.same(f"{DIFFERENCES}: {cells[:2]}", given.splitlines(), wanted)
-
-
-def packages(*pairs):
-    return "\n".join(f"package: {name}\nversion: {version}\ninstalled: true\n" for name, version in pairs)
 
 
 def rows(title):

@@ -15,10 +15,11 @@ import os
 import shutil
 import tempfile
 
-from common import contents, run, start
-from docs import CARS, OLD, SCRIPTS, SHELLS, Trial, competition, leave, packages, read
+from common import read, run, start
+from docs import CARS, OLD, SCRIPTS, SHELLS, Trial, competition, leave
 from refutations import A, SHOP, SHOP_CORE, SHOP_PROOF
 from second.cnf import Rules
+from second.universe import installing
 
 # the last two arguments are the CNF and the proof; the status is $ENDS (0) where it has no answer
 STAND_IN = """#!/bin/sh
@@ -34,12 +35,12 @@ NOTHING, FAULTY = "request:\n", "package: a\n\nrequest:\n"
 # nothing in LACKING gives b, and server 1 alone is a solution on the page
 TWO = A + "\npackage: b\nversion: 2\ndepends: a\n\nrequest: r\ninstall: b\n"
 LACKING = A + "\nrequest: r\ninstall: a, b\n"
-SERVER = contents("examples/competition/problems/server.cudf").decode()
+SERVER = read("examples/competition/problems/server.cudf")
 KNOWN = (
     (SHOP, "proof", SHOP_PROOF), (TWO, "model", "s SATISFIABLE\nv 1 2 0\n"), (LACKING, "proof", ""),
     (NOTHING, "model", "s SATISFIABLE\nv 0\n"), (SERVER, "model", "s SATISFIABLE\nv -1 -2 -3 -4 5 0\n"),
 )
-WITNESS = packages(("a", 1), ("b", 2)) + "\n"
+WITNESS = installing(("a", 1), ("b", 2)) + "\n"
 YES, UNKNOWN = "solution yes\n", "not decided\n"
 # of cadical before 1.7, which ends with 1, and of one that crashes or is killed
 BROKEN, ENDS = "fail.sh: cadical failed; version 1.7 or later is needed\n", ("1", "2", "134", "137", "143")
@@ -137,7 +138,7 @@ class Setting:
             shutil.copytree(SCRIPTS, folder, dirs_exist_ok=True)
             self.judge_all(folder, 0, "server.cudf wrong\n")
             witness = read(folder, "judged/server.cudf.witness")
-            self.trial.same(f"the page's witness, {self.shell}", witness, packages(("server", 1)) + "\n")
+            self.trial.same(f"the page's witness, {self.shell}", witness, installing(("server", 1)) + "\n")
 
 
 def judge(trial):

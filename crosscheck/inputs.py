@@ -3,7 +3,7 @@ import random
 import re
 import types
 
-from common import contents, unescaped
+from common import read, unescaped
 from second.criteria import COUNTS
 from second.documents import WISHES
 from second.keys import ASPECTS
@@ -16,7 +16,7 @@ BUILT_IN = {name: kind.word for name, kind in PROPERTIES.items() if name not in 
 
 def words_by_name():
     """The texts of inputs.txt, by their names and their kinds."""
-    text, found = contents("crosscheck/inputs.txt").decode().replace("\n¦", "¦"), {}
+    text, found = read("crosscheck/inputs.txt").replace("\n¦", "¦"), {}
     for name, kind, line in re.findall(r"^([a-z_]+)(?:, (.+?))? = (.*)$", text, re.M):
         texts = tuple(unescaped(part).decode() for part in line.split("¦"))
         found[name] = {**found.get(name, {}), kind: texts} if kind else texts

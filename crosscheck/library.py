@@ -26,7 +26,7 @@ import sys
 
 import common
 from calls import CALLS, DOCUMENTS, FAIL, FAULTY, GREATEST, MEMORY, NO, REFUSED, USAGE, YES, Request, answers, table
-from common import DONE, ROOT, contents, write
+from common import DONE, ROOT, contents, read, write
 from common import run_alike as run
 from inputs import Inputs
 from memory import in_turn
@@ -90,10 +90,10 @@ def shown(trial):
         printed = run([sys.executable, f"{ROOT}/embedding/python/example.py"], trial.folder, **how)
         yield f"example.py, {how}", printed, (0, EXAMPLE, b"")
     ends = {"c": "c", "cpp": "cpp", "python": "py", "ocaml": "ml"}
-    blocks = re.findall(r"^```(\w+)\n((?:.*\n)*?)```$", contents("docs/EMBEDDING.md").decode(), re.M)
+    blocks = re.findall(r"^```(\w+)\n((?:.*\n)*?)```$", read("docs/EMBEDDING.md"), re.M)
     yield "docs/EMBEDDING.md: languages", [language for language, _ in blocks], list(ends)
     for language, block in blocks:
-        example = contents(f"embedding/{language}/example.{ends[language]}").decode()
+        example = read(f"embedding/{language}/example.{ends[language]}")
         yield f"docs/EMBEDDING.md, {language}", block in example or block, True
 
 
@@ -109,7 +109,7 @@ def python(trial):
     module = python_module(trial)
     names = {**vars(module), **DOCUMENTS, "cudf_check": module, "contents": contents, "folder": trial.folder}
     runner = doctest.DocTestRunner(optionflags=doctest.ELLIPSIS)
-    for example in doctest.DocTestParser().get_examples(contents("crosscheck/python.txt").decode()):
+    for example in doctest.DocTestParser().get_examples(read("crosscheck/python.txt")):
         wrong, test = [], doctest.DocTest([example], names, "python.txt", "python.txt", 0, None)
         runner.run(test, out=wrong.append, clear_globs=False)
         names = test.globs

@@ -33,7 +33,7 @@ def bases(seed, paths):
         pairs.append((inputs.problem(chosen), inputs.solution(chosen)))
     for problem in map(contents, map(os.path.abspath, paths)):
         initial = [] if faults_of(problem, is_problem=True) else Problem(problem.decode()).initial
-        pairs.append((problem, installing(initial).encode()))
+        pairs.append((problem, installing(*((it.name, it.version) for it in initial)).encode()))
     return pairs
 
 

@@ -23,11 +23,11 @@ import sys
 import tarfile
 
 import common
-from common import ROOT, contents, output_of, section, write
+from common import ROOT, contents, output_of, read, section, write
 from common import run_alike as run
 from completions import Terminal, completions
 
-VERSION = re.search(r'#define CUDF_CHECK_VERSION "(.*)"', contents("include/cudf_check.h").decode())[1]
+VERSION = re.search(r'#define CUDF_CHECK_VERSION "(.*)"', read("include/cudf_check.h"))[1]
 # the packages, what they have as it is in the source, a link to the callers, and what else they are made of
 TARBALL, DEBIAN = f"cudf_check-{VERSION}-x86_64-linux", "cudf-check-proved"
 PACKED, LINK = ("README.md", "examples"), "embedding"
@@ -90,7 +90,7 @@ def versions(trial):
     """The version of the header in all places: each number of three parts, or what the pattern of a place finds."""
     for place in section("packages.txt", "versions").strip().splitlines():
         name, _, pattern = place.partition(" ")
-        found = re.findall(pattern or r"\b\d+\.\d+\.\d+\b", contents(name).decode())
+        found = re.findall(pattern or r"\b\d+\.\d+\.\d+\b", read(name))
         yield f"version in {name}", set(found), {VERSION}
     yield "version of the program", output_of(trial.program, "--version"), f"cudf_check {VERSION}\n"
 

@@ -11,7 +11,7 @@ import random
 import re
 
 import common
-from common import contents, section, sections, unescaped, write
+from common import contents, read, section, sections, unescaped, write
 from inputs import Inputs
 from second.cnf import Rules, is_satisfied, statuses
 from second.judge import Judgement
@@ -20,7 +20,7 @@ from second.reasons import Reasons
 from second.reports import error_answer
 from second.universe import installing
 
-SHOP, SHOP_PROOF = (contents(f"examples/{name}").decode() for name in ("shop.problem.cudf", "shop.lrat"))
+SHOP, SHOP_PROOF = (read(f"examples/{name}") for name in ("shop.problem.cudf", "shop.lrat"))
 SHOP_EXPLAINED = section("refutations.txt", "core").rstrip("\n") + "\n"
 SHOP_CORE = re.sub("; .*", "", SHOP_EXPLAINED) + "no solution exists\n"
 A = "package: a\nversion: 1\n"
@@ -168,12 +168,13 @@ class Encoded:
             for status in statuses(len(self.rules.packages))
         }
 
-    def chosen(self, status):
-        return [package for package in self.rules.packages if package.place in status]
-
     def solution(self, status):
         """A document that installs these packages."""
-        return installing(self.chosen(status))
+        return installing(*((it.name, it.version) for it in self.rules.packages if it.place in status))
+
+    def violated(self, status):
+        """The keys of the instances that a status violates, by the second judge."""
+        return {key for key, _, _ in Judgement(self.problem.decode(), self.solution(status)).instances}
 
     def is_core(self, lines):
         """Whether each status violates an instance of a printed line."""
@@ -192,8 +193,7 @@ def random_problem(trial, seed):
         trial.expect("cnf", cnf_answer(data), data)
     encoded = Encoded(problem)
     for status, keys in encoded.falsified.items():
-        violated = {key for key, _, _ in Judgement(problem.decode(), encoded.solution(status)).instances}
-        trial.same(("keys", problem, sorted(status)), keys, violated)
+        trial.same(("keys", problem, sorted(status)), keys, encoded.violated(status))
     rules = encoded.rules
     prover = Prover(len(rules.packages), [clause for _, clause in rules.clauses])
     trial.same(("refuted", problem), prover.is_refuted, all(encoded.falsified.values()))

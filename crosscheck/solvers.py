@@ -32,10 +32,10 @@ import shutil
 import sys
 import tempfile
 
-from common import contents, run, start, write
-from docs import SCRIPTS, leave, packages, read
+from common import contents, read, run, start, write
+from docs import SCRIPTS, leave
 from refutations import Encoded, Small, keys_in, proof_answer, spoilt
-from second.judge import violated_packages, violated_request
+from second.universe import installing
 
 NAMES, FEATURES = ["car", "wheel", "door", "engine", "glass", "tyre"], ["drive", "light"]
 OPERATORS, KEEPS = ["=", "!=", ">=", ">", "<=", "<"], ["version", "package", "none", "feature"]
@@ -140,7 +140,7 @@ def judged(trial, solvers, kind, given):
             is_there = ended != "TimeoutExpired" and os.path.isfile(answer)
             found[solver], report, _ = trial.run(["check", given, answer]) if is_there else (None, "", "")
             if kind == "plain" and solver != "packup" and ended == 0 and is_there:
-                name = f"{read('', given)}---- {solver} answered\n{read('', answer)}---- judged\n{report}"
+                name = f"{read(given)}---- {solver} answered\n{read(answer)}---- judged\n{report}"
                 trial.same(name, found[solver] in (0, 3), True)
         if 3 in found.values():
             os.symlink(trial.program, f"{folder}/cudf_check")
@@ -178,7 +178,7 @@ class Answer:
         given, self.path = trial.place("problem"), trial.place("-".join([solver, *criteria]))
         self.solver, self.criteria = solver, criteria
         ended = run(words_of(solver, given, self.path, criteria)).status
-        self.text = read("", self.path) if ended == 0 else None
+        self.text = read(self.path) if ended == 0 else None
         lines = ["broken off"] if ended else trial.answer(["score", given, self.path])[0]
         self.verdict, self.counted = lines[-1], dict(line.split(" ", 1) for line in lines[:-1])
         self.counts = self.counts_by(criteria)
@@ -235,13 +235,13 @@ def libcudf(trial, seed, count):
         known = re.findall(r"^package: (\S+)\nversion: (\d+)\n((?:.+\n)*)", text, re.M)
         for share in (0.05, 0.2, 0.5):
             pairs = [pair for *pair, rest in known if ("installed: true" in rest) != (dice.random() < share)]
-            leave(answer, packages(*pairs))
+            leave(answer, installing(*pairs))
             (*_, verdict), _ = trial.answer(["check", given, answer])
             theirs = "".join(run(["cudf-check", "-cudf", given, "-sol", answer]).decoded()[1:])
             tally[verdict] += 1
             found = re.findall(r"is_solution: (true|false)", theirs)
             wanted = {"solution yes": ["true"], "solution no": ["false"]}.get(verdict)
-            trial.same(f"{text}---- answer\n{packages(*pairs)}---- ours: {verdict}, theirs\n{theirs}", found, wanted)
+            trial.same(f"{text}---- answer\n{installing(*pairs)}---- ours: {verdict}, theirs\n{theirs}", found, wanted)
     trial.same("both verdicts came", len(tally), 2)
     print(", ".join(f"{verdict} {number}" for verdict, number in tally.items()))
 
@@ -252,24 +252,12 @@ class Mild(Small):
         return super().some(make, most) if self.chance.random() < 0.4 else ""
 
 
-class Nothing:
-    """In place of what explains a line: each of its methods returns an empty text."""
-    def __getattr__(self, _name):
-        return lambda *_: ""
-
-
 class Asked(Encoded):
     """A random problem, of which the program and cadical are asked."""
 
     def __init__(self, problem, trial, tally):
         super().__init__(problem)
         self.trial, self.tally, self.file = trial, tally, write(trial.folder, "problem", problem)
-
-    def violated(self, status):
-        """The keys of the violated instances, by the second judge."""
-        rules, chosen = self.rules, self.chosen(status)
-        found = {key for key, _, _ in violated_packages(rules.packages, chosen, Nothing())}
-        return found | {f"r.{key}" for key, _, _ in violated_request(rules.request, rules.initial, chosen, Nothing())}
 
     def ask(self, job, document):
         """The program's answer for the problem and another document."""

@@ -12,7 +12,7 @@ import re
 import sys
 from collections import namedtuple
 
-from common import EMPTY, ROOT, contents, lines_of, run, section, sections, start, unescaped, write
+from common import EMPTY, ROOT, lines_of, read, run, section, sections, start, unescaped, write
 from second import calls, documents, keys, reports
 
 TABLES = [f"crates/cudf_tests/src/rows/{name}.rt" for name in ("worked", "faults", "lists")]
@@ -25,10 +25,6 @@ Row = namedtuple("Row", "name job problem solutions report status")
 
 
 # ---- the data
-
-
-def read(path):
-    return contents(path).decode()
 
 
 def tested_rows():

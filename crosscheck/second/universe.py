@@ -36,9 +36,9 @@ class Problem:
         self.request = Request(request.line, {name: read_vpkglist(request.value(name) or "") for name in WISHES})
 
 
-def installing(packages):
-    """A solution that installs these packages."""
-    return "\n".join(f"package: {it.name}\nversion: {it.version}\ninstalled: true\n" for it in packages)
+def installing(*pairs):
+    """A solution that installs the packages of these names and versions."""
+    return "\n".join(f"package: {name}\nversion: {version}\ninstalled: true\n" for name, version in pairs)
 
 
 def numbers(status, name):
