@@ -81,11 +81,18 @@ fn put_depends(
     Ok(())
 }
 
+/// Whether a place isn't a package's own.
+fn is_other(place: u64, own: u64) -> bool
+    ensures { result ≡ not (place == own) }
+{
+    place != own
+}
+
 /// Takes a place out.
 fn take_out(places: &mut Vec<u64>, own: u64)
     ensures { places.new.items ≡ filter (λ n. not (n == own)) places.old.items }
 {
-    places.retain(|place| *place != own);
+    places.retain(|place| is_other(*place, own));
 }
 
 /// Puts the clauses of an entry of `conflicts`: one for each package other than the entry's own.

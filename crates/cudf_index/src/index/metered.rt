@@ -83,6 +83,7 @@ impl<'i, 'p, 't> Metered<'i, 'p, 't> {
     }
 
     /// `Index::least`, for one look-up and one reading.
+    #[tactic(auto, using(std::proofs::lemmas::Grind::common_steps))]
     pub fn least_counted(&mut self, name: &str) -> Option<u64>
         ensures least { IsLeast (numbers_of name.now self.old.status) result }
         ensures status { self.new.status ≡ self.old.status }
