@@ -64,4 +64,3 @@ pub distinct-once : (xs : List Name) → IsDistinct bytes_eq (each_once xs)
 unfolding IsDistinct
 distinct-once [] = tt
 distinct-once (x ∷ xs) = (others x (each_once xs), distinct-filter (λ o. not (bytes_eq x o)) (each_once xs) (distinct-once xs))
-

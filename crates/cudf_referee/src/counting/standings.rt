@@ -23,7 +23,11 @@ pub(crate) fn standings_of(
         let place = index as u64 + 1;
         let number = problem.number_at(index);
         let standing = standings[number];
-        standings[number] = standing.with(package.version, before.holds(place), proposed.holds(place));
+        standings[number] = standing.with(
+            package.version,
+            before.holds(place),
+            proposed.holds(place),
+        );
     }
     Ok(standings)
 }
