@@ -1,3 +1,4 @@
+pub mod Names
 pub mod Packages
 pub mod Statuses
 pub mod Views

@@ -44,12 +44,13 @@ impl fmt::Debug for Problem<'_> {
 }
 
 impl<'t> Problem<'t> {
-    ghost use Rattle.std.specs.Prelude.{◌≡◌, ◌<◌, ◌≤◌, true, map, length, option_map, position};
+    ghost use Rattle.std.specs.Prelude.{◌≡◌, ◌<◌, ◌≤◌, Some, true, map, length, option_map, position, slice_get, bytes_eq};
     ghost use Rattle.cudf_value.specs.Promises.Views.{formula_view};
     ghost use Rattle.cudf_problem.specs.Ids.{is_id};
     ghost use Rattle.cudf_problem.specs.Promises.Packages.{are_distinct, recommends_at};
     ghost use Rattle.cudf_problem.specs.Promises.Views.{package_view, request_view};
-    ghost use Rattle.cudf_problem.specs.Universe.{package_id};
+    ghost use Rattle.cudf_problem.specs.Promises.Names.{names_in};
+    ghost use Rattle.cudf_problem.specs.Universe.{PlainPackage, package_id};
 
     /// The problem of these, where `ids` are the names and versions of the packages.
     pub fn new(
@@ -109,5 +110,21 @@ impl<'t> Problem<'t> {
         ensures distinct { are_distinct (map package_id self.now.packages) ≡ true }
     {
         self.ids.index_of(name, version)
+    }
+
+    /// How many different names the packages have.
+    pub fn name_count(&self) -> usize
+        ensures { result ≡ length (names_in self.now.packages) }
+    {
+        self.ids.name_count()
+    }
+
+    /// The number of the name of the package with this index: how many other names come before it in the universe.
+    pub fn number_at(&self, index: usize) -> usize
+        requires { index < length self.now.packages }
+        ensures { (p : PlainPackage) → slice_get self.now.packages index ≡ Some p
+            → Some result ≡ position (bytes_eq p.name) (names_in self.now.packages) }
+    {
+        self.ids.number_at(index)
     }
 }

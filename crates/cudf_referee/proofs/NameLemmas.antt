@@ -45,11 +45,6 @@ once_push [] x = refl
 once_push (y ∷ ys) x =
     grind (arith, common_steps, once_push ys x, filter-append (λ o. not (bytes_eq y o)) (each_once ys) (x ∷ []), any_filtered x y (each_once ys), same_text x y, text_same y x, append-nil (filter (λ o. not (bytes_eq y o)) (each_once ys)), nat_list_eq_equiv.symm x y)
 
--- the same names are there
-pub any_once : (f : Name) (xs : List Name) → list_any (bytes_eq f) (each_once xs) ≡ list_any (bytes_eq f) xs
-any_once f [] = refl
-any_once f (x ∷ xs) = grind (arith, common_steps, any_once f xs, any_filtered f x (each_once xs))
-
 -- no name occurs twice
 distinct-filter : (t : Name → Bool) (xs : List Name) → IsDistinct bytes_eq xs → IsDistinct bytes_eq (filter t xs)
 distinct-filter t xs apart = IsDistinct-from_AllPairs bytes_eq-Decides (filter t xs) (AllPairs-filter (λ x y. x ≢ y) t xs (AllPairs-from_IsDistinct bytes_eq-Decides xs apart))
@@ -65,69 +60,7 @@ others x (y ∷ ys) = by (bytes_eq x y) refl (others x ys)
     by true e rest = rest
     by false e rest = (e, rest)
 
-distinct-once : (xs : List Name) → IsDistinct bytes_eq (each_once xs)
+pub distinct-once : (xs : List Name) → IsDistinct bytes_eq (each_once xs)
 unfolding IsDistinct
 distinct-once [] = tt
 distinct-once (x ∷ xs) = (others x (each_once xs), distinct-filter (λ o. not (bytes_eq x o)) (each_once xs) (distinct-once xs))
-
--- names that occur once each are as many as others of which the same ones pass
-pub same_count : (t : Name → Bool) (xs ys : List Name) → ((f : Name) → t f ≡ true → list_any (bytes_eq f) (each_once xs) ≡ list_any (bytes_eq f) (each_once ys))
-    → count_by t (each_once xs) ≡ count_by t (each_once ys)
-same_count t xs ys same =
-    sym (length-filter t (each_once xs))
-    ∙ length-from_same_keys nat_list_eq_equiv (filter t (each_once xs)) (filter t (each_once ys)) (distinct-filter t (each_once xs) (distinct-once xs)) (distinct-filter t (each_once ys) (distinct-once ys))
-    (λ f. passing f (each_once xs) ∙ alike (list_any (bytes_eq f) (each_once xs)) (list_any (bytes_eq f) (each_once ys)) (t f) (same f) ∙ sym (passing f (each_once ys)))
-    ∙ length-filter t (each_once ys)
-  where
-    passing : (f : Name) (zs : List Name) → is_member bytes_eq (filter t zs) f ≡ (is_member bytes_eq zs f && t f)
-    passing f zs = is_member-filter nat_list_eq_equiv t f (λ k e. ap t (same_text f k e)) zs
-
-    alike : (m n b : Bool) → (b ≡ true → m ≡ n) → (m && b) ≡ (n && b)
-    alike m n true same = ap (λ c. c && true) (same refl)
-    alike m n false same = and_false m ∙ sym (and_false n)
-
--- ---- entries of names
-
-abbrev Entry : Type 0 → Type 0
-Entry R = Bor Name × R
-
-abbrev pub eq_now : Bor Name → Bor Name → Bool
-eq_now x y = bytes_eq x.now y.now
-
--- each entry has what there is of its name
-abbrev pub EachHas : {R : Type 0} → (Name → R) → List (Entry R) → Type 0
-EachHas F es = AllByRecursion (λ e. e.1 ≡ F e.0.now) es
-
-pub values-each : {R : Type 0} (F : Name → R) (es : List (Entry R)) → EachHas F es → values_of es ≡ map F (map (λ k. k.now) (keys_of es))
-values-each F [] h = refl
-values-each F (e ∷ es) h = λ i. h.0 i ∷ values-each F es h.1 i
-
--- one name more, which has the same as any
-pub inserted-each : {R : Type 0} (r : R) (q : Bor Name) (es : List (Entry R)) → EachHas (λ f. r) es → EachHas (λ f. r) (insert_entry eq_now es q r)
-inserted-each r q [] h = (refl, tt)
-inserted-each r q (e ∷ es) h = elim (eq_now q e.0) as (λ b. EachHas (λ f. r) (cond b ((e.0, r) ∷ es) (e ∷ insert_entry eq_now es q r))) [ true ↦ (refl, h.1) | false ↦ (h.0, inserted-each r q es h.1) ]
-
-pub inserted-names : {R : Type 0} (r : R) (q : Bor Name) (es : List (Entry R))
-    → map (λ k. k.now) (keys_of (insert_entry eq_now es q r)) ≡ insert_key bytes_eq (map (λ k. k.now) (keys_of es)) q.now
-inserted-names r q [] = refl
-inserted-names r q (e ∷ es) = grind (arith, common_steps, inserted-names r q es)
-
--- names that aren't this one keep what they have
-module _ {R : Type 0} (F F' : Name → R) (q : Bor Name) (other : (f : Name) → bytes_eq q.now f ≡ false → F' f ≡ F f) where
-  pub kept-each : (es : List (Entry R)) → NonePasses (eq_now q) es → EachHas F es → EachHas F' es
-  kept-each [] none h = tt
-  kept-each (e ∷ es) none h = (h.0 ∙ sym (other e.0.now none.0), kept-each es none.1 h.1)
-
-  -- and this one gets what is new
-  pub written-each : (G : R → R) → F' q.now ≡ G (F q.now) → (es : List (Entry R)) (r : R) → IsDistinct eq_now (keys_of es) → lookup (eq_now q) es ≡ Some r → EachHas F es
-      → EachHas F' (set_value (eq_now q) es (G r))
-  written-each G here [] r apart found h = tt
-  written-each G here (e ∷ es) r apart found h = by (eq_now q e.0) refl found (λ f. written-each G here es r (IsDistinct-tail eq_now e.0 (keys_of es) apart) f h.1)
-    where
-      by : (b : Bool) → eq_now q e.0 ≡ b → cond b (Some e.1) (lookup (eq_now q) es) ≡ Some r
-          → (lookup (eq_now q) es ≡ Some r → EachHas F' (set_value (eq_now q) es (G r))) → EachHas F' (cond b ((e.0, G r) ∷ es) (e ∷ set_value (eq_now q) es (G r)))
-      by true is f rest =
-          let own : q.now ≡ e.0.now = same_text q.now e.0.now is in
-          let first : r ≡ e.1 = cc in
-          (ap G (first ∙ h.0 ∙ ap F (sym own)) ∙ sym here ∙ ap F' own, kept-each es (none_past_head (on_equiv (λ (k : Bor Name). k.now) nat_list_eq_equiv) q e es apart is) h.1)
-      by false is f rest = (h.0 ∙ sym (other e.0.now is), rest f)

@@ -1,11 +1,17 @@
 -- The standing of a name, with one more package.
-use Rattle.std.proofs.Common.{◌≡◌, ℕ, ◌+◌, ◌<◌, ◌≤◌, max, Bool, true, false, not, ◌&&◌, ◌||◌, ◌==◌, nat_lt, cond, List, [], ◌∷◌, ◌++◌, length, get_or, take, map, filter, ◌^◌, bytes_eq, if◌then◌else◌, refl, ap, sym, ◌∙◌, arith}
-use Rattle.std.specs.List.{list_any, list_all, count_by, enumerate_from}
-use Rattle.std.proofs.lemmas.Bool.{true≢false}
-use Rattle.std.proofs.lemmas.List.{append-nil, map-append, length-map, take-map, get_or-map, length-take-le, map_push, take_more}
+use Rattle.std.proofs.Common.{◌≡◌, ℕ, ◌+◌, ◌<◌, ◌≤◌, max, Bool, true, false, not, ◌&&◌, ◌||◌, ◌==◌, nat_lt, cond, subst, position, Some, List, [], ◌∷◌, ◌++◌, length, get_or, take, map, filter, ◌^◌, bytes_eq, if◌then◌else◌, refl, ap, sym, ◌∙◌, arith}
+use Rattle.std.specs.Prelude.{replicate}
+use Rattle.std.proofs.Math.ListN.{set}
+use Rattle.std.specs.List.{list_any, list_all, count_by, enumerate_from, IsDistinct}
+use Rattle.std.proofs.lemmas.Bool.{true≢false, ltb-true, ltb-false, eqb-true, eqb-false, false_from_ne_true}
+use Rattle.std.proofs.lemmas.Map.Made.{AllPairs-from_IsDistinct}
+use Rattle.std.proofs.lemmas.List.Quantifiers.{position-Some}
+use Rattle.std.proofs.lemmas.Slice.Eq.{bytes_eq-Decides}
+use Rattle.std.proofs.lemmas.List.{append_assoc, same_lists, length-set, get_or-set_same, get_or-set_other, append-nil, map-append, length-map, take-map, get_or-map, length-take-le, map_push, take_more}
 use Rattle.std.proofs.lemmas.List.Elements.{filter-append}
 use Rattle.std.proofs.lemmas.List.Folds.{list_any-append, list_all-append}
-use Rattle.indexmap.specs.IndexSet.{insert_key}
+use Rattle.indexmap.specs.IndexSet.{insert_all}
+use Rattle.cudf_problem.specs.Promises.Names.{names_in}
 use Rattle.cudf_problem.specs.Promises.Packages.{are_distinct}
 use Rattle.cudf_problem.specs.Ids.{is_among as is_among_ids}
 use Rattle.cudf_problem.specs.Universe.{PlainPackage, package_id}
@@ -17,10 +23,10 @@ use Rattle.cudf_index.specs.Satisfaction.{Placed}
 use Rattle.cudf_referee.specs.declared.counting.standing.Standing.{Standing}
 use Rattle.cudf_referee.specs.Criteria.{each_once, versions_of, is_number_among, is_same_set, greatest, at_most_max}
 use Rattle.cudf_referee.specs.Violations.{has_package}
-use Rattle.cudf_referee.specs.Working.Standings.{differ, standing_with, held, names_of, names_held, standing_of, standings_of}
+use Rattle.cudf_referee.specs.Working.Standings.{no_standing, differ, standing_with, held, names_of, standing_of, standings_of}
 use Rattle.cudf_referee.proofs.EntryLemmas.{enumerate-push}
 use Rattle.cudf_referee.proofs.ListLemmas.{and_false, and_true, or_true, count-map, filter-both, weaker_case, is_empty-map, is_empty-filter, list_any-none}
-use Rattle.cudf_referee.proofs.NameLemmas.{text_same, any_once, once_push, same_count}
+use Rattle.cudf_referee.proofs.NameLemmas.{same_text, text_same, once_push, distinct-once}
 use Rattle.std.proofs.lemmas.Grind.{common_steps}
 use Rattle.std.proofs.lemmas.Bool.Decides.{nat_tests}
 
@@ -149,20 +155,6 @@ no_versions : (vs : List ℕ) → is_empty vs ≡ true → vs ≡ []
 no_versions [] h = refl
 no_versions (v ∷ vs) h = absurd (cc h)
 
--- ---- the names that a status has
-
-abbrev either : (ℕ → Bool) → (ℕ → Bool) → ℕ → Bool
-either was is = λ place. was place || is place
-
--- one package more, which one of the statuses has or neither
-pub held_more : (was is : ℕ → Bool) (xs : List Placed) (p : Placed)
-    → names_held was is (xs ++ p ∷ []) ≡ (if was p.0 || is p.0 then insert_key bytes_eq (names_held was is xs) p.1.name else names_held was is xs)
-held_more was is xs p = ap names_of (held-push (either was is) xs p) ∙ by (was p.0 || is p.0)
-  where
-    by : (b : Bool) → names_of (held (either was is) xs ++ cond b (p ∷ []) []) ≡ (if b then insert_key bytes_eq (names_held was is xs) p.1.name else names_held was is xs)
-    by true = ap each_once (map-append (λ (q : Placed). q.1.name) (held (either was is) xs) (p ∷ [])) ∙ once_push (map (λ q. q.1.name) (held (either was is) xs)) p.1.name
-    by false = ap names_of (append-nil (held (either was is) xs))
-
 -- ---- the standings of some names, with one package more
 
 module _ (was is : ℕ → Bool) (xs : List Placed) (p : Placed) where
@@ -244,64 +236,87 @@ outdated is xs f = by (has_package (held is xs) f) refl
 
 -- ---- what is counted of all names
 
--- the standing of a name that neither status has
-abbrev pub idle : ℕ → ℕ → Standing
-idle top top_installed = record { was_installed = false; is_installed = false; is_changed = false; greatest = top; greatest_installed = top_installed }
-
-held_within : (t e : ℕ → Bool) (xs : List Placed) → ((n : ℕ) → t n ≡ true → e n ≡ true) → held t (held e xs) ≡ held t xs
-held_within t e xs within = sym (filter-both (λ (p : Placed). e p.0) (λ p. t p.0) xs) ∙ ap (λ test. filter test xs) (λ j (p : Placed). weaker_case (e p.0) (t p.0) (within p.0) j)
-
-idle_unheld : (was is : ℕ → Bool) (xs : List Placed) (f : List ℕ) → list_any (bytes_eq f) (names_held was is xs) ≡ false
-    → standing_of was is xs f ≡ idle (greatest (versions_of f xs)) (greatest (versions_of f (held is xs)))
-idle_unheld was is xs f none = λ i. record {
-  was_installed = has was from_was i;
-  is_installed = has is from_is i;
-  is_changed = not (is_same_set (versions was from_was i) (versions is from_is i));
-  greatest = greatest (versions_of f xs);
-  greatest_installed = greatest (versions_of f (held is xs));
-}
-  where
-    e : ℕ → Bool
-    e = either was is
-
-    from_was : (n : ℕ) → was n ≡ true → e n ≡ true
-    from_was n h = ap (λ b. b || is n) h
-
-    from_is : (n : ℕ) → is n ≡ true → e n ≡ true
-    from_is n h = ap (λ b. was n || b) h ∙ or_true (was n)
-
-    has : (t : ℕ → Bool) → ((n : ℕ) → t n ≡ true → e n ≡ true) → has_package (held t xs) f ≡ false
-    has t within = ap (λ ps. has_package ps f) (sym (held_within t e xs within))
-        ∙ any_less (is_named f) (λ p. t p.0) (held e xs) (sym (named f (held e xs)) ∙ sym (any_once f (map (λ p. p.1.name) (held e xs))) ∙ none)
-
-    versions : (t : ℕ → Bool) → ((n : ℕ) → t n ≡ true → e n ≡ true) → versions_of f (held t xs) ≡ []
-    versions t within = no_versions (versions_of f (held t xs)) (empty-versions f (held t xs) ∙ ap not (has t within))
-
--- the names of some packages are among those of all
-named_anywhere : (f : List ℕ) (e : ℕ → Bool) (xs : List Placed) → has_package (held e xs) f ≡ true → has_package xs f ≡ true
-named_anywhere f e [] h = h
-named_anywhere f e (x ∷ xs) h = grind (arith, common_steps, named_anywhere f e xs)
-
--- the names that a status has are counted as all are, where no other passes the test
-count_held : (was is : ℕ → Bool) (xs : List Placed) (test : Standing → Bool) → ((top top_installed : ℕ) → test (idle top top_installed) ≡ false)
-    → count_by (λ f. test (standing_of was is xs f)) (names_of xs) ≡ count_by (λ f. test (standing_of was is xs f)) (names_held was is xs)
-count_held was is xs test quiet =
-    same_count passes (map (λ q. q.1.name) xs) (map (λ q. q.1.name) (held (either was is) xs))
-    (λ f passed. by f passed (list_any (bytes_eq f) (names_held was is xs)) refl)
-  where
-    passes : List ℕ → Bool
-    passes f = test (standing_of was is xs f)
-
-    by : (f : List ℕ) → passes f ≡ true → (b : Bool) → list_any (bytes_eq f) (names_held was is xs) ≡ b → list_any (bytes_eq f) (names_of xs) ≡ b
-    by f passed true there =
-        any_once f (map (λ q. q.1.name) xs) ∙ named f xs ∙ named_anywhere f (either was is) xs (sym (named f (held (either was is) xs)) ∙ sym (any_once f (map (λ q. q.1.name) (held (either was is) xs))) ∙ there)
-    by f passed false none = absurd (true≢false (sym passed ∙ ap test (idle_unheld was is xs f none) ∙ quiet (greatest (versions_of f xs)) (greatest (versions_of f (held is xs)))))
-
 -- the count of the names of a status's universe, from the standings
 pub names_counted : (was is : ℕ → Bool) (xs : List Placed) (rows : List Standing) (result : ℕ) (test : Standing → Bool) (named : List ℕ → Bool)
-    → ((top top_installed : ℕ) → test (idle top top_installed) ≡ false) → rows ≡ standings_of was is xs
-    → ((f : List ℕ) → test (standing_of was is xs f) ≡ named f) → result ≡ count_by test rows → result < 2 ^ 64 → result ≡ at_most_max (count_by named (names_of xs))
-names_counted was is xs rows result test named quiet rows_are same counted small =
+    → rows ≡ standings_of was is xs → ((f : List ℕ) → test (standing_of was is xs f) ≡ named f) → result ≡ count_by test rows → result < 2 ^ 64
+    → result ≡ at_most_max (count_by named (names_of xs))
+names_counted was is xs rows result test named rows_are same counted small =
     sym (capped result small)
-    ∙ ap at_most_max (counted ∙ ap (count_by test) rows_are ∙ count-map test (standing_of was is xs) (names_held was is xs)
-    ∙ sym (count_held was is xs test quiet) ∙ ap (λ p. count_by p (names_of xs)) (λ i f. same f i))
+    ∙ ap at_most_max (counted ∙ ap (count_by test) rows_are ∙ count-map test (standing_of was is xs) (names_of xs) ∙ ap (λ p. count_by p (names_of xs)) (λ i f. same f i))
+
+-- ---- standings by the numbers of names
+
+-- a list of what there is of each name, where it changes for one of them
+set_named : (F F' : List ℕ → Standing) (name : List ℕ) (names : List (List ℕ)) (n : ℕ) (new : Standing) → IsDistinct bytes_eq names → position (bytes_eq name) names ≡ Some n
+    → new ≡ F' name → ((f : List ℕ) → bytes_eq name f ≡ false → F' f ≡ F f) → set (map F names) n new ≡ map F' names
+set_named F F' name names n new distinct at here other =
+    same_lists (set (map F names) n new) (map F' names) (length-set (map F names) n new ∙ length-map names F ∙ sym (length-map names F'))
+    (λ k d lt. by k d (omega (arith, lt, length-set (map F names) n new, length-map names F)) (k == n) refl)
+  where
+    found : (n < length names) × (bytes_eq name (get_or names n []) ≡ true) × ((k : ℕ) → k < n → bytes_eq name (get_or names k []) ≡ false)
+    found = position-Some (bytes_eq name) names n [] at
+
+    apart : (i j : ℕ) → i < j → j < length names → get_or names i [] ≡ get_or names j [] → ⊥
+    apart i j lt inside = AllPairs-from_IsDistinct bytes_eq-Decides names distinct i j [] lt inside
+
+    differs : (k : ℕ) → k < length names → (k ≡ n → ⊥) → bytes_eq name (get_or names k []) ≡ false
+    differs k inside ne =
+        false_from_ne_true (bytes_eq name (get_or names k [])) (λ h.
+        let same : get_or names n [] ≡ get_or names k [] = sym (same_text name (get_or names n []) found.1) ∙ same_text name (get_or names k []) h in
+        by (nat_lt k n) refl same)
+      where
+        by : (b : Bool) → nat_lt k n ≡ b → get_or names n [] ≡ get_or names k [] → ⊥
+        by true e same = apart k n (ltb-true k n e) found.0 (sym same)
+        by false e same = let least = ltb-false k n e in apart n k (omega (arith, least, ne)) inside same
+
+    by : (k : ℕ) (d : Standing) → k < length names → (b : Bool) → (k == n) ≡ b → get_or (set (map F names) n new) k d ≡ get_or (map F' names) k d
+    by k d inside true e =
+        ap (λ m. get_or (set (map F names) n new) m d) (eqb-true k n e)
+        ∙ get_or-set_same (map F names) n new d (omega (arith, found.0, length-map names F))
+        ∙ here ∙ ap F' (same_text name (get_or names n []) found.1) ∙ ap (λ m. F' (get_or names m [])) (sym (eqb-true k n e)) ∙ sym (get_or-map F' names k [] d inside)
+    by k d inside false e =
+        get_or-set_other (map F names) n k new d (eqb-false k n e) ∙ get_or-map F names k [] d inside
+        ∙ sym (other (get_or names k []) (differs k inside (eqb-false k n e))) ∙ sym (get_or-map F' names k [] d inside)
+
+-- the names of a universe are those that have numbers
+once-all : (ys xs : List (List ℕ)) → insert_all bytes_eq (each_once ys) xs ≡ each_once (ys ++ xs)
+once-all ys [] = ap each_once (sym (append-nil ys))
+once-all ys (x ∷ xs) = ap (λ ns. insert_all bytes_eq ns xs) (sym (once_push ys x)) ∙ once-all (ys ++ x ∷ []) xs ∙ ap each_once (append_assoc ys (x ∷ []) xs)
+
+placed_names : (k : ℕ) (ps : List PlainPackage) → map (λ (p : Placed). p.1.name) (enumerate_from k ps) ≡ map (λ id. id.0) (map package_id ps)
+placed_names k [] = refl
+placed_names k (p ∷ ps) = ap (λ ns. p.name ∷ ns) (placed_names (k + 1) ps)
+
+pub numbered_names : (ps : List PlainPackage) → names_in ps ≡ names_of (enumerate_from 1 ps)
+numbered_names ps = once-all [] (map (λ id. id.0) (map package_id ps)) ∙ ap each_once (sym (placed_names 1 ps))
+
+-- those of no packages are alike
+pub none_standing : (names : List (List ℕ)) (was is : ℕ → Bool) → replicate (length names) no_standing ≡ map (standing_of was is []) names
+none_standing [] was is = refl
+none_standing (name ∷ names) was is = ap (λ rows. no_standing ∷ rows) (none_standing names was is)
+
+-- one package more, in the standing of its name's number
+pub standing_added : (was is : ℕ → Bool) (xs : List Placed) (p : Placed) (ps : List PlainPackage) (rows now : List Standing) (n : ℕ) → is_number_among (versions_of p.1.name xs) p.1.version ≡ false
+    → Some n ≡ position (bytes_eq p.1.name) (names_in ps) → rows ≡ map (standing_of was is xs) (names_in ps)
+    → ((d : Standing) → now ≡ set rows n (standing_with (get_or rows n d) p.1.version (was p.0) (is p.0))) → now ≡ map (standing_of was is (xs ++ p ∷ [])) (names_in ps)
+standing_added was is xs p ps rows now n fresh at before added =
+    added no_standing
+    ∙ (λ i. set (before i) n (standing_with (standing i) p.1.version (was p.0) (is p.0)))
+    ∙ set_named (standing_of was is xs) (standing_of was is (xs ++ p ∷ [])) p.1.name (names_in ps) n (standing_with (standing_of was is xs p.1.name) p.1.version (was p.0) (is p.0))
+    (subst (IsDistinct bytes_eq) (sym (numbered_names ps)) (distinct-once (map (λ q. q.1.name) (enumerate_from 1 ps))))
+    (sym at) (sym (standing-own was is xs p fresh)) (standing-other was is xs p)
+  where
+    found : (n < length (names_in ps)) × (bytes_eq p.1.name (get_or (names_in ps) n []) ≡ true) × ((k : ℕ) → k < n → bytes_eq p.1.name (get_or (names_in ps) k []) ≡ false)
+    found = position-Some (bytes_eq p.1.name) (names_in ps) n [] (sym at)
+
+    standing : get_or rows n no_standing ≡ standing_of was is xs p.1.name
+    standing =
+        ap (λ rs. get_or rs n no_standing) before ∙ get_or-map (standing_of was is xs) (names_in ps) n [] no_standing found.0
+        ∙ ap (standing_of was is xs) (sym (same_text p.1.name (get_or (names_in ps) n []) found.1))
+
+-- a number has a standing
+pub standing_within : (was is : ℕ → Bool) (xs : List Placed) (ps : List PlainPackage) (rows : List Standing) (name : List ℕ) (n : ℕ) → Some n ≡ position (bytes_eq name) (names_in ps)
+    → rows ≡ map (standing_of was is xs) (names_in ps) → n < length rows
+standing_within was is xs ps rows name n at before =
+    let found = position-Some (bytes_eq name) (names_in ps) n [] (sym at) in
+    omega (arith, found.0, ap length before, length-map (names_in ps) (standing_of was is xs))

@@ -18,7 +18,7 @@ use std::alloc::{AllocError, Global};
 pub(crate) struct Parts<'a> {
     /// Whether packages are kept.
     pub(crate) keeps: bool,
-    /// Where the names of these are copied to, if they are.
+    /// Where the names of packages are copied to, if they are.
     pub(crate) names: Option<Names<'a>>,
     pub(crate) packages: Vec<Package<'a>>,
     pub(crate) request: Option<Request<'a>>,
@@ -26,7 +26,7 @@ pub(crate) struct Parts<'a> {
 
 impl<'a> Parts<'a> {
     ghost use Rattle.std.specs.Prelude.{◌≡◌, ◌++◌, ◌∷◌, [], Bool, List, Some, true, false, map, option_map, option_to_list, is_some, if◌then◌else◌, IfOk, OnOk};
-    ghost use Rattle.cudf_text.specs.Stanzas.{PlainStanza};
+    ghost use Rattle.cudf_text.specs.Stanzas.{PlainProperty, PlainStanza};
     ghost use Rattle.cudf_text.specs.Promises.Views.{stanza_view};
     ghost use Rattle.cudf_document.specs.Faults.{least};
     ghost use Rattle.cudf_problem.specs.Documents.{postmark, is_request};
@@ -49,6 +49,29 @@ impl<'a> Parts<'a> {
             names,
             packages: Vec::new(alloc),
             request: None,
+        }
+    }
+
+    /// The identity of a package, with a copy of its name where names are copied.
+    #[inline(always)]
+    pub(crate) fn named(
+        &mut self,
+        alloc: Global,
+        identity: Identity<'a>,
+    ) -> Result<Identity<'a>, AllocError>
+        ensures same { (all : List PlainProperty) →
+            IsIdentity identity.entry all → IfOk result (λ i. IsIdentity i all) }
+        ensures kept { (keeps : Bool) →
+            (before : List PlainStanza) →
+            AreParts keeps before self.old →
+            OnOk result (AreParts keeps before self.new) }
+    {
+        match (&mut self.names, identity.name) {
+            (Some(names), Some(name)) => Ok(Identity {
+                name: Some(names.copy(alloc, name)?),
+                ..identity
+            }),
+            _ => Ok(identity),
         }
     }
 
@@ -76,13 +99,13 @@ impl<'a> Parts<'a> {
     {
         let (fault, fields) = read_properties(alloc, names, declarations, identity, stanza)?;
         let read = fields.into_package(stanza.line, identity);
-        self.keep_package(alloc, read)?;
+        self.keep_package(read)?;
         Ok(fault)
     }
 
     /// Keeps the package, if there is one and packages are kept.
     #[inline(always)]
-    fn keep_package(&mut self, alloc: Global, read: Option<Package<'a>>) -> Result<(), AllocError>
+    fn keep_package(&mut self, read: Option<Package<'a>>) -> Result<(), AllocError>
         ensures packages { self.old.keeps ≡ true →
             OnOk result (map package_view self.new.packages.items
             ≡ map package_view self.old.packages.items ++ option_to_list (option_map package_view read.entry)) }
@@ -90,7 +113,6 @@ impl<'a> Parts<'a> {
         ensures keeps { OnOk result (self.new.keeps ≡ self.old.keeps) }
     {
         if self.keeps {
-            let read = named(alloc, &mut self.names, read)?;
             push_some(&mut self.packages, read)
         } else {
             Ok(())
@@ -146,24 +168,6 @@ impl<'a> Parts<'a> {
     {
         let recommends = walk.declarations.recommends_default();
         Problem::new(self.packages, self.request.unwrap(), recommends, walk.ids)
-    }
-}
-
-/// The package, if there is one, with a copy of its name, where names are copied.
-#[inline(always)]
-fn named<'t>(
-    alloc: Global,
-    names: &mut Option<Names<'t>>,
-    read: Option<Package<'t>>,
-) -> Result<Option<Package<'t>>, AllocError>
-    ensures { IfOk result (λ p. option_map package_view p ≡ option_map package_view read.entry) }
-{
-    match (names, read) {
-        (Some(names), Some(package)) => Ok(Some(Package {
-            name: names.copy(alloc, package.name)?,
-            ..package
-        })),
-        (_, read) => Ok(read),
     }
 }
 

@@ -275,7 +275,7 @@ impl<'a> Walk<'a> {
             AreParts keeps before kept.old →
             OnOk result (AreParts keeps (before ++ stanza_view stanza.now ∷ []) kept.new) }
     {
-        let identity = Identity::of(stanza);
+        let identity = kept.named(alloc, Identity::of(stanza))?;
         let fault = kept.take_package(
             alloc,
             &mut self.names,

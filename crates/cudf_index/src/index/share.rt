@@ -110,7 +110,7 @@ pub(crate) fn shares_of<'p, 't>(
     let mut shares = Vec::new(alloc);
     for (before, package) in problem.packages().iter().enumerate() {
         let place = before as u64 + 1;
-        if package.provides.len() >= MANY && status.holds(place) {
+        if status.holds(place) && package.provides.len() >= MANY {
             shares.push(Share::new(alloc, Member { place, package })?)?;
         }
     }

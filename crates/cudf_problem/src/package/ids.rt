@@ -1,25 +1,43 @@
 //! Names and versions of packages.
-ghost use Rattle.std.specs.Prelude.{◌≡◌, [], not, position, option_map, IfOk, OnOk};
+ghost use Rattle.std.specs.Prelude.{◌≡◌, ◌<◌, [], Some, not, length, position, slice_index_or, option_map, bytes_eq, IfOk, OnOk};
 ghost use Rattle.indexmap.specs.IndexSet.{insert_key};
-ghost use Rattle.cudf_problem.specs.Ids.{is_id, is_among, is_known};
+ghost use Rattle.cudf_problem.specs.Ids.{Id, is_id, is_among, is_known};
+ghost use Rattle.cudf_problem.specs.Promises.Names.{names_of_ids};
 ghost use Rattle.cudf_problem.specs.Promises.Packages.{with_id};
+ghost use Rattle.cudf_problem.specs.Working.Numbers.{pair_id};
 
-use indexmap::IndexSet;
+use indexmap::{IndexMap, IndexSet};
 use std::alloc::{AllocError, Global};
 use std::marker::Model;
 
-/// Pairs of name and version, each once, in the order in which they came.
+/// Pairs of name and version, each once, in the order in which they came. Each name has a number: how many other names
+/// came before it.
 #[derive(Drop)]
 pub struct Ids<'t> {
-    pairs: IndexSet<(&'t str, u64)>,
+    names: IndexSet<&'t str>,
+    pairs: Vec<Numbered>,
+    /// For each name the index of its first pair. Most names have no other.
+    firsts: Vec<usize>,
+    /// The indices of all other pairs.
+    others: IndexMap<(usize, u64), usize>,
+}
+
+/// The number of a name, and a version.
+#[derive(Clone, Copy)]
+struct Numbered {
+    name: usize,
+    version: u64,
 }
 
 impl<'t> Model for Ids<'t> {
-    ghost use Rattle.std.specs.Prelude.{List, ℕ, map};
+    ghost use Rattle.std.specs.Prelude.{List, ℕ};
+    ghost use Rattle.cudf_problem.specs.Working.Numbers.{texts, pair_ids, other_index, AreNumbered};
 
     ghost Value = { List (List ℕ × ℕ) };
 
-    ghost view = { λ i. map (λ id. (id.0.now, id.1)) i.pairs.keys };
+    ghost view = { λ i. pair_ids (texts i.names.keys) i.pairs.items };
+
+    ghost invariant = { λ i. AreNumbered (texts i.names.keys) i.pairs.items i.firsts.items (other_index i.others) };
 }
 
 impl<'t> Ids<'t> {
@@ -28,7 +46,10 @@ impl<'t> Ids<'t> {
         ensures { result ≡ [] }
     {
         Ids {
-            pairs: IndexSet::new(alloc),
+            names: IndexSet::new(alloc),
+            pairs: Vec::new(alloc),
+            firsts: Vec::new(alloc),
+            others: IndexMap::new(alloc),
         }
     }
 
@@ -38,7 +59,37 @@ impl<'t> Ids<'t> {
             is_new ≡ not (is_among self.old (name.now, version))) }
         ensures ids { OnOk result (self.new ≡ insert_key is_id self.old (name.now, version)) }
     {
-        Ok(self.pairs.insert((name, version))?)
+        // What follows the name in the other lists can be added then, so no name is without a pair.
+        self.pairs.reserve(1)?;
+        self.firsts.reserve(1)?;
+        let (number, is_new) = self.names.insert_full(name)?;
+        let pair = Numbered {
+            name: number,
+            version,
+        };
+        if is_new {
+            self.firsts.push(self.pairs.len())?;
+            self.pairs.push(pair)?;
+            return Ok(true);
+        }
+        self.insert_other(pair)
+    }
+
+    /// Adds a pair of a name that came before, and says whether it is new.
+    fn insert_other(&mut self, pair: Numbered) -> Result<bool, AllocError>
+        requires { pair.name < length (names_of_ids self.old) }
+        ensures is_new { IfOk result (λ is_new.
+            is_new ≡ not (is_among self.old (pair_id (names_of_ids self.old) pair))) }
+        ensures ids { OnOk result (self.new ≡ insert_key is_id self.old (pair_id (names_of_ids self.old) pair)) }
+    {
+        if self.find(pair).is_some() {
+            return Ok(false);
+        }
+        self.pairs.reserve(1)?;
+        self.others
+            .insert((pair.name, pair.version), self.pairs.len())?;
+        self.pairs.push(pair)?;
+        Ok(true)
     }
 
     /// Adds the pair, if there is one, and says whether it was there before.
@@ -58,13 +109,46 @@ impl<'t> Ids<'t> {
     pub fn contains(&self, name: &str, version: u64) -> bool
         ensures { result ≡ is_among self.now (name.now, version) }
     {
-        self.pairs.contains(&(name, version))
+        self.index_of(name, version).is_some()
     }
 
     /// How many pairs came before this one, if it is there.
     pub fn index_of(&self, name: &str, version: u64) -> Option<usize>
         ensures { result ≡ position (is_id (name.now, version)) self.now }
     {
-        self.pairs.get_index_of(&(name, version))
+        match self.names.get_index_of(&name) {
+            Some(number) => self.find(Numbered {
+                name: number,
+                version,
+            }),
+            None => None,
+        }
+    }
+
+    /// How many pairs came before this one, if it is there.
+    fn find(&self, pair: Numbered) -> Option<usize>
+        requires { pair.name < length (names_of_ids self.now) }
+        ensures { result ≡ position (is_id (pair_id (names_of_ids self.now) pair)) self.now }
+    {
+        let first = self.firsts[pair.name];
+        if self.pairs[first].version == pair.version {
+            return Some(first);
+        }
+        self.others.get(&(pair.name, pair.version)).copied()
+    }
+
+    /// How many names there are.
+    pub fn name_count(&self) -> usize
+        ensures { result ≡ length (names_of_ids self.now) }
+    {
+        self.names.len()
+    }
+
+    /// The number of the name of the pair before which so many came.
+    pub fn number_at(&self, index: usize) -> usize
+        requires { index < length self.now }
+        ensures { (d : Id) → Some result ≡ position (bytes_eq (slice_index_or self.now index d).0) (names_of_ids self.now) }
+    {
+        self.pairs[index].name
     }
 }

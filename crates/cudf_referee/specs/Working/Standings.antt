@@ -1,8 +1,5 @@
 -- What counting gathers of each name.
-use Rattle.std.specs.Prelude.{◌≡◌, ℕ, Bool, false, not, ◌||◌, List, map, filter, max, if◌then◌else◌}
-use Rattle.std.specs.Borrow.{Bor}
-use Rattle.std.specs.List.{AllByRecursion}
-use Rattle.indexmap.specs.IndexMap.{IndexMap, keys}
+use Rattle.std.specs.Prelude.{ℕ, Bool, false, not, ◌||◌, List, map, filter, max, if◌then◌else◌}
 use Rattle.cudf_index.specs.Satisfaction.{Placed}
 use Rattle.cudf_referee.specs.declared.counting.standing.Standing.{Standing}
 use Rattle.cudf_referee.specs.Criteria.{each_once, versions_of, is_same_set, greatest}
@@ -43,15 +40,6 @@ standing_of was is packages name = record {
 abbrev pub names_of : List Placed → List (List ℕ)
 names_of packages = each_once (map (λ p. p.1.name) packages)
 
--- the names of the packages that one of the statuses has
-abbrev pub names_held : (ℕ → Bool) → (ℕ → Bool) → List Placed → List (List ℕ)
-names_held was is packages = names_of (held (λ place. was place || is place) packages)
-
--- the standings of these names: any other has none of what is counted
+-- the standings of these names
 abbrev pub standings_of : (ℕ → Bool) → (ℕ → Bool) → List Placed → List Standing
-standings_of was is packages = map (standing_of was is packages) (names_held was is packages)
-
--- what was gathered of these packages for these names
-pub record StandsFor {S : Type 0} (was is : ℕ → Bool) (names : List (List ℕ)) (packages : List Placed) (m : IndexMap (Bor (List ℕ)) Standing S) : Type 0 where
-  pub names_are : map (λ name. name.now) (keys m) ≡ names
-  pub standings_are : AllByRecursion (λ e. e.1 ≡ standing_of was is packages e.0.now) m.entries
+standings_of was is packages = map (standing_of was is packages) (names_of packages)

@@ -1,13 +1,7 @@
 //! What the two statuses hold of a name.
 ghost use Rattle.std.specs.Prelude.{◌≡◌, not, ◌&&◌, nat_lt};
 ghost use Rattle.std.specs.List.{count_by};
-ghost use Rattle.indexmap.specs.IndexMap.{values};
 ghost use Rattle.cudf_referee.specs.Working.Standings.{no_standing, standing_with};
-
-use indexmap::IndexMap;
-
-/// Standings by their names, in the order in which the names came.
-pub(crate) type Standings<'t> = IndexMap<&'t str, Standing>;
 
 /// What the initial and the proposed status hold of a name, and its greatest versions.
 #[derive(Clone, Copy, Debug)]
@@ -52,38 +46,38 @@ impl Standing {
 }
 
 /// How many names were installed and aren't to be.
-pub(crate) fn count_removed(standings: &Standings<'_>) -> u64
-    ensures { result ≡ count_by (λ s. s.was_installed && not s.is_installed) (values standings.now) }
+pub(crate) fn count_removed(standings: &[Standing]) -> u64
+    ensures { result ≡ count_by (λ s. s.was_installed && not s.is_installed) standings.now }
 {
     standings
-        .values()
+        .iter()
         .filter(|s| s.was_installed && !s.is_installed)
         .count() as u64
 }
 
 /// How many names are to be installed and weren't.
-pub(crate) fn count_new(standings: &Standings<'_>) -> u64
-    ensures { result ≡ count_by (λ s. s.is_installed && not s.was_installed) (values standings.now) }
+pub(crate) fn count_new(standings: &[Standing]) -> u64
+    ensures { result ≡ count_by (λ s. s.is_installed && not s.was_installed) standings.now }
 {
     standings
-        .values()
+        .iter()
         .filter(|s| s.is_installed && !s.was_installed)
         .count() as u64
 }
 
 /// How many names have a version in one status alone.
-pub(crate) fn count_changed(standings: &Standings<'_>) -> u64
-    ensures { result ≡ count_by (λ s. s.is_changed) (values standings.now) }
+pub(crate) fn count_changed(standings: &[Standing]) -> u64
+    ensures { result ≡ count_by (λ s. s.is_changed) standings.now }
 {
-    standings.values().filter(|s| s.is_changed).count() as u64
+    standings.iter().filter(|s| s.is_changed).count() as u64
 }
 
 /// How many names are to be installed, but not at their greatest version.
-pub(crate) fn count_not_up_to_date(standings: &Standings<'_>) -> u64
-    ensures { result ≡ count_by (λ s. s.is_installed && nat_lt s.greatest_installed s.greatest) (values standings.now) }
+pub(crate) fn count_not_up_to_date(standings: &[Standing]) -> u64
+    ensures { result ≡ count_by (λ s. s.is_installed && nat_lt s.greatest_installed s.greatest) standings.now }
 {
     standings
-        .values()
+        .iter()
         .filter(|s| s.is_installed && s.greatest_installed < s.greatest)
         .count() as u64
 }

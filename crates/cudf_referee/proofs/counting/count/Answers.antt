@@ -1,4 +1,4 @@
-use Rattle.std.proofs.Common.{not, ◌&&◌, nat_lt, [], List, refl}
+use Rattle.std.proofs.Common.{◌∙◌, not, ◌&&◌, nat_lt, [], List, refl}
 use Rattle.std.specs.FinSet as set
 use Rattle.std.specs.List.{enumerate_from}
 use Rattle.cudf_index.specs.Satisfaction.{Placed}
@@ -14,13 +14,12 @@ returns c =
     let is = set.contains c.args.proposed.now in
     let s : Proposal = proposal c.args.problem.now was is [] in
     let xs : List Placed = enumerate_from 1 c.args.problem.now.packages in
-    let rows = c.in_ok-standings.ensures in
-    let removed = names_counted was is xs _ c.count_removed.result (λ s. s.was_installed && not s.is_installed) (is_removed s) (λ top top_installed. refl)
-    rows (λ f. refl) c.count_removed.ensures c.count_removed.type_inv in
-    let fresh = names_counted was is xs _ c.count_new.result (λ s. s.is_installed && not s.was_installed) (is_new s) (λ top top_installed. refl)
-    rows (λ f. refl) c.count_new.ensures c.count_new.type_inv in
-    let changed = names_counted was is xs _ c.count_changed.result (λ s. s.is_changed) (is_changed s) (λ top top_installed. refl)
-    rows (λ f. refl) c.count_changed.ensures c.count_changed.type_inv in
-    let outdated_names = names_counted was is xs _ c.count_not_up_to_date.result (λ s. s.is_installed && nat_lt s.greatest_installed s.greatest) (is_not_up_to_date s) (λ top top_installed. refl)
-    rows (outdated is xs) c.count_not_up_to_date.ensures c.count_not_up_to_date.type_inv in
+    let removed = names_counted was is xs _ c.count_removed.result (λ s. s.was_installed && not s.is_installed) (is_removed s)
+    (c.deref.ensures.value ∙ c.in_ok-standings.ensures) (λ f. refl) c.count_removed.ensures c.count_removed.type_inv in
+    let fresh = names_counted was is xs _ c.count_new.result (λ s. s.is_installed && not s.was_installed) (is_new s)
+    (c.deref-2.ensures.value ∙ c.in_ok-standings.ensures) (λ f. refl) c.count_new.ensures c.count_new.type_inv in
+    let changed = names_counted was is xs _ c.count_changed.result (λ s. s.is_changed) (is_changed s)
+    (c.deref-3.ensures.value ∙ c.in_ok-standings.ensures) (λ f. refl) c.count_changed.ensures c.count_changed.type_inv in
+    let outdated_names = names_counted was is xs _ c.count_not_up_to_date.result (λ s. s.is_installed && nat_lt s.greatest_installed s.greatest) (is_not_up_to_date s)
+    (c.deref-4.ensures.value ∙ c.in_ok-standings.ensures) (outdated is xs) c.count_not_up_to_date.ensures c.count_not_up_to_date.type_inv in
     λ i. record { removed = removed i; new = fresh i; changed = changed i; notuptodate = outdated_names i; unsat_recommends = c.count_unsatisfied.ensures was i; touched = c.count_touched.ensures i }

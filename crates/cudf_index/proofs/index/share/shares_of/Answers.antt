@@ -10,7 +10,7 @@ use Rattle.cudf_index.specs.Satisfaction.{Placed, members}
 use Rattle.cudf_index.specs.Working.Shares.{AreShares}
 use Rattle.cudf_index.proofs.TakenOffLemmas.{find_at_place}
 use Rattle.cudf_index.proofs.index.share.shares_of.Goals as goal
-use Rattle.cudf_index.proofs.index.share.shares_of.Goals.{then-len-ge-MANY+then-holds+in_ok-new+in_ok-push, else-len-ge-MANY}
+use Rattle.cudf_index.proofs.index.share.shares_of.Goals.{then-holds+then-len-ge-MANY+in_ok-new+in_ok-push, else-holds}
 
 -- a package that the status holds is found at its place
 placed : (holds : ℕ → Bool) (xs : List Package) (packages : List PlainPackage) (i : ℕ) (x : Package) → map package_view xs ≡ packages → i < length xs → x ≡ get_or xs i x → holds (i + 1) ≡ true
@@ -26,13 +26,13 @@ loop-before-preserved c =
     let holds = set.contains c.args.status.now in
     let packages = c.args.problem.now.packages in
     let here = λ (w : Placed). Some w ≡ find (λ q. q.0 == w.0) (members holds packages) in
-    elim c.if-len-ge-MANY.branch [
-      | then-len-ge-MANY+then-holds+in_ok-new+in_ok-push w ↦
+    elim c.if-holds.branch [
+      | then-holds+then-len-ge-MANY+in_ok-new+in_ok-push w ↦
           subst (λ v. AreShares (members holds packages) v.items) (sym w.shares-is)
           (subst (AreShares (members holds packages)) (sym w.in_ok-push.ensures.items)
           (All-push here c.loop-before.shares.items w.in_ok-new.field-0 c.loop-before.invariant
           (subst here (sym w.in_ok-new.ensures)
           (placed holds c.packages-package-items.result.now packages c.loop-before.before c.package-item.result
-          c.packages-package-items.ensures.packages c.loop-before-test.true c.package-item.is (sym w.holds.ensures ∙ w.if-holds.true)))))
-      | else-len-ge-MANY w ↦ subst (λ v. AreShares (members holds packages) v.items) (sym w.shares-is) c.loop-before.invariant
+          c.packages-package-items.ensures.packages c.loop-before-test.true c.package-item.is (sym c.holds.ensures ∙ w.if-holds.true)))))
+      | else-holds w ↦ subst (λ v. AreShares (members holds packages) v.items) (sym w.shares-is) c.loop-before.invariant
     ]

@@ -20,7 +20,7 @@ use Rattle.cudf_document.proofs.problem.walk.Walk.take_package.Goals as goal
 pub returns-clause-ids : goal.returns-clause-ids
 returns-clause-ids c =
     c.in_ok-is_repeated.ensures.ids
-    ∙ ap (with_id c.args.self.now.ids) (c.id.ensures ∙ known_id-is c.of-identity.result (stanza_view c.args.stanza.now).properties c.of-identity.ensures)
+    ∙ ap (with_id c.args.self.now.ids) (c.id.ensures ∙ known_id-is c.in_ok-identity.identity (stanza_view c.args.stanza.now).properties (c.in_ok-identity.ensures.same (stanza_view c.args.stanza.now).properties c.of.ensures))
 
 pub returns-clause-fault : goal.returns-clause-fault
 returns-clause-fault c =
@@ -33,14 +33,14 @@ returns-clause-fault c =
     let missing = fault_if (lacks_one required s.properties) s.last E14 in
     let repeated : c.in_ok-is_repeated.is_repeated ≡ is_known ids (id_under (Some Package) s.properties) =
     c.in_ok-is_repeated.ensures.is_known
-    ∙ ap (is_known ids) (c.id.ensures ∙ known_id-is c.of-identity.result s.properties c.of-identity.ensures) in
+    ∙ ap (is_known ids) (c.id.ensures ∙ known_id-is c.in_ok-identity.identity s.properties (c.in_ok-identity.ensures.same s.properties c.of.ensures)) in
     let lacks : c.lacks_one.result ≡ lacks_one required s.properties =
     c.lacks_one.ensures ∙ sym (list_any-map (λ name. name.now) (λ name. not (list_any (bytes_eq name) c.take_package.new.names)) c.args.required.now)
     ∙ lacks_one-seen c.take_package.new.names s.properties required c.in_ok-fault.ensures.names in
     let others : c.lesser-fault.result ≡ least (inner ++ (again ++ unversioned)) =
     c.lesser-fault.ensures ∙ (λ i. lesser (c.in_ok-fault.ensures.fault i) (c.package_fault.ensures i))
     ∙ ap (λ faults. lesser (least inner) (least faults))
-    (version_faults c.in_ok-is_repeated.is_repeated c.of-identity.result s c.of-identity.ensures
+    (version_faults c.in_ok-is_repeated.is_repeated c.in_ok-identity.identity s (c.in_ok-identity.ensures.same s.properties c.of.ensures)
     ∙ ap (λ b. fault_if b (line_of (version_property s)) E11 ++ unversioned) repeated)
     ∙ sym (least-append inner (again ++ unversioned)) in
     c.lesser.ensures
@@ -49,4 +49,4 @@ returns-clause-fault c =
     ∙ ap least (sym (append_assoc (missing ++ inner) again unversioned ∙ append_assoc missing inner (again ++ unversioned)))
 
 pub returns-clause-kept : goal.returns-clause-kept
-returns-clause-kept c = λ keeps before marked ds none so_far. c.in_ok-fault.ensures.kept keeps before marked ds so_far
+returns-clause-kept c = λ keeps before marked ds none so_far. c.in_ok-fault.ensures.kept keeps before marked ds (c.in_ok-identity.ensures.kept keeps before so_far)

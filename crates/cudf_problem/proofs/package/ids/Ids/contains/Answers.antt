@@ -1,10 +1,7 @@
-use Rattle.std.proofs.Common.{ap, sym, ◌∙◌}
-use Rattle.cudf_problem.proofs.ListLemmas.{list_any-map}
-use Rattle.cudf_problem.specs.Ids.{is_id, is_among}
+use Rattle.std.proofs.Common.{ap, ◌∙◌, is_some}
+use Rattle.cudf_problem.specs.Ids.{is_id}
+use Rattle.cudf_problem.proofs.NumberLemmas.{is_some-position}
 use Rattle.cudf_problem.proofs.package.ids.Ids.contains.Goals as goal
 
 pub returns : goal.returns
-returns c =
-    c.contains.ensures
-    ∙ sym (list_any-map (λ id. (id.0.now, id.1)) (is_id (c.args.name.now, c.args.version)) c.self.inside.pairs.keys)
-    ∙ ap (λ ids. is_among ids (c.args.name.now, c.args.version)) c.self.view_is
+returns c = c.is_some.ensures ∙ ap is_some c.index_of.ensures ∙ is_some-position (is_id (c.args.name.now, c.args.version)) c.args.self.now
