@@ -40,11 +40,8 @@ tail-on all rest x more same tail = record { before = tail.before ++ x ∷ []; i
 unfoldable pub tail-past : (all rest xs ys : List Stop) → rest ≡ xs ++ ys → IsTail all rest → IsTail all ys
 tail-past all rest xs ys same tail = record { before = tail.before ++ xs; is = tail.is ∙ ap (λ l. tail.before ++ l) same ∙ sym (append_assoc tail.before xs ys) }
 
-unfoldable pub tail-comes : (all rest : List Stop) (i j : PlainInstance) (more : List Stop) → rest ≡ stop_at i ∷ more → j ≡ i → IsTail all rest → Comes all j more
-tail-comes all rest i j more same of tail = record {
-  before = tail.before;
-  is = tail.is ∙ ap (λ l. tail.before ++ l) same ∙ ap (λ (k : PlainInstance). tail.before ++ stop_at k ∷ more) (sym of);
-}
+unfoldable pub tail-comes : (all rest : List Stop) (i : PlainInstance) (more : List Stop) → rest ≡ stop_at i ∷ more → IsTail all rest → Comes all i more
+tail-comes all rest i more same tail = record { before = tail.before; is = tail.is ∙ ap (λ l. tail.before ++ l) same }
 
 unfoldable pub comes-in : (all xs ys : List Stop) (i : PlainInstance) (left : List Stop) → IsTail all (xs ++ ys) → Comes xs i left → Comes all i (left ++ ys)
 comes-in all xs ys i left tail comes = record {

@@ -30,11 +30,6 @@ initial-at problem i p is = ap (λ o. option_map_or (λ q. q.installed) o false)
     place = (λ j. cond (ne_eqb (i + 1) 0 (λ e. omega arith) j) None (slice_get problem.packages (i + 1 - 1)))
         ∙ ap (slice_get problem.packages) {x = i + 1 - 1} {y = i} (omega arith) ∙ is
 
--- what a list of one flag a package says of it
-pub flag-at : (f : PlainPackage → Bool) (flags : List Bool) (xs : List PlainPackage) (i : ℕ) (p : PlainPackage) (d : Bool) → flags ≡ map f xs → slice_get xs i ≡ Some p → f p ≡ get_or flags i d
-flag-at f flags xs i p d same is =
-    sym (ap (λ bs. get_or bs i d) same ∙ get_or_from_slice_get (map f xs) i (f p) d (slice_get-map f xs i ∙ ap (option_map f) is))
-
 -- the proposal of the same walk
 pub fits-same : (a b : Walking) (c : Candidate) → a ≡ b → Fits a.judged c → Fits b.judged c
 fits-same a b c same fits = subst (λ (w : Walking). Fits w.judged c) same fits

@@ -29,6 +29,7 @@ pub mod SolutionLemmas
 pub mod StandingLemmas
 pub mod StatusLemmas
 pub mod StopLemmas
+pub mod ToldLemmas
 pub mod TouchedLemmas
 pub mod UnknownLemmas
 pub mod WritableLemmas

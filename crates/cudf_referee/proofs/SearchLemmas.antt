@@ -20,7 +20,7 @@ use Rattle.cudf_referee.specs.Promises.Stops.{Stop, stop_at, package_stops, stop
 use Rattle.cudf_referee.specs.Promises.Walks.{Walking}
 use Rattle.cudf_referee.specs.Violations.{unknown_instance}
 use Rattle.cudf_referee.specs.Working.Judged.{given_at}
-use Rattle.cudf_referee.specs.Working.Searches.{Searches, Goes, first_given, sum_to_first, cost_to_first, least_to_first, or_later, unless_found, package_rest, packages_rest, unknown_rest}
+use Rattle.cudf_referee.specs.Working.Searches.{IsJudged, Searches, Goes, first_given, sum_to_first, cost_to_first, least_to_first, or_later, unless_found, package_rest, packages_rest, unknown_rest}
 
 -- ---- several stops
 
@@ -107,7 +107,18 @@ part-last old now new all F found goes searches =
 pub searches-same : (a b new : Walking) (F : Proposal → List Stop) (found : Option PlainInstance) → a ≡ b → Searches a (F a.judged) found new → Searches b (F b.judged) found new
 searches-same a b new F found same searches = subst (λ (w : Walking). Searches w (F w.judged) found new) same searches
 
--- ---- a loop over places
+-- an instance that is judged
+pub judged-stop : (old new : Walking) (i : PlainInstance) (answer : Bool) → new.judged ≡ old.judged → new.position ≡ old.position → IsJudged old.judged i answer (old.steps + 1) new.steps
+    → Searches old (stop_at i ∷ []) (cond answer (Some i) None) new
+judged-stop old new i answer judged position is = record {
+  judged = judged;
+  position = position;
+  given = ap (λ b. or_later (cond b (Some i) None) None) (sym is.is);
+  price = omega (arith, is.price, unless_found-zero (cond answer (Some i) None), unless_found-zero (given_at old.judged (stop_at i)));
+  grows = omega (arith, is.grows, unless_found-zero (cond answer (Some i) None), unless_found-zero (given_at old.judged (stop_at i)));
+}
+
+-- ---- a loop over instances
 
 module _ (old now new : Walking) (all : List Stop) (F : List PlainInstance → List Stop) (adds : (y : PlainInstance) (ys : List PlainInstance) → F (y ∷ ys) ≡ stop_at y ∷ F ys)
     (xs : List PlainInstance) (x : PlainInstance) (ys : List PlainInstance) (is : xs ≡ x ∷ ys) (answer : Bool) where
@@ -124,9 +135,8 @@ module _ (old now new : Walking) (all : List Stop) (F : List PlainInstance → L
   pub sites-more : answer ≡ false → Searches now (stop_at x ∷ []) (given-if answer) new → Goes old all None (F xs) now → Goes old all None (F ys) new
   sites-more is_not searches goes = site-on false is_not searches goes
 
-  pub sites-found : (i : PlainInstance) → answer ≡ true → i ≡ x → Searches now (stop_at x ∷ []) (given-if answer) new
-      → Goes old all None (F xs) now → Searches old all (Some i) new
-  sites-found i is_so same searches goes = subst (λ (j : PlainInstance). Searches old all (Some j) new) (sym same) (goes-found (site-on true is_so searches goes))
+  pub sites-found : answer ≡ true → Searches now (stop_at x ∷ []) (given-if answer) new → Goes old all None (F xs) now → Searches old all (Some x) new
+  sites-found is_so searches goes = goes-found (site-on true is_so searches goes)
 
 pub sites-end : (old now : Walking) (all : List Stop) (F : List PlainInstance → List Stop) (xs : List PlainInstance) → xs ≡ [] → Goes old all None (F xs) now → Goes old all None (F []) now
 sites-end old now all F xs end goes = goes-at old now all _ _ (ap F end) goes

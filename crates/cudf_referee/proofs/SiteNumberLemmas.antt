@@ -12,15 +12,13 @@ use Rattle.cudf_problem.specs.Universe.{PlainRequest}
 use Rattle.cudf_index.specs.Satisfaction.{Placed}
 use Rattle.cudf_job.specs.Keys.{PlainKey, key_ranks}
 use Rattle.cudf_referee.specs.declared.sites.candidate.Candidate.{Candidate}
-use Rattle.cudf_referee.specs.declared.sites.RequestSite.{RequestSite}
-use Rattle.cudf_referee.specs.declared.sites.RequestSite.TheVariants.{Install, Remove, Upgrade}
 use Rattle.cudf_referee.specs.Proposals.{Proposal}
 use Rattle.cudf_referee.specs.Promises.Stops.{precedes}
 use Rattle.cudf_referee.specs.Violations.{kept_instances, package_instances}
 use Rattle.cudf_referee.specs.Working.RuleInstances.{install_instance, remove_instance, depends_instance, conflicts_instance, keep_instance}
 use Rattle.std.specs.Iterator.{YieldsFirstBy}
 use Rattle.cudf_referee.specs.declared.sites.request_sites.RequestSites.{RequestSites}
-use Rattle.cudf_referee.specs.Working.RequestSites.{request_site_view, request_sites_view, upgrades_view, StandsIn, IsWithin}
+use Rattle.cudf_referee.specs.Working.RequestSites.{request_sites_view, upgrades_view}
 use Rattle.cudf_referee.specs.Working.SiteNumbers.{placed_view, Fits, depends_of, conflicts_of, features_of, kept_features, numbered, candidate_sites, kept_one, kept_feature}
 use Rattle.cudf_referee.proofs.AheadLemmas.{kept_above}
 use Rattle.cudf_referee.proofs.AscentLemmas.{Climbs, instance_ranks}
@@ -91,38 +89,14 @@ behind-here key high all x xs is after =
 pub behind-end : (key : PlainKey) (high : List ℕ) (all : List PlainInstance) → IsBehind key high all [] → filter (λ y. precedes key y.key) all ≡ []
 behind-end key high all is = is.same
 
--- whether the key that is found to come after is the place's
-pub of-place : (key : PlainKey) (x i : PlainInstance) (answer b : Bool) → i ≡ x → answer ≡ precedes key i.key → answer ≡ b → precedes key x.key ≡ b
-of-place key x i answer b same is so = sym (ap (λ (j : PlainInstance). precedes key j.key) same) ∙ sym is ∙ so
-
 -- ---- the request
-
--- of which so many numbers are kept
-pub within-entries : (r : PlainRequest) (f : PlainVpkg → Option ℕ) (kept : List (Option ℕ)) (site : RequestSite) → kept ≡ map f r.upgrade → StandsIn r site → IsWithin (length kept) site
-within-entries r f kept (Install n v) same stands = tt
-within-entries r f kept (Remove n v) same stands = tt
-within-entries r f kept (Upgrade n v aspect) same stands =
-    (stands.0, omega (arith, stands.0, slice_get_within r.upgrade (n - 1) (vpkg_view v) stands.1, ap length same, length-map r.upgrade f))
 
 -- where no entry of install and remove is left, those of upgrade are all
 upgrades_alone : (r : PlainRequest) (s : RequestSites) → vpkgs_view s.install ≡ [] → vpkgs_view s.remove ≡ [] → request_sites_view r s ≡ upgrades_view r s
 upgrades_alone r s h h' = λ i. numbered (install_instance r) s.installed (h i) ++ numbered (remove_instance r) s.removed (h' i) ++ upgrades_view r s
 
-pub upgrade-next : (r : PlainRequest) (old : RequestSites) (found : Option RequestSite) (new : RequestSites)
+pub upgrade-next : {A : Type 0} (view : A → PlainInstance) (r : PlainRequest) (old : RequestSites) (found : Option A) (new : RequestSites)
     → vpkgs_view old.install ≡ [] → vpkgs_view old.remove ≡ [] → vpkgs_view new.install ≡ [] → vpkgs_view new.remove ≡ []
-    → YieldsFirstBy (request_site_view r) (upgrades_view r) old found new → YieldsFirstBy (request_site_view r) (request_sites_view r) old found new
-upgrade-next r old None new h h' k k' gives = (upgrades_alone r old h h' ∙ gives.0, upgrades_alone r new k k' ∙ gives.1)
-upgrade-next r old (Some x) new h h' k k' gives = upgrades_alone r old h h' ∙ gives ∙ ap (λ l. request_site_view r x ∷ l) (sym (upgrades_alone r new k k'))
-
--- the next entry is the one after so many
-pub next-entry : {A : Type 0} (n : ℕ) (xs : List A) (v : A) (vs : List A) → drop n xs ≡ v ∷ vs → slice_get xs n ≡ Some v
-next-entry zero [] v vs is = absurd (cc is)
-next-entry (suc n) [] v vs is = absurd (cc is)
-next-entry zero (x ∷ xs) v vs is = cc is
-next-entry (suc n) (x ∷ xs) v vs is = next-entry n xs v vs is
-
-pub next-rest : {A : Type 0} (n : ℕ) (xs : List A) (v : A) (vs : List A) → drop n xs ≡ v ∷ vs → drop (n + 1) xs ≡ vs
-next-rest zero [] v vs is = absurd (cc is)
-next-rest (suc n) [] v vs is = absurd (cc is)
-next-rest zero (x ∷ xs) v vs is = cc is
-next-rest (suc n) (x ∷ xs) v vs is = ap (λ k. drop k (x ∷ xs)) {x = suc n + 1} {y = suc (n + 1)} (omega arith) ∙ next-rest n xs v vs is
+    → YieldsFirstBy view (upgrades_view r) old found new → YieldsFirstBy view (request_sites_view r) old found new
+upgrade-next view r old None new h h' k k' gives = (upgrades_alone r old h h' ∙ gives.0, upgrades_alone r new k k' ∙ gives.1)
+upgrade-next view r old (Some x) new h h' k k' gives = upgrades_alone r old h h' ∙ gives ∙ ap (λ l. view x ∷ l) (sym (upgrades_alone r new k k'))

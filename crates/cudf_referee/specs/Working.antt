@@ -10,4 +10,5 @@ pub mod RuleInstances
 pub mod Searches
 pub mod SiteNumbers
 pub mod Standings
+pub mod Told
 pub mod Walkers

@@ -7,8 +7,6 @@ use Rattle.cudf_value.specs.Promises.Views.{vpkg_view, vpkgs_view}
 use Rattle.cudf_problem.specs.Universe.{PlainRequest}
 use Rattle.cudf_job.specs.declared.key.Aspect.{Aspect}
 use Rattle.cudf_job.specs.declared.key.Aspect.TheVariants.{Unsatisfied, Many, Lower}
-use Rattle.cudf_referee.specs.declared.sites.RequestSite.{RequestSite}
-use Rattle.cudf_referee.specs.declared.sites.RequestSite.TheVariants.{Install, Remove, Upgrade}
 use Rattle.cudf_referee.specs.declared.sites.request_sites.RequestSites.{RequestSites}
 use Rattle.cudf_referee.specs.Instances.{PlainInstance}
 use Rattle.cudf_referee.specs.Violations.{entry_instances}
@@ -38,31 +36,3 @@ upgrades_view r s = aspects_left r s.upgraded s.entry ++ flat_map (entry_instanc
 
 abbrev pub request_sites_view : PlainRequest → RequestSites → List PlainInstance
 request_sites_view r s = numbered (install_instance r) s.installed (vpkgs_view s.install) ++ numbered (remove_instance r) s.removed (vpkgs_view s.remove) ++ upgrades_view r s
-
-abbrev pub request_site_view : PlainRequest → RequestSite → PlainInstance
-request_site_view r (Install n v) = install_instance r n (vpkg_view v)
-request_site_view r (Remove n v) = remove_instance r n (vpkg_view v)
-request_site_view r (Upgrade n v aspect) = upgrade_instance r aspect n (vpkg_view v)
-
--- entries are numbered from 1, and one of `upgrade` is where its number says
-abbrev pub IsEntry : PlainRequest → ℕ → PlainVpkg → Type 0
-IsEntry r n v = (0 < n) × (slice_get r.upgrade (n - 1) ≡ Some v)
-
-abbrev pub StandsIn : PlainRequest → RequestSite → Type 0
-StandsIn r (Install n v) = 0 < n
-StandsIn r (Remove n v) = 0 < n
-StandsIn r (Upgrade n v aspect) = IsEntry r n (vpkg_view v)
-
-abbrev pub IsHeld : PlainRequest → ℕ → Option (Vpkg × Aspect) → Type 0
-IsHeld r n None = Unit {0}
-IsHeld r n (Some e) = IsEntry r n (vpkg_view e.0)
-
--- the entries of `upgrade` that are left are those after so many
-abbrev pub Remains : PlainRequest → RequestSites → Type 0
-Remains r s = (drop s.upgraded r.upgrade ≡ vpkgs_view s.upgrade) × IsHeld r s.upgraded s.entry
-
--- there are so many entries of `upgrade`
-abbrev pub IsWithin : ℕ → RequestSite → Type 0
-IsWithin count (Install n v) = Unit {0}
-IsWithin count (Remove n v) = Unit {0}
-IsWithin count (Upgrade n v aspect) = (0 < n) × (n ≤ count)

@@ -8,15 +8,12 @@ use Rattle.cudf_problem.specs.declared.package.Keep.{Keep}
 use Rattle.cudf_problem.specs.declared.package.Keep.TheVariants.{Version, Package, Feature, Nothing}
 use Rattle.cudf_problem.specs.Promises.Views.{package_view}
 use Rattle.cudf_index.specs.Satisfaction.{Placed}
-use Rattle.cudf_referee.specs.declared.sites.PackageSite.{PackageSite}
-use Rattle.cudf_referee.specs.declared.sites.PackageSite.TheVariants.{Conjunct, ConflictsEntry, KeptVersion, KeptPackage, KeptFeature}
 use Rattle.cudf_referee.specs.declared.sites.candidate.Candidate.{Candidate}
 use Rattle.cudf_referee.specs.declared.sites.candidate.Sites.{Sites}
 use Rattle.cudf_referee.specs.Proposals.{Proposal, holds_place}
 use Rattle.cudf_referee.specs.Instances.{keep_version, keep_package, keep_feature, PlainInstance}
 use Rattle.cudf_referee.specs.Violations.{kept_instances, package_instances}
 use Rattle.cudf_referee.specs.Working.RuleInstances.{depends_instance, conflicts_instance, keep_instance}
-use Rattle.cudf_referee.specs.Working.Named.{has_kept_name}
 
 -- ---- a package that is judged
 
@@ -28,7 +25,6 @@ placed_view c = (c.place, package_view c.package.now)
 pub record Fits (s : Proposal) (c : Candidate) : Type 0 where
   pub was : holds_place s.initial c.place ≡ c.package.now.installed
   pub is : holds_place s.proposed c.place ≡ c.is_installed
-  pub named : has_kept_name s.proposed (package_view c.package.now) ≡ c.is_named
 
 -- what is judged of it
 abbrev pub depends_of : Candidate → List (List PlainAtom)
@@ -75,20 +71,3 @@ sites_view p s = numbered (depends_instance p) s.clause (clauses_view s.clauses)
 abbrev pub sites_in : Proposal → Option Sites → Placed → List PlainInstance
 sites_in s None p = package_instances s p
 sites_in s (Some sites) p = sites_view p sites
-
--- ---- a place, as contracts see it
-
-abbrev pub package_site_view : Placed → PackageSite → PlainInstance
-package_site_view p (Conjunct n clause) = depends_instance p n (clause_view clause)
-package_site_view p (ConflictsEntry n v) = conflicts_instance p n (vpkg_view v)
-package_site_view p KeptVersion = keep_instance p 1 keep_version
-package_site_view p KeptPackage = keep_instance p 1 keep_package
-package_site_view p (KeptFeature n v) = kept_feature p n (vpkg_view v)
-
--- entries are numbered from 1, and a name is kept where the package says so
-abbrev pub StandsAt : Keep → PackageSite → Type 0
-StandsAt keep (Conjunct n clause) = 0 < n
-StandsAt keep (ConflictsEntry n v) = 0 < n
-StandsAt keep KeptVersion = Unit {0}
-StandsAt keep KeptPackage = keep ≡ Package
-StandsAt keep (KeptFeature n v) = 0 < n

@@ -3,7 +3,6 @@ ghost use Rattle.std.specs.Prelude.{◌≤◌, ◌<◌, ◌+◌, ◌^◌, length
 ghost use Rattle.cudf_value.specs.Promises.Views.{clauses_view, vpkgs_view};
 
 use crate::instance::{Instance, What};
-use crate::sites::PackageSite;
 use cudf_job::{Key, Rule};
 use cudf_problem::{Keep, Package};
 use cudf_value::{Clauses, Formula, VpkgList, Vpkgs};
@@ -16,8 +15,6 @@ pub(crate) struct Candidate<'p, 't> {
     pub(crate) package: &'p Package<'t>,
     /// Whether it is to be installed.
     pub(crate) is_installed: bool,
-    /// Whether its name is to be kept, and a package of it is to be installed.
-    pub(crate) is_named: bool,
     ghost placed: { 0 < place },
 }
 
@@ -38,7 +35,7 @@ pub(crate) struct Sites<'t> {
 }
 
 impl<'p, 't> Candidate<'p, 't> {
-    ghost use Rattle.std.specs.Prelude.{◌≡◌, ◌<◌, IsTrue, IfSome, None, Option, [], filter, if◌then◌else◌};
+    ghost use Rattle.std.specs.Prelude.{◌≡◌, ◌<◌, IsTrue, None, Option, [], filter, if◌then◌else◌};
     ghost use Rattle.std.specs.Iterator.{YieldsFirstBy};
     ghost use Rattle.cudf_value.specs.Promises.Views.{formula_view, list_view};
     ghost use Rattle.cudf_job.specs.declared.key.Part.TheVariants as part;
@@ -48,7 +45,7 @@ impl<'p, 't> Candidate<'p, 't> {
     ghost use Rattle.cudf_referee.specs.Promises.Stops.{precedes};
     ghost use Rattle.cudf_referee.specs.Promises.Views.{instance_view, what_view};
     ghost use Rattle.cudf_referee.specs.Violations.{at_package, package_instances};
-    ghost use Rattle.cudf_referee.specs.Working.SiteNumbers.{placed_view, Fits, depends_of, conflicts_of, features_of, candidate_sites, sites_view, sites_in, package_site_view, StandsAt};
+    ghost use Rattle.cudf_referee.specs.Working.SiteNumbers.{placed_view, Fits, depends_of, conflicts_of, features_of, candidate_sites, sites_view, sites_in};
 
     /// What is judged of what it needs: nothing, where it isn't to be installed.
     fn depends(self) -> Formula<'t>
@@ -120,8 +117,8 @@ impl<'p, 't> Candidate<'p, 't> {
     {
         let mut sites = self.sites();
         let mut left = sites;
-        while let Some(site) = self.next(&mut left) {
-            if key.precedes(self.instance(site).key) {
+        while let Some(instance) = self.next(&mut left) {
+            if key.precedes(instance.key) {
                 return sites;
             }
             sites = left;
@@ -129,54 +126,34 @@ impl<'p, 't> Candidate<'p, 't> {
         sites
     }
 
-    /// The next of its places that are left.
-    pub(crate) fn next(self, sites: &mut Sites<'t>) -> Option<PackageSite<'t>>
-        ensures gives { YieldsFirstBy (package_site_view (placed_view self.entry)) (sites_view (placed_view self.entry)) sites.old result sites.new }
-        ensures stands { IfSome result (StandsAt self.entry.package.now.keep) }
+    /// The next of its instances that are left.
+    #[inline(always)]
+    pub(crate) fn next(self, sites: &mut Sites<'t>) -> Option<Instance<'t>>
+        ensures { YieldsFirstBy instance_view (sites_view (placed_view self.entry)) sites.old result sites.new }
     {
         if let Some(clause) = sites.clauses.next() {
             sites.clause += 1;
-            return Some(PackageSite::Conjunct(sites.clause, clause));
+            return Some(self.instance(Rule::Depends, sites.clause, What::Needs(clause)));
         }
         if let Some(vpkg) = sites.conflicts.next() {
             sites.conflict += 1;
-            return Some(PackageSite::ConflictsEntry(sites.conflict, vpkg));
+            return Some(self.instance(Rule::Conflicts, sites.conflict, What::ConflictsWith(vpkg)));
         }
         if sites.one {
             sites.one = false;
             match self.package.keep {
-                Keep::Version => return Some(PackageSite::KeptVersion),
-                Keep::Package => return Some(PackageSite::KeptPackage),
+                Keep::Version => return Some(self.instance(Rule::Keep, 1, What::KeepVersion)),
+                Keep::Package => return Some(self.instance(Rule::Keep, 1, What::KeepPackage)),
                 Keep::Feature | Keep::Nothing => {}
             }
         }
         let vpkg = sites.features.next()?;
         sites.feature += 1;
-        Some(PackageSite::KeptFeature(sites.feature, vpkg))
+        Some(self.instance(Rule::Keep, sites.feature, What::KeepFeature(vpkg)))
     }
 
-    /// The instance that may be at a place.
-    pub(crate) fn instance(self, site: PackageSite<'t>) -> Instance<'t>
-        requires { StandsAt self.package.now.keep site }
-        ensures { instance_view result ≡ package_site_view (placed_view self.entry) site.entry }
-    {
-        match site {
-            PackageSite::Conjunct(number, clause) => {
-                self.of_rule(Rule::Depends, number, What::Needs(clause))
-            }
-            PackageSite::ConflictsEntry(number, vpkg) => {
-                self.of_rule(Rule::Conflicts, number, What::ConflictsWith(vpkg))
-            }
-            PackageSite::KeptVersion => self.of_rule(Rule::Keep, 1, What::KeepVersion),
-            PackageSite::KeptPackage => self.of_rule(Rule::Keep, 1, What::KeepPackage),
-            PackageSite::KeptFeature(number, vpkg) => {
-                self.of_rule(Rule::Keep, number, What::KeepFeature(vpkg))
-            }
-        }
-    }
-
-    /// The instance of a rule at an entry's place.
-    fn of_rule(self, rule: Rule, number: u64, what: What<'t>) -> Instance<'t>
+    /// Its instance of a rule, at an entry's place.
+    fn instance(self, rule: Rule, number: u64, what: What<'t>) -> Instance<'t>
         requires counted { 0 < number }
         requires fits { IsTrue (fits (part.Package self.place) rule None) }
         ensures { instance_view result ≡ at_package (placed_view self.entry) rule number (what_view what.entry) }

@@ -1,10 +1,10 @@
 //! The places of the request that are left.
-ghost use Rattle.std.specs.Prelude.{◌≤◌, ◌+◌, ◌^◌, length};
+ghost use Rattle.std.specs.Prelude.{◌≤◌, ◌<◌, ◌+◌, ◌^◌, length};
+ghost use Rattle.std.specs.Option.{ForSome};
 ghost use Rattle.cudf_value.specs.Promises.Views.{vpkgs_view};
 
-use crate::sites::RequestSite;
-use crate::sites::requested::{later, requested_instance};
-use cudf_job::{Aspect, Key};
+use crate::instance::{Instance, What};
+use cudf_job::{Aspect, Key, Rule};
 use cudf_problem::Request;
 use cudf_value::{Vpkg, VpkgList, Vpkgs};
 
@@ -22,22 +22,25 @@ pub(crate) struct RequestSites<'t> {
     ghost install_fits: { installed + length (vpkgs_view install) ≤ 2 ^ 63 },
     ghost remove_fits: { removed + length (vpkgs_view remove) ≤ 2 ^ 63 },
     ghost upgrade_fits: { upgraded + length (vpkgs_view upgrade) ≤ 2 ^ 63 },
+    ghost entered: { ForSome entry (λ _. 0 < upgraded) },
 }
 
 impl<'t> RequestSites<'t> {
-    ghost use Rattle.std.specs.Prelude.{◌≡◌, IfSome, [], filter};
+    ghost use Rattle.std.specs.Prelude.{◌≡◌, ◌<◌, IfSome, [], filter};
     ghost use Rattle.std.specs.Iterator.{YieldsFirstBy};
     ghost use Rattle.cudf_problem.specs.Universe.{PlainRequest};
     ghost use Rattle.cudf_problem.specs.Promises.Views.{request_view};
     ghost use Rattle.cudf_job.specs.KeyViews.{key_view};
     ghost use Rattle.cudf_referee.specs.Promises.Stops.{precedes};
     ghost use Rattle.cudf_referee.specs.Violations.{request_instances};
-    ghost use Rattle.cudf_referee.specs.Working.RequestSites.{request_sites_view, request_site_view, upgrades_view, Remains, StandsIn};
+    ghost use Rattle.cudf_referee.specs.Working.RequestSites.{later, request_sites_view, upgrades_view};
+    ghost use Rattle.cudf_referee.specs.Working.RuleInstances.{upgrade_instance};
+    ghost use Rattle.cudf_referee.specs.Promises.Views.{instance_view};
+    ghost use Rattle.cudf_value.specs.Promises.Views.{vpkg_view};
 
-    /// All places of the request.
+    /// All instances of the request.
     pub(crate) fn of(request: &Request<'t>) -> Self
-        ensures sites { request_sites_view (request_view request.now) result ≡ request_instances (request_view request.now) }
-        ensures remains { Remains (request_view request.now) result }
+        ensures { request_sites_view (request_view request.now) result ≡ request_instances (request_view request.now) }
     {
         RequestSites {
             install: request.install.vpkgs(),
@@ -50,10 +53,9 @@ impl<'t> RequestSites<'t> {
         }
     }
 
-    /// No place of the request.
-    pub(crate) fn none_of(request: &Request<'t>) -> Self
-        ensures sites { request_sites_view (request_view request.now) result ≡ [] }
-        ensures remains { Remains (request_view request.now) result }
+    /// None.
+    pub(crate) fn none() -> Self
+        ensures { (r : PlainRequest) → request_sites_view r result ≡ [] }
     {
         let none = VpkgList::empty();
         RequestSites {
@@ -62,20 +64,19 @@ impl<'t> RequestSites<'t> {
             remove: none.vpkgs(),
             removed: 0,
             upgrade: none.vpkgs(),
-            upgraded: request.upgrade.len() as u64,
+            upgraded: 0,
             entry: None,
         }
     }
 
-    /// The places of the request that come after a key of it, whether or not a place has the key.
+    /// The instances of the request that come after a key of it, whether or not an instance has the key.
     pub(crate) fn behind(request: &Request<'t>, key: Key) -> Self
-        ensures sites { filter (λ x. precedes (key_view key) x.key) (request_instances (request_view request.now)) ≡ request_sites_view (request_view request.now) result }
-        ensures remains { Remains (request_view request.now) result }
+        ensures { filter (λ x. precedes (key_view key) x.key) (request_instances (request_view request.now)) ≡ request_sites_view (request_view request.now) result }
     {
         let mut sites = Self::of(request);
         let mut left = sites;
-        while let Some(site) = left.next() {
-            if key.precedes(requested_instance(request, site).key) {
+        while let Some(instance) = left.next(request) {
+            if key.precedes(instance.key) {
                 return sites;
             }
             sites = left;
@@ -83,38 +84,50 @@ impl<'t> RequestSites<'t> {
         sites
     }
 
-    /// The next place.
-    pub(crate) fn next(&mut self) -> Option<RequestSite<'t>>
-        ensures gives { (r : PlainRequest) → YieldsFirstBy (request_site_view r) (request_sites_view r) self.old result self.new }
-        ensures stands { (r : PlainRequest) → Remains r self.old → IfSome result (StandsIn r) }
-        ensures remains { (r : PlainRequest) → Remains r self.old → Remains r self.new }
+    /// The next instance.
+    pub(crate) fn next(&mut self, request: &Request<'t>) -> Option<Instance<'t>>
+        ensures { YieldsFirstBy instance_view (request_sites_view (request_view request.now)) self.old result self.new }
     {
         if let Some(vpkg) = self.install.next() {
             self.installed += 1;
-            return Some(RequestSite::Install(self.installed, vpkg));
+            let what = What::Install(vpkg);
+            return Some(Instance::of_request(request, Rule::Install, self.installed, None, what));
         }
         if let Some(vpkg) = self.remove.next() {
             self.removed += 1;
-            return Some(RequestSite::Remove(self.removed, vpkg));
+            let what = What::Remove(vpkg);
+            return Some(Instance::of_request(request, Rule::Remove, self.removed, None, what));
         }
-        self.next_upgrade()
+        let (vpkg, aspect) = self.next_upgrade()?;
+        let what = What::Upgrade(vpkg);
+        Some(Instance::of_request(request, Rule::Upgrade, self.upgraded, Some(aspect), what))
     }
 
-    /// The next place of `upgrade`.
-    fn next_upgrade(&mut self) -> Option<RequestSite<'t>>
-        ensures gives { (r : PlainRequest) → YieldsFirstBy (request_site_view r) (upgrades_view r) self.old result self.new }
-        ensures stands { (r : PlainRequest) → Remains r self.old → IfSome result (StandsIn r) }
-        ensures remains { (r : PlainRequest) → Remains r self.old → Remains r self.new }
+    /// The next entry of `upgrade`, with the aspect that comes next of it.
+    fn next_upgrade(&mut self) -> Option<(Vpkg<'t>, Aspect)>
+        ensures gives { (r : PlainRequest) → YieldsFirstBy (λ e. upgrade_instance r e.1 self.new.upgraded (vpkg_view e.0)) (upgrades_view r) self.old result self.new }
+        ensures counted { IfSome result (λ _. 0 < self.new.upgraded) }
         ensures install { (self.new.install ≡ self.old.install) × (self.new.installed ≡ self.old.installed) }
         ensures remove { (self.new.remove ≡ self.old.remove) × (self.new.removed ≡ self.old.removed) }
     {
         if let Some((vpkg, aspect)) = self.entry {
-            self.entry = later(vpkg, aspect);
-            return Some(RequestSite::Upgrade(self.upgraded, vpkg, aspect));
+            self.entry = Self::later(vpkg, aspect);
+            return Some((vpkg, aspect));
         }
         let vpkg = self.upgrade.next()?;
         self.upgraded += 1;
         self.entry = Some((vpkg, Aspect::Many));
-        Some(RequestSite::Upgrade(self.upgraded, vpkg, Aspect::Unsatisfied))
+        Some((vpkg, Aspect::Unsatisfied))
+    }
+
+    /// The aspects of an entry after one of them.
+    fn later(vpkg: Vpkg<'t>, aspect: Aspect) -> Option<(Vpkg<'t>, Aspect)>
+        ensures { result ≡ later vpkg.entry aspect }
+    {
+        match aspect {
+            Aspect::Unsatisfied => Some((vpkg, Aspect::Many)),
+            Aspect::Many => Some((vpkg, Aspect::Lower)),
+            Aspect::Lower => None,
+        }
     }
 }

@@ -1,12 +1,26 @@
-use Rattle.std.proofs.Common.{◌≡◌, ℕ, [], Some, None, option_map, drop, subst, ◌∙◌}
+use Rattle.std.proofs.Common.{◌≡◌, ℕ, [], Some, None, option_map, drop, sym, subst, ◌∙◌}
 use Rattle.cudf_referee.specs.Promises.Views.{instance_view}
 use Rattle.cudf_referee.specs.Proposals.{Proposal}
 use Rattle.std.specs.List.{enumerate_from}
 use Rattle.cudf_referee.specs.Working.Searches.{Comes, ComesTo, Searches, packages_rest, request_rest, unknown_rest}
 use Rattle.cudf_referee.specs.declared.sites.request_sites.RequestSites.{RequestSites}
+use Rattle.std.specs.Prelude.{All}
+use Rattle.cudf_referee.specs.Working.Told.{IsStopTold}
+use Rattle.cudf_referee.proofs.ToldLemmas.{all-left, all-right}
 use Rattle.cudf_referee.proofs.ComesLemmas.{in-packages, in-request, in-last}
 use Rattle.cudf_referee.proofs.SearchLemmas.{goes-start, goes-found, part-on, part-last}
 use Rattle.cudf_referee.proofs.referee.instances.Instances.search.Goals as goal
+
+pub search_packages-requires : goal.search_packages-requires
+search_packages-requires c = all-left (IsStopTold c.args.self.now.judged) _ _ c.requires
+
+pub search_request-requires : goal.search_request-requires
+search_request-requires c =
+    let s = c.args.self.now.judged in
+    let cursor = c.args.cursor.now in
+    let told = all-left (IsStopTold s) (request_rest s cursor.request) _ (all-right (IsStopTold s) (packages_rest s cursor.sites (drop cursor.packages (enumerate_from 1 s.problem.packages))) _ c.requires) in
+    subst (λ (t : Proposal). All (IsStopTold t) (request_rest t c.search_packages.new.cursor.request)) (sym c.in_default.ensures.searches.judged)
+    (subst (λ (r : RequestSites). All (IsStopTold s) (request_rest s r)) (sym c.search_packages.ensures.others.0) told)
 
 pub returns-in-Some-clause-searches : goal.returns-in-Some-clause-searches
 returns-in-Some-clause-searches c =
