@@ -3,6 +3,7 @@ pub mod AscentLemmas
 pub mod BeforeLemmas
 pub mod ComesLemmas
 pub mod CursorLemmas
+pub mod EachLemmas
 pub mod EntryLemmas
 pub mod Examples
 pub mod ExplanationLemmas

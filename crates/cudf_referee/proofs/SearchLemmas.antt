@@ -16,11 +16,11 @@ use Rattle.cudf_index.specs.Satisfaction.{Placed}
 use Rattle.cudf_referee.specs.declared.sites.candidate.Sites.{Sites}
 use Rattle.cudf_referee.specs.Instances.{PlainInstance}
 use Rattle.cudf_referee.specs.Proposals.{Proposal}
-use Rattle.cudf_referee.specs.Promises.Stops.{Stop, stop_at, package_stops, stop_cost, least_cost}
+use Rattle.cudf_referee.specs.Promises.Stops.{Stop, stop_at, package_stops, cost, look_ups, stop_cost, least_cost}
 use Rattle.cudf_referee.specs.Promises.Walks.{Walking}
-use Rattle.cudf_referee.specs.Violations.{unknown_instance}
+use Rattle.cudf_referee.specs.Violations.{is_violated, unknown_instance}
 use Rattle.cudf_referee.specs.Working.Judged.{given_at}
-use Rattle.cudf_referee.specs.Working.Searches.{IsJudged, Searches, Goes, first_given, sum_to_first, cost_to_first, least_to_first, or_later, unless_found, package_rest, packages_rest, unknown_rest}
+use Rattle.cudf_referee.specs.Working.Searches.{Searches, Goes, first_given, sum_to_first, cost_to_first, least_to_first, or_later, unless_found, package_rest, packages_rest, unknown_rest}
 
 -- ---- several stops
 
@@ -108,14 +108,14 @@ pub searches-same : (a b new : Walking) (F : Proposal → List Stop) (found : Op
 searches-same a b new F found same searches = subst (λ (w : Walking). Searches w (F w.judged) found new) same searches
 
 -- an instance that is judged
-pub judged-stop : (old new : Walking) (i : PlainInstance) (answer : Bool) → new.judged ≡ old.judged → new.position ≡ old.position → IsJudged old.judged i answer (old.steps + 1) new.steps
-    → Searches old (stop_at i ∷ []) (cond answer (Some i) None) new
-judged-stop old new i answer judged position is = record {
+pub judged-stop : (old new : Walking) (i : PlainInstance) (answer : Bool) → new.judged ≡ old.judged → new.position ≡ old.position → answer ≡ is_violated old.judged i
+    → new.steps ≤ old.steps + 1 + cost old.judged.proposed i → old.steps + 1 + look_ups old.judged.proposed i ≤ new.steps → Searches old (stop_at i ∷ []) (cond answer (Some i) None) new
+judged-stop old new i answer judged position is price grows = record {
   judged = judged;
   position = position;
-  given = ap (λ b. or_later (cond b (Some i) None) None) (sym is.is);
-  price = omega (arith, is.price, unless_found-zero (cond answer (Some i) None), unless_found-zero (given_at old.judged (stop_at i)));
-  grows = omega (arith, is.grows, unless_found-zero (cond answer (Some i) None), unless_found-zero (given_at old.judged (stop_at i)));
+  given = ap (λ b. or_later (cond b (Some i) None) None) (sym is);
+  price = omega (arith, price, unless_found-zero (cond answer (Some i) None), unless_found-zero (given_at old.judged (stop_at i)));
+  grows = omega (arith, grows, unless_found-zero (cond answer (Some i) None), unless_found-zero (given_at old.judged (stop_at i)));
 }
 
 -- ---- a loop over instances

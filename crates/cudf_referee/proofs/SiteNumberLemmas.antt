@@ -88,15 +88,3 @@ behind-here key high all x xs is after =
 
 pub behind-end : (key : PlainKey) (high : List ℕ) (all : List PlainInstance) → IsBehind key high all [] → filter (λ y. precedes key y.key) all ≡ []
 behind-end key high all is = is.same
-
--- ---- the request
-
--- where no entry of install and remove is left, those of upgrade are all
-upgrades_alone : (r : PlainRequest) (s : RequestSites) → vpkgs_view s.install ≡ [] → vpkgs_view s.remove ≡ [] → request_sites_view r s ≡ upgrades_view r s
-upgrades_alone r s h h' = λ i. numbered (install_instance r) s.installed (h i) ++ numbered (remove_instance r) s.removed (h' i) ++ upgrades_view r s
-
-pub upgrade-next : {A : Type 0} (view : A → PlainInstance) (r : PlainRequest) (old : RequestSites) (found : Option A) (new : RequestSites)
-    → vpkgs_view old.install ≡ [] → vpkgs_view old.remove ≡ [] → vpkgs_view new.install ≡ [] → vpkgs_view new.remove ≡ []
-    → YieldsFirstBy view (upgrades_view r) old found new → YieldsFirstBy view (request_sites_view r) old found new
-upgrade-next view r old None new h h' k k' gives = (upgrades_alone r old h h' ∙ gives.0, upgrades_alone r new k k' ∙ gives.1)
-upgrade-next view r old (Some x) new h h' k k' gives = upgrades_alone r old h h' ∙ gives ∙ ap (λ l. view x ∷ l) (sym (upgrades_alone r new k k'))

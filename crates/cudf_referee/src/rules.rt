@@ -9,11 +9,10 @@ ghost use Rattle.cudf_index.specs.Satisfaction.{numbers_of};
 ghost use Rattle.cudf_job.specs.Keys.{part_place};
 ghost use Rattle.cudf_job.specs.KeyViews.{key_view};
 ghost use Rattle.cudf_referee.specs.Proposals.{Proposal};
-ghost use Rattle.cudf_referee.specs.Promises.Stops.{aspect_cost, aspect_look_ups};
+ghost use Rattle.cudf_referee.specs.Promises.Stops.{cost, aspect_cost, look_ups, aspect_look_ups};
 ghost use Rattle.cudf_referee.specs.Promises.Views.{instance_view};
-ghost use Rattle.cudf_referee.specs.Violations.{are_many, are_lower, is_aspect_violated};
+ghost use Rattle.cudf_referee.specs.Violations.{are_many, are_lower, is_aspect_violated, is_violated};
 ghost use Rattle.cudf_referee.specs.Working.Before.{greatest_before};
-ghost use Rattle.cudf_referee.specs.Working.Searches.{IsJudged};
 ghost use Rattle.cudf_referee.specs.Working.Told.{IsTold};
 ghost use Rattle.cudf_referee.specs.Working.Walkers.{put_forward, Agrees};
 
@@ -42,20 +41,19 @@ pub(crate) fn is_violated(
     instance: &Instance<'_>,
     steps: &mut Steps,
 ) -> bool
-    ensures judged { (problem : PlainProblem) → (unknown : List PlainUnknown)
+    ensures answer { (problem : PlainProblem) → (unknown : List PlainUnknown)
         → Agrees problem (set.contains known.entry.status.now) known.entry.before.now now.old.status known.entry.named.now unknown
         → IsTold (put_forward problem now.old.status unknown) (instance_view instance.now)
-        → IsJudged (put_forward problem now.old.status unknown) (instance_view instance.now) result (now.old.steps + steps.old) (now.new.steps + steps.new) }
+        → result ≡ is_violated (put_forward problem now.old.status unknown) (instance_view instance.now) }
+    ensures price { now.new.steps + steps.new ≤ now.old.steps + steps.old + cost now.old.status (instance_view instance.now) }
+    ensures grows { now.old.steps + steps.old + look_ups now.old.status (instance_view instance.now) ≤ now.new.steps + steps.new }
     ensures status { now.new.status ≡ now.old.status }
 {
     match instance.what {
         What::Needs(clause) => !now.satisfies_clause_counted(&clause),
-        What::ConflictsWith(vpkg) => {
-            let own = place_of(instance.key.part());
-            now.satisfies_without_counted(&vpkg, own)
-        }
-        What::KeepVersion => !known.status.holds(place_of(instance.key.part())),
-        What::KeepPackage => !flag_at(known.named, place_of(instance.key.part())),
+        What::ConflictsWith(vpkg) => now.satisfies_without_counted(&vpkg, place_of(instance.key)),
+        What::KeepVersion => !known.status.holds(place_of(instance.key)),
+        What::KeepPackage => !flag_at(known.named, place_of(instance.key)),
         What::KeepFeature(vpkg) => !now.satisfies_counted(&vpkg),
         What::Install(vpkg) => !now.satisfies_counted(&vpkg),
         What::Remove(vpkg) => now.satisfies_counted(&vpkg),
@@ -64,11 +62,11 @@ pub(crate) fn is_violated(
     }
 }
 
-/// The place of the package that the part is, 0 for the others.
-fn place_of(part: Part) -> u64
-    ensures { result ≡ part_place part }
+/// The place of the package that the key is of, 0 for the other parts.
+fn place_of(key: Key) -> u64
+    ensures { result ≡ part_place (key_view key).part }
 {
-    match part {
+    match key.part() {
         Part::Package(place) => place,
         Part::Request | Part::Solution => 0,
     }

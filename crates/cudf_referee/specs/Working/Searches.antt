@@ -15,12 +15,6 @@ use Rattle.cudf_referee.specs.Working.Judged.{given_at}
 use Rattle.cudf_referee.specs.Working.RequestSites.{request_sites_view}
 use Rattle.cudf_referee.specs.Working.SiteNumbers.{sites_in, sites_view}
 
--- an instance is judged, and the steps went from one number to another
-pub record IsJudged (s : Proposal) (i : PlainInstance) (answer : Bool) (old new : ℕ) : Type 0 where
-  pub is : answer ≡ is_violated s i
-  pub price : new ≤ old + cost s.proposed i
-  pub grows : old + look_ups s.proposed i ≤ new
-
 -- ---- searches
 
 abbrev pub or_later : Option PlainInstance → Option PlainInstance → Option PlainInstance

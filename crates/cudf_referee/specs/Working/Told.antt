@@ -1,23 +1,19 @@
--- What holds of the instances of a proposal, by which what they need beside its status is found.
-use Rattle.std.specs.Prelude.{◌≡◌, ◌≤◌, ◌<◌, ℕ, ◌-◌, false, length, map, Some, slice_get}
+-- What is known of the instances of a proposal, by which what they need beside its status is found.
+use Rattle.std.specs.Prelude.{◌≡◌, ◌<◌, ℕ, Bool, ◌-◌, false, List, map, Some, slice_get}
 use Rattle.std.specs.Option.{option_map_or}
-use Rattle.cudf_job.specs.declared.key.Part.TheVariants as part
+use Rattle.cudf_index.specs.Satisfaction.{Placed, without, members}
 use Rattle.cudf_job.specs.Keys.{part_place}
 use Rattle.cudf_referee.specs.Instances.{PlainWhat, needs, conflicts_with, keep_version, keep_package, keep_feature, install, remove, upgrade, unknown, PlainInstance}
 use Rattle.cudf_referee.specs.Promises.Stops.{Stop, stop_at, package_end}
-use Rattle.cudf_referee.specs.Proposals.{Proposal}
-use Rattle.cudf_referee.specs.Violations.{has_package}
+use Rattle.cudf_referee.specs.Proposals.{Proposal, holds_place}
+use Rattle.cudf_referee.specs.Violations.{others, has_package}
 use Rattle.cudf_referee.specs.Working.Named.{has_kept_name}
 
--- its part is a package of the universe
-abbrev pub IsPlaced : Proposal → ℕ → Type 0
-IsPlaced s place = (0 < place) × (place ≤ length s.problem.packages)
-
--- by what it says
+-- its package is at its place, and its entry of `upgrade` at its number, by what it says
 abbrev pub IsWhatTold : Proposal → PlainInstance → PlainWhat → Type 0
 IsWhatTold s i (needs clause) = Unit {0}
-IsWhatTold s i (conflicts_with v) = i.key.part ≡ part.Package (part_place i.key.part)
-IsWhatTold s i keep_version = IsPlaced s (part_place i.key.part)
+IsWhatTold s i (conflicts_with v) = (status : List Placed) → others i.key.part status ≡ without (part_place i.key.part) status
+IsWhatTold s i keep_version = (test : ℕ → Bool) → holds_place (members test s.problem.packages) (part_place i.key.part) ≡ test (part_place i.key.part)
 IsWhatTold s i keep_package = (0 < part_place i.key.part)
     × (slice_get (map (has_kept_name s.proposed) s.problem.packages) (part_place i.key.part - 1) ≡ Some (option_map_or (λ (name, version). has_package s.proposed name) i.subject false))
 IsWhatTold s i (keep_feature v) = Unit {0}
@@ -29,7 +25,10 @@ IsWhatTold s i unknown = Unit {0}
 abbrev pub IsTold : Proposal → PlainInstance → Type 0
 IsTold s i = IsWhatTold s i i.what
 
--- and of the stops of its walk
+-- what holds of an instance, of the stop at it
+abbrev pub OfStop : (PlainInstance → Type 0) → Stop → Type 0
+OfStop P (stop_at i) = P i
+OfStop P (package_end place) = Unit {0}
+
 abbrev pub IsStopTold : Proposal → Stop → Type 0
-IsStopTold s (stop_at i) = IsTold s i
-IsStopTold s (package_end place) = Unit {0}
+IsStopTold s = OfStop (IsTold s)
