@@ -1,16 +1,15 @@
 -- What is known of the package at an index of the universe.
-use Rattle.std.proofs.Common.{◌≡◌, ℕ, ◌+◌, ◌-◌, ◌<◌, Bool, false, ◌&&◌, List, length, map, cond, get_or, Some, None, ap, sym, ◌∙◌, subst, arith, ne_eqb}
-use Rattle.std.specs.Prelude.{slice_get, option_map}
+use Rattle.std.proofs.Common.{◌≡◌, ℕ, ◌+◌, ◌-◌, ◌<◌, Bool, false, ◌&&◌, List, length, cond, Some, None, ap, sym, ◌∙◌, subst, arith, ne_eqb}
+use Rattle.std.specs.Prelude.{slice_get}
 use Rattle.std.specs.List.{enumerate_from}
 use Rattle.std.specs.Option.{option_map_or}
-use Rattle.std.proofs.lemmas.Option.{slice_get-map, get_or_from_slice_get}
 use Rattle.cudf_problem.specs.Statuses.{is_initial}
 use Rattle.cudf_problem.specs.Universe.{PlainPackage, PlainProblem, package_at}
 use Rattle.cudf_index.specs.Satisfaction.{members}
-use Rattle.cudf_referee.specs.declared.sites.candidate.Candidate.{Candidate}
+use Rattle.cudf_referee.specs.declared.left.candidate.Candidate.{Candidate}
 use Rattle.cudf_referee.specs.Promises.Walks.{Walking}
 use Rattle.cudf_referee.specs.Proposals.{holds_place}
-use Rattle.cudf_referee.specs.Working.SiteNumbers.{Fits}
+use Rattle.cudf_referee.specs.Working.PackageLeft.{Fits}
 use Rattle.cudf_referee.proofs.ListLemmas.{and_true}
 use Rattle.cudf_referee.proofs.StatusLemmas.{holds-filter, holds-enumerate}
 

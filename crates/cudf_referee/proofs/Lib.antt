@@ -25,7 +25,7 @@ pub mod PriceExamples
 pub mod RecommendLemmas
 pub mod RemedyLemmas
 pub mod SearchLemmas
-pub mod SiteNumberLemmas
+pub mod LeftLemmas
 pub mod SolutionLemmas
 pub mod StandingLemmas
 pub mod StatusLemmas

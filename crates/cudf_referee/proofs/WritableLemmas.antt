@@ -1,29 +1,22 @@
 -- The keys of the listing can be written, where the places in lists and the numbers of stanzas are those of a `u64`.
-use Rattle.std.proofs.Common.{◌≡◌, ℕ, ◌+◌, ◌<◌, ◌≤◌, ◌^◌, Bool, true, false, ◌&&◌, ◌∙◌, nat_lt, List, [], ◌∷◌, ◌++◌, length, get_or, map, filter, cond, Option, Some, None, arith, refl, subst}
+use Rattle.std.proofs.Common.{◌≡◌, ℕ, ◌+◌, ◌<◌, ◌^◌, true, ◌&&◌, ◌∙◌, nat_lt, List, [], ◌∷◌, length, get_or, map, Option, Some, None, arith, refl, subst}
 use Rattle.std.specs.Prelude.{All}
-use Rattle.std.specs.List.{flat_map, enumerate_from}
 use Rattle.std.proofs.lemmas.Bool.{ltb-true, lt-ltb}
 use Rattle.std.proofs.lemmas.List.{length-map}
-use Rattle.std.proofs.lemmas.List.Elements.{All-nil, All-cons, All-head, All-tail, All-append}
+use Rattle.std.proofs.lemmas.List.Elements.{All-nil, All-cons, All-head, All-tail}
 use Rattle.cudf_value.specs.Vpkgs.{PlainVpkg}
-use Rattle.cudf_problem.specs.declared.package.Keep.{Keep}
-use Rattle.cudf_problem.specs.declared.package.Keep.TheVariants.{Version, Package, Feature, Nothing}
 use Rattle.cudf_problem.specs.declared.unknown.Unknown.{Unknown}
-use Rattle.cudf_problem.specs.Universe.{PlainRequest}
 use Rattle.cudf_problem.specs.Statuses.{PlainUnknown, ascend_above}
 use Rattle.cudf_problem.specs.Promises.Views.{unknown_view}
-use Rattle.cudf_index.specs.Satisfaction.{Placed}
 use Rattle.cudf_job.specs.declared.key.Part.TheVariants as part
 use Rattle.cudf_job.specs.declared.key.Rule.{Rule}
 use Rattle.cudf_job.specs.declared.key.Rule.TheVariants as rule
 use Rattle.cudf_job.specs.declared.key.Aspect.{Aspect}
-use Rattle.cudf_job.specs.declared.key.Aspect.TheVariants.{Unsatisfied, Many, Lower}
-use Rattle.cudf_referee.specs.Instances.{keep_version, keep_package, keep_feature, PlainInstance}
+use Rattle.cudf_referee.specs.Instances.{PlainInstance}
 use Rattle.cudf_job.specs.Promises.Keys.{IsWritable}
 use Rattle.cudf_job.specs.Keys.{package_key, request_key, fits}
-use Rattle.cudf_referee.specs.Proposals.{Proposal, holds_place}
-use Rattle.cudf_referee.specs.Violations.{unknown_instance, needed_instances, kept_instances, package_instances, entry_instances, request_instances, instances, is_violated, listing}
-use Rattle.cudf_referee.specs.Working.RuleInstances.{depends_instance, conflicts_instance, keep_instance, install_instance, remove_instance, upgrade_instance}
+use Rattle.cudf_referee.specs.Proposals.{Proposal}
+use Rattle.cudf_referee.specs.Violations.{unknown_instance, instances, is_violated, listing}
 use Rattle.cudf_referee.specs.Working.Numbered.{IsListed, IsNumbered}
 use Rattle.cudf_referee.specs.Working.Places.{stanza_numbers}
 use Rattle.std.specs.Prelude.{slice_get}

@@ -9,9 +9,9 @@ ghost use Rattle.cudf_referee.specs.Promises.Stops.{at_start, at_key};
 ghost use Rattle.cudf_referee.specs.Working.Walkers.{put_forward, Agrees};
 
 use crate::instance::Instance;
+use crate::left::{Candidate, Left, RequestLeft};
 use crate::position::{Position, first_unknown_behind, position_behind};
 use crate::rules::{Known, is_violated};
-use crate::sites::{Candidate, RequestSites, Sites};
 use cudf_index::{Index, Metered, Steps};
 use cudf_job::{Key, Part};
 use cudf_problem::{Package, Problem, Solution};
@@ -96,8 +96,8 @@ impl<'r, 'p, 't> Instances<'r, 'p, 't> {
             position: Position::Start,
             cursor: Cursor {
                 packages: 0,
-                sites: None,
-                request: RequestSites::of(problem.request()),
+                begun: None,
+                request: RequestLeft::of(problem.request()),
                 unknown: 0,
             },
             steps: Steps::new(),
@@ -138,14 +138,14 @@ impl<'r, 'p, 't> Instances<'r, 'p, 't> {
     }
 }
 
-/// Where a walk goes on: after so many packages, with the places of the next one and of the request that are left, and
-/// after so many unknown stanzas.
+/// Where a walk goes on: after so many packages, with what is left of the next one and of the request, and after so many
+/// unknown stanzas.
 #[derive(Clone, Copy)]
 struct Cursor<'t> {
     packages: usize,
-    /// Those of the next package: all, where it isn't gone through yet.
-    sites: Option<Sites<'t>>,
-    request: RequestSites<'t>,
+    /// What is left of the next package, where it was begun.
+    begun: Option<Left<'t>>,
+    request: RequestLeft<'t>,
     unknown: usize,
 }
 
@@ -159,7 +159,7 @@ impl<'r, 'p, 't> Instances<'r, 'p, 't> {
     ghost use Rattle.cudf_referee.specs.Violations.{package_instances};
     ghost use Rattle.cudf_referee.specs.Working.Places.{ahead, BeginsAt};
     ghost use Rattle.cudf_referee.specs.Working.Searches.{Comes, ComesTo, Searches, package_left, packages_rest, request_rest, unknown_rest, stops_from};
-    ghost use Rattle.cudf_referee.specs.Working.SiteNumbers.{placed_view, Fits, sites_in};
+    ghost use Rattle.cudf_referee.specs.Working.PackageLeft.{placed_view, Fits, left_in};
     ghost use Rattle.cudf_referee.specs.Working.Told.{IsTold, IsStopTold};
 
     /// The package after this many others, as it is judged.
@@ -201,18 +201,18 @@ impl<'r, 'p, 't> Instances<'r, 'p, 't> {
         self.steps.tick();
     }
 
-    /// The first instance of a package at the places that are left.
+    /// The first violated instance of a package, of those that are left.
     #[inline(always)]
     fn search_package(
         &mut self,
         candidate: Candidate<'p, 't>,
-        sites: &mut Sites<'t>,
+        left: &mut Left<'t>,
     ) -> Option<Instance<'t>>
-        requires { All (IsStopTold self.old.judged) (package_left (placed_view candidate) sites.old) }
-        ensures searches { Searches self.old (package_left (placed_view candidate.entry) sites.old) (option_map instance_view result) self.new }
-        ensures comes { IfSome result (λ i. Comes (package_left (placed_view candidate.entry) sites.old) (instance_view i) (package_left (placed_view candidate.entry) sites.new)) }
+        requires { All (IsStopTold self.old.judged) (package_left (placed_view candidate) left.old) }
+        ensures searches { Searches self.old (package_left (placed_view candidate.entry) left.old) (option_map instance_view result) self.new }
+        ensures comes { IfSome result (λ i. Comes (package_left (placed_view candidate.entry) left.old) (instance_view i) (package_left (placed_view candidate.entry) left.new)) }
     {
-        while let Some(instance) = candidate.next(sites) {
+        while let Some(instance) = candidate.next(left) {
             if self.judge(&instance) {
                 return Some(instance);
             }
@@ -221,39 +221,39 @@ impl<'r, 'p, 't> Instances<'r, 'p, 't> {
         None
     }
 
-    /// The first instance of the packages that are left.
+    /// The first violated instance of the packages that are left.
     fn search_packages(&mut self, cursor: &mut Cursor<'t>) -> Option<Instance<'t>>
-        requires { All (IsStopTold self.old.judged) (packages_rest self.old.judged cursor.old.sites (drop cursor.old.packages (enumerate_from 1 self.old.judged.problem.packages))) }
-        ensures searches { Searches self.old (packages_rest self.old.judged cursor.old.sites (drop cursor.old.packages (enumerate_from 1 self.old.judged.problem.packages))) (option_map instance_view result) self.new }
-        ensures comes { ComesTo (packages_rest self.old.judged cursor.old.sites (drop cursor.old.packages (enumerate_from 1 self.old.judged.problem.packages))) (option_map instance_view result)
-            (packages_rest self.old.judged cursor.new.sites (drop cursor.new.packages (enumerate_from 1 self.old.judged.problem.packages))) }
+        requires { All (IsStopTold self.old.judged) (packages_rest self.old.judged cursor.old.begun (drop cursor.old.packages (enumerate_from 1 self.old.judged.problem.packages))) }
+        ensures searches { Searches self.old (packages_rest self.old.judged cursor.old.begun (drop cursor.old.packages (enumerate_from 1 self.old.judged.problem.packages))) (option_map instance_view result) self.new }
+        ensures comes { ComesTo (packages_rest self.old.judged cursor.old.begun (drop cursor.old.packages (enumerate_from 1 self.old.judged.problem.packages))) (option_map instance_view result)
+            (packages_rest self.old.judged cursor.new.begun (drop cursor.new.packages (enumerate_from 1 self.old.judged.problem.packages))) }
         ensures others { (cursor.new.request ≡ cursor.old.request) × (cursor.new.unknown ≡ cursor.old.unknown) }
     {
         let packages = self.problem.packages();
-        let mut sites = cursor.sites;
+        let mut begun = cursor.begun;
         for index in cursor.packages..packages.len() {
             let candidate = self.candidate(index, &packages[index]);
-            let mut left = candidate.left(sites);
+            let mut left = candidate.left(begun);
             if let Some(instance) = self.search_package(candidate, &mut left) {
                 cursor.packages = index;
-                cursor.sites = Some(left);
+                cursor.begun = Some(left);
                 return Some(instance);
             }
-            sites = None;
+            begun = None;
         }
         cursor.packages = packages.len();
-        cursor.sites = None;
+        cursor.begun = None;
         None
     }
 
-    /// The first instance of the request at the places that are left.
-    fn search_request(&mut self, sites: &mut RequestSites<'t>) -> Option<Instance<'t>>
-        requires { All (IsStopTold self.old.judged) (request_rest self.old.judged sites.old) }
-        ensures searches { Searches self.old (request_rest self.old.judged sites.old) (option_map instance_view result) self.new }
-        ensures comes { ComesTo (request_rest self.old.judged sites.old) (option_map instance_view result) (request_rest self.old.judged sites.new) }
+    /// The first violated instance of the request, of those that are left.
+    fn search_request(&mut self, left: &mut RequestLeft<'t>) -> Option<Instance<'t>>
+        requires { All (IsStopTold self.old.judged) (request_rest self.old.judged left.old) }
+        ensures searches { Searches self.old (request_rest self.old.judged left.old) (option_map instance_view result) self.new }
+        ensures comes { ComesTo (request_rest self.old.judged left.old) (option_map instance_view result) (request_rest self.old.judged left.new) }
     {
         let request = self.problem.request();
-        while let Some(instance) = sites.next(request) {
+        while let Some(instance) = left.next(request) {
             if self.judge(&instance) {
                 return Some(instance);
             }
@@ -276,7 +276,7 @@ impl<'r, 'p, 't> Instances<'r, 'p, 't> {
         }
     }
 
-    /// The first instance ahead.
+    /// The first violated instance ahead.
     fn search(&mut self, cursor: &mut Cursor<'t>) -> Option<Instance<'t>>
         requires { All (IsStopTold self.old.judged) (stops_from self.old.judged cursor.old) }
         ensures searches { Searches self.old (stops_from self.old.judged cursor.old) (option_map instance_view result) self.new }
@@ -302,30 +302,30 @@ impl<'r, 'p, 't> Instances<'r, 'p, 't> {
                 let packages = place as usize - 1;
                 Cursor {
                     packages,
-                    sites: self.behind_key(packages, key),
-                    request: RequestSites::of(request),
+                    begun: self.behind_key(packages, key),
+                    request: RequestLeft::of(request),
                     unknown,
                 }
             }
             Part::Request => Cursor {
                 packages: self.problem.packages().len(),
-                sites: None,
-                request: RequestSites::behind(request, key),
+                begun: None,
+                request: RequestLeft::behind(request, key),
                 unknown,
             },
             Part::Solution => Cursor {
                 packages: self.problem.packages().len(),
-                sites: None,
-                request: RequestSites::none(),
+                begun: None,
+                request: RequestLeft::none(),
                 unknown,
             },
         }
     }
 
-    /// The places of the package after this many others that come after a key.
-    fn behind_key(&self, index: usize, key: Key) -> Option<Sites<'t>>
+    /// The instances of the package after this many others that come after a key.
+    fn behind_key(&self, index: usize, key: Key) -> Option<Left<'t>>
         ensures { (p : PlainPackage) → slice_get self.entry.now.judged.problem.packages index ≡ Some p
-            → filter (λ x. precedes (key_view key) x.key) (package_instances self.entry.now.judged (index + 1, p)) ≡ sites_in self.entry.now.judged result (index + 1, p) }
+            → filter (λ x. precedes (key_view key) x.key) (package_instances self.entry.now.judged (index + 1, p)) ≡ left_in self.entry.now.judged result (index + 1, p) }
     {
         match self.problem.packages().get(index) {
             Some(package) => Some(self.candidate(index, package).behind(key)),

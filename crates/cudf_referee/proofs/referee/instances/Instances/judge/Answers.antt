@@ -1,4 +1,4 @@
-use Rattle.std.proofs.Common.{◌≡◌, ◌+◌, List, [], ◌∷◌, map, refl, ap, sym, ◌∙◌, subst, arith}
+use Rattle.std.proofs.Common.{◌+◌, List, [], ◌∷◌, map, refl, ap, sym, subst, arith}
 use Rattle.cudf_index.specs.Satisfaction.{Placed}
 use Rattle.cudf_problem.specs.Promises.Views.{unknown_view}
 use Rattle.cudf_referee.specs.Promises.PositionViews.{position_view}

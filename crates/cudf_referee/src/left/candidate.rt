@@ -1,4 +1,4 @@
-//! The package that is judged, and its places.
+//! The package that is judged, and its instances that are left.
 ghost use Rattle.std.specs.Prelude.{◌≤◌, ◌<◌, ◌+◌, ◌^◌, length};
 ghost use Rattle.cudf_value.specs.Promises.Views.{clauses_view, vpkgs_view};
 
@@ -18,9 +18,9 @@ pub(crate) struct Candidate<'p, 't> {
     ghost placed: { 0 < place },
 }
 
-/// The places of a package that are left, and how many of each list were passed.
+/// The instances of a package that are left: the entries of its lists, and how many of each were passed.
 #[derive(Clone, Copy)]
-pub(crate) struct Sites<'t> {
+pub(crate) struct Left<'t> {
     clauses: Clauses<'t>,
     clause: u64,
     conflicts: Vpkgs<'t>,
@@ -45,7 +45,7 @@ impl<'p, 't> Candidate<'p, 't> {
     ghost use Rattle.cudf_referee.specs.Promises.Stops.{precedes};
     ghost use Rattle.cudf_referee.specs.Promises.Views.{instance_view, what_view};
     ghost use Rattle.cudf_referee.specs.Violations.{at_package, package_instances};
-    ghost use Rattle.cudf_referee.specs.Working.SiteNumbers.{placed_view, Fits, depends_of, conflicts_of, features_of, candidate_sites, sites_view, sites_in};
+    ghost use Rattle.cudf_referee.specs.Working.PackageLeft.{placed_view, Fits, depends_of, conflicts_of, features_of, left_view, left_in};
 
     /// What is judged of what it needs: nothing, where it isn't to be installed.
     fn depends(self) -> Formula<'t>
@@ -82,14 +82,14 @@ impl<'p, 't> Candidate<'p, 't> {
         }
     }
 
-    /// Its places.
-    fn sites(self) -> Sites<'t>
-        ensures { sites_view (placed_view self.entry) result ≡ candidate_sites self.entry }
+    /// All its instances.
+    fn all(self) -> Left<'t>
+        ensures { (s : Proposal) → Fits s self.entry → left_view (placed_view self.entry) result ≡ package_instances s (placed_view self.entry) }
     {
         let depends = self.depends();
         let conflicts = self.conflicts();
         let features = self.features();
-        Sites {
+        Left {
             clauses: depends.clauses(),
             clause: 0,
             conflicts: conflicts.vpkgs(),
@@ -100,56 +100,56 @@ impl<'p, 't> Candidate<'p, 't> {
         }
     }
 
-    /// Those of its places that are left, all where none were gone by.
-    pub(crate) fn left(self, sites: Option<Sites<'t>>) -> Sites<'t>
-        ensures { (s : Proposal) → Fits s self.entry → sites_view (placed_view self.entry) result ≡ sites_in s sites.entry (placed_view self.entry) }
+    /// Its instances that are left: all, where it wasn't begun.
+    pub(crate) fn left(self, begun: Option<Left<'t>>) -> Left<'t>
+        ensures { (s : Proposal) → Fits s self.entry → left_view (placed_view self.entry) result ≡ left_in s begun.entry (placed_view self.entry) }
     {
-        match sites {
-            Some(sites) => sites,
-            None => self.sites(),
+        match begun {
+            Some(left) => left,
+            None => self.all(),
         }
     }
 
-    /// Its places that come after a key of it, whether or not a place has the key.
-    pub(crate) fn behind(self, key: Key) -> Sites<'t>
+    /// Its instances that come after a key of it, whether or not one has the key.
+    pub(crate) fn behind(self, key: Key) -> Left<'t>
         ensures { (s : Proposal) → Fits s self.entry
-            → filter (λ x. precedes (key_view key) x.key) (package_instances s (placed_view self.entry)) ≡ sites_view (placed_view self.entry) result }
+            → filter (λ x. precedes (key_view key) x.key) (package_instances s (placed_view self.entry)) ≡ left_view (placed_view self.entry) result }
     {
-        let mut sites = self.sites();
-        let mut left = sites;
-        while let Some(instance) = self.next(&mut left) {
+        let mut left = self.all();
+        let mut later = left;
+        while let Some(instance) = self.next(&mut later) {
             if key.precedes(instance.key) {
-                return sites;
+                return left;
             }
-            sites = left;
+            left = later;
         }
-        sites
+        left
     }
 
     /// The next of its instances that are left.
     #[inline(always)]
-    pub(crate) fn next(self, sites: &mut Sites<'t>) -> Option<Instance<'t>>
-        ensures { YieldsFirstBy instance_view (sites_view (placed_view self.entry)) sites.old result sites.new }
+    pub(crate) fn next(self, left: &mut Left<'t>) -> Option<Instance<'t>>
+        ensures { YieldsFirstBy instance_view (left_view (placed_view self.entry)) left.old result left.new }
     {
-        if let Some(clause) = sites.clauses.next() {
-            sites.clause += 1;
-            return Some(self.instance(Rule::Depends, sites.clause, What::Needs(clause)));
+        if let Some(clause) = left.clauses.next() {
+            left.clause += 1;
+            return Some(self.instance(Rule::Depends, left.clause, What::Needs(clause)));
         }
-        if let Some(vpkg) = sites.conflicts.next() {
-            sites.conflict += 1;
-            return Some(self.instance(Rule::Conflicts, sites.conflict, What::ConflictsWith(vpkg)));
+        if let Some(vpkg) = left.conflicts.next() {
+            left.conflict += 1;
+            return Some(self.instance(Rule::Conflicts, left.conflict, What::ConflictsWith(vpkg)));
         }
-        if sites.one {
-            sites.one = false;
+        if left.one {
+            left.one = false;
             match self.package.keep {
                 Keep::Version => return Some(self.instance(Rule::Keep, 1, What::KeepVersion)),
                 Keep::Package => return Some(self.instance(Rule::Keep, 1, What::KeepPackage)),
                 Keep::Feature | Keep::Nothing => {}
             }
         }
-        let vpkg = sites.features.next()?;
-        sites.feature += 1;
-        Some(self.instance(Rule::Keep, sites.feature, What::KeepFeature(vpkg)))
+        let vpkg = left.features.next()?;
+        left.feature += 1;
+        Some(self.instance(Rule::Keep, left.feature, What::KeepFeature(vpkg)))
     }
 
     /// Its instance of a rule, at an entry's place.

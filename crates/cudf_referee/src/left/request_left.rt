@@ -1,4 +1,4 @@
-//! The places of the request that are left.
+//! The instances of the request that are left.
 ghost use Rattle.std.specs.Prelude.{◌≤◌, ◌<◌, ◌+◌, ◌^◌, length};
 ghost use Rattle.std.specs.Option.{ForSome};
 ghost use Rattle.cudf_value.specs.Promises.Views.{vpkgs_view};
@@ -8,9 +8,9 @@ use cudf_job::{Aspect, Key, Rule};
 use cudf_problem::Request;
 use cudf_value::{Vpkg, VpkgList, Vpkgs};
 
-/// The places of the request that are left, and how many of each list were passed.
+/// The instances of the request that are left: the entries of its lists, and how many of each were passed.
 #[derive(Clone, Copy)]
-pub(crate) struct RequestSites<'t> {
+pub(crate) struct RequestLeft<'t> {
     install: Vpkgs<'t>,
     installed: u64,
     remove: Vpkgs<'t>,
@@ -25,7 +25,7 @@ pub(crate) struct RequestSites<'t> {
     ghost entered: { ForSome entry (λ _. 0 < upgraded) },
 }
 
-impl<'t> RequestSites<'t> {
+impl<'t> RequestLeft<'t> {
     ghost use Rattle.std.specs.Prelude.{◌≡◌, ◌<◌, IfSome, [], filter};
     ghost use Rattle.std.specs.Iterator.{YieldsFirstBy};
     ghost use Rattle.cudf_problem.specs.Universe.{PlainRequest};
@@ -33,16 +33,16 @@ impl<'t> RequestSites<'t> {
     ghost use Rattle.cudf_job.specs.KeyViews.{key_view};
     ghost use Rattle.cudf_referee.specs.Promises.Stops.{precedes};
     ghost use Rattle.cudf_referee.specs.Violations.{request_instances};
-    ghost use Rattle.cudf_referee.specs.Working.RequestSites.{later, request_sites_view, upgrades_view};
+    ghost use Rattle.cudf_referee.specs.Working.RequestLeft.{later, request_left_view, upgrades_view};
     ghost use Rattle.cudf_referee.specs.Working.RuleInstances.{upgrade_instance};
     ghost use Rattle.cudf_referee.specs.Promises.Views.{instance_view};
     ghost use Rattle.cudf_value.specs.Promises.Views.{vpkg_view};
 
     /// All instances of the request.
     pub(crate) fn of(request: &Request<'t>) -> Self
-        ensures { request_sites_view (request_view request.now) result ≡ request_instances (request_view request.now) }
+        ensures { request_left_view (request_view request.now) result ≡ request_instances (request_view request.now) }
     {
-        RequestSites {
+        RequestLeft {
             install: request.install.vpkgs(),
             installed: 0,
             remove: request.remove.vpkgs(),
@@ -55,10 +55,10 @@ impl<'t> RequestSites<'t> {
 
     /// None.
     pub(crate) fn none() -> Self
-        ensures { (r : PlainRequest) → request_sites_view r result ≡ [] }
+        ensures { (r : PlainRequest) → request_left_view r result ≡ [] }
     {
         let none = VpkgList::empty();
-        RequestSites {
+        RequestLeft {
             install: none.vpkgs(),
             installed: 0,
             remove: none.vpkgs(),
@@ -69,24 +69,24 @@ impl<'t> RequestSites<'t> {
         }
     }
 
-    /// The instances of the request that come after a key of it, whether or not an instance has the key.
+    /// The instances of the request that come after a key of it, whether or not one has the key.
     pub(crate) fn behind(request: &Request<'t>, key: Key) -> Self
-        ensures { filter (λ x. precedes (key_view key) x.key) (request_instances (request_view request.now)) ≡ request_sites_view (request_view request.now) result }
+        ensures { filter (λ x. precedes (key_view key) x.key) (request_instances (request_view request.now)) ≡ request_left_view (request_view request.now) result }
     {
-        let mut sites = Self::of(request);
-        let mut left = sites;
-        while let Some(instance) = left.next(request) {
+        let mut left = Self::of(request);
+        let mut later = left;
+        while let Some(instance) = later.next(request) {
             if key.precedes(instance.key) {
-                return sites;
+                return left;
             }
-            sites = left;
+            left = later;
         }
-        sites
+        left
     }
 
     /// The next instance.
     pub(crate) fn next(&mut self, request: &Request<'t>) -> Option<Instance<'t>>
-        ensures { YieldsFirstBy instance_view (request_sites_view (request_view request.now)) self.old result self.new }
+        ensures { YieldsFirstBy instance_view (request_left_view (request_view request.now)) self.old result self.new }
     {
         if let Some(vpkg) = self.install.next() {
             self.installed += 1;

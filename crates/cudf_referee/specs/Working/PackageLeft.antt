@@ -1,18 +1,18 @@
--- The places of a package that is judged, as the code goes through them.
-use Rattle.std.specs.Prelude.{◌≡◌, ℕ, ◌+◌, ◌<◌, List, [], ◌∷◌, ◌++◌, Option, Some, None, map, if◌then◌else◌}
+-- The instances of a package that is judged, as the code goes through them.
+use Rattle.std.specs.Prelude.{◌≡◌, ℕ, ◌+◌, List, [], ◌∷◌, ◌++◌, Option, Some, None, map, if◌then◌else◌}
 use Rattle.std.specs.List.{enumerate_from}
 use Rattle.cudf_value.specs.Formulas.{PlainAtom}
 use Rattle.cudf_value.specs.Vpkgs.{PlainVpkg}
-use Rattle.cudf_value.specs.Promises.Views.{clause_view, vpkg_view, formula_view, list_view, clauses_view, vpkgs_view}
+use Rattle.cudf_value.specs.Promises.Views.{formula_view, list_view, clauses_view, vpkgs_view}
 use Rattle.cudf_problem.specs.declared.package.Keep.{Keep}
 use Rattle.cudf_problem.specs.declared.package.Keep.TheVariants.{Version, Package, Feature, Nothing}
 use Rattle.cudf_problem.specs.Promises.Views.{package_view}
 use Rattle.cudf_index.specs.Satisfaction.{Placed}
-use Rattle.cudf_referee.specs.declared.sites.candidate.Candidate.{Candidate}
-use Rattle.cudf_referee.specs.declared.sites.candidate.Sites.{Sites}
+use Rattle.cudf_referee.specs.declared.left.candidate.Candidate.{Candidate}
+use Rattle.cudf_referee.specs.declared.left.candidate.Left.{Left}
 use Rattle.cudf_referee.specs.Proposals.{Proposal, holds_place}
 use Rattle.cudf_referee.specs.Instances.{keep_version, keep_package, keep_feature, PlainInstance}
-use Rattle.cudf_referee.specs.Violations.{kept_instances, package_instances}
+use Rattle.cudf_referee.specs.Violations.{package_instances}
 use Rattle.cudf_referee.specs.Working.RuleInstances.{depends_instance, conflicts_instance, keep_instance}
 
 -- ---- a package that is judged
@@ -46,11 +46,6 @@ features_of c = if c.package.now.installed then kept_features c.package.now.keep
 abbrev pub numbered : {A : Type 0} → (ℕ → A → PlainInstance) → ℕ → List A → List PlainInstance
 numbered make n entries = map (λ e. make e.0 e.1) (enumerate_from (n + 1) entries)
 
--- its instances
-abbrev pub candidate_sites : Candidate → List PlainInstance
-candidate_sites c = numbered (depends_instance (placed_view c)) 0 (depends_of c) ++ numbered (conflicts_instance (placed_view c)) 0 (conflicts_of c)
-    ++ (if c.package.now.installed then kept_instances c.package.now.keep (placed_view c) else [])
-
 -- ---- those that are left
 
 abbrev pub kept_one : Keep → Placed → List PlainInstance
@@ -63,11 +58,11 @@ kept_one Nothing p = []
 abbrev pub kept_feature : Placed → ℕ → PlainVpkg → PlainInstance
 kept_feature p number v = keep_instance p number (keep_feature v)
 
-abbrev pub sites_view : Placed → Sites → List PlainInstance
-sites_view p s = numbered (depends_instance p) s.clause (clauses_view s.clauses) ++ numbered (conflicts_instance p) s.conflict (vpkgs_view s.conflicts)
-    ++ (if s.one then kept_one p.1.keep p else []) ++ numbered (kept_feature p) s.feature (vpkgs_view s.features)
+abbrev pub left_view : Placed → Left → List PlainInstance
+left_view p l = numbered (depends_instance p) l.clause (clauses_view l.clauses) ++ numbered (conflicts_instance p) l.conflict (vpkgs_view l.conflicts)
+    ++ (if l.one then kept_one p.1.keep p else []) ++ numbered (kept_feature p) l.feature (vpkgs_view l.features)
 
--- all of the package, where it isn't gone through yet
-abbrev pub sites_in : Proposal → Option Sites → Placed → List PlainInstance
-sites_in s None p = package_instances s p
-sites_in s (Some sites) p = sites_view p sites
+-- all of the package, where it wasn't begun
+abbrev pub left_in : Proposal → Option Left → Placed → List PlainInstance
+left_in s None p = package_instances s p
+left_in s (Some left) p = left_view p left

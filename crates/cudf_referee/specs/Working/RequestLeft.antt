@@ -1,5 +1,5 @@
--- The places of the request, as the code goes through them.
-use Rattle.std.specs.Prelude.{◌≡◌, ◌≤◌, ℕ, ◌+◌, ◌-◌, ◌<◌, List, [], ◌∷◌, ◌++◌, Option, Some, None, drop, slice_get}
+-- The instances of the request, as the code goes through them.
+use Rattle.std.specs.Prelude.{ℕ, ◌+◌, List, [], ◌∷◌, ◌++◌, Option, Some, None}
 use Rattle.std.specs.List.{flat_map, enumerate_from}
 use Rattle.cudf_value.specs.declared.vpkg.Vpkg.{Vpkg}
 use Rattle.cudf_value.specs.Vpkgs.{PlainVpkg}
@@ -7,11 +7,11 @@ use Rattle.cudf_value.specs.Promises.Views.{vpkg_view, vpkgs_view}
 use Rattle.cudf_problem.specs.Universe.{PlainRequest}
 use Rattle.cudf_job.specs.declared.key.Aspect.{Aspect}
 use Rattle.cudf_job.specs.declared.key.Aspect.TheVariants.{Unsatisfied, Many, Lower}
-use Rattle.cudf_referee.specs.declared.sites.request_sites.RequestSites.{RequestSites}
+use Rattle.cudf_referee.specs.declared.left.request_left.RequestLeft.{RequestLeft}
 use Rattle.cudf_referee.specs.Instances.{PlainInstance}
 use Rattle.cudf_referee.specs.Violations.{entry_instances}
 use Rattle.cudf_referee.specs.Working.RuleInstances.{install_instance, remove_instance, upgrade_instance}
-use Rattle.cudf_referee.specs.Working.SiteNumbers.{numbered}
+use Rattle.cudf_referee.specs.Working.PackageLeft.{numbered}
 
 -- the aspects of an entry after one of them
 abbrev pub later : Vpkg → Aspect → Option (Vpkg × Aspect)
@@ -29,10 +29,10 @@ abbrev pub aspects_left : PlainRequest → ℕ → Option (Vpkg × Aspect) → L
 aspects_left r n None = []
 aspects_left r n (Some e) = aspects_from r n (vpkg_view e.0) e.1
 
--- ---- the places of a request that are left
+-- ---- those that are left
 
-abbrev pub upgrades_view : PlainRequest → RequestSites → List PlainInstance
+abbrev pub upgrades_view : PlainRequest → RequestLeft → List PlainInstance
 upgrades_view r s = aspects_left r s.upgraded s.entry ++ flat_map (entry_instances r) (enumerate_from (s.upgraded + 1) (vpkgs_view s.upgrade))
 
-abbrev pub request_sites_view : PlainRequest → RequestSites → List PlainInstance
-request_sites_view r s = numbered (install_instance r) s.installed (vpkgs_view s.install) ++ numbered (remove_instance r) s.removed (vpkgs_view s.remove) ++ upgrades_view r s
+abbrev pub request_left_view : PlainRequest → RequestLeft → List PlainInstance
+request_left_view r s = numbered (install_instance r) s.installed (vpkgs_view s.install) ++ numbered (remove_instance r) s.removed (vpkgs_view s.remove) ++ upgrades_view r s
