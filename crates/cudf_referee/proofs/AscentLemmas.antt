@@ -136,8 +136,8 @@ kept_climb Package p = (same_first p.0 (3 ∷ []) (3 ∷ 1 ∷ 0 ∷ []) refl, s
 kept_climb Feature p = climbs-rule (λ v. keep_instance p v.0 (keep_feature v.1)) 1 p.0 3 (λ x. refl) p.1.provides
 kept_climb Nothing p = same_first p.0 (3 ∷ []) (4 ∷ []) refl
 
-pub sites_climb : (s : Proposal) (p : Placed) → Climbs instance_ranks (1 ∷ p.0 ∷ []) (package_instances s p) (1 ∷ p.0 ∷ 4 ∷ [])
-sites_climb s p =
+pub instances_climb : (s : Proposal) (p : Placed) → Climbs instance_ranks (1 ∷ p.0 ∷ []) (package_instances s p) (1 ∷ p.0 ∷ 4 ∷ [])
+instances_climb s p =
     from_lower instance_ranks (1 ∷ p.0 ∷ []) (1 ∷ p.0 ∷ 1 ∷ []) (1 ∷ p.0 ∷ 4 ∷ []) (package_instances s p) (same_first p.0 [] (1 ∷ []) refl)
     (climbs-append instance_ranks (1 ∷ p.0 ∷ 1 ∷ []) (1 ∷ p.0 ∷ 3 ∷ []) (1 ∷ p.0 ∷ 4 ∷ [])
     (cond (holds_place s.proposed p.0) (needed_instances p) []) (cond (holds_place s.initial p.0) (kept_instances p.1.keep p) [])
@@ -158,7 +158,7 @@ sites_climb s p =
 pub package_climbs : (s : Proposal) (p : Placed) → Climbs stop_ranks (1 ∷ p.0 ∷ []) (package_stops s p) (1 ∷ p.0 ∷ 9 ∷ [])
 package_climbs s p =
     climbs-append stop_ranks (1 ∷ p.0 ∷ []) (1 ∷ p.0 ∷ 4 ∷ []) (1 ∷ p.0 ∷ 9 ∷ []) (map stop_at (package_instances s p)) (package_end p.0 ∷ [])
-    (climbs-map stop_ranks stop_at (1 ∷ p.0 ∷ []) (package_instances s p) (1 ∷ p.0 ∷ 4 ∷ []) (sites_climb s p))
+    (climbs-map stop_ranks stop_at (1 ∷ p.0 ∷ []) (package_instances s p) (1 ∷ p.0 ∷ 4 ∷ []) (instances_climb s p))
     (same_first p.0 (4 ∷ []) (8 ∷ []) refl, same_first p.0 (8 ∷ []) (9 ∷ []) refl)
 
 pub packages_climb : (s : Proposal) (n : ℕ) (packages : List PlainPackage) → Climbs stop_ranks (1 ∷ n ∷ []) (flat_map (package_stops s) (enumerate_from n packages)) (2 ∷ [])

@@ -96,12 +96,8 @@ module _ {A : Type 0} (view : A → PlainPackage) (f : List ℕ) (holds : ℕ �
 
 -- what is kept of an entry of `upgrade` is the greatest of its name
 pub greatest-at : (status : List Placed) (upgrade : List PlainVpkg) (before : List (Option ℕ)) (i : ℕ) (v : PlainVpkg) (greatest : Option ℕ) → before ≡ map (greatest_before status) upgrade
-    → slice_get upgrade i ≡ Some v → slice_get before i ≡ Some greatest → IsGreatest (numbers_of v.name status) greatest
+    → slice_get upgrade i ≡ Some v → ((kept : Option ℕ) → slice_get before i ≡ Some kept → greatest ≡ kept) → IsGreatest (numbers_of v.name status) greatest
 greatest-at status upgrade before i v greatest same is kept =
-    subst (IsGreatest (numbers_of v.name status)) kept_is (greatest_of_status v.name status)
-  where
-    there : slice_get before i ≡ Some (greatest_before status v)
-    there = ap (λ xs. slice_get xs i) same ∙ slice_get-map (greatest_before status) upgrade i ∙ ap (option_map (greatest_before status)) is
-
-    kept_is : greatest_before status v ≡ greatest
-    kept_is = cc (sym there ∙ kept)
+    subst (IsGreatest (numbers_of v.name status))
+    (sym (kept (greatest_before status v) (ap (λ xs. slice_get xs i) same ∙ slice_get-map (greatest_before status) upgrade i ∙ ap (option_map (greatest_before status)) is)))
+    (greatest_of_status v.name status)

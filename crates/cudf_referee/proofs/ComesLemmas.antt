@@ -9,8 +9,8 @@ use Rattle.std.specs.Prelude.{slice_get}
 use Rattle.std.specs.List.{enumerate_from}
 use Rattle.cudf_problem.specs.Universe.{PlainPackage}
 use Rattle.cudf_index.specs.Satisfaction.{Placed}
-use Rattle.cudf_referee.specs.declared.sites.candidate.Sites.{Sites}
-use Rattle.cudf_referee.specs.Working.SiteNumbers.{sites_in, sites_view}
+use Rattle.cudf_referee.specs.declared.left.candidate.Left.{Left}
+use Rattle.cudf_referee.specs.Working.PackageLeft.{left_in, left_view}
 use Rattle.cudf_referee.proofs.SearchLemmas.{packages-next}
 use Rattle.cudf_problem.specs.Statuses.{PlainUnknown, ascend_above}
 use Rattle.std.proofs.lemmas.Option.{slice_get_within, get_or_from_slice_get}
@@ -40,11 +40,8 @@ tail-on all rest x more same tail = record { before = tail.before ++ x ∷ []; i
 unfoldable pub tail-past : (all rest xs ys : List Stop) → rest ≡ xs ++ ys → IsTail all rest → IsTail all ys
 tail-past all rest xs ys same tail = record { before = tail.before ++ xs; is = tail.is ∙ ap (λ l. tail.before ++ l) same ∙ sym (append_assoc tail.before xs ys) }
 
-unfoldable pub tail-comes : (all rest : List Stop) (i j : PlainInstance) (more : List Stop) → rest ≡ stop_at i ∷ more → j ≡ i → IsTail all rest → Comes all j more
-tail-comes all rest i j more same of tail = record {
-  before = tail.before;
-  is = tail.is ∙ ap (λ l. tail.before ++ l) same ∙ ap (λ (k : PlainInstance). tail.before ++ stop_at k ∷ more) (sym of);
-}
+unfoldable pub tail-comes : (all rest : List Stop) (i : PlainInstance) (more : List Stop) → rest ≡ stop_at i ∷ more → IsTail all rest → Comes all i more
+tail-comes all rest i more same tail = record { before = tail.before; is = tail.is ∙ ap (λ l. tail.before ++ l) same }
 
 unfoldable pub comes-in : (all xs ys : List Stop) (i : PlainInstance) (left : List Stop) → IsTail all (xs ++ ys) → Comes xs i left → Comes all i (left ++ ys)
 comes-in all xs ys i left tail comes = record {
@@ -54,23 +51,23 @@ comes-in all xs ys i left tail comes = record {
       ∙ sym (append_assoc tail.before comes.before (stop_at i ∷ (left ++ ys)));
 }
 
--- of packages, where of the one that is gone through these sites are left
-unfoldable pub packages-comes : (s : Proposal) (all : List Stop) (k : Option Sites) (j : ℕ) (p : PlainPackage) (q : Placed) (first later : Sites) (i : PlainInstance)
-    → slice_get s.problem.packages j ≡ Some p → q ≡ (j + 1, p) → sites_view q first ≡ sites_in s k q
+-- of packages, where of the one that is gone through these left are left
+unfoldable pub packages-comes : (s : Proposal) (all : List Stop) (k : Option Left) (j : ℕ) (p : PlainPackage) (q : Placed) (first later : Left) (i : PlainInstance)
+    → slice_get s.problem.packages j ≡ Some p → q ≡ (j + 1, p) → left_view q first ≡ left_in s k q
     → IsTail all (packages_rest s k (drop j (enumerate_from 1 s.problem.packages))) → Comes (package_left q first) i (package_left q later)
     → Comes all i (packages_rest s (Some later) (drop j (enumerate_from 1 s.problem.packages)))
 packages-comes s all k j p q first later i is of same tail comes =
     subst (λ (l : List Stop). Comes all i l) (sym (packages-next s (Some later) j p is))
     (comes-in all (package_rest s k (j + 1, p)) (packages_rest s None (drop (j + 1) (enumerate_from 1 s.problem.packages))) i (package_left (j + 1, p) later)
     (subst (λ (l : List Stop). IsTail all l) (packages-next s k j p is) tail)
-    (subst (λ (l : List Stop). Comes l i (package_left (j + 1, p) later)) (ap (λ l. map stop_at l ++ package_end (j + 1) ∷ []) (subst (λ (r : Placed). sites_view r first ≡ sites_in s k r) of same))
+    (subst (λ (l : List Stop). Comes l i (package_left (j + 1, p) later)) (ap (λ l. map stop_at l ++ package_end (j + 1) ∷ []) (subst (λ (r : Placed). left_view r first ≡ left_in s k r) of same))
     (subst (λ (r : Placed). Comes (package_left r first) i (package_left r later)) of comes)))
 
 -- ---- the three parts of a walk
 
 module _ (s : Proposal) (old new : Cursor) where
   abbrev P : Cursor → List Stop
-  P c = packages_rest s c.sites (drop c.packages (enumerate_from 1 s.problem.packages))
+  P c = packages_rest s c.begun (drop c.packages (enumerate_from 1 s.problem.packages))
 
   -- found in the packages
   pub in-packages : (i : PlainInstance) → new.request ≡ old.request → new.unknown ≡ old.unknown → Comes (P old) i (P new) → Comes (stops_from s old) i (stops_from s new)

@@ -1,16 +1,15 @@
 -- What is known of the package at an index of the universe.
-use Rattle.std.proofs.Common.{◌≡◌, ℕ, ◌+◌, ◌-◌, ◌<◌, Bool, false, ◌&&◌, List, length, map, cond, get_or, Some, None, ap, sym, ◌∙◌, subst, arith, ne_eqb}
-use Rattle.std.specs.Prelude.{slice_get, option_map}
+use Rattle.std.proofs.Common.{◌≡◌, ℕ, ◌+◌, ◌-◌, ◌<◌, Bool, false, ◌&&◌, List, length, cond, Some, None, ap, sym, ◌∙◌, subst, arith, ne_eqb}
+use Rattle.std.specs.Prelude.{slice_get}
 use Rattle.std.specs.List.{enumerate_from}
 use Rattle.std.specs.Option.{option_map_or}
-use Rattle.std.proofs.lemmas.Option.{slice_get-map, get_or_from_slice_get}
 use Rattle.cudf_problem.specs.Statuses.{is_initial}
 use Rattle.cudf_problem.specs.Universe.{PlainPackage, PlainProblem, package_at}
 use Rattle.cudf_index.specs.Satisfaction.{members}
-use Rattle.cudf_referee.specs.declared.sites.candidate.Candidate.{Candidate}
+use Rattle.cudf_referee.specs.declared.left.candidate.Candidate.{Candidate}
 use Rattle.cudf_referee.specs.Promises.Walks.{Walking}
 use Rattle.cudf_referee.specs.Proposals.{holds_place}
-use Rattle.cudf_referee.specs.Working.SiteNumbers.{Fits}
+use Rattle.cudf_referee.specs.Working.PackageLeft.{Fits}
 use Rattle.cudf_referee.proofs.ListLemmas.{and_true}
 use Rattle.cudf_referee.proofs.StatusLemmas.{holds-filter, holds-enumerate}
 
@@ -29,11 +28,6 @@ initial-at problem i p is = ap (λ o. option_map_or (λ q. q.installed) o false)
     place : package_at problem (i + 1) ≡ Some p
     place = (λ j. cond (ne_eqb (i + 1) 0 (λ e. omega arith) j) None (slice_get problem.packages (i + 1 - 1)))
         ∙ ap (slice_get problem.packages) {x = i + 1 - 1} {y = i} (omega arith) ∙ is
-
--- what a list of one flag a package says of it
-pub flag-at : (f : PlainPackage → Bool) (flags : List Bool) (xs : List PlainPackage) (i : ℕ) (p : PlainPackage) (d : Bool) → flags ≡ map f xs → slice_get xs i ≡ Some p → f p ≡ get_or flags i d
-flag-at f flags xs i p d same is =
-    sym (ap (λ bs. get_or bs i d) same ∙ get_or_from_slice_get (map f xs) i (f p) d (slice_get-map f xs i ∙ ap (option_map f) is))
 
 -- the proposal of the same walk
 pub fits-same : (a b : Walking) (c : Candidate) → a ≡ b → Fits a.judged c → Fits b.judged c

@@ -3,6 +3,7 @@ pub mod AscentLemmas
 pub mod BeforeLemmas
 pub mod ComesLemmas
 pub mod CursorLemmas
+pub mod EachLemmas
 pub mod EntryLemmas
 pub mod Examples
 pub mod ExplanationLemmas
@@ -24,11 +25,12 @@ pub mod PriceExamples
 pub mod RecommendLemmas
 pub mod RemedyLemmas
 pub mod SearchLemmas
-pub mod SiteNumberLemmas
+pub mod LeftLemmas
 pub mod SolutionLemmas
 pub mod StandingLemmas
 pub mod StatusLemmas
 pub mod StopLemmas
+pub mod ToldLemmas
 pub mod TouchedLemmas
 pub mod UnknownLemmas
 pub mod WritableLemmas

@@ -219,14 +219,6 @@ pub searched : (old there new : Walking) (found : Option PlainInstance) → asce
 searched old there new found h searches is =
     subst (λ (w : Walking). Moves old found w) ((λ i. walking (sym searches.judged i) (at_instance found) there.steps) ∙ sym is) (moves old there found h searches)
 
--- what it found is what is given first, as it is judged afterwards
-pub given-there : (old there seen : Walking) (found : Option PlainInstance) → Searches old (ahead old.judged old.position) found there → seen ≡ there
-    → found ≡ first_given seen.judged (ahead seen.judged seen.position)
-given-there old there seen found searches same =
-    let judged = ap (λ (w : Walking). w.judged) same ∙ searches.judged in
-    let position = ap (λ (w : Walking). w.position) same ∙ searches.position in
-    sym (searches.given ∙ or_later-none found) ∙ sym (λ i. first_given (judged i) (ahead (judged i) (position i)))
-
 -- a move makes progress
 pub moved-on : (can : Walking → Type 0) → ((w : Walking) → can w) → (old : Walking) (r : Option Instance) (new : Walking) → Moves old (option_map instance_view r) new
     → MakesProgress can (item_count left) old r new

@@ -1,4 +1,4 @@
--- Searches along the walk: one stop, one search after another, and a loop over places or packages.
+-- Searches along the walk: one stop, one search after another, and a loop over instances or packages.
 use Rattle.std.proofs.Common.{◌≡◌, ℕ, ◌+◌, ◌<◌, ◌≤◌, Bool, true, false, List, [], ◌∷◌, ◌++◌, length, map, drop, get_or, cond, Bor, Option, Some, None, refl, ap, sym, ◌∙◌, add_assoc, subst, arith}
 use Rattle.std.specs.List.{All, flat_map, enumerate_from}
 use Rattle.std.specs.Prelude.{option_map, slice_get}
@@ -13,12 +13,12 @@ use Rattle.cudf_problem.specs.Promises.Views.{package_view}
 use Rattle.cudf_problem.specs.Universe.{PlainPackage}
 use Rattle.cudf_problem.specs.Statuses.{PlainUnknown}
 use Rattle.cudf_index.specs.Satisfaction.{Placed}
-use Rattle.cudf_referee.specs.declared.sites.candidate.Sites.{Sites}
+use Rattle.cudf_referee.specs.declared.left.candidate.Left.{Left}
 use Rattle.cudf_referee.specs.Instances.{PlainInstance}
 use Rattle.cudf_referee.specs.Proposals.{Proposal}
-use Rattle.cudf_referee.specs.Promises.Stops.{Stop, stop_at, package_stops, stop_cost, least_cost}
+use Rattle.cudf_referee.specs.Promises.Stops.{Stop, stop_at, package_stops, cost, look_ups, stop_cost, least_cost}
 use Rattle.cudf_referee.specs.Promises.Walks.{Walking}
-use Rattle.cudf_referee.specs.Violations.{unknown_instance}
+use Rattle.cudf_referee.specs.Violations.{is_violated, unknown_instance}
 use Rattle.cudf_referee.specs.Working.Judged.{given_at}
 use Rattle.cudf_referee.specs.Working.Searches.{Searches, Goes, first_given, sum_to_first, cost_to_first, least_to_first, or_later, unless_found, package_rest, packages_rest, unknown_rest}
 
@@ -107,29 +107,39 @@ part-last old now new all F found goes searches =
 pub searches-same : (a b new : Walking) (F : Proposal → List Stop) (found : Option PlainInstance) → a ≡ b → Searches a (F a.judged) found new → Searches b (F b.judged) found new
 searches-same a b new F found same searches = subst (λ (w : Walking). Searches w (F w.judged) found new) same searches
 
--- ---- a loop over places
+-- an instance that is judged
+pub judged-stop : (old new : Walking) (i : PlainInstance) (answer : Bool) → new.judged ≡ old.judged → new.position ≡ old.position → answer ≡ is_violated old.judged i
+    → new.steps ≤ old.steps + 1 + cost old.judged.proposed i → old.steps + 1 + look_ups old.judged.proposed i ≤ new.steps → Searches old (stop_at i ∷ []) (cond answer (Some i) None) new
+judged-stop old new i answer judged position is price grows = record {
+  judged = judged;
+  position = position;
+  given = ap (λ b. or_later (cond b (Some i) None) None) (sym is);
+  price = omega (arith, price, unless_found-zero (cond answer (Some i) None), unless_found-zero (given_at old.judged (stop_at i)));
+  grows = omega (arith, grows, unless_found-zero (cond answer (Some i) None), unless_found-zero (given_at old.judged (stop_at i)));
+}
+
+-- ---- a loop over instances
 
 module _ (old now new : Walking) (all : List Stop) (F : List PlainInstance → List Stop) (adds : (y : PlainInstance) (ys : List PlainInstance) → F (y ∷ ys) ≡ stop_at y ∷ F ys)
     (xs : List PlainInstance) (x : PlainInstance) (ys : List PlainInstance) (is : xs ≡ x ∷ ys) (answer : Bool) where
   abbrev given-if : Bool → Option PlainInstance
   given-if b = cond b (Some x) None
 
-  next-site : F xs ≡ stop_at x ∷ F ys
-  next-site = ap F is ∙ adds x ys
+  next-instance : F xs ≡ stop_at x ∷ F ys
+  next-instance = ap F is ∙ adds x ys
 
-  site-on : (b : Bool) → answer ≡ b → Searches now (stop_at x ∷ []) (given-if answer) new → Goes old all None (F xs) now → Goes old all (given-if b) (F ys) new
-  site-on b same searches goes =
-      goes-on old now new all _ (stop_at x ∷ []) (F ys) (given-if b) next-site goes (subst (λ (c : Bool). Searches now (stop_at x ∷ []) (given-if c) new) same searches)
+  instance-on : (b : Bool) → answer ≡ b → Searches now (stop_at x ∷ []) (given-if answer) new → Goes old all None (F xs) now → Goes old all (given-if b) (F ys) new
+  instance-on b same searches goes =
+      goes-on old now new all _ (stop_at x ∷ []) (F ys) (given-if b) next-instance goes (subst (λ (c : Bool). Searches now (stop_at x ∷ []) (given-if c) new) same searches)
 
-  pub sites-more : answer ≡ false → Searches now (stop_at x ∷ []) (given-if answer) new → Goes old all None (F xs) now → Goes old all None (F ys) new
-  sites-more is_not searches goes = site-on false is_not searches goes
+  pub instances-more : answer ≡ false → Searches now (stop_at x ∷ []) (given-if answer) new → Goes old all None (F xs) now → Goes old all None (F ys) new
+  instances-more is_not searches goes = instance-on false is_not searches goes
 
-  pub sites-found : (i : PlainInstance) → answer ≡ true → i ≡ x → Searches now (stop_at x ∷ []) (given-if answer) new
-      → Goes old all None (F xs) now → Searches old all (Some i) new
-  sites-found i is_so same searches goes = subst (λ (j : PlainInstance). Searches old all (Some j) new) (sym same) (goes-found (site-on true is_so searches goes))
+  pub instances-found : answer ≡ true → Searches now (stop_at x ∷ []) (given-if answer) new → Goes old all None (F xs) now → Searches old all (Some x) new
+  instances-found is_so searches goes = goes-found (instance-on true is_so searches goes)
 
-pub sites-end : (old now : Walking) (all : List Stop) (F : List PlainInstance → List Stop) (xs : List PlainInstance) → xs ≡ [] → Goes old all None (F xs) now → Goes old all None (F []) now
-sites-end old now all F xs end goes = goes-at old now all _ _ (ap F end) goes
+pub instances-end : (old now : Walking) (all : List Stop) (F : List PlainInstance → List Stop) (xs : List PlainInstance) → xs ≡ [] → Goes old all None (F xs) now → Goes old all None (F []) now
+instances-end old now all F xs end goes = goes-at old now all _ _ (ap F end) goes
 
 -- nothing came, so nothing was left
 pub nothing-next : {A B S : Type 0} (view : A → B) (left : S → List B) (old new : S) (found : Option A) → found ≡ None → YieldsFirstBy view left old found new → left old ≡ []
@@ -146,7 +156,7 @@ pub rest-whole : (s : Proposal) (ps : List Placed) → packages_rest s None ps �
 rest-whole s [] = refl
 rest-whole s (p ∷ ps) = refl
 
-pub packages-next : (s : Proposal) (k : Option Sites) (i : ℕ) (p : PlainPackage) → slice_get s.problem.packages i ≡ Some p
+pub packages-next : (s : Proposal) (k : Option Left) (i : ℕ) (p : PlainPackage) → slice_get s.problem.packages i ≡ Some p
     → packages_rest s k (drop i (enumerate_from 1 s.problem.packages)) ≡ package_rest s k (i + 1, p) ++ packages_rest s None (drop (i + 1) (enumerate_from 1 s.problem.packages))
 packages-next s k i p is =
     at_drop_more (packages_rest s k) all i (0, p) (omega (arith, below, length-enumerate_from 1 s.problem.packages))
@@ -163,14 +173,14 @@ packages-next s k i p is =
     number : 1 + i ≡ i + 1
     number = omega arith
 
-pub packages-on : (old now new : Walking) (all : List Stop) (k : Option Sites) (i : ℕ) (p : PlainPackage) (found : Option PlainInstance) → slice_get now.judged.problem.packages i ≡ Some p
+pub packages-on : (old now new : Walking) (all : List Stop) (k : Option Left) (i : ℕ) (p : PlainPackage) (found : Option PlainInstance) → slice_get now.judged.problem.packages i ≡ Some p
     → Goes old all None (packages_rest old.judged k (drop i (enumerate_from 1 old.judged.problem.packages))) now
     → Searches now (package_rest now.judged k (i + 1, p)) found new → Goes old all found (packages_rest old.judged None (drop (i + 1) (enumerate_from 1 old.judged.problem.packages))) new
 packages-on old now new all k i p found is goes searches =
     part-on old now new all _ (λ s. package_rest s k (i + 1, p)) found
     (goes-at old now all _ _ (packages-next old.judged k i p ((λ j. slice_get (sym goes.judged j).problem.packages i) ∙ is)) goes) searches
 
-pub packages-end : (old now : Walking) (all : List Stop) (k : Option Sites) (i : ℕ) → length old.judged.problem.packages ≤ i
+pub packages-end : (old now : Walking) (all : List Stop) (k : Option Left) (i : ℕ) → length old.judged.problem.packages ≤ i
     → Goes old all None (packages_rest old.judged k (drop i (enumerate_from 1 old.judged.problem.packages))) now → Searches old all None now
 packages-end old now all k i end goes =
     goes-at old now all _ _ (at_drop_all (packages_rest old.judged k) (enumerate_from 1 old.judged.problem.packages) i (omega (arith, length-enumerate_from 1 old.judged.problem.packages))) goes

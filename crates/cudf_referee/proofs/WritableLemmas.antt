@@ -1,123 +1,55 @@
 -- The keys of the listing can be written, where the places in lists and the numbers of stanzas are those of a `u64`.
-use Rattle.std.proofs.Common.{◌≡◌, ℕ, ◌+◌, ◌<◌, ◌≤◌, ◌^◌, Bool, true, false, ◌&&◌, ◌∙◌, nat_lt, List, [], ◌∷◌, ◌++◌, length, get_or, map, filter, cond, Option, Some, None, arith, refl, subst}
+use Rattle.std.proofs.Common.{◌≡◌, ℕ, ◌+◌, ◌<◌, ◌^◌, true, ◌&&◌, ◌∙◌, nat_lt, List, [], ◌∷◌, length, get_or, map, Option, Some, None, arith, refl, subst}
 use Rattle.std.specs.Prelude.{All}
-use Rattle.std.specs.List.{flat_map, enumerate_from}
 use Rattle.std.proofs.lemmas.Bool.{ltb-true, lt-ltb}
 use Rattle.std.proofs.lemmas.List.{length-map}
-use Rattle.std.proofs.lemmas.List.Elements.{All-nil, All-cons, All-head, All-tail, All-append}
+use Rattle.std.proofs.lemmas.List.Elements.{All-nil, All-cons, All-head, All-tail}
 use Rattle.cudf_value.specs.Vpkgs.{PlainVpkg}
-use Rattle.cudf_problem.specs.declared.package.Keep.{Keep}
-use Rattle.cudf_problem.specs.declared.package.Keep.TheVariants.{Version, Package, Feature, Nothing}
 use Rattle.cudf_problem.specs.declared.unknown.Unknown.{Unknown}
-use Rattle.cudf_problem.specs.Universe.{PlainRequest}
 use Rattle.cudf_problem.specs.Statuses.{PlainUnknown, ascend_above}
 use Rattle.cudf_problem.specs.Promises.Views.{unknown_view}
-use Rattle.cudf_index.specs.Satisfaction.{Placed}
 use Rattle.cudf_job.specs.declared.key.Part.TheVariants as part
 use Rattle.cudf_job.specs.declared.key.Rule.{Rule}
 use Rattle.cudf_job.specs.declared.key.Rule.TheVariants as rule
 use Rattle.cudf_job.specs.declared.key.Aspect.{Aspect}
-use Rattle.cudf_job.specs.declared.key.Aspect.TheVariants.{Unsatisfied, Many, Lower}
-use Rattle.cudf_referee.specs.Instances.{keep_version, keep_package, keep_feature, PlainInstance}
+use Rattle.cudf_referee.specs.Instances.{PlainInstance}
 use Rattle.cudf_job.specs.Promises.Keys.{IsWritable}
 use Rattle.cudf_job.specs.Keys.{package_key, request_key, fits}
-use Rattle.cudf_referee.specs.Proposals.{Proposal, holds_place}
-use Rattle.cudf_referee.specs.Violations.{unknown_instance, needed_instances, kept_instances, package_instances, entry_instances, request_instances, instances, is_violated, listing}
-use Rattle.cudf_referee.specs.Working.RuleInstances.{depends_instance, conflicts_instance, keep_instance, install_instance, remove_instance, upgrade_instance}
+use Rattle.cudf_referee.specs.Proposals.{Proposal}
+use Rattle.cudf_referee.specs.Violations.{unknown_instance, instances, is_violated, listing}
 use Rattle.cudf_referee.specs.Working.Numbered.{IsListed, IsNumbered}
 use Rattle.cudf_referee.specs.Working.Places.{stanza_numbers}
+use Rattle.std.specs.Prelude.{slice_get}
+use Rattle.std.proofs.lemmas.Option.{slice_get_within}
+use Rattle.std.proofs.lemmas.List.Elements.{All-filter}
+use Rattle.cudf_problem.specs.Universe.{PlainPackage}
+use Rattle.cudf_referee.proofs.EachLemmas.{Each, all-instances}
+use Rattle.cudf_referee.proofs.SearchLemmas.{all-at}
 use Rattle.cudf_referee.proofs.ListLemmas.{and_left, and_right}
 
 abbrev Written : PlainInstance → Type 0
 Written i = IsWritable i.key
 
--- ---- numbered entries
+-- ---- packages and the request
 
--- what is given of each numbered entry, with numbers from 1 to those of a `u64`
-flat_written : {A : Type 0} (Fits : A → Type 0) (f : ℕ × A → List PlainInstance)
-    → ((x : ℕ × A) → 0 < x.0 → x.0 < 2 ^ 64 → Fits x.1 → All Written (f x))
-    → (n : ℕ) (xs : List A) → 0 < n → n + length xs ≤ 2 ^ 64 → All Fits xs → All Written (flat_map f (enumerate_from n xs))
-flat_written Fits f each n [] positive below fits = All-nil Written
-flat_written Fits f each n (x ∷ xs) positive below fits =
-    All-append Written (f (n, x)) (flat_map f (enumerate_from (n + 1) xs))
-    (each (n, x) positive (omega arith) (All-head Fits x xs fits))
-    (flat_written Fits f each (n + 1) xs (omega arith) (omega arith) (All-tail Fits x xs fits))
+module _ (s : Proposal) (n : IsNumbered s) where
+  package_written : {A : Type 0} (i : ℕ) (p : PlainPackage) → slice_get s.problem.packages i ≡ Some p → (xs : List A) (j : ℕ) (x : A) → slice_get xs j ≡ Some x → length xs < 2 ^ 64
+      → (r : Rule) → ((m : ℕ) → fits (part.Package m) r None ≡ nat_lt 0 m) → IsWritable (package_key (i + 1) r (j + 1))
+  package_written i p is xs j x at small r fit = record {
+    fits = λ k. (fit (i + 1) ∙ lt-ltb 0 (i + 1) (omega arith)) k && lt-ltb 0 (j + 1) (omega arith) k;
+    number = omega (arith, slice_get_within s.problem.packages i p is, n.packages);
+    place = omega (arith, slice_get_within xs j x at);
+  }
 
-made_written : {A : Type 0} (make : ℕ × A → PlainInstance) → ((x : ℕ × A) → 0 < x.0 → x.0 < 2 ^ 64 → Written (make x))
-    → (n : ℕ) (xs : List A) → 0 < n → n + length xs ≤ 2 ^ 64 → All Written (map make (enumerate_from n xs))
-made_written make each n [] positive below = All-nil Written
-made_written make each n (x ∷ xs) positive below =
-    All-cons Written (make (n, x)) (map make (enumerate_from (n + 1) xs)) (each (n, x) positive (omega arith)) (made_written make each (n + 1) xs (omega arith) (omega arith))
+  request_written : (xs : List PlainVpkg) (j : ℕ) (v : PlainVpkg) → slice_get xs j ≡ Some v → length xs < 2 ^ 64 → (r : Rule) (a : Option Aspect) → fits part.Request r a ≡ true → IsWritable (request_key r (j + 1) a)
+  request_written xs j v at small r a fit = record {
+    fits = λ k. fit k && lt-ltb 0 (j + 1) (omega arith) k;
+    number = omega arith;
+    place = omega (arith, slice_get_within xs j v at);
+  }
 
-if_written : (test : Bool) (xs : List PlainInstance) → All Written xs → All Written (cond test xs [])
-if_written true xs all = all
-if_written false xs all = All-nil Written
-
--- ---- packages
-
-package_written : (p : Placed) (m : ℕ) (r : Rule) → 0 < p.0 → p.0 < 2 ^ 64 → 0 < m → m < 2 ^ 64
-    → ((n : ℕ) → fits (part.Package n) r None ≡ nat_lt 0 n) → IsWritable (package_key p.0 r m)
-package_written p m r placed low counted small fit = record {
-  fits = λ i. (fit p.0 ∙ lt-ltb 0 p.0 placed) i && lt-ltb 0 m counted i;
-  number = low;
-  place = small;
-}
-
-package_all_written : (s : Proposal) (p : Placed) → 0 < p.0 → p.0 < 2 ^ 64 → IsListed p.1 → All Written (package_instances s p)
-package_all_written s p placed low listed =
-    All-append Written (cond (holds_place s.proposed p.0) (needed_instances p) []) (cond (holds_place s.initial p.0) (kept_instances p.1.keep p) [])
-    (if_written (holds_place s.proposed p.0) (needed_instances p) needed)
-    (if_written (holds_place s.initial p.0) (kept_instances p.1.keep p) (kept p.1.keep))
-  where
-    needed : All Written (needed_instances p)
-    needed = All-append Written (map (λ c. depends_instance p c.0 c.1) (enumerate_from 1 p.1.depends)) (map (λ v. conflicts_instance p v.0 v.1) (enumerate_from 1 p.1.conflicts))
-        (made_written (λ c. depends_instance p c.0 c.1) (λ x counted small. package_written p x.0 rule.Depends placed low counted small (λ n. refl)) 1 p.1.depends (omega arith) (omega (arith, listed.depends)))
-        (made_written (λ v. conflicts_instance p v.0 v.1) (λ x counted small. package_written p x.0 rule.Conflicts placed low counted small (λ n. refl)) 1 p.1.conflicts (omega arith) (omega (arith, listed.conflicts)))
-
-    kept_one : IsWritable (package_key p.0 rule.Keep 1)
-    kept_one = package_written p 1 rule.Keep placed low (omega arith) (omega arith) (λ n. refl)
-
-    kept : (k : Keep) → All Written (kept_instances k p)
-    kept Version = All-cons Written (keep_instance p 1 keep_version) [] kept_one (All-nil Written)
-    kept Package = All-cons Written (keep_instance p 1 keep_package) [] kept_one (All-nil Written)
-    kept Feature = made_written (λ v. keep_instance p v.0 (keep_feature v.1)) (λ x counted small. package_written p x.0 rule.Keep placed low counted small (λ n. refl)) 1 p.1.provides (omega arith) (omega (arith, listed.provides))
-    kept Nothing = All-nil Written
-
--- ---- the request
-
-request_written : (m : ℕ) (r : Rule) (a : Option Aspect) → 0 < m → m < 2 ^ 64
-    → fits part.Request r a ≡ true → IsWritable (request_key r m a)
-request_written m r a counted small fit = record {
-  fits = λ i. fit i && lt-ltb 0 m counted i;
-  number = omega arith;
-  place = small;
-}
-
-abbrev Any : PlainVpkg → Type 0
-Any v = Unit {0}
-
-entry_written : (r : PlainRequest) (v : ℕ × PlainVpkg) → 0 < v.0 → v.0 < 2 ^ 64 → Any v.1 → All Written (entry_instances r v)
-entry_written r v counted small any =
-    All-cons Written (upgrade_instance r Unsatisfied v.0 v.1) (upgrade_instance r Many v.0 v.1 ∷ upgrade_instance r Lower v.0 v.1 ∷ []) (aspect Unsatisfied)
-    (All-cons Written (upgrade_instance r Many v.0 v.1) (upgrade_instance r Lower v.0 v.1 ∷ []) (aspect Many)
-    (All-cons Written (upgrade_instance r Lower v.0 v.1) [] (aspect Lower) (All-nil Written)))
-  where
-    aspect : (a : Aspect) → IsWritable (request_key rule.Upgrade v.0 (Some a))
-    aspect a = request_written v.0 rule.Upgrade (Some a) counted small refl
-
-request_all_written : (s : Proposal) → IsNumbered s → All Written (request_instances s.problem.request)
-request_all_written s n =
-    All-append Written (wanted ++ unwanted) (flat_map (entry_instances s.problem.request) (enumerate_from 1 s.problem.request.upgrade))
-    (All-append Written wanted unwanted
-    (made_written (λ v. install_instance s.problem.request v.0 v.1) (λ x counted small. request_written x.0 rule.Install None counted small refl) 1 s.problem.request.install (omega arith) (omega (arith, n.install)))
-    (made_written (λ v. remove_instance s.problem.request v.0 v.1) (λ x counted small. request_written x.0 rule.Remove None counted small refl) 1 s.problem.request.remove (omega arith) (omega (arith, n.remove))))
-    (flat_written Any (entry_instances s.problem.request) (entry_written s.problem.request) 1 s.problem.request.upgrade (omega arith) (omega (arith, n.upgrade)) (λ k d inside. tt))
-  where
-    wanted : List PlainInstance
-    wanted = map (λ v. install_instance s.problem.request v.0 v.1) (enumerate_from 1 s.problem.request.install)
-
-    unwanted : List PlainInstance
-    unwanted = map (λ v. remove_instance s.problem.request v.0 v.1) (enumerate_from 1 s.problem.request.remove)
+  listed : (i : ℕ) (p : PlainPackage) → slice_get s.problem.packages i ≡ Some p → IsListed p
+  listed i p is = all-at IsListed s.problem.packages i p is n.each
 
 -- ---- the solution
 
@@ -158,25 +90,19 @@ numbers_small unknown place last ascends whole is small =
 
 -- ---- the listing
 
-one_kept : (b : Bool) (i : PlainInstance) (is : List PlainInstance) → IsWritable i.key → All Written is → All Written (cond b (i ∷ is) is)
-one_kept true i is here below = All-cons Written i is here below
-one_kept false i is here below = below
-
-kept_written : (test : PlainInstance → Bool) (is : List PlainInstance) → All Written is → All Written (filter test is)
-kept_written test [] all = All-nil Written
-kept_written test (i ∷ is) all = one_kept (test i) i (filter test is) (All-head Written i is all) (kept_written test is (All-tail Written i is all))
-
-all_written : (s : Proposal) → ascend_above 0 s.unknown ≡ true → IsNumbered s → All Written (instances s)
-all_written s ascends n =
-    All-append Written (packages ++ request_instances s.problem.request) (map unknown_instance s.unknown)
-    (All-append Written packages (request_instances s.problem.request)
-    (flat_written IsListed (package_instances s) (package_all_written s) 1 s.problem.packages (omega arith) (omega (arith, n.packages)) n.each)
-    (request_all_written s n))
-    (unknown_written 0 s.unknown ascends n.stanzas)
-  where
-    packages : List PlainInstance
-    packages = flat_map (package_instances s) (enumerate_from 1 s.problem.packages)
+each_written : (s : Proposal) → ascend_above 0 s.unknown ≡ true → IsNumbered s → Each Written s
+each_written s ascends n = record {
+  depends = λ i p is j c at. package_written s n i p is p.depends j c at (listed s n i p is).depends rule.Depends (λ m. refl);
+  conflicts = λ i p is j v at. package_written s n i p is p.conflicts j v at (listed s n i p is).conflicts rule.Conflicts (λ m. refl);
+  version = λ i p is. package_written s n i p is (p ∷ []) 0 p refl (omega arith) rule.Keep (λ m. refl);
+  name = λ i p is keeps. package_written s n i p is (p ∷ []) 0 p refl (omega arith) rule.Keep (λ m. refl);
+  feature = λ i p is j v at. package_written s n i p is p.provides j v at (listed s n i p is).provides rule.Keep (λ m. refl);
+  install = λ j v at. request_written s n s.problem.request.install j v at n.install rule.Install None refl;
+  remove = λ j v at. request_written s n s.problem.request.remove j v at n.remove rule.Remove None refl;
+  upgrade = λ j v at aspect. request_written s n s.problem.request.upgrade j v at n.upgrade rule.Upgrade (Some aspect) refl;
+  unknown = unknown_written 0 s.unknown ascends n.stanzas;
+}
 
 pub listing_written : (s : Proposal) → ascend_above 0 s.unknown ≡ true → IsNumbered s → All Written (listing s)
 unfolding listing
-listing_written s ascends n = kept_written (is_violated s) (instances s) (all_written s ascends n)
+listing_written s ascends n = All-filter (is_violated s) Written (instances s) (all-instances Written s (each_written s ascends n))

@@ -5,9 +5,10 @@ pub mod Named
 pub mod Needers
 pub mod Numbered
 pub mod Places
-pub mod RequestSites
+pub mod RequestLeft
 pub mod RuleInstances
 pub mod Searches
-pub mod SiteNumbers
+pub mod PackageLeft
 pub mod Standings
+pub mod Told
 pub mod Walkers

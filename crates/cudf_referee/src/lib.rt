@@ -5,10 +5,10 @@
 mod counting;
 mod instance;
 pub mod laws;
+mod left;
 mod position;
 mod referee;
 mod rules;
-mod sites;
 
 pub use cudf_job::{Aim, Aspect, Count, Criteria, Key, Part, Rule, Sign, compare, read_criterion};
 pub use instance::{Instance, What};

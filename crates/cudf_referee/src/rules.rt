@@ -1,62 +1,108 @@
-//! Whether a rule is violated at a place: one arm a rule.
-ghost use Rattle.std.specs.Prelude.{◌≡◌, ◌≤◌, ◌<◌, ◌+◌, ◌-◌, ℕ, List, Some, length, map, slice_get};
+//! Whether an instance is violated: one arm a rule.
+ghost use Rattle.std.specs.Prelude.{◌≡◌, ◌≤◌, ◌<◌, ◌+◌, ◌-◌, ℕ, Bool, List, Option, Some, map, slice_get};
+ghost use Rattle.std.specs.FinSet as set;
+ghost use Rattle.cudf_value.specs.Promises.Views.{vpkg_view};
+ghost use Rattle.cudf_problem.specs.Statuses.{PlainUnknown};
+ghost use Rattle.cudf_problem.specs.Universe.{PlainProblem};
 ghost use Rattle.cudf_index.specs.Promises.Members.{IsGreatest};
 ghost use Rattle.cudf_index.specs.Satisfaction.{numbers_of};
+ghost use Rattle.cudf_job.specs.Keys.{part_place};
+ghost use Rattle.cudf_job.specs.KeyViews.{key_view};
 ghost use Rattle.cudf_referee.specs.Proposals.{Proposal};
-ghost use Rattle.cudf_referee.specs.Violations.{are_many, are_lower};
+ghost use Rattle.cudf_referee.specs.Promises.Stops.{cost, aspect_cost, look_ups, aspect_look_ups};
+ghost use Rattle.cudf_referee.specs.Promises.Views.{instance_view};
+ghost use Rattle.cudf_referee.specs.Violations.{are_many, are_lower, is_aspect_violated, is_violated};
 ghost use Rattle.cudf_referee.specs.Working.Before.{greatest_before};
-ghost use Rattle.cudf_referee.specs.Working.Searches.{IsJudged};
-ghost use Rattle.cudf_referee.specs.Working.RequestSites.{request_site_view, StandsIn, IsWithin};
-ghost use Rattle.cudf_referee.specs.Working.SiteNumbers.{placed_view, Fits, package_site_view, StandsAt};
+ghost use Rattle.cudf_referee.specs.Working.Told.{IsTold};
+ghost use Rattle.cudf_referee.specs.Working.Walkers.{put_forward, Agrees};
 
-use crate::sites::{Candidate, PackageSite, RequestSite};
+use crate::instance::{Instance, What};
 use cudf_index::{Metered, Steps};
-use cudf_job::Aspect;
+use cudf_job::{Aspect, Key, Part};
+use cudf_problem::Status;
+use cudf_value::Vpkg;
 
-/// Whether the rule is violated at a place of a package.
+/// What is known of a proposal beside the index of its status.
+#[derive(Clone, Copy)]
+pub(crate) struct Known<'r> {
+    /// The packages that are to be installed.
+    pub(crate) status: &'r Status,
+    /// For each package, whether its name is to be kept, and one of it is to be installed.
+    pub(crate) named: &'r [bool],
+    /// For each entry of `upgrade`, the greatest number of its name before.
+    pub(crate) before: &'r [Option<u64>],
+}
+
+/// Whether an instance is violated.
+#[inline(always)]
 pub(crate) fn is_violated(
     now: &mut Metered<'_, '_, '_>,
-    candidate: Candidate<'_, '_>,
-    site: PackageSite<'_>,
+    known: Known<'_>,
+    instance: &Instance<'_>,
+    steps: &mut Steps,
 ) -> bool
-    requires { StandsAt candidate.package.now.keep site }
-    ensures judged { (s : Proposal) → s.proposed ≡ now.old.status → Fits s candidate.entry
-        → IsJudged s (package_site_view (placed_view candidate.entry) site.entry) result now.old.steps now.new.steps }
+    ensures answer { (problem : PlainProblem) → (unknown : List PlainUnknown)
+        → Agrees problem (set.contains known.entry.status.now) known.entry.before.now now.old.status known.entry.named.now unknown
+        → IsTold (put_forward problem now.old.status unknown) (instance_view instance.now)
+        → result ≡ is_violated (put_forward problem now.old.status unknown) (instance_view instance.now) }
+    ensures price { now.new.steps + steps.new ≤ now.old.steps + steps.old + cost now.old.status (instance_view instance.now) }
+    ensures grows { now.old.steps + steps.old + look_ups now.old.status (instance_view instance.now) ≤ now.new.steps + steps.new }
     ensures status { now.new.status ≡ now.old.status }
 {
-    match site {
-        PackageSite::Conjunct(_, clause) => !now.satisfies_clause_counted(&clause),
-        PackageSite::ConflictsEntry(_, vpkg) => now.satisfies_without_counted(
-            &vpkg,
-            candidate.place,
-        ),
-        PackageSite::KeptVersion => !candidate.is_installed,
-        PackageSite::KeptPackage => !candidate.is_named,
-        PackageSite::KeptFeature(_, vpkg) => !now.satisfies_counted(&vpkg),
+    match instance.what {
+        What::Needs(clause) => !now.satisfies_clause_counted(&clause),
+        What::ConflictsWith(vpkg) => now.satisfies_without_counted(&vpkg, place_of(instance.key)),
+        What::KeepVersion => !known.status.holds(place_of(instance.key)),
+        What::KeepPackage => !flag_at(known.named, place_of(instance.key)),
+        What::KeepFeature(vpkg) => !now.satisfies_counted(&vpkg),
+        What::Install(vpkg) => !now.satisfies_counted(&vpkg),
+        What::Remove(vpkg) => now.satisfies_counted(&vpkg),
+        What::Upgrade(vpkg) => is_aspect_violated(now, known.before, instance.key, &vpkg, steps),
+        What::Unknown => true,
     }
 }
 
-/// Whether the rule is violated at a place of the request. `before` has, for each entry of `upgrade`, the
-/// greatest number of its name before.
-pub(crate) fn is_requested_violated(
+/// The place of the package that the key is of, 0 for the other parts.
+fn place_of(key: Key) -> u64
+    ensures { result ≡ part_place (key_view key).part }
+{
+    match key.part() {
+        Part::Package(place) => place,
+        Part::Request | Part::Solution => 0,
+    }
+}
+
+/// The flag of the package at a place.
+fn flag_at(flags: &[bool], place: u64) -> bool
+    ensures { (flag : Bool) → 0 < place → slice_get flags.now (place - 1) ≡ Some flag → result ≡ flag }
+{
+    match flags.get((place as usize).wrapping_sub(1)) {
+        Some(flag) => *flag,
+        None => false,
+    }
+}
+
+/// Whether an entry of `upgrade` is violated in the way of the key's aspect.
+fn is_aspect_violated(
     now: &mut Metered<'_, '_, '_>,
     before: &[Option<u64>],
-    site: RequestSite<'_>,
+    key: Key,
+    vpkg: &Vpkg<'_>,
     steps: &mut Steps,
 ) -> bool
-    requires { IsWithin (length before.now) site }
-    ensures judged { (s : Proposal) → s.proposed ≡ now.old.status → before.now ≡ map (greatest_before s.initial) s.problem.request.upgrade
-        → StandsIn s.problem.request site.entry
-        → IsJudged s (request_site_view s.problem.request site.entry) result (now.old.steps + steps.old) (now.new.steps + steps.new) }
+    ensures answer { (s : Proposal) → s.proposed ≡ now.old.status → before.now ≡ map (greatest_before s.initial) s.problem.request.upgrade
+        → slice_get s.problem.request.upgrade ((key_view key).place - 1) ≡ Some (vpkg_view vpkg.now)
+        → result ≡ is_aspect_violated s (vpkg_view vpkg.now) (key_view key).aspect }
     ensures status { now.new.status ≡ now.old.status }
+    ensures price { now.new.steps + steps.new ≤ now.old.steps + steps.old + aspect_cost now.old.status (vpkg_view vpkg.now) (key_view key).aspect }
+    ensures grows { now.old.steps + steps.old + aspect_look_ups (key_view key).aspect ≤ now.new.steps + steps.new }
 {
-    match site {
-        RequestSite::Install(_, vpkg) => !now.satisfies_counted(&vpkg),
-        RequestSite::Remove(_, vpkg) => now.satisfies_counted(&vpkg),
-        RequestSite::Upgrade(_, vpkg, Aspect::Unsatisfied) => !now.satisfies_counted(&vpkg),
-        RequestSite::Upgrade(_, vpkg, Aspect::Many) => has_many(now, vpkg.name),
-        RequestSite::Upgrade(number, vpkg, Aspect::Lower) => {
-            let greatest = number_before(before, number, steps);
+    match key.aspect() {
+        None => false,
+        Some(Aspect::Unsatisfied) => !now.satisfies_counted(vpkg),
+        Some(Aspect::Many) => has_many(now, vpkg.name),
+        Some(Aspect::Lower) => {
+            let greatest = number_before(before, key.place(), steps);
             has_lower(now, greatest, vpkg.name)
         }
     }
@@ -64,12 +110,15 @@ pub(crate) fn is_requested_violated(
 
 /// The number that is kept of an entry, for one step.
 fn number_before(before: &[Option<u64>], number: u64, steps: &mut Steps) -> Option<u64>
-    requires { (0 < number) × (number ≤ length before.now) }
-    ensures number { slice_get before.now (number - 1) ≡ Some result }
+    requires { 0 < number }
+    ensures number { (greatest : Option ℕ) → slice_get before.now (number - 1) ≡ Some greatest → result ≡ greatest }
     ensures price { steps.new ≡ steps.old + 1 }
 {
     steps.tick();
-    before[number as usize - 1]
+    match before.get(number as usize - 1) {
+        Some(greatest) => *greatest,
+        None => None,
+    }
 }
 
 /// Whether the status gives two different numbers of the name.

@@ -1,9 +1,8 @@
 -- Where among the unknown stanzas those begin that a position leaves.
-use Rattle.std.specs.Prelude.{◌≡◌, ◌≤◌, ℕ, ◌+◌, List, [], length, map, filter, drop, Option, Some, None, IsTrue}
+use Rattle.std.specs.Prelude.{◌≡◌, ◌≤◌, ℕ, List, [], length, map, filter, drop, IsTrue}
 use Rattle.cudf_problem.specs.Statuses.{PlainUnknown}
 use Rattle.cudf_job.specs.declared.key.Part.{Part}
 use Rattle.cudf_job.specs.declared.key.Part.TheVariants.{Package, Request, Solution}
-use Rattle.cudf_referee.specs.Instances.{PlainInstance}
 use Rattle.cudf_job.specs.Promises.Keys.{is_fitting}
 use Rattle.cudf_referee.specs.Proposals.{Proposal}
 use Rattle.cudf_referee.specs.Promises.Stops.{PlainPosition, at_start, at_key, at_end, Stop, walk, is_ahead}
@@ -34,16 +33,6 @@ IsFitting at_end = Unit {0}
 pub record BeginsAt (position : PlainPosition) (unknown : List PlainUnknown) (place : ℕ) : Type 0 where
   pub begins : unknown_ahead position unknown ≡ drop place unknown
   pub within : place ≤ length unknown
-
--- where those begin that are left after an instance, if those before it begin at a place
-abbrev pub place_behind : Part → ℕ → ℕ
-place_behind (Package n) place = place
-place_behind Request place = place
-place_behind Solution place = place + 1
-
-abbrev pub next_place : Option PlainInstance → ℕ → ℕ
-next_place None place = place
-next_place (Some i) place = place_behind i.key.part place
 
 -- the stops ahead of a position
 abbrev pub ahead : Proposal → PlainPosition → List Stop

@@ -1,25 +1,19 @@
 -- Searches along the walk: what is found first and what that costs, and the stops that are left.
-use Rattle.std.specs.Prelude.{◌≡◌, ◌≤◌, ℕ, ◌+◌, nat_lt, Bool, List, [], ◌∷◌, ◌++◌, map, filter, drop, Option, Some, None}
+use Rattle.std.specs.Prelude.{◌≡◌, ◌≤◌, ℕ, ◌+◌, nat_lt, List, [], ◌∷◌, ◌++◌, map, filter, drop, Option, Some, None}
 use Rattle.std.specs.List.{flat_map, enumerate_from}
 use Rattle.cudf_problem.specs.Statuses.{PlainUnknown}
 use Rattle.cudf_index.specs.Satisfaction.{Placed}
 use Rattle.cudf_referee.specs.declared.referee.instances.Cursor.{Cursor}
-use Rattle.cudf_referee.specs.declared.sites.candidate.Sites.{Sites}
-use Rattle.cudf_referee.specs.declared.sites.request_sites.RequestSites.{RequestSites}
+use Rattle.cudf_referee.specs.declared.left.candidate.Left.{Left}
+use Rattle.cudf_referee.specs.declared.left.request_left.RequestLeft.{RequestLeft}
 use Rattle.cudf_referee.specs.Instances.{PlainInstance}
 use Rattle.cudf_referee.specs.Proposals.{Proposal}
-use Rattle.cudf_referee.specs.Promises.Stops.{cost, look_ups, Stop, stop_at, package_end, package_stops, stop_cost, least_cost}
+use Rattle.cudf_referee.specs.Promises.Stops.{cost, Stop, stop_at, package_end, package_stops, stop_cost, least_cost}
 use Rattle.cudf_referee.specs.Promises.Walks.{Walking}
-use Rattle.cudf_referee.specs.Violations.{is_violated, unknown_instance}
+use Rattle.cudf_referee.specs.Violations.{unknown_instance}
 use Rattle.cudf_referee.specs.Working.Judged.{given_at}
-use Rattle.cudf_referee.specs.Working.RequestSites.{request_sites_view}
-use Rattle.cudf_referee.specs.Working.SiteNumbers.{sites_in, sites_view}
-
--- an instance is judged, and the steps went from one number to another
-pub record IsJudged (s : Proposal) (i : PlainInstance) (answer : Bool) (old new : ℕ) : Type 0 where
-  pub is : answer ≡ is_violated s i
-  pub price : new ≤ old + cost s.proposed i
-  pub grows : old + look_ups s.proposed i ≤ new
+use Rattle.cudf_referee.specs.Working.RequestLeft.{request_left_view}
+use Rattle.cudf_referee.specs.Working.PackageLeft.{left_in, left_view}
 
 -- ---- searches
 
@@ -74,27 +68,27 @@ ComesTo all (Some i) left = Comes all i left
 
 -- ---- what is left
 
--- of a package, of which these places are left
-abbrev pub package_left : Placed → Sites → List Stop
-package_left p sites = map stop_at (sites_view p sites) ++ package_end p.0 ∷ []
+-- of a package, of which these instances are left
+abbrev pub package_left : Placed → Left → List Stop
+package_left p left = map stop_at (left_view p left) ++ package_end p.0 ∷ []
 
-abbrev pub package_rest : Proposal → Option Sites → Placed → List Stop
-package_rest s sites p = map stop_at (sites_in s sites p) ++ package_end p.0 ∷ []
+abbrev pub package_rest : Proposal → Option Left → Placed → List Stop
+package_rest s left p = map stop_at (left_in s left p) ++ package_end p.0 ∷ []
 
--- of these packages, where of the first one these places are left
-abbrev pub packages_rest : Proposal → Option Sites → List Placed → List Stop
-packages_rest s sites [] = []
-packages_rest s sites (p ∷ ps) = package_rest s sites p ++ flat_map (package_stops s) ps
+-- of these packages, where of the first one these instances are left
+abbrev pub packages_rest : Proposal → Option Left → List Placed → List Stop
+packages_rest s left [] = []
+packages_rest s left (p ∷ ps) = package_rest s left p ++ flat_map (package_stops s) ps
 
-abbrev pub request_rest : Proposal → RequestSites → List Stop
-request_rest s sites = map stop_at (request_sites_view s.problem.request sites)
+abbrev pub request_rest : Proposal → RequestLeft → List Stop
+request_rest s left = map stop_at (request_left_view s.problem.request left)
 
 abbrev pub unknown_rest : Proposal → ℕ → List Stop
 unknown_rest s n = map stop_at (map unknown_instance (drop n s.unknown))
 
--- of all, after so many packages, with the places of the next one and of the request that are left, after so many unknown stanzas
+-- of all, after so many packages, with what is left of the next one and of the request, after so many unknown stanzas
 abbrev pub stops_from : Proposal → Cursor → List Stop
-stops_from s c = packages_rest s c.sites (drop c.packages (enumerate_from 1 s.problem.packages)) ++ (request_rest s c.request ++ unknown_rest s c.unknown)
+stops_from s c = packages_rest s c.begun (drop c.packages (enumerate_from 1 s.problem.packages)) ++ (request_rest s c.request ++ unknown_rest s c.unknown)
 
 -- the unknown stanzas with greater numbers
 abbrev pub unknown_left : ℕ → List PlainUnknown → List PlainUnknown

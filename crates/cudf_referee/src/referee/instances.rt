@@ -9,9 +9,9 @@ ghost use Rattle.cudf_referee.specs.Promises.Stops.{at_start, at_key};
 ghost use Rattle.cudf_referee.specs.Working.Walkers.{put_forward, Agrees};
 
 use crate::instance::Instance;
+use crate::left::{Candidate, Left, RequestLeft};
 use crate::position::{Position, first_unknown_behind, position_behind};
-use crate::rules::{is_requested_violated, is_violated};
-use crate::sites::{Candidate, PackageSite, RequestSite, RequestSites, Sites, requested_instance};
+use crate::rules::{Known, is_violated};
 use cudf_index::{Index, Metered, Steps};
 use cudf_job::{Key, Part};
 use cudf_problem::{Package, Problem, Solution};
@@ -19,7 +19,7 @@ use std::fmt;
 use std::marker::Model;
 
 /// The walk over the violated instances, in key order. It holds none of them: each call of `next`
-/// judges the places where one may be, from its position to the next instance.
+/// judges the instances from its position to the next violated one.
 ///
 /// Contracts see what is judged, the position and the steps so far.
 #[derive(Drop)]
@@ -44,7 +44,6 @@ impl<'r, 'p, 't> Model for Instances<'r, 'p, 't> {
     ghost use Rattle.cudf_referee.specs.Promises.PositionViews.{position_view};
     ghost use Rattle.cudf_referee.specs.Promises.Walks.{Walking};
     ghost use Rattle.cudf_referee.specs.Working.Places.{ahead, IsFitting};
-    ghost use Rattle.cudf_referee.specs.Working.RequestSites.{Remains};
     ghost use Rattle.cudf_referee.specs.Working.Searches.{stops_from};
     ghost use Rattle.cudf_referee.specs.Working.Walkers.{put_forward, Agrees};
 
@@ -60,8 +59,7 @@ impl<'r, 'p, 't> Model for Instances<'r, 'p, 't> {
         Agrees i.problem.now (set.contains i.solution.now.status) i.before.now i.now.status i.named.now (map unknown_view i.solution.now.unknown.items)
         × IsFitting (position_view i.position)
         × (stops_from (put_forward i.problem.now i.now.status (map unknown_view i.solution.now.unknown.items)) i.cursor
-        ≡ ahead (put_forward i.problem.now i.now.status (map unknown_view i.solution.now.unknown.items)) (position_view i.position))
-        × Remains i.problem.now.request i.cursor.request };
+        ≡ ahead (put_forward i.problem.now i.now.status (map unknown_view i.solution.now.unknown.items)) (position_view i.position)) };
 }
 
 /// Where it is.
@@ -98,8 +96,8 @@ impl<'r, 'p, 't> Instances<'r, 'p, 't> {
             position: Position::Start,
             cursor: Cursor {
                 packages: 0,
-                sites: None,
-                request: RequestSites::of(problem.request()),
+                begun: None,
+                request: RequestLeft::of(problem.request()),
                 unknown: 0,
             },
             steps: Steps::new(),
@@ -140,19 +138,19 @@ impl<'r, 'p, 't> Instances<'r, 'p, 't> {
     }
 }
 
-/// Where a walk goes on: after so many packages, with the places of the next one and of the request that are left, and
-/// after so many unknown stanzas.
+/// Where a walk goes on: after so many packages, with what is left of the next one and of the request, and after so many
+/// unknown stanzas.
 #[derive(Clone, Copy)]
 struct Cursor<'t> {
     packages: usize,
-    /// Those of the next package: all, where it isn't gone through yet.
-    sites: Option<Sites<'t>>,
-    request: RequestSites<'t>,
+    /// What is left of the next package, where it was begun.
+    begun: Option<Left<'t>>,
+    request: RequestLeft<'t>,
     unknown: usize,
 }
 
 impl<'r, 'p, 't> Instances<'r, 'p, 't> {
-    ghost use Rattle.std.specs.Prelude.{ℕ, [], ◌∷◌, filter, drop, slice_get, option_map, IfSome, if◌then◌else◌};
+    ghost use Rattle.std.specs.Prelude.{ℕ, All, [], ◌∷◌, filter, drop, slice_get, option_map, IfSome, if◌then◌else◌};
     ghost use Rattle.std.specs.List.{enumerate_from};
     ghost use Rattle.cudf_problem.specs.Promises.Views.{package_view};
     ghost use Rattle.cudf_problem.specs.Universe.{PlainPackage};
@@ -161,8 +159,8 @@ impl<'r, 'p, 't> Instances<'r, 'p, 't> {
     ghost use Rattle.cudf_referee.specs.Violations.{package_instances};
     ghost use Rattle.cudf_referee.specs.Working.Places.{ahead, BeginsAt};
     ghost use Rattle.cudf_referee.specs.Working.Searches.{Comes, ComesTo, Searches, package_left, packages_rest, request_rest, unknown_rest, stops_from};
-    ghost use Rattle.cudf_referee.specs.Working.SiteNumbers.{placed_view, Fits, package_site_view, sites_in, StandsAt};
-    ghost use Rattle.cudf_referee.specs.Working.RequestSites.{request_site_view, Remains, StandsIn};
+    ghost use Rattle.cudf_referee.specs.Working.PackageLeft.{placed_view, Fits, left_in};
+    ghost use Rattle.cudf_referee.specs.Working.Told.{IsTold, IsStopTold};
 
     /// The package after this many others, as it is judged.
     fn candidate(&self, index: usize, package: &'p Package<'t>) -> Candidate<'p, 't>
@@ -170,35 +168,30 @@ impl<'r, 'p, 't> Instances<'r, 'p, 't> {
         ensures placed { placed_view result ≡ (index + 1, package_view «package».now) }
         ensures fits { Fits self.entry.now.judged result }
     {
-        let is_named = self.named[index];
+        // an index below a length has a next one
+        let _count = self.problem.packages().len();
         let place = index as u64 + 1;
         Candidate {
             place,
             package,
             is_installed: self.solution.status.holds(place),
-            is_named,
         }
     }
 
-    /// Judges a place of a package.
-    fn judge(&mut self, candidate: Candidate<'p, 't>, site: PackageSite<'t>) -> bool
-        requires fits { Fits self.old.judged candidate }
-        requires stands { StandsAt candidate.package.now.keep site }
-        ensures { let i = package_site_view (placed_view candidate.entry) site.entry in
+    /// Judges an instance.
+    #[inline(always)]
+    fn judge(&mut self, instance: &Instance<'t>) -> bool
+        requires { IsTold self.old.judged (instance_view instance.now) }
+        ensures { let i = instance_view instance.now in
             Searches self.old (stop_at i ∷ []) (if result then Some i else None) self.new }
     {
         self.steps.tick();
-        is_violated(&mut self.now, candidate, site)
-    }
-
-    /// Judges a place of the request.
-    fn judge_requested(&mut self, site: RequestSite<'t>) -> bool
-        requires { StandsIn self.old.judged.problem.request site }
-        ensures { let i = request_site_view self.old.judged.problem.request site.entry in
-            Searches self.old (stop_at i ∷ []) (if result then Some i else None) self.new }
-    {
-        self.steps.tick();
-        is_requested_violated(&mut self.now, self.before, site, &mut self.steps)
+        let known = Known {
+            status: &self.solution.status,
+            named: self.named,
+            before: self.before,
+        };
+        is_violated(&mut self.now, known, instance, &mut self.steps)
     }
 
     /// Goes by the end of a package.
@@ -208,60 +201,61 @@ impl<'r, 'p, 't> Instances<'r, 'p, 't> {
         self.steps.tick();
     }
 
-    /// The first instance of a package at the places that are left.
+    /// The first violated instance of a package, of those that are left.
+    #[inline(always)]
     fn search_package(
         &mut self,
         candidate: Candidate<'p, 't>,
-        sites: &mut Sites<'t>,
+        left: &mut Left<'t>,
     ) -> Option<Instance<'t>>
-        requires { Fits self.old.judged candidate }
-        ensures searches { Searches self.old (package_left (placed_view candidate.entry) sites.old) (option_map instance_view result) self.new }
-        ensures comes { IfSome result (λ i. Comes (package_left (placed_view candidate.entry) sites.old) (instance_view i) (package_left (placed_view candidate.entry) sites.new)) }
+        requires { All (IsStopTold self.old.judged) (package_left (placed_view candidate) left.old) }
+        ensures searches { Searches self.old (package_left (placed_view candidate.entry) left.old) (option_map instance_view result) self.new }
+        ensures comes { IfSome result (λ i. Comes (package_left (placed_view candidate.entry) left.old) (instance_view i) (package_left (placed_view candidate.entry) left.new)) }
     {
-        while let Some(site) = candidate.next(sites) {
-            if self.judge(candidate, site) {
-                return Some(candidate.instance(site));
+        while let Some(instance) = candidate.next(left) {
+            if self.judge(&instance) {
+                return Some(instance);
             }
         }
         self.pass_end();
         None
     }
 
-    /// The first instance of the packages that are left.
+    /// The first violated instance of the packages that are left.
     fn search_packages(&mut self, cursor: &mut Cursor<'t>) -> Option<Instance<'t>>
-        ensures searches { Searches self.old (packages_rest self.old.judged cursor.old.sites (drop cursor.old.packages (enumerate_from 1 self.old.judged.problem.packages))) (option_map instance_view result) self.new }
-        ensures comes { ComesTo (packages_rest self.old.judged cursor.old.sites (drop cursor.old.packages (enumerate_from 1 self.old.judged.problem.packages))) (option_map instance_view result)
-            (packages_rest self.old.judged cursor.new.sites (drop cursor.new.packages (enumerate_from 1 self.old.judged.problem.packages))) }
+        requires { All (IsStopTold self.old.judged) (packages_rest self.old.judged cursor.old.begun (drop cursor.old.packages (enumerate_from 1 self.old.judged.problem.packages))) }
+        ensures searches { Searches self.old (packages_rest self.old.judged cursor.old.begun (drop cursor.old.packages (enumerate_from 1 self.old.judged.problem.packages))) (option_map instance_view result) self.new }
+        ensures comes { ComesTo (packages_rest self.old.judged cursor.old.begun (drop cursor.old.packages (enumerate_from 1 self.old.judged.problem.packages))) (option_map instance_view result)
+            (packages_rest self.old.judged cursor.new.begun (drop cursor.new.packages (enumerate_from 1 self.old.judged.problem.packages))) }
         ensures others { (cursor.new.request ≡ cursor.old.request) × (cursor.new.unknown ≡ cursor.old.unknown) }
     {
         let packages = self.problem.packages();
-        let mut sites = cursor.sites;
+        let mut begun = cursor.begun;
         for index in cursor.packages..packages.len() {
             let candidate = self.candidate(index, &packages[index]);
-            let mut left = candidate.left(sites);
+            let mut left = candidate.left(begun);
             if let Some(instance) = self.search_package(candidate, &mut left) {
                 cursor.packages = index;
-                cursor.sites = Some(left);
+                cursor.begun = Some(left);
                 return Some(instance);
             }
-            sites = None;
+            begun = None;
         }
         cursor.packages = packages.len();
-        cursor.sites = None;
+        cursor.begun = None;
         None
     }
 
-    /// The first instance of the request at the places that are left.
-    fn search_request(&mut self, sites: &mut RequestSites<'t>) -> Option<Instance<'t>>
-        requires { Remains self.old.judged.problem.request sites.old }
-        ensures searches { Searches self.old (request_rest self.old.judged sites.old) (option_map instance_view result) self.new }
-        ensures comes { ComesTo (request_rest self.old.judged sites.old) (option_map instance_view result) (request_rest self.old.judged sites.new) }
-        ensures remains { Remains self.old.judged.problem.request sites.new }
+    /// The first violated instance of the request, of those that are left.
+    fn search_request(&mut self, left: &mut RequestLeft<'t>) -> Option<Instance<'t>>
+        requires { All (IsStopTold self.old.judged) (request_rest self.old.judged left.old) }
+        ensures searches { Searches self.old (request_rest self.old.judged left.old) (option_map instance_view result) self.new }
+        ensures comes { ComesTo (request_rest self.old.judged left.old) (option_map instance_view result) (request_rest self.old.judged left.new) }
     {
         let request = self.problem.request();
-        while let Some(site) = sites.next() {
-            if self.judge_requested(site) {
-                return Some(requested_instance(request, site));
+        while let Some(instance) = left.next(request) {
+            if self.judge(&instance) {
+                return Some(instance);
             }
         }
         None
@@ -282,12 +276,11 @@ impl<'r, 'p, 't> Instances<'r, 'p, 't> {
         }
     }
 
-    /// The first instance ahead.
+    /// The first violated instance ahead.
     fn search(&mut self, cursor: &mut Cursor<'t>) -> Option<Instance<'t>>
-        requires { Remains self.old.judged.problem.request cursor.old.request }
+        requires { All (IsStopTold self.old.judged) (stops_from self.old.judged cursor.old) }
         ensures searches { Searches self.old (stops_from self.old.judged cursor.old) (option_map instance_view result) self.new }
         ensures comes { ComesTo (stops_from self.old.judged cursor.old) (option_map instance_view result) (stops_from self.old.judged cursor.new) }
-        ensures remains { Remains self.old.judged.problem.request cursor.new.request }
     {
         if let Some(instance) = self.search_packages(cursor) {
             return Some(instance);
@@ -301,8 +294,7 @@ impl<'r, 'p, 't> Instances<'r, 'p, 't> {
     /// Where it goes on after a key.
     fn cursor_behind(&self, key: Key, unknown: usize) -> Cursor<'t>
         requires { BeginsAt (at_key (key_view key)) self.now.judged.unknown unknown }
-        ensures stops { stops_from self.entry.now.judged result ≡ ahead self.entry.now.judged (at_key (key_view key)) }
-        ensures remains { Remains self.entry.now.judged.problem.request result.request }
+        ensures { stops_from self.entry.now.judged result ≡ ahead self.entry.now.judged (at_key (key_view key)) }
     {
         let request = self.problem.request();
         match key.part() {
@@ -310,30 +302,30 @@ impl<'r, 'p, 't> Instances<'r, 'p, 't> {
                 let packages = place as usize - 1;
                 Cursor {
                     packages,
-                    sites: self.behind_key(packages, key),
-                    request: RequestSites::of(request),
+                    begun: self.behind_key(packages, key),
+                    request: RequestLeft::of(request),
                     unknown,
                 }
             }
             Part::Request => Cursor {
                 packages: self.problem.packages().len(),
-                sites: None,
-                request: RequestSites::behind(request, key),
+                begun: None,
+                request: RequestLeft::behind(request, key),
                 unknown,
             },
             Part::Solution => Cursor {
                 packages: self.problem.packages().len(),
-                sites: None,
-                request: RequestSites::none_of(request),
+                begun: None,
+                request: RequestLeft::none(),
                 unknown,
             },
         }
     }
 
-    /// The places of the package after this many others that come after a key.
-    fn behind_key(&self, index: usize, key: Key) -> Option<Sites<'t>>
+    /// The instances of the package after this many others that come after a key.
+    fn behind_key(&self, index: usize, key: Key) -> Option<Left<'t>>
         ensures { (p : PlainPackage) → slice_get self.entry.now.judged.problem.packages index ≡ Some p
-            → filter (λ x. precedes (key_view key) x.key) (package_instances self.entry.now.judged (index + 1, p)) ≡ sites_in self.entry.now.judged result (index + 1, p) }
+            → filter (λ x. precedes (key_view key) x.key) (package_instances self.entry.now.judged (index + 1, p)) ≡ left_in self.entry.now.judged result (index + 1, p) }
     {
         match self.problem.packages().get(index) {
             Some(package) => Some(self.candidate(index, package).behind(key)),

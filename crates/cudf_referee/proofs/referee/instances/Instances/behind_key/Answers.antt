@@ -8,7 +8,7 @@ use Rattle.cudf_job.specs.KeyViews.{key_view}
 use Rattle.cudf_referee.specs.Promises.Stops.{precedes}
 use Rattle.cudf_referee.specs.Violations.{package_instances}
 use Rattle.cudf_referee.specs.Promises.Walks.{Walking}
-use Rattle.cudf_referee.specs.Working.SiteNumbers.{sites_view}
+use Rattle.cudf_referee.specs.Working.PackageLeft.{left_view}
 use Rattle.cudf_referee.proofs.SearchLemmas.{item-some, item-none, seen-item, the-same}
 use Rattle.cudf_referee.proofs.referee.instances.Instances.behind_key.Goals as goal
 
@@ -19,7 +19,7 @@ returns-in-Some c = λ p is.
     let same = c.packages.ensures.packages ∙ ap (λ (w : Walking). w.judged.problem.packages) c.self.view_is in
     let here = ap (λ ps. slice_get ps c.args.index) (sym same) ∙ seen-item package_view ys c.args.index c.in-Some.package.now (item-some ys c.args.index c.in-Some.package c.in-Some.ensures.lookup) in
     let place = c.candidate.ensures.placed ∙ ap (λ q. (c.args.index + 1, q)) (the-same _ _ (sym here ∙ is)) in
-    subst (λ (q : Placed). filter (λ x. precedes (key_view c.args.key) x.key) (package_instances s q) ≡ sites_view q c.behind.result) place (c.behind.ensures s c.candidate.ensures.fits)
+    subst (λ (q : Placed). filter (λ x. precedes (key_view c.args.key) x.key) (package_instances s q) ≡ left_view q c.behind.result) place (c.behind.ensures s c.candidate.ensures.fits)
 
 pub returns-in-None : goal.returns-in-None
 returns-in-None c = λ p is.

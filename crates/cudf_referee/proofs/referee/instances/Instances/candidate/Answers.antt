@@ -1,4 +1,4 @@
-use Rattle.std.proofs.Common.{◌≡◌, ◌+◌, false, length, Some, ap, sym, ◌∙◌, arith}
+use Rattle.std.proofs.Common.{◌≡◌, ◌+◌, length, Some, ap, sym, ◌∙◌, arith}
 use Rattle.std.specs.Prelude.{slice_get}
 use Rattle.std.specs.FinSet as set
 use Rattle.std.proofs.lemmas.List.{length-map}
@@ -7,18 +7,17 @@ use Rattle.cudf_problem.specs.Promises.Views.{package_view}
 use Rattle.cudf_problem.specs.Statuses.{is_initial}
 use Rattle.cudf_referee.specs.Promises.Walks.{Walking}
 use Rattle.cudf_referee.specs.Proposals.{holds_place}
-use Rattle.cudf_referee.specs.Working.Named.{has_kept_name}
-use Rattle.cudf_referee.proofs.GroundLemmas.{held-at, initial-at, flag-at, fits-same}
+use Rattle.cudf_referee.proofs.GroundLemmas.{held-at, initial-at, fits-same}
 use Rattle.cudf_referee.proofs.referee.instances.Instances.candidate.Goals as goal
 
-pub bounds-self-inside-index : goal.bounds-self-inside-index
-bounds-self-inside-index c =
+pub overflow_add-place : goal.overflow_add-place
+overflow_add-place c =
     omega (
       arith,
       slice_get_within _ c.args.index _ c.requires,
       ap (λ (w : Walking). length w.judged.problem.packages) c.self.view_is,
-      ap length c.self.invariant.0.flags,
-      length-map c.self.inside.problem.now.packages (has_kept_name c.self.inside.now.status),
+      ap length c.packages-count.ensures.packages,
+      length-map c.packages-count.result.now package_view,
     )
 
 pub returns-clause-fits : goal.returns-clause-fits
@@ -33,5 +32,4 @@ returns-clause-fits c =
     fits-same _ _ _ c.self.view_is (record {
       was = held-at (is_initial problem) problem.packages c.args.index below ∙ initial-at problem c.args.index p here;
       is = ap (λ ps. holds_place ps (c.args.index + 1)) agrees.is ∙ held-at is problem.packages c.args.index below ∙ sym c.holds.ensures;
-      named = flag-at (has_kept_name i.now.status) i.named.now problem.packages c.args.index p false agrees.flags here;
     })

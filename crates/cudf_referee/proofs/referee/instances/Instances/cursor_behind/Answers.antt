@@ -1,48 +1,36 @@
-use Rattle.std.proofs.Common.{◌≡◌, [], filter, ap, sym, ◌∙◌, subst}
+use Rattle.std.proofs.Common.{◌≡◌, filter, ap, sym, ◌∙◌, subst}
 use Rattle.cudf_problem.specs.Universe.{PlainRequest}
 use Rattle.cudf_job.specs.KeyViews.{key_view}
 use Rattle.cudf_referee.specs.Instances.{PlainInstance}
 use Rattle.cudf_referee.specs.Promises.Stops.{precedes}
 use Rattle.cudf_referee.specs.Violations.{request_instances}
 use Rattle.cudf_referee.specs.Promises.Walks.{Walking}
-use Rattle.cudf_referee.specs.Working.RequestSites.{Remains, request_sites_view}
+use Rattle.cudf_referee.specs.Working.RequestLeft.{request_left_view}
 use Rattle.cudf_referee.proofs.CursorLemmas.{count-same, behind-package, behind-request, behind-solution}
 use Rattle.cudf_referee.proofs.referee.instances.Instances.cursor_behind.Goals as goal
 
-pub returns-in-Package-clause-stops : goal.returns-in-Package-clause-stops
-returns-in-Package-clause-stops c =
+pub returns-in-Package : goal.returns-in-Package
+returns-in-Package c =
     let s = c.args.self.now.judged in
     let same = c.request-request.ensures ∙ ap (λ (w : Walking). w.judged.problem.request) c.self.view_is in
     behind-package s (key_view c.args.key) c.part.ensures.fits c.in-Package.place c.behind_key.result c.of.result c.args.unknown (sym c.part.ensures.value ∙ c.in-Package.is)
-    (subst (λ (r : PlainRequest). request_sites_view r c.of.result ≡ request_instances r) same c.of.ensures.sites)
+    (subst (λ (r : PlainRequest). request_left_view r c.of.result ≡ request_instances r) same c.of.ensures)
     c.requires c.behind_key.ensures
 
-pub returns-in-Package-clause-remains : goal.returns-in-Package-clause-remains
-returns-in-Package-clause-remains c =
-    subst (λ (r : PlainRequest). Remains r c.of.result) (c.request-request.ensures ∙ ap (λ (w : Walking). w.judged.problem.request) c.self.view_is) c.of.ensures.remains
-
-pub returns-in-Request-clause-stops : goal.returns-in-Request-clause-stops
-returns-in-Request-clause-stops c =
+pub returns-in-Request : goal.returns-in-Request
+returns-in-Request c =
     let s = c.args.self.now.judged in
     let later = λ (x : PlainInstance). precedes (key_view c.args.key) x.key in
     let same = c.request-request.ensures ∙ ap (λ (w : Walking). w.judged.problem.request) c.self.view_is in
     behind-request s (key_view c.args.key) c.part.ensures.fits _ c.behind.result c.args.unknown
     (count-same _ _ _ c.packages.ensures.packages c.self.view_is) (sym c.part.ensures.value ∙ c.in-Request.is)
     c.requires
-    (subst (λ (r : PlainRequest). filter later (request_instances r) ≡ request_sites_view r c.behind.result) same c.behind.ensures.sites)
+    (subst (λ (r : PlainRequest). filter later (request_instances r) ≡ request_left_view r c.behind.result) same c.behind.ensures)
 
-pub returns-in-Request-clause-remains : goal.returns-in-Request-clause-remains
-returns-in-Request-clause-remains c =
-    subst (λ (r : PlainRequest). Remains r c.behind.result) (c.request-request.ensures ∙ ap (λ (w : Walking). w.judged.problem.request) c.self.view_is) c.behind.ensures.remains
-
-pub returns-in-Solution-clause-stops : goal.returns-in-Solution-clause-stops
-returns-in-Solution-clause-stops c =
+pub returns-in-Solution : goal.returns-in-Solution
+returns-in-Solution c =
     let s = c.args.self.now.judged in
-    behind-solution s (key_view c.args.key) c.part.ensures.fits _ c.none_of.result c.args.unknown
+    behind-solution s (key_view c.args.key) c.part.ensures.fits _ c.none.result c.args.unknown
     (count-same _ _ _ c.packages-in-Solution.ensures.packages c.self.view_is)
-    (subst (λ (r : PlainRequest). request_sites_view r c.none_of.result ≡ []) (c.request-request.ensures ∙ ap (λ (w : Walking). w.judged.problem.request) c.self.view_is) c.none_of.ensures.sites) (sym c.part.ensures.value ∙ c.in-Solution.is)
+    (c.none.ensures s.problem.request) (sym c.part.ensures.value ∙ c.in-Solution.is)
     c.requires
-
-pub returns-in-Solution-clause-remains : goal.returns-in-Solution-clause-remains
-returns-in-Solution-clause-remains c =
-    subst (λ (r : PlainRequest). Remains r c.none_of.result) (c.request-request.ensures ∙ ap (λ (w : Walking). w.judged.problem.request) c.self.view_is) c.none_of.ensures.remains

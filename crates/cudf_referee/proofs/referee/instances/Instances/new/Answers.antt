@@ -6,7 +6,7 @@ use Rattle.cudf_problem.specs.Universe.{PlainRequest}
 use Rattle.cudf_index.specs.Satisfaction.{Placed}
 use Rattle.cudf_index.specs.Promises.Prices.{Metering}
 use Rattle.cudf_referee.specs.Violations.{request_instances}
-use Rattle.cudf_referee.specs.Working.RequestSites.{Remains, request_sites_view}
+use Rattle.cudf_referee.specs.Working.RequestLeft.{request_left_view}
 use Rattle.cudf_referee.specs.Working.Walkers.{put_forward, Agrees}
 use Rattle.cudf_referee.proofs.CursorLemmas.{at-start}
 use Rattle.cudf_referee.proofs.referee.instances.Instances.new.Goals as goal
@@ -17,8 +17,7 @@ invariant_of-result c =
     let same = ap (λ (m : Metering). m.status) c.metered.ensures in (
       subst (λ (ps : List Placed). Agrees c.args.problem.now (set.contains c.args.solution.now.status) c.args.before.now ps c.args.named.now us) (sym same) c.requires,
       tt,
-      at-start (put_forward c.args.problem.now c.metered.result.status us) c.of.result 0 (subst (λ (r : PlainRequest). request_sites_view r c.of.result ≡ request_instances r) c.request.ensures c.of.ensures.sites) (record { begins = refl; within = omega arith }),
-      subst (λ (r : PlainRequest). Remains r c.of.result) c.request.ensures c.of.ensures.remains,
+      at-start (put_forward c.args.problem.now c.metered.result.status us) c.of.result 0 (subst (λ (r : PlainRequest). request_left_view r c.of.result ≡ request_instances r) c.request.ensures c.of.ensures) (record { begins = refl; within = omega arith }),
     )
 
 pub returns : goal.returns

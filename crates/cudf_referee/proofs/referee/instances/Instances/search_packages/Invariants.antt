@@ -7,6 +7,6 @@ use Rattle.cudf_referee.proofs.referee.instances.Instances.search_packages.Given
 abbrev pub invariant-loop-index : goal.invariant-loop-index
 invariant-loop-index l =
     let packages = enumerate_from 1 l.fn.self.judged.problem.packages in
-    let all = packages_rest l.fn.self.judged l.fn.cursor.sites (drop l.fn.cursor.packages packages) in
-    let rest = packages_rest l.fn.self.judged l.sites (drop l.index packages) in
+    let all = packages_rest l.fn.self.judged l.fn.cursor.begun (drop l.fn.cursor.packages packages) in
+    let rest = packages_rest l.fn.self.judged l.begun (drop l.index packages) in
     Goes l.fn.self all None rest l.self × IsTail all rest × (l.cursor ≡ l.fn.cursor)

@@ -5,12 +5,22 @@ use Rattle.cudf_referee.specs.Promises.PositionViews.{position_view}
 use Rattle.cudf_referee.specs.Promises.Views.{instance_view}
 use Rattle.cudf_referee.specs.Promises.Walks.{Walking}
 use Rattle.cudf_referee.specs.Working.Places.{IsFitting, ahead}
-use Rattle.cudf_referee.specs.Working.RequestSites.{Remains}
+use Rattle.cudf_referee.specs.Working.Told.{IsStopTold}
 use Rattle.cudf_referee.specs.Working.Searches.{Searches, ComesTo, stops_from, first_given}
 use Rattle.cudf_referee.proofs.ComesLemmas.{left-ahead}
 use Rattle.cudf_referee.proofs.SearchLemmas.{or_later-none}
+use Rattle.std.specs.Prelude.{All}
+use Rattle.std.proofs.lemmas.List.Elements.{All-filter}
+use Rattle.cudf_referee.specs.Promises.Stops.{is_ahead, walk}
 use Rattle.cudf_referee.proofs.MoveLemmas.{searched, moved-on}
+use Rattle.cudf_referee.proofs.ToldLemmas.{all-told}
 use Rattle.cudf_referee.proofs.referee.instances.InstancesIterator.next.Goals as goal
+
+pub search-found-requires : goal.search-found-requires
+search-found-requires c =
+    let old = c.args.self.now in
+    subst (All (IsStopTold old.judged)) (sym (subst (λ (w : Walking). stops_from w.judged c.self.inside.cursor ≡ ahead w.judged w.position) c.self.view_is c.self.invariant.2))
+    (All-filter (is_ahead old.position) (IsStopTold old.judged) (walk old.judged) (all-told old.judged))
 
 pub invariant_of-self : goal.invariant_of-self
 invariant_of-self c =
@@ -29,7 +39,6 @@ invariant_of-self c =
       c.self-2.invariant.0,
       subst IsFitting (sym there) c.position_behind-self-inside.ensures.fits,
       subst (λ (t : Proposal). stops_from t cursor ≡ ahead t (position_view c.position_behind-self-inside.result)) (sym same) (left ∙ ap (ahead s) (sym there)),
-      subst (λ (t : Proposal). Remains t.problem.request cursor.request) (sym same) c.search-found.ensures.remains,
     )
 
 pub returns-clause-steps : goal.returns-clause-steps

@@ -1,0 +1,79 @@
+-- The instances of a package that are left, gone through.
+use Rattle.std.proofs.Common.{◌≡◌, ℕ, Bool, true, false, List, [], ◌∷◌, ◌++◌, cond, refl, ap, sym, ◌∙◌, subst, append-nil}
+use Rattle.std.specs.Prelude.{filter}
+use Rattle.cudf_value.specs.Formulas.{PlainAtom}
+use Rattle.cudf_value.specs.Vpkgs.{PlainVpkg}
+use Rattle.cudf_problem.specs.declared.package.Keep.{Keep}
+use Rattle.cudf_problem.specs.declared.package.Keep.TheVariants.{Version, Package, Feature, Nothing}
+use Rattle.cudf_index.specs.Satisfaction.{Placed}
+use Rattle.cudf_job.specs.Keys.{PlainKey, key_ranks}
+use Rattle.cudf_referee.specs.declared.left.candidate.Candidate.{Candidate}
+use Rattle.cudf_referee.specs.Proposals.{Proposal}
+use Rattle.cudf_referee.specs.Promises.Stops.{precedes}
+use Rattle.cudf_referee.specs.Violations.{kept_instances, package_instances}
+use Rattle.cudf_referee.specs.Working.RuleInstances.{depends_instance, conflicts_instance, keep_instance}
+use Rattle.cudf_referee.specs.Working.PackageLeft.{placed_view, Fits, depends_of, conflicts_of, features_of, kept_features, numbered, kept_one, kept_feature}
+use Rattle.cudf_referee.proofs.AheadLemmas.{kept_above}
+use Rattle.cudf_referee.proofs.AscentLemmas.{Climbs, instance_ranks}
+use Rattle.cudf_referee.proofs.PositionLemmas.{lt_less}
+use Rattle.cudf_referee.specs.Instances.{keep_version, keep_package, PlainInstance}
+
+-- ---- a package
+
+if-both : (b : Bool) (p : Placed) (xs : List (List PlainAtom)) (ys : List PlainVpkg)
+    → cond b (numbered (depends_instance p) 0 xs ++ numbered (conflicts_instance p) 0 ys) [] ≡ numbered (depends_instance p) 0 (cond b xs []) ++ numbered (conflicts_instance p) 0 (cond b ys [])
+if-both true p xs ys = refl
+if-both false p xs ys = refl
+
+-- what is kept once, and the features that are kept, are what is kept
+end-left : (xs : List PlainInstance) (b : Bool) (k : Keep) (p : Placed)
+    → xs ++ cond b (kept_one k p) [] ++ numbered (kept_feature p) 0 (cond b (kept_features k p.1.provides) []) ≡ xs ++ cond b (kept_instances k p) []
+end-left xs true Version p = append-nil (xs ++ keep_instance p 1 keep_version ∷ [])
+end-left xs true Package p = append-nil (xs ++ keep_instance p 1 keep_package ∷ [])
+end-left xs true Feature p = ap (λ ys. ys ++ numbered (kept_feature p) 0 p.1.provides) (append-nil xs)
+end-left xs true Nothing p = append-nil (xs ++ [])
+end-left xs false k p = append-nil (xs ++ [])
+
+-- what is left of a package that wasn't begun is all its instances
+pub whole-left : (s : Proposal) (c : Candidate) → Fits s c → (xs : List (List PlainAtom)) (ys zs : List PlainVpkg) → xs ≡ depends_of c → ys ≡ conflicts_of c → zs ≡ features_of c
+    → numbered (depends_instance (placed_view c)) 0 xs ++ numbered (conflicts_instance (placed_view c)) 0 ys ++ cond c.package.now.installed (kept_one c.package.now.keep (placed_view c)) []
+    ++ numbered (kept_feature (placed_view c)) 0 zs ≡ package_instances s (placed_view c)
+whole-left s c fits xs ys zs h h' h'' =
+    (λ i. numbered (depends_instance p) 0 (h i) ++ numbered (conflicts_instance p) 0 (h' i) ++ cond c.package.now.installed (kept_one p.1.keep p) [] ++ numbered (kept_feature p) 0 (h'' i))
+    ∙ end-left (numbered (depends_instance p) 0 (depends_of c) ++ numbered (conflicts_instance p) 0 (conflicts_of c)) c.package.now.installed p.1.keep p
+    ∙ ap (λ xs. xs ++ cond c.package.now.installed (kept_instances p.1.keep p) []) (sym (if-both c.is_installed p p.1.depends p.1.conflicts))
+    ∙ (λ i. cond (sym fits.is i) (numbered (depends_instance p) 0 p.1.depends ++ numbered (conflicts_instance p) 0 p.1.conflicts) [] ++ cond (sym fits.was i) (kept_instances p.1.keep p) [])
+  where
+    p : Placed
+    p = placed_view c
+
+-- ---- those after a key
+
+-- of all those come after the key that do of the rest, and the rest climbs
+pub record IsBehind (key : PlainKey) (high : List ℕ) (all rest : List PlainInstance) : Type 0 where
+  pub low : List ℕ
+  pub climbs : Climbs instance_ranks low rest high
+  pub same : filter (λ x. precedes key x.key) all ≡ filter (λ x. precedes key x.key) rest
+
+unfoldable pub behind-start : (key : PlainKey) (low high : List ℕ) (all : List PlainInstance) → Climbs instance_ranks low all high → IsBehind key high all all
+behind-start key low high all climbs = record { low = low; climbs = climbs; same = refl }
+
+unfoldable pub behind-same : (key : PlainKey) (high : List ℕ) (all xs ys : List PlainInstance) → xs ≡ ys → IsBehind key high all xs → IsBehind key high all ys
+behind-same key high all xs ys same is = subst (IsBehind key high all) same is
+
+-- one that doesn't come after the key is gone by
+unfoldable pub behind-on : (key : PlainKey) (high : List ℕ) (all : List PlainInstance) (x : PlainInstance) (xs : List PlainInstance) → IsBehind key high all (x ∷ xs) → precedes key x.key ≡ false → IsBehind key high all xs
+behind-on key high all x xs is not_after = record {
+  low = instance_ranks x;
+  climbs = is.climbs.1;
+  same = is.same ∙ ap (λ b. cond b (x ∷ filter (λ y. precedes key y.key) xs) (filter (λ y. precedes key y.key) xs)) not_after;
+}
+
+-- from one that does on, all do
+pub behind-here : (key : PlainKey) (high : List ℕ) (all : List PlainInstance) (x : PlainInstance) (xs : List PlainInstance) → IsBehind key high all (x ∷ xs) → precedes key x.key ≡ true
+    → filter (λ y. precedes key y.key) all ≡ x ∷ xs
+behind-here key high all x xs is after =
+    is.same ∙ kept_above instance_ranks (key_ranks key) (x ∷ xs) high (lt_less _ after, is.climbs.1)
+
+pub behind-end : (key : PlainKey) (high : List ℕ) (all : List PlainInstance) → IsBehind key high all [] → filter (λ y. precedes key y.key) all ≡ []
+behind-end key high all is = is.same

@@ -1,0 +1,163 @@
+//! The package that is judged, and its instances that are left.
+ghost use Rattle.std.specs.Prelude.{◌≤◌, ◌<◌, ◌+◌, ◌^◌, length};
+ghost use Rattle.cudf_value.specs.Promises.Views.{clauses_view, vpkgs_view};
+
+use crate::instance::{Instance, What};
+use cudf_job::{Key, Rule};
+use cudf_problem::{Keep, Package};
+use cudf_value::{Clauses, Formula, VpkgList, Vpkgs};
+
+/// A package of the universe, and what is known of it before it is judged.
+#[derive(Clone, Copy)]
+pub(crate) struct Candidate<'p, 't> {
+    /// Its place in the universe, from 1.
+    pub(crate) place: u64,
+    pub(crate) package: &'p Package<'t>,
+    /// Whether it is to be installed.
+    pub(crate) is_installed: bool,
+    ghost placed: { 0 < place },
+}
+
+/// The instances of a package that are left: the entries of its lists, and how many of each were passed.
+#[derive(Clone, Copy)]
+pub(crate) struct Left<'t> {
+    clauses: Clauses<'t>,
+    clause: u64,
+    conflicts: Vpkgs<'t>,
+    conflict: u64,
+    /// Whether the version or the package, where one is to be kept, is left.
+    one: bool,
+    features: Vpkgs<'t>,
+    feature: u64,
+    ghost clauses_fit: { clause + length (clauses_view clauses) ≤ 2 ^ 63 },
+    ghost conflicts_fit: { conflict + length (vpkgs_view conflicts) ≤ 2 ^ 63 },
+    ghost features_fit: { feature + length (vpkgs_view features) ≤ 2 ^ 63 },
+}
+
+impl<'p, 't> Candidate<'p, 't> {
+    ghost use Rattle.std.specs.Prelude.{◌≡◌, ◌<◌, IsTrue, None, Option, [], filter, if◌then◌else◌};
+    ghost use Rattle.std.specs.Iterator.{YieldsFirstBy};
+    ghost use Rattle.cudf_value.specs.Promises.Views.{formula_view, list_view};
+    ghost use Rattle.cudf_job.specs.declared.key.Part.TheVariants as part;
+    ghost use Rattle.cudf_job.specs.KeyViews.{key_view};
+    ghost use Rattle.cudf_job.specs.Keys.{fits};
+    ghost use Rattle.cudf_referee.specs.Proposals.{Proposal};
+    ghost use Rattle.cudf_referee.specs.Promises.Stops.{precedes};
+    ghost use Rattle.cudf_referee.specs.Promises.Views.{instance_view, what_view};
+    ghost use Rattle.cudf_referee.specs.Violations.{at_package, package_instances};
+    ghost use Rattle.cudf_referee.specs.Working.PackageLeft.{placed_view, Fits, depends_of, conflicts_of, features_of, left_view, left_in};
+
+    /// What is judged of what it needs: nothing, where it isn't to be installed.
+    fn depends(self) -> Formula<'t>
+        ensures { formula_view result ≡ depends_of self.entry }
+    {
+        if self.is_installed {
+            self.package.depends
+        } else {
+            Formula::always()
+        }
+    }
+
+    /// The entries of `conflicts` that are judged: none, where it isn't to be installed.
+    fn conflicts(self) -> VpkgList<'t>
+        ensures { list_view result ≡ conflicts_of self.entry }
+    {
+        if self.is_installed {
+            self.package.conflicts
+        } else {
+            VpkgList::empty()
+        }
+    }
+
+    /// The features that are to be kept: none, where it wasn't installed.
+    fn features(self) -> VpkgList<'t>
+        ensures { list_view result ≡ features_of self.entry }
+    {
+        if !self.package.installed {
+            return VpkgList::empty();
+        }
+        match self.package.keep {
+            Keep::Feature => self.package.provides,
+            Keep::Version | Keep::Package | Keep::Nothing => VpkgList::empty(),
+        }
+    }
+
+    /// All its instances.
+    fn all(self) -> Left<'t>
+        ensures { (s : Proposal) → Fits s self.entry → left_view (placed_view self.entry) result ≡ package_instances s (placed_view self.entry) }
+    {
+        let depends = self.depends();
+        let conflicts = self.conflicts();
+        let features = self.features();
+        Left {
+            clauses: depends.clauses(),
+            clause: 0,
+            conflicts: conflicts.vpkgs(),
+            conflict: 0,
+            one: self.package.installed,
+            features: features.vpkgs(),
+            feature: 0,
+        }
+    }
+
+    /// Its instances that are left: all, where it wasn't begun.
+    pub(crate) fn left(self, begun: Option<Left<'t>>) -> Left<'t>
+        ensures { (s : Proposal) → Fits s self.entry → left_view (placed_view self.entry) result ≡ left_in s begun.entry (placed_view self.entry) }
+    {
+        match begun {
+            Some(left) => left,
+            None => self.all(),
+        }
+    }
+
+    /// Its instances that come after a key of it, whether or not one has the key.
+    pub(crate) fn behind(self, key: Key) -> Left<'t>
+        ensures { (s : Proposal) → Fits s self.entry
+            → filter (λ x. precedes (key_view key) x.key) (package_instances s (placed_view self.entry)) ≡ left_view (placed_view self.entry) result }
+    {
+        let mut left = self.all();
+        let mut later = left;
+        while let Some(instance) = self.next(&mut later) {
+            if key.precedes(instance.key) {
+                return left;
+            }
+            left = later;
+        }
+        left
+    }
+
+    /// The next of its instances that are left.
+    #[inline(always)]
+    pub(crate) fn next(self, left: &mut Left<'t>) -> Option<Instance<'t>>
+        ensures { YieldsFirstBy instance_view (left_view (placed_view self.entry)) left.old result left.new }
+    {
+        if let Some(clause) = left.clauses.next() {
+            left.clause += 1;
+            return Some(self.instance(Rule::Depends, left.clause, What::Needs(clause)));
+        }
+        if let Some(vpkg) = left.conflicts.next() {
+            left.conflict += 1;
+            return Some(self.instance(Rule::Conflicts, left.conflict, What::ConflictsWith(vpkg)));
+        }
+        if left.one {
+            left.one = false;
+            match self.package.keep {
+                Keep::Version => return Some(self.instance(Rule::Keep, 1, What::KeepVersion)),
+                Keep::Package => return Some(self.instance(Rule::Keep, 1, What::KeepPackage)),
+                Keep::Feature | Keep::Nothing => {}
+            }
+        }
+        let vpkg = left.features.next()?;
+        left.feature += 1;
+        Some(self.instance(Rule::Keep, left.feature, What::KeepFeature(vpkg)))
+    }
+
+    /// Its instance of a rule, at an entry's place.
+    fn instance(self, rule: Rule, number: u64, what: What<'t>) -> Instance<'t>
+        requires counted { 0 < number }
+        requires fits { IsTrue (fits (part.Package self.place) rule None) }
+        ensures { instance_view result ≡ at_package (placed_view self.entry) rule number (what_view what.entry) }
+    {
+        Instance::of_package(self.place, self.package, rule, number, what)
+    }
+}
