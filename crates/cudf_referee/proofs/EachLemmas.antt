@@ -15,7 +15,7 @@ use Rattle.cudf_referee.specs.Proposals.{Proposal, holds_place}
 use Rattle.cudf_referee.specs.Promises.Stops.{stop_at, package_end, package_stops, walk}
 use Rattle.cudf_referee.specs.Violations.{unknown_instance, needed_instances, kept_instances, package_instances, entry_instances, request_instances, instances}
 use Rattle.cudf_referee.specs.Working.RuleInstances.{depends_instance, conflicts_instance, keep_instance, install_instance, remove_instance, upgrade_instance}
-use Rattle.cudf_referee.specs.Working.Told.{OfStop}
+use Rattle.cudf_referee.specs.Working.Located.{OfStop}
 
 -- it holds of the instances of each rule, where the element at index i has the number i + 1
 pub record Each (P : PlainInstance → Type 0) (s : Proposal) : Type 0 where

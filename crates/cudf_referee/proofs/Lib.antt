@@ -11,6 +11,7 @@ pub mod GroundLemmas
 pub mod KeyTellLemmas
 pub mod ListLemmas
 pub mod ListingLemmas
+pub mod LocatedLemmas
 pub mod MissedLemmas
 pub mod MoveLemmas
 pub mod NameLemmas
@@ -30,7 +31,6 @@ pub mod SolutionLemmas
 pub mod StandingLemmas
 pub mod StatusLemmas
 pub mod StopLemmas
-pub mod ToldLemmas
 pub mod TouchedLemmas
 pub mod UnknownLemmas
 pub mod WritableLemmas

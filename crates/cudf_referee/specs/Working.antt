@@ -1,6 +1,7 @@
 pub mod Before
 pub mod Firsts
 pub mod Judged
+pub mod Located
 pub mod Named
 pub mod Needers
 pub mod Numbered
@@ -10,5 +11,4 @@ pub mod RuleInstances
 pub mod Searches
 pub mod PackageLeft
 pub mod Standings
-pub mod Told
 pub mod Walkers

@@ -1,7 +1,7 @@
 //! Violated instances of rules.
 
 use cudf_job::{Aspect, Key, Part, Rule};
-use cudf_problem::{Package, Request, Unknown};
+use cudf_problem::{Request, Unknown};
 use cudf_value::{Clause, Vpkg};
 
 /// One violated instance of a rule. Own.
@@ -43,32 +43,11 @@ pub enum What<'t> {
 
 impl<'t> Instance<'t> {
     ghost use Rattle.std.specs.Prelude.{◌≡◌, ◌<◌, None, IsTrue};
-    ghost use Rattle.cudf_problem.specs.Promises.Views.{package_view, request_view, unknown_view};
+    ghost use Rattle.cudf_problem.specs.Promises.Views.{request_view, unknown_view};
     ghost use Rattle.cudf_job.specs.declared.key.Part.TheVariants as part;
     ghost use Rattle.cudf_job.specs.Keys.{fits};
-    ghost use Rattle.cudf_referee.specs.Violations.{at_package, at_request, unknown_instance};
+    ghost use Rattle.cudf_referee.specs.Violations.{at_request, unknown_instance};
     ghost use Rattle.cudf_referee.specs.Promises.Views.{instance_view, what_view};
-
-    /// An instance of a package's rule, at an entry's place.
-    pub(crate) fn of_package(
-        place: u64,
-        package: &Package<'t>,
-        rule: Rule,
-        number: u64,
-        what: What<'t>,
-    ) -> Self
-        requires counted { 0 < number }
-        requires fits { IsTrue (fits (part.Package place) rule None) }
-
-        ensures { instance_view result ≡ at_package (place, package_view «package».now) rule number (what_view what.entry) }
-    {
-        Instance {
-            key: Key::new(Part::Package(place), rule, number, None),
-            line: package.line,
-            subject: Some((package.name, package.version)),
-            what,
-        }
-    }
 
     /// An instance of a rule of the request, at an entry's place.
     pub(crate) fn of_request(

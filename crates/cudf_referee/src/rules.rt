@@ -13,7 +13,7 @@ ghost use Rattle.cudf_referee.specs.Promises.Stops.{cost, aspect_cost, look_ups,
 ghost use Rattle.cudf_referee.specs.Promises.Views.{instance_view};
 ghost use Rattle.cudf_referee.specs.Violations.{are_many, are_lower, is_aspect_violated, is_violated};
 ghost use Rattle.cudf_referee.specs.Working.Before.{greatest_before};
-ghost use Rattle.cudf_referee.specs.Working.Told.{IsTold};
+ghost use Rattle.cudf_referee.specs.Working.Located.{IsLocated};
 ghost use Rattle.cudf_referee.specs.Working.Walkers.{put_forward, Agrees};
 
 use crate::instance::{Instance, What};
@@ -43,7 +43,7 @@ pub(crate) fn is_violated(
 ) -> bool
     ensures answer { (problem : PlainProblem) → (unknown : List PlainUnknown)
         → Agrees problem (set.contains known.entry.status.now) known.entry.before.now now.old.status known.entry.named.now unknown
-        → IsTold (put_forward problem now.old.status unknown) (instance_view instance.now)
+        → IsLocated (put_forward problem now.old.status unknown) (instance_view instance.now)
         → result ≡ is_violated (put_forward problem now.old.status unknown) (instance_view instance.now) }
     ensures price { now.new.steps + steps.new ≤ now.old.steps + steps.old + cost now.old.status (instance_view instance.now) }
     ensures grows { now.old.steps + steps.old + look_ups now.old.status (instance_view instance.now) ≤ now.new.steps + steps.new }
@@ -76,10 +76,10 @@ fn place_of(key: Key) -> u64
 fn flag_at(flags: &[bool], place: u64) -> bool
     ensures { (flag : Bool) → 0 < place → slice_get flags.now (place - 1) ≡ Some flag → result ≡ flag }
 {
-    match flags.get((place as usize).wrapping_sub(1)) {
-        Some(flag) => *flag,
-        None => false,
-    }
+    flags
+        .get((place as usize).wrapping_sub(1))
+        .copied()
+        .unwrap_or(false)
 }
 
 /// Whether an entry of `upgrade` is violated in the way of the key's aspect.
@@ -115,10 +115,7 @@ fn number_before(before: &[Option<u64>], number: u64, steps: &mut Steps) -> Opti
     ensures price { steps.new ≡ steps.old + 1 }
 {
     steps.tick();
-    match before.get(number as usize - 1) {
-        Some(greatest) => *greatest,
-        None => None,
-    }
+    *before.get(number as usize - 1)?
 }
 
 /// Whether the status gives two different numbers of the name.

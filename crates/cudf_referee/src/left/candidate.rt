@@ -3,7 +3,7 @@ ghost use Rattle.std.specs.Prelude.{◌≤◌, ◌<◌, ◌+◌, ◌^◌, length
 ghost use Rattle.cudf_value.specs.Promises.Views.{clauses_view, vpkgs_view};
 
 use crate::instance::{Instance, What};
-use cudf_job::{Key, Rule};
+use cudf_job::{Key, Part, Rule};
 use cudf_problem::{Keep, Package};
 use cudf_value::{Clauses, Formula, VpkgList, Vpkgs};
 
@@ -158,6 +158,11 @@ impl<'p, 't> Candidate<'p, 't> {
         requires fits { IsTrue (fits (part.Package self.place) rule None) }
         ensures { instance_view result ≡ at_package (placed_view self.entry) rule number (what_view what.entry) }
     {
-        Instance::of_package(self.place, self.package, rule, number, what)
+        Instance {
+            key: Key::new(Part::Package(self.place), rule, number, None),
+            line: self.package.line,
+            subject: Some((self.package.name, self.package.version)),
+            what,
+        }
     }
 }

@@ -160,7 +160,7 @@ impl<'r, 'p, 't> Instances<'r, 'p, 't> {
     ghost use Rattle.cudf_referee.specs.Working.Places.{ahead, BeginsAt};
     ghost use Rattle.cudf_referee.specs.Working.Searches.{Comes, ComesTo, Searches, package_left, packages_rest, request_rest, unknown_rest, stops_from};
     ghost use Rattle.cudf_referee.specs.Working.PackageLeft.{placed_view, Fits, left_in};
-    ghost use Rattle.cudf_referee.specs.Working.Told.{IsTold, IsStopTold};
+    ghost use Rattle.cudf_referee.specs.Working.Located.{IsLocated, IsStopLocated};
 
     /// The package after this many others, as it is judged.
     fn candidate(&self, index: usize, package: &'p Package<'t>) -> Candidate<'p, 't>
@@ -181,7 +181,7 @@ impl<'r, 'p, 't> Instances<'r, 'p, 't> {
     /// Judges an instance.
     #[inline(always)]
     fn judge(&mut self, instance: &Instance<'t>) -> bool
-        requires { IsTold self.old.judged (instance_view instance.now) }
+        requires { IsLocated self.old.judged (instance_view instance.now) }
         ensures { let i = instance_view instance.now in
             Searches self.old (stop_at i ∷ []) (if result then Some i else None) self.new }
     {
@@ -208,7 +208,7 @@ impl<'r, 'p, 't> Instances<'r, 'p, 't> {
         candidate: Candidate<'p, 't>,
         left: &mut Left<'t>,
     ) -> Option<Instance<'t>>
-        requires { All (IsStopTold self.old.judged) (package_left (placed_view candidate) left.old) }
+        requires { All (IsStopLocated self.old.judged) (package_left (placed_view candidate) left.old) }
         ensures searches { Searches self.old (package_left (placed_view candidate.entry) left.old) (option_map instance_view result) self.new }
         ensures comes { IfSome result (λ i. Comes (package_left (placed_view candidate.entry) left.old) (instance_view i) (package_left (placed_view candidate.entry) left.new)) }
     {
@@ -223,7 +223,7 @@ impl<'r, 'p, 't> Instances<'r, 'p, 't> {
 
     /// The first violated instance of the packages that are left.
     fn search_packages(&mut self, cursor: &mut Cursor<'t>) -> Option<Instance<'t>>
-        requires { All (IsStopTold self.old.judged) (packages_rest self.old.judged cursor.old.begun (drop cursor.old.packages (enumerate_from 1 self.old.judged.problem.packages))) }
+        requires { All (IsStopLocated self.old.judged) (packages_rest self.old.judged cursor.old.begun (drop cursor.old.packages (enumerate_from 1 self.old.judged.problem.packages))) }
         ensures searches { Searches self.old (packages_rest self.old.judged cursor.old.begun (drop cursor.old.packages (enumerate_from 1 self.old.judged.problem.packages))) (option_map instance_view result) self.new }
         ensures comes { ComesTo (packages_rest self.old.judged cursor.old.begun (drop cursor.old.packages (enumerate_from 1 self.old.judged.problem.packages))) (option_map instance_view result)
             (packages_rest self.old.judged cursor.new.begun (drop cursor.new.packages (enumerate_from 1 self.old.judged.problem.packages))) }
@@ -248,7 +248,7 @@ impl<'r, 'p, 't> Instances<'r, 'p, 't> {
 
     /// The first violated instance of the request, of those that are left.
     fn search_request(&mut self, left: &mut RequestLeft<'t>) -> Option<Instance<'t>>
-        requires { All (IsStopTold self.old.judged) (request_rest self.old.judged left.old) }
+        requires { All (IsStopLocated self.old.judged) (request_rest self.old.judged left.old) }
         ensures searches { Searches self.old (request_rest self.old.judged left.old) (option_map instance_view result) self.new }
         ensures comes { ComesTo (request_rest self.old.judged left.old) (option_map instance_view result) (request_rest self.old.judged left.new) }
     {
@@ -278,7 +278,7 @@ impl<'r, 'p, 't> Instances<'r, 'p, 't> {
 
     /// The first violated instance ahead.
     fn search(&mut self, cursor: &mut Cursor<'t>) -> Option<Instance<'t>>
-        requires { All (IsStopTold self.old.judged) (stops_from self.old.judged cursor.old) }
+        requires { All (IsStopLocated self.old.judged) (stops_from self.old.judged cursor.old) }
         ensures searches { Searches self.old (stops_from self.old.judged cursor.old) (option_map instance_view result) self.new }
         ensures comes { ComesTo (stops_from self.old.judged cursor.old) (option_map instance_view result) (stops_from self.old.judged cursor.new) }
     {

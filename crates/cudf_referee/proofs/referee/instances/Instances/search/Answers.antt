@@ -5,22 +5,22 @@ use Rattle.std.specs.List.{enumerate_from}
 use Rattle.cudf_referee.specs.Working.Searches.{Comes, ComesTo, Searches, packages_rest, request_rest, unknown_rest}
 use Rattle.cudf_referee.specs.declared.left.request_left.RequestLeft.{RequestLeft}
 use Rattle.std.specs.Prelude.{All}
-use Rattle.cudf_referee.specs.Working.Told.{IsStopTold}
-use Rattle.cudf_referee.proofs.ToldLemmas.{all-left, all-right}
+use Rattle.cudf_referee.specs.Working.Located.{IsStopLocated}
+use Rattle.cudf_referee.proofs.LocatedLemmas.{all-left, all-right}
 use Rattle.cudf_referee.proofs.ComesLemmas.{in-packages, in-request, in-last}
 use Rattle.cudf_referee.proofs.SearchLemmas.{goes-start, goes-found, part-on, part-last}
 use Rattle.cudf_referee.proofs.referee.instances.Instances.search.Goals as goal
 
 pub search_packages-requires : goal.search_packages-requires
-search_packages-requires c = all-left (IsStopTold c.args.self.now.judged) _ _ c.requires
+search_packages-requires c = all-left (IsStopLocated c.args.self.now.judged) _ _ c.requires
 
 pub search_request-requires : goal.search_request-requires
 search_request-requires c =
     let s = c.args.self.now.judged in
     let cursor = c.args.cursor.now in
-    let told = all-left (IsStopTold s) (request_rest s cursor.request) _ (all-right (IsStopTold s) (packages_rest s cursor.begun (drop cursor.packages (enumerate_from 1 s.problem.packages))) _ c.requires) in
-    subst (λ (t : Proposal). All (IsStopTold t) (request_rest t c.search_packages.new.cursor.request)) (sym c.in_default.ensures.searches.judged)
-    (subst (λ (r : RequestLeft). All (IsStopTold s) (request_rest s r)) (sym c.search_packages.ensures.others.0) told)
+    let located = all-left (IsStopLocated s) (request_rest s cursor.request) _ (all-right (IsStopLocated s) (packages_rest s cursor.begun (drop cursor.packages (enumerate_from 1 s.problem.packages))) _ c.requires) in
+    subst (λ (t : Proposal). All (IsStopLocated t) (request_rest t c.search_packages.new.cursor.request)) (sym c.in_default.ensures.searches.judged)
+    (subst (λ (r : RequestLeft). All (IsStopLocated s) (request_rest s r)) (sym c.search_packages.ensures.others.0) located)
 
 pub returns-in-Some-clause-searches : goal.returns-in-Some-clause-searches
 returns-in-Some-clause-searches c =

@@ -4,10 +4,10 @@ use Rattle.cudf_referee.specs.Instances.{PlainInstance}
 use Rattle.cudf_referee.specs.Promises.Stops.{stop_at, package_end}
 use Rattle.cudf_referee.specs.Promises.Views.{instance_view}
 use Rattle.cudf_referee.specs.Working.PackageLeft.{placed_view, left_view}
-use Rattle.cudf_referee.specs.Working.Told.{IsTold, IsStopTold}
+use Rattle.cudf_referee.specs.Working.Located.{IsLocated, IsStopLocated}
 use Rattle.cudf_referee.proofs.ComesLemmas.{tail-start, tail-on, tail-comes}
 use Rattle.cudf_referee.proofs.SearchLemmas.{goes-start, part-last, instances-more, instances-found, instances-end, nothing-next}
-use Rattle.cudf_referee.proofs.ToldLemmas.{next-told}
+use Rattle.cudf_referee.proofs.LocatedLemmas.{next-located}
 use Rattle.cudf_referee.proofs.referee.instances.Instances.search_package.Goals as goal
 
 pub loop-instance-init : goal.loop-instance-init
@@ -16,8 +16,8 @@ loop-instance-init c = (goes-start _ _, tail-start _)
 pub judge-requires : goal.judge-requires
 judge-requires c =
     let p = placed_view c.args.candidate in
-    subst (λ (s : Proposal). IsTold s (instance_view c.in-Some.instance)) (sym c.loop-instance.invariant.0.judged)
-    (next-told (IsStopTold c.args.self.now.judged) _ _ _ _ (ap (λ (l : List PlainInstance). map stop_at l ++ package_end p.0 ∷ []) c.in-Some.ensures) c.loop-instance.invariant.1 c.requires)
+    subst (λ (s : Proposal). IsLocated s (instance_view c.in-Some.instance)) (sym c.loop-instance.invariant.0.judged)
+    (next-located (IsStopLocated c.args.self.now.judged) _ _ _ _ (ap (λ (l : List PlainInstance). map stop_at l ++ package_end p.0 ∷ []) c.in-Some.ensures) c.loop-instance.invariant.1 c.requires)
 
 pub returns-then-judge-clause-searches : goal.returns-then-judge-clause-searches
 returns-then-judge-clause-searches c =

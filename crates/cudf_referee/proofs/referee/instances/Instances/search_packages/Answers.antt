@@ -10,8 +10,8 @@ use Rattle.cudf_referee.specs.Working.Searches.{package_rest}
 use Rattle.cudf_referee.specs.Working.PackageLeft.{placed_view, left_in, left_view}
 use Rattle.std.specs.Prelude.{All}
 use Rattle.std.proofs.lemmas.List.Elements.{All-same}
-use Rattle.cudf_referee.specs.Working.Told.{IsStopTold}
-use Rattle.cudf_referee.proofs.ToldLemmas.{all-left, tail-told}
+use Rattle.cudf_referee.specs.Working.Located.{IsStopLocated}
+use Rattle.cudf_referee.proofs.LocatedLemmas.{all-left, tail-located}
 use Rattle.cudf_referee.proofs.ComesLemmas.{tail-start, tail-past, packages-comes, packages-none}
 use Rattle.cudf_referee.proofs.SearchLemmas.{goes-start, goes-found, searches-at, package-here, packages-next, packages-on, packages-end}
 use Rattle.cudf_referee.proofs.referee.instances.Instances.search_packages.Goals as goal
@@ -31,11 +31,11 @@ search_package-requires c =
     package-here s s c.packages-packages.result.now c.loop-index.index c.index-packages-index.result
     (c.packages-packages.ensures.packages ∙ ap (λ (w : Walking). w.judged.problem.packages) c.self.view_is) refl c.loop-index-test.true c.index-packages-index.is in
     let q : Placed = (c.loop-index.index + 1, package_view c.index-packages-index.result) in
-    All-same (IsStopTold c.loop-index.self.judged) _ _
+    All-same (IsStopLocated c.loop-index.self.judged) _ _
     (ap (λ l. map stop_at l ++ package_end c.candidate-candidate.result.place ∷ []) (c.left-left.ensures c.loop-index.self.judged c.candidate-candidate.ensures.fits) ∙ ap (package_rest c.loop-index.self.judged c.loop-index.begun) c.candidate-candidate.ensures.placed)
-    (subst (λ (t : Proposal). All (IsStopTold t) (package_rest t c.loop-index.begun q)) (sym c.loop-index.invariant.0.judged)
-    (all-left (IsStopTold s) (package_rest s c.loop-index.begun q) _
-    (subst (All (IsStopTold s)) (packages-next s c.loop-index.begun c.loop-index.index _ first) (tail-told (IsStopTold s) _ _ c.loop-index.invariant.1 c.requires))))
+    (subst (λ (t : Proposal). All (IsStopLocated t) (package_rest t c.loop-index.begun q)) (sym c.loop-index.invariant.0.judged)
+    (all-left (IsStopLocated s) (package_rest s c.loop-index.begun q) _
+    (subst (All (IsStopLocated s)) (packages-next s c.loop-index.begun c.loop-index.index _ first) (tail-located (IsStopLocated s) _ _ c.loop-index.invariant.1 c.requires))))
 
 pub returns-in-Some-clause-searches : goal.returns-in-Some-clause-searches
 returns-in-Some-clause-searches c =

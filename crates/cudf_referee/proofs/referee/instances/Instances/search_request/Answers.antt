@@ -6,10 +6,10 @@ use Rattle.cudf_referee.specs.Promises.Views.{instance_view}
 use Rattle.cudf_referee.specs.Promises.Walks.{Walking}
 use Rattle.cudf_referee.specs.Proposals.{Proposal}
 use Rattle.cudf_referee.specs.Working.RequestLeft.{request_left_view}
-use Rattle.cudf_referee.specs.Working.Told.{IsTold, IsStopTold}
+use Rattle.cudf_referee.specs.Working.Located.{IsLocated, IsStopLocated}
 use Rattle.cudf_referee.proofs.ComesLemmas.{tail-start, tail-on, tail-comes}
 use Rattle.cudf_referee.proofs.SearchLemmas.{goes-start, instances-more, instances-found, instances-end, nothing-next, nothing-left}
-use Rattle.cudf_referee.proofs.ToldLemmas.{next-told}
+use Rattle.cudf_referee.proofs.LocatedLemmas.{next-located}
 use Rattle.cudf_referee.proofs.referee.instances.Instances.search_request.Goals as goal
 
 pub loop-instance-init : goal.loop-instance-init
@@ -18,8 +18,8 @@ loop-instance-init c = (goes-start _ _, tail-start _)
 pub judge-requires : goal.judge-requires
 judge-requires c =
     let next = subst (λ (r : PlainRequest). request_left_view r c.loop-instance.left ≡ instance_view c.in-Some.instance ∷ request_left_view r c.next.new.self) (c.request-request.ensures ∙ ap (λ (w : Walking). w.judged.problem.request) c.self.view_is) c.in-Some.ensures in
-    subst (λ (s : Proposal). IsTold s (instance_view c.in-Some.instance)) (sym c.loop-instance.invariant.0.judged)
-    (next-told (IsStopTold c.args.self.now.judged) _ _ _ _ (ap (map stop_at) next) c.loop-instance.invariant.1 c.requires)
+    subst (λ (s : Proposal). IsLocated s (instance_view c.in-Some.instance)) (sym c.loop-instance.invariant.0.judged)
+    (next-located (IsStopLocated c.args.self.now.judged) _ _ _ _ (ap (map stop_at) next) c.loop-instance.invariant.1 c.requires)
 
 pub returns-then-judge-clause-comes : goal.returns-then-judge-clause-comes
 returns-then-judge-clause-comes c =

@@ -5,7 +5,7 @@ use Rattle.cudf_referee.specs.Promises.PositionViews.{position_view}
 use Rattle.cudf_referee.specs.Promises.Views.{instance_view}
 use Rattle.cudf_referee.specs.Promises.Walks.{Walking}
 use Rattle.cudf_referee.specs.Working.Places.{IsFitting, ahead}
-use Rattle.cudf_referee.specs.Working.Told.{IsStopTold}
+use Rattle.cudf_referee.specs.Working.Located.{IsStopLocated}
 use Rattle.cudf_referee.specs.Working.Searches.{Searches, ComesTo, stops_from, first_given}
 use Rattle.cudf_referee.proofs.ComesLemmas.{left-ahead}
 use Rattle.cudf_referee.proofs.SearchLemmas.{or_later-none}
@@ -13,14 +13,14 @@ use Rattle.std.specs.Prelude.{All}
 use Rattle.std.proofs.lemmas.List.Elements.{All-filter}
 use Rattle.cudf_referee.specs.Promises.Stops.{is_ahead, walk}
 use Rattle.cudf_referee.proofs.MoveLemmas.{searched, moved-on}
-use Rattle.cudf_referee.proofs.ToldLemmas.{all-told}
+use Rattle.cudf_referee.proofs.LocatedLemmas.{all-located}
 use Rattle.cudf_referee.proofs.referee.instances.InstancesIterator.next.Goals as goal
 
 pub search-found-requires : goal.search-found-requires
 search-found-requires c =
     let old = c.args.self.now in
-    subst (All (IsStopTold old.judged)) (sym (subst (λ (w : Walking). stops_from w.judged c.self.inside.cursor ≡ ahead w.judged w.position) c.self.view_is c.self.invariant.2))
-    (All-filter (is_ahead old.position) (IsStopTold old.judged) (walk old.judged) (all-told old.judged))
+    subst (All (IsStopLocated old.judged)) (sym (subst (λ (w : Walking). stops_from w.judged c.self.inside.cursor ≡ ahead w.judged w.position) c.self.view_is c.self.invariant.2))
+    (All-filter (is_ahead old.position) (IsStopLocated old.judged) (walk old.judged) (all-located old.judged))
 
 pub invariant_of-self : goal.invariant_of-self
 invariant_of-self c =

@@ -1,4 +1,4 @@
--- What is known of all instances of a proposal, and of the stops that are left.
+-- All instances of a proposal are where their keys say, and so are those at the stops that are left.
 use Rattle.std.proofs.Common.{◌≡◌, ◌+◌, ◌-◌, ◌&&◌, List, [], ◌∷◌, ◌++◌, map, Some, ap, ◌∙◌, refl, subst, arith}
 use Rattle.std.specs.Prelude.{All, slice_get, option_map}
 use Rattle.std.proofs.lemmas.List.Elements.{All-nil, All-cons, All-head, All-tail, All-map}
@@ -7,15 +7,15 @@ use Rattle.cudf_referee.specs.Proposals.{Proposal}
 use Rattle.cudf_referee.specs.Promises.Stops.{Stop, walk}
 use Rattle.cudf_referee.specs.Violations.{has_package, unknown_instance}
 use Rattle.cudf_referee.specs.Working.Named.{keeps_name, has_kept_name}
-use Rattle.cudf_referee.specs.Working.Told.{IsTold, IsStopTold}
+use Rattle.cudf_referee.specs.Working.Located.{IsLocated, IsStopLocated}
 use Rattle.cudf_referee.proofs.ComesLemmas.{IsTail}
 use Rattle.cudf_referee.proofs.EachLemmas.{Each, all-stops}
 use Rattle.cudf_referee.proofs.GroundLemmas.{held-at}
 
-pub all-told : (s : Proposal) → All (IsStopTold s) (walk s)
-all-told s = all-stops (IsTold s) s each
+pub all-located : (s : Proposal) → All (IsStopLocated s) (walk s)
+all-located s = all-stops (IsLocated s) s each
   where
-    each : Each (IsTold s) s
+    each : Each (IsLocated s) s
     each = record {
       depends = λ i p is j c at. tt;
       conflicts = λ i p is j v at status. refl;
@@ -29,7 +29,7 @@ all-told s = all-stops (IsTold s) s each
       install = λ j v at. tt;
       remove = λ j v at. tt;
       upgrade = λ j v at aspect. ap (slice_get s.problem.request.upgrade) {x = j + 1 - 1} {y = j} (omega arith) ∙ at;
-      unknown = All-map (IsTold s) unknown_instance s.unknown (λ k d inside. tt);
+      unknown = All-map (IsLocated s) unknown_instance s.unknown (λ k d inside. tt);
     }
 
 -- ---- the stops that are left
@@ -43,8 +43,8 @@ module _ (P : Stop → Type 0) where
   all-right [] ys all = all
   all-right (x ∷ xs) ys all = all-right xs ys (All-tail P x (xs ++ ys) all)
 
-  pub tail-told : (all rest : List Stop) → IsTail all rest → All P all → All P rest
-  tail-told all rest tail told = all-right tail.before rest (subst (All P) tail.is told)
+  pub tail-located : (all rest : List Stop) → IsTail all rest → All P all → All P rest
+  tail-located all rest tail located = all-right tail.before rest (subst (All P) tail.is located)
 
-  pub next-told : (all rest : List Stop) (x : Stop) (more : List Stop) → rest ≡ x ∷ more → IsTail all rest → All P all → P x
-  next-told all rest x more same tail told = All-head P x more (subst (All P) same (tail-told all rest tail told))
+  pub next-located : (all rest : List Stop) (x : Stop) (more : List Stop) → rest ≡ x ∷ more → IsTail all rest → All P all → P x
+  next-located all rest x more same tail located = All-head P x more (subst (All P) same (tail-located all rest tail located))
