@@ -10,7 +10,7 @@ usage: memory.py PROGRAM [TESTS]
   says if a file had been opened. The answer may be right if memory was to be given back, or if arguments are invalid.
 - The inputs of growth.txt, in a size and in twice that, with a stack of 128 KB: the whole answer. At most are wanted
   - growths: one for each byte of the input, and 500; for twice the input 2.2 times as many, and 500
-  - bytes held at once: 64 for each byte of the input, or 3 after an error, and 1 MB; none at the end
+  - bytes held at once: 64 for each byte of the input, or 4 after an error, and 1 MB; none at the end
   - reads: of a file one for each 65,536 bytes, of a pipe that gives a byte at a time one for each byte, and 8
   - processor time: for twice the input 3 times, where a square takes 4; the least of some runs of both in turn
 - Inputs of 268,435,456 bytes, with 3 bytes of memory for each byte and 1 MB; and of one byte more, which is too long.

@@ -15,7 +15,7 @@ of the same clause has an answer. What isn't refused so is tried again alone, an
 
 The libraries below a crate must be built, by rt ci, or by rt check in the crate's folder. Crates are tried side by
 side, as many as there are processors, and 4 GB of memory for each; the checks of one crate go on from each other's
-work. Told are the mutants that fail, and all of a crate that is named. --read only tells which can't be planted.
+work. The mutants that fail are printed, and all of a crate that is named. --read only prints which can't be planted.
 --selftest tries the changes of mutants_test.txt.
 
 It rests on `crates_below`, `is_built`, `guarded`, `checked`, `processors` and `free` of the command rt, and on lines
@@ -54,18 +54,18 @@ class Mutant:
         self.path, self.function = ("".join(re.findall(rf"^{it}: (.+)$", edit, re.M)) for it in ("file", "fn"))
         self.changes = re.findall(r"^old: (.+)\nnew: ?(.*)$", edit, re.M)
         # why it can't be planted, or what the last check says of its function
-        self.told = ""
+        self.message = ""
 
     def plant(self, texts):
         """Plants it in the texts of the crate's files, by their paths, and returns whether it could."""
         file = Path(self.crate.folder, self.path)
         if not (self.path.startswith("src/") and file.is_file() and self.function and self.changes):
-            self.told = "it needs the lines 'file: src/..', 'fn: ..', 'old: ..' and 'new: ..'"
+            self.message = "it needs the lines 'file: src/..', 'fn: ..', 'old: ..' and 'new: ..'"
             return False
         text = texts.get(self.path) or file.read_text(encoding="utf-8")
         for old, new in self.changes:
             if text.count(old) != 1:
-                self.told = f"{self.path} has this {text.count(old)} times, and not once: {old}"
+                self.message = f"{self.path} has this {text.count(old)} times, and not once: {old}"
                 return False
             text = text.replace(old, new)
         texts[self.path] = text
@@ -73,8 +73,8 @@ class Mutant:
 
     def judge(self, said):
         """Notes what a check says of the function."""
-        self.told = dict(STATUS.findall(said)).get(f"{self.crate.name}::{self.function}", "")
-        goals = [goal for some in OPEN.findall(self.told) for goal in re.findall(r"`([^`]+)`", some)]
+        self.message = dict(STATUS.findall(said)).get(f"{self.crate.name}::{self.function}", "")
+        goals = [goal for some in OPEN.findall(self.message) for goal in re.findall(r"`([^`]+)`", some)]
         if any(BRANCH.search(text) for change in self.changes for text in change):
             answers = Path(self.crate.folder, "proofs", *self.function.split("::"), "Answers.antt")
             text = answers.read_text(encoding="utf-8") if answers.is_file() else ""
@@ -120,7 +120,7 @@ def try_crate(mutants):
             if not it.is_refused:
                 check([it], kept)
     print(f"{mutants[0].crate.name}: {len(mutants)} tried, {sum(it.is_refused for it in mutants)} refused", flush=True)
-    return any(it.told for it in plantable)
+    return any(it.message for it in plantable)
 
 
 def is_there(library):
@@ -132,7 +132,7 @@ def is_there(library):
 def main():
     parser = argparse.ArgumentParser(description=__doc__.partition("\n")[0])
     parser.add_argument("--jobs", type=int, help="how many crates side by side")
-    parser.add_argument("--read", action="store_true", help="only tell which can't be planted")
+    parser.add_argument("--read", action="store_true", help="only print which can't be planted")
     parser.add_argument("--selftest", action="store_true", help="try the changes of mutants_test.txt")
     parser.add_argument("crate", nargs="*", help="all crates, if none is named")
     given = parser.parse_args()
@@ -141,7 +141,7 @@ def main():
     trials = [samples(crates["cudf_text"])] if given.selftest else [*filter(None, map(mutants_of, named))]
     mutants = sum(trials, []) or stop("there are no mutants")
     if given.read:
-        bad = [f"{it.name}: {it.told}" for it in mutants if not it.plant({})]
+        bad = [f"{it.name}: {it.message}" for it in mutants if not it.plant({})]
         print("\n".join([*bad, f"{len(mutants)} mutants, {len(bad)} can't be planted"]))
         return 1 if bad else 0
     for library in {lib for some in trials for lib in some[0].crate.below()}:
@@ -155,8 +155,8 @@ def main():
             stop("no check has a line 'fn NAME: ..' of a mutant's function: see the head of tools/mutants.py")
     wrong = [it for it in mutants if it.is_refused != it.must_be_refused]
     for it in mutants if given.crate else wrong:
-        told = it.told or "no check has a line of its function: does it compile?"
-        print(f"{it.name}: {'' if it.is_refused else 'not '}refused: {told}")
+        message = it.message or "no check has a line of its function: does it compile?"
+        print(f"{it.name}: {'' if it.is_refused else 'not '}refused: {message}")
     used = resource.getrusage(resource.RUSAGE_CHILDREN)
     minutes = (used.ru_utime + used.ru_stime) / 60
     print(f"{minutes:.1f} minutes of processor time, at most {used.ru_maxrss // 1024} MB a check")
