@@ -4,7 +4,7 @@ use Rattle.std.specs.List.{count_by, list_any}
 use Rattle.std.specs.Cmp.{both_ways}
 use Rattle.std.specs.List.Sorted.{IsNonDecreasing}
 use Rattle.std.proofs.Math.Logic.{inl, inr}
-use Rattle.std.proofs.lemmas.Bool.{eqb-true, eq-eqb, true≢false, cases_lt}
+use Rattle.std.proofs.lemmas.Bool.{eqb-true, eq-eqb, cases_lt}
 use Rattle.std.proofs.lemmas.Bool.Decides.{nat_tests}
 use Rattle.std.proofs.lemmas.List.{get_or_default}
 use Rattle.std.proofs.lemmas.List.Folds.{list_any_at, Any-from_list_any}
@@ -39,10 +39,16 @@ ends_tell bound xs least greatest several ordered some first last = both_ways _ 
         (omega (arith, last 0, ordered at.0 (length xs - 1) 0 (omega (arith, at.2)) (omega arith), get_or_default xs at.0 at.1 0 at.2, at.3))
         at.4
 
--- a number that is greater than each is none of them
-pub all_less : (xs : List ℕ) (n : ℕ) → ((k : ℕ) → k < length xs → get_or xs k 0 < n) → false ≡ nat_lt 0 (count_by (λ m. m == n) xs)
-all_less xs n less = both_ways false _ (λ e. absurd (true≢false (sym e))) (λ any. let at = Any-from_list_any (λ m. m == n) xs any in
-    absurd (omega (arith, less at.0 at.2, get_or_default xs at.0 at.1 0 at.2, at.3, eqb-true at.1 n at.4))) ∙ any-count (λ m. m == n) xs
+-- a number that isn't below the greatest is one of them only where it is the greatest
+pub found_last : (xs : List ℕ) (n last : ℕ) → IsNonDecreasing xs → 0 < length xs → ((d : ℕ) → last ≡ get_or xs (length xs - 1) d) → last ≤ n → (last == n) ≡ nat_lt 0 (count_by (λ m. m == n) xs)
+found_last xs n last ordered some is most =
+    both_ways _ _ (λ same. list_any_at (λ m. m == n) xs (length xs - 1) 0 (omega arith) (ap (λ m. m == n) (sym (is 0)) ∙ same)) back ∙ any-count (λ m. m == n) xs
+  where
+    back : list_any (λ m. m == n) xs ≡ true → (last == n) ≡ true
+    back any =
+        let at = Any-from_list_any (λ m. m == n) xs any in
+        let there : get_or xs at.0 0 ≡ n = get_or_default xs at.0 0 at.1 at.2 ∙ at.3 ∙ eqb-true at.1 n at.4 in
+        eq-eqb last n (omega (arith, is 0, ordered at.0 (length xs - 1) 0 (omega arith) (omega arith), there))
 
 -- one is one of them where it is at its place
 pub found_at : (xs : List ℕ) (n high place found : ℕ) → IsNonDecreasing xs → StandsUnder xs n high place → place < length xs → ((d : ℕ) → found ≡ get_or xs place d) → (found == n) ≡ nat_lt 0 (count_by (λ m. m == n) xs)

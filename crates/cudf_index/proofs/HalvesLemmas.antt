@@ -27,13 +27,13 @@ module _ (test : Provision → Bool) where
     joined : row ≡ front.value ++ back.value
     joined = sym view ∙ ap provisions is
 
-    -- what the node says of all that it holds
-    pub in_neither : ((xs : List Provision) → Completes xs entries.value → first xs ≡ None) → None ≡ first row
-    in_neither never = let halves : AreHalves entries.value front.value back.value = subst Holds is holds in
-        sym (ap first joined ∙ never (front.value ++ back.value) halves.whole)
-
     pub in_back : (here later : Option ℕ) → here ≡ first front.value → later ≡ first back.value → here ≡ None → later ≡ first row
     in_back here later before behind none = behind ∙ ap (λ o. option_or o (first back.value)) (sym none ∙ before) ∙ sym (ap first joined ∙ first-append front.value back.value)
+
+    -- where what is kept says that the first half has none
+    pub in_second : (later : Option ℕ) → ((xs : List Provision) → Completes xs entries.value → first xs ≡ None) → later ≡ first back.value → later ≡ first row
+    in_second later never behind = let halves : AreHalves entries.value front.value back.value = subst Holds is holds in
+        in_back None later (sym (never front.value halves.first)) behind refl
 
     pub in_front : (here : Option ℕ) → here ≡ first front.value → (here ≡ None → ⊥) → here ≡ first row
     in_front here before some = kept here some ∙ ap (λ o. option_or o (first back.value)) before ∙ sym (ap first joined ∙ first-append front.value back.value)

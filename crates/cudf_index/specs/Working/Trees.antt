@@ -10,8 +10,9 @@ abbrev pub provisions : Node → List Provision
 provisions (Few row) = row.items
 provisions (Halves entries front back) = front.value ++ back.value
 
+-- what is kept is that of the first half
 pub record AreHalves (entries : Entries) (front back : List Provision) : Type 0 where
-  pub whole : Completes (front ++ back) entries
+  pub first : Completes front entries
   pub front_some : 0 < length front
   pub back_some : 0 < length back
 

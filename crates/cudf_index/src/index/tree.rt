@@ -25,7 +25,7 @@ pub(crate) struct ProvisionTree {
 #[derive(Drop)]
 enum Node {
     Few(Vec<Provision>),
-    /// What both halves hold together, and the halves.
+    /// What the first half holds, and the halves.
     Halves(Box<Entries>, Box<ProvisionTree>, Box<ProvisionTree>),
 }
 
@@ -72,8 +72,8 @@ impl ProvisionTree {
                 node: Node::Few(few),
             });
         }
-        let entries = Box::new(alloc, completed(alloc, row)?)?;
         let (front, back) = row.split_at(row.len() / 2);
+        let entries = Box::new(alloc, completed(alloc, front)?)?;
         let front = Box::new(alloc, Self::build(alloc, front)?)?;
         let back = Box::new(alloc, Self::build(alloc, back)?)?;
         Ok(ProvisionTree {
@@ -84,8 +84,8 @@ impl ProvisionTree {
     /// The place of the first of them that is at another place than `except` and meets the
     /// bound.
     ///
-    /// Its cost is the square of the binary digits of their number: a half is entered in vain only
-    /// where it holds provisions of the package at `except` and of another one. Since those of a
+    /// Its cost is the square of the binary digits of their number: a first half is entered in vain
+    /// only where it holds provisions of the package at `except` and of another one. Since those of a
     /// package are together, there are at most two such halves of each size.
     pub(crate) fn first(&self, bound: Option<(Relop, u64)>, except: Option<u64>) -> Option<u64>
         ensures { result ≡ first_place_of except bound self.now }
@@ -94,7 +94,7 @@ impl ProvisionTree {
             Node::Few(few) => first_of(few, bound, except),
             Node::Halves(entries, front, back) => {
                 if !may_meet(entries, bound, except) {
-                    return None;
+                    return back.first(bound, except);
                 }
                 match front.first(bound, except) {
                     None => back.first(bound, except),
@@ -104,8 +104,7 @@ impl ProvisionTree {
         }
     }
 
-    /// The place of the first of them that is a package's own version. A half is entered only where it holds one, or
-    /// is read one by one.
+    /// The place of the first of them that is a package's own version. A first half is entered only where it holds one.
     pub(crate) fn first_version(&self) -> Option<u64>
         ensures { result ≡ first_version_of self.now }
     {
@@ -113,7 +112,7 @@ impl ProvisionTree {
             Node::Few(few) => first_version_of(few),
             Node::Halves(entries, front, back) => {
                 if !entries.is_package {
-                    return None;
+                    return back.first_version();
                 }
                 match front.first_version() {
                     None => back.first_version(),
