@@ -1,33 +1,34 @@
 /*
- * cudf_check: checks proposed solutions of CUDF 2.0 upgrade problems, for C and C++.
+ * cudf_check: checks answers to CUDF 2.0 upgrade problems, for C and C++.
  *
- * Six calls make the reports of the program's six commands, byte for byte, of documents that are held in memory. Each
- * answers the program's exit status:
+ * Six calls write the reports of the program's six commands, byte for byte, about documents in memory. Each returns the
+ * program's exit status:
  *
- *     0  solution; lint: no fault; rank: at least one of them is a solution; cnf: it was made; refute: the proof holds
- *     1  not a solution; rank: none of them is one, and not all say FAIL; refute: the proof has a fault
- *     2  faulty document
- *     3  the solution says FAIL; rank: all of them do, or there are none
- *     4  the key isn't one, or the list isn't one
+ *     0  the answer is a solution; lint: the problem is valid; rank: at least one answer is a solution; cnf: it was made;
+ *        refute: the proof holds
+ *     1  the answer isn't a solution; rank: none is one, and not all say FAIL; refute: the proof has an error
+ *     2  a document is malformed
+ *     3  the answer says FAIL; rank: all do, or there are none
+ *     4  invalid key or list
  *     5  a document is longer than 256 MiB (268435456 bytes); cnf and refute: the CNF has more than 4294967295 clauses
  *     6  out of memory
  *
- * Status 4 comes before 5, and both come before a byte of a document is read: one is too long by its length alone.
+ * Status 4 comes before 5. Neither needs a byte of a document: the length shows that one is too long.
  *
- * The report goes to the front of the caller's buffer, `report`, as far as it has room, and `*length` is the length of the
- * whole report. Where that is more than `room`, the report was cut at the buffer's end: the same call with a larger buffer
- * gives all of it. What lies in the buffer behind the report stays as it was, and with status 4, 5 and 6 all of it, and then
- * `*length` is 0. A report is UTF-8 text in lines that end with LF, without a NUL behind it.
+ * The report is written to your buffer `report` of `room` bytes, as far as it fits, and `*length` is the length of the
+ * whole report. If that is more than `room`, the report was cut: call again with a larger buffer. The rest of the buffer
+ * is unchanged. With status 4, 5 and 6 all of it is, and `*length` is 0. A report is UTF-8 text in lines that end with LF,
+ * without a NUL after it.
  *
- * Texts are bytes with a length, in no need of a NUL. A null text is empty, a null buffer has no room, and a null array has
- * no solutions, whatever number is given with it. `length` may not be null. With a room of 0 a call tells its status and the
- * report's length alone. The buffer and `*length` lie apart from each other and from all texts.
+ * Texts have a length, and need no NUL. A null text is empty, a null buffer has no room, and a null array has no solutions,
+ * whatever length is passed with it. `length` must not be null. With `room` 0 a call returns only its status and the
+ * report's length. The buffer and `*length` must not overlap each other or a text.
  *
- * Nothing is kept between calls: any number of threads may call at once. Memory is taken by malloc and given back before a
- * call returns. The report takes none: what the buffer has no room for is only counted. No call may be made from a signal
- * handler, or in a child that was forked from a process with several threads.
+ * Nothing is kept between calls: any number of threads may call at once. Memory comes from malloc and is freed before a
+ * call returns. The report takes none: what doesn't fit is only counted. Don't call from a signal handler, or in a child
+ * that was forked from a process with several threads.
  *
- * docs/FORMAT.md and docs/RULES.md of cudf_check say what a report says.
+ * docs/FORMAT.md and docs/RULES.md of cudf_check describe the reports.
  */
 #ifndef CUDF_CHECK_H
 #define CUDF_CHECK_H
@@ -36,10 +37,10 @@
 #include <stddef.h>
 #include <stdint.h>
 
-/* The version of this header. `cudf_check_version` tells the library's. */
+/* The version of this header. `cudf_check_version` writes the library's. */
 #define CUDF_CHECK_VERSION "1.0.0"
 
-/* The exit statuses of the program, which the calls answer. */
+/* The exit statuses of the program, which the calls return. */
 #define CUDF_CHECK_YES 0
 #define CUDF_CHECK_NO 1
 #define CUDF_CHECK_FAULTY 2
@@ -48,74 +49,74 @@
 #define CUDF_CHECK_UNREAD 5
 #define CUDF_CHECK_MEMORY 6
 
-/* How many bytes a document has at most. */
+/* The greatest length of a document, in bytes. */
 #define CUDF_CHECK_LONGEST 268435456
 
 #ifdef __cplusplus
 extern "C" {
 #endif
 
-/* A text of a caller's, made by `cudf_check_text_of`: its bytes, which are never null, and how many there are. */
+/* A text of yours, made by `cudf_check_text_of`: its bytes, which are never null, and their number. */
 typedef struct cudf_check_text {
     const uint8_t *bytes;
     size_t length;
 } cudf_check_text;
 
 /*
- * Checks that a text is a valid problem: `problem ok`, or its first fault. The whole text is the problem. `strict` refuses
- * more kinds of faults, as the program's `--strict` does; `explain` adds the cause to a fault, as `--explain` does.
+ * Checks that a text is a valid problem: `problem ok`, or its first error. The whole text is the problem. `strict` and
+ * `explain` are the program's `--strict` and `--explain`: they reject more, and add the cause of an error.
  */
 uint8_t cudf_check_lint(bool strict, bool explain, const uint8_t *problem, size_t problem_length, uint8_t *report,
                         size_t room, size_t *length);
 
 /*
- * Checks a solution of a problem: a line for each violation, sorted by key, and the verdict. `after` is the key after which
- * the lines begin, as `p1.depends.1`, or an empty text; `limit` is the greatest number of lines, or 0 for all. If a limit
- * leaves lines out, `more after KEY` says where the next page begins. The verdict is of all violations. `explain` adds the
- * cause to each line and to a fault, as docs/FORMAT.md lists.
+ * Checks an answer to a problem: a line for each violation, sorted by key, and the verdict. With `after`, a key such as
+ * `p1.depends.1`, only those with greater keys are printed; it may be empty. `limit` is the greatest number of lines, or 0
+ * for all. If it leaves out lines, `more after KEY` says where the next page begins. The verdict is about all violations.
+ * `explain` adds the cause to each line, or of an error, as docs/FORMAT.md lists.
  */
 uint8_t cudf_check_check(bool strict, bool explain, const uint8_t *problem, size_t problem_length,
                          const uint8_t *solution, size_t solution_length, const uint8_t *after, size_t after_length,
                          uint64_t limit, uint8_t *report, size_t room, size_t *length);
 
 /*
- * Counts what a solution of a problem changes and lacks, and gives the verdict. `criteria` is a list such as
- * `-removed,-changed`, whose counts are printed in its order, or an empty text for those of the MISC competition.
+ * Counts what an answer changes and lacks, and prints the verdict. `criteria` is a list such as `-removed,-changed`, whose
+ * counts are printed in its order, or empty for those of the MISC competition.
  */
 uint8_t cudf_check_score(bool strict, const uint8_t *problem, size_t problem_length, const uint8_t *solution,
                          size_t solution_length, const uint8_t *criteria, size_t criteria_length, uint8_t *report,
                          size_t room, size_t *length);
 
 /*
- * Ranks `count` solutions of a problem by the list `criteria`, the best first: a line for each, with its rank and its place
- * among the solutions, both from 1. With an empty list places alone decide between two solutions.
+ * Ranks `count` answers to a problem by the list `criteria`, the best first: a line for each, with its rank and its place
+ * among the answers, both from 1. With an empty list, solutions keep their order.
  */
 uint8_t cudf_check_rank(bool strict, const uint8_t *problem, size_t problem_length, const cudf_check_text *solutions,
                         size_t count, const uint8_t *criteria, size_t criteria_length, uint8_t *report, size_t room,
                         size_t *length);
 
 /*
- * Makes the rules of a problem a CNF in DIMACS, for a SAT solver: it has a model exactly where the problem has a solution.
- * It can be far longer than the problem: a call with a room of 0 tells how long.
+ * Writes the rules of a problem as a CNF in DIMACS, for a SAT solver: it has a model exactly if the problem has a solution.
+ * It can be far longer than the problem; a call with `room` 0 returns its length.
  */
 uint8_t cudf_check_cnf(bool strict, const uint8_t *problem, size_t problem_length, uint8_t *report, size_t room,
                        size_t *length);
 
 /*
- * Checks a proof, in LRAT's text form, that the CNF of a problem has no model, and so that the problem has no solution. A
- * proof that holds is answered by the instances that it needs, of which every answer violates one, and
- * `no solution exists`. If it doesn't hold, its first fault is reported, as `proof line 3: L5 no such clause`. `explain`
- * adds the cause to each line, as docs/FORMAT.md lists.
+ * Checks a proof, in LRAT's text form, that the CNF of a problem has no model, and so that the problem has no solution. If
+ * it holds, the report is a line for each rule that it uses, of which every answer violates one, and `no solution exists`;
+ * otherwise the proof's first error, such as `proof line 3: L5 no such clause`. `explain` adds the cause to each line, as
+ * docs/FORMAT.md lists.
  */
 uint8_t cudf_check_refute(bool strict, bool explain, const uint8_t *problem, size_t problem_length,
                           const uint8_t *proof, size_t proof_length, uint8_t *report, size_t room, size_t *length);
 
-/* Tells the library's version as a report is told: as `1.0.0`. */
+/* Writes the library's version, such as `1.0.0`, like a report. */
 void cudf_check_version(uint8_t *text, size_t room, size_t *length);
 
 /*
- * What a C compiler calls by the names above. The library takes no null pointers; these functions see to it. Whoever calls
- * by other ways, as from another language, gives no null pointers.
+ * What a C compiler calls by the names above: these functions replace null pointers, which the library doesn't take. If you
+ * call it without this header, as from another language, pass no null pointers.
  */
 static inline cudf_check_text cudf_check_text_of(const void *bytes, size_t length)
 {

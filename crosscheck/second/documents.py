@@ -63,7 +63,7 @@ def line_class(line):
         return "blank"
     if line[0] in BLANKS:
         return "continuation"
-    return "name line" if re.match(IDENT.pattern + ":", line) else "faulty"
+    return "name line" if re.match(IDENT.pattern + ":", line) else "invalid"
 
 
 def read_stanzas(text):
@@ -80,7 +80,7 @@ def read_stanzas(text):
         elif found == "continuation" and is_open:
             stanzas[-1].properties[-1][2].append(line.strip(BLANKS))
         elif found != "blank":
-            fault = number, 2 if found == "faulty" else 3
+            fault = number, 2 if found == "invalid" else 3
         is_open = found == "name line" or is_open and found != "blank"
         if is_open:
             stanzas[-1].last = number

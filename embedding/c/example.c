@@ -1,6 +1,6 @@
 /*
- * cudf_check from C99: judges an answer and reads a fault, both explained; counts, ranks, makes a CNF and checks a proof
- * that it has no model, and goes through a report by pages. Prints what stands in embedding/expected.txt.
+ * cudf_check from C99: checks an answer and a malformed problem, both explained; counts and ranks;
+ * makes a CNF and checks a proof that it has no model; goes through a report by pages. Prints embedding/expected.txt.
  *
  *     cc -std=c99 -Iinclude embedding/c/example.c lib/libcudf_check.a -o example
  */
@@ -10,7 +10,7 @@
 #include <stdlib.h>
 #include <string.h>
 
-/* car 1 is installed and needs a newer wheel than the one that is installed beside it */
+/* car 1 is installed and needs a newer wheel than the one that is installed with it */
 static const char problem[] = "package: car\nversion: 1\ndepends: wheel > 2\ninstalled: true\n\n"
                               "package: wheel\nversion: 2\ninstalled: true\n\n"
                               "package: wheel\nversion: 3\n\n"
@@ -31,7 +31,7 @@ static const char proof[] = "3 0 2 1 0\n";
 
 enum { PACKAGES = 10000, LINES = 1000 };
 
-/* The report of the last call with a NUL behind it, in a buffer that serves all calls. */
+/* The report of the last call with a NUL after it, in a buffer that serves all calls. */
 struct report {
     char *text;
     size_t length, room;
@@ -77,7 +77,7 @@ static void check_page(const char *text, const char *after, uint64_t limit, stru
     while (!is_whole(report));
 }
 
-/* Whether the pages of a listing, without what stands behind all but the last of them, are the whole report. */
+/* Whether the pages of a listing, without the ends of all but the last of them, are the whole report. */
 static bool is_whole_by_pages(const char *text, int *pages)
 {
     static const char more[] = "\nmore after ";

@@ -1,8 +1,7 @@
-// cudf_check for C++17: the calls of cudf_check.h, which says what each gives, with texts as std::string_view and reports
-// as std::string.
+// cudf_check for C++17: the calls described in cudf_check.h, with texts as std::string_view and reports as std::string.
 //
-// The six calls don't throw: where a report gets no memory the status is Status::memory, as where the library gets none. A
-// view without data is an empty text.
+// The six calls don't throw: if there is no memory for a report, the status is Status::memory, as if the library had none.
+// A view without data is an empty text.
 #ifndef CUDF_CHECK_HPP
 #define CUDF_CHECK_HPP
 
@@ -40,7 +39,7 @@ inline std::uint8_t *bytes_of(std::string &text)
     return reinterpret_cast<std::uint8_t *>(text.data());
 }
 
-// Makes a call with a buffer for its report, and again with a larger one where that was too small.
+// Makes a call with a buffer for its report, and again with a larger one if that was too small.
 template <class Call>
 Answer answer_of(const Call &call) noexcept
 try {

@@ -1,5 +1,5 @@
-// cudf_check from C++17: judges an answer and reads a fault, both explained; counts, ranks, makes a CNF and checks a proof
-// that it has no model, and goes through a report by pages. Prints what stands in embedding/expected.txt.
+// cudf_check from C++17: checks an answer and a malformed problem, both explained; counts and ranks;
+// makes a CNF and checks a proof that it has no model; goes through a report by pages. Prints embedding/expected.txt.
 //
 //     c++ -std=c++17 -Iinclude embedding/cpp/example.cpp lib/libcudf_check.a -o example
 #include "cudf_check.hpp"
@@ -12,7 +12,7 @@
 
 namespace {
 
-// car 1 is installed and needs a newer wheel than the one that is installed beside it
+// car 1 is installed and needs a newer wheel than the one that is installed with it
 constexpr std::string_view problem = R"(package: car
 version: 1
 depends: wheel > 2
@@ -104,7 +104,7 @@ std::string broken(int count)
     return text.str();
 }
 
-// The pages of a listing, without what stands behind all but the last of them, and how many they are.
+// The pages of a listing, without the ends of all but the last of them, and how many they are.
 std::pair<std::string, int> by_pages(const std::string &text)
 {
     constexpr std::string_view more = "\nmore after ";

@@ -2,7 +2,7 @@
 type status = Yes | No | Faulty | Fail | Usage | Unread | Memory
 type answer = { status : status; report : string }
 
-(* Each puts the front of its report into the bytes, and tells the length of the whole one. *)
+(* Each writes the front of its report into the bytes, and returns the length of the whole one. *)
 external lint_into : bool -> bool -> string -> bytes -> status * int = "cudf_check_ocaml_lint"
 
 external check_into : bool -> bool -> string -> string -> string -> int -> bytes -> status * int
@@ -14,7 +14,7 @@ external cnf_into : bool -> string -> bytes -> status * int = "cudf_check_ocaml_
 external refute_into : bool -> bool -> string -> string -> bytes -> status * int = "cudf_check_ocaml_refute"
 external version_into : bytes -> status * int = "cudf_check_ocaml_version"
 
-(* Makes a call with a buffer for its report, and again with a larger one where that was too small. *)
+(* Makes a call with a buffer for its report, and again with a larger one if that was too small. *)
 let rec answer ?(room = 4096) call =
   let buffer = Bytes.create room in
   let status, length = call buffer in

@@ -2,7 +2,7 @@
  * What cudf_check.ml calls: the calls of cudf_check.h on strings and bytes of OCaml's, each answered by a pair of the status
  * and the report's length.
  *
- * OCaml's runtime isn't released during a call: the library reads the strings where they stand, and a collection in
+ * OCaml's runtime isn't released during a call: the library reads the strings in place, and a collection in
  * another thread would move them.
  */
 #include "cudf_check.h"

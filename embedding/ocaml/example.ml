@@ -1,5 +1,5 @@
-(* cudf_check from OCaml: judges an answer and reads a fault, both explained; counts, ranks, makes a CNF and checks a proof
-   that it has no model, and goes through a report by pages. Prints what stands in embedding/expected.txt.
+(* cudf_check from OCaml: checks an answer and a malformed problem, both explained; counts and ranks;
+   makes a CNF and checks a proof that it has no model; goes through a report by pages. Prints embedding/expected.txt.
 
    In embedding/ocaml, or a copy of it, by dune, where header and library are installed, or by the compiler alone:
 
@@ -7,7 +7,7 @@
        ocamlopt -ccopt -I../../include cudf_check_stubs.c cudf_check.mli cudf_check.ml example.ml \
            ../../lib/libcudf_check.a -o example *)
 
-(* car 1 is installed and needs a newer wheel than the one that is installed beside it *)
+(* car 1 is installed and needs a newer wheel than the one that is installed with it *)
 let problem =
   {|package: car
 version: 1
@@ -77,7 +77,7 @@ let more_after line =
 
 let lines_of report = String.split_on_char '\n' report
 
-(* The lines of each page of a listing, without what stands behind all but the last of them. *)
+(* The lines of each page of a listing, without the ends of all but the last of them. *)
 let rec pages_of ?after text =
   let page = lines_of (Cudf_check.check ?after ~limit:lines text text).report in
   match List.find_map more_after page with

@@ -1,22 +1,22 @@
-"""cudf_check for Python: checks proposed solutions of CUDF 2.0 upgrade problems, through the library for C.
+"""cudf_check for Python: checks answers to CUDF 2.0 upgrade problems, through the library for C.
 
-Each of `lint`, `check`, `score`, `rank`, `cnf` and `refute` makes the report of the program's command of that name, and
-gives it with its status and with what it says as values; docs/FORMAT.md and docs/RULES.md of cudf_check say what that
-means.
+`lint`, `check`, `score`, `rank`, `cnf` and `refute` return the report of the program's command of that name, its status,
+and what it says as values; docs/FORMAT.md and docs/RULES.md of cudf_check describe the reports.
 
-A document is a text or a file. Texts are `str`, taken as UTF-8, or buffers: `bytes`, `bytearray`, `memoryview`, `mmap`. A
-buffer is read where it lies, or copied if it is read-only and not `bytes`; it must not change during the call. An
-`os.PathLike`, such as `pathlib.Path`, is a file, which is opened and read.
+A document is a text or a file. Texts are `str`, encoded as UTF-8, or buffers: `bytes`, `bytearray`, `memoryview`, `mmap`. A
+buffer isn't copied unless it is read-only and not `bytes`; it must not change during the call. An `os.PathLike`, such as
+`pathlib.Path`, is a file, which is opened and read.
 
-Faults of documents are reported. Exceptions tell that there is no report:
+Errors of documents are reported. An exception means that there is no report:
 
 - `ValueError`: the key, the limit or the list of criteria is invalid. The text is the program's.
 - `TooLong`, a `ValueError`: a document is longer than 256 MiB, or the CNF has more than 4294967295 clauses.
-- `MemoryError`: there is not enough memory.
-- `UnicodeEncodeError`, a `ValueError`: a `str` can't be UTF-8. `OSError`: a file can't be read. `TypeError`: no document.
+- `MemoryError`: out of memory.
+- `UnicodeEncodeError`, a `ValueError`: a `str` can't be encoded.
+- `OSError`: a file can't be read. `TypeError`: not a document.
 
-The library is the file that the environment's CUDF_CHECK_LIBRARY names, or else what the system finds as
-`libcudf_check.so.1`. Python 3.8 and later; the standard library alone.
+The library is the file named by the environment variable CUDF_CHECK_LIBRARY, or otherwise `libcudf_check.so.1`. For
+Python 3.8 and later, with only the standard library.
 """
 from __future__ import annotations
 
@@ -47,9 +47,9 @@ class Status(enum.IntEnum):
 
 @dataclass(frozen=True)
 class Fault:
-    """The first fault of a document: whose it is, `problem` or `solution`; `place` is that of a solution in a ranking.
+    """The first error of a document: of `whose`, `problem` or `solution`; in a ranking `place` is the solution's.
 
-    `added` is what an explained fault says behind its text, or None.
+    `added` is what an explained error says after its text, or None.
     """
 
     whose: str
@@ -62,10 +62,10 @@ class Fault:
 
 @dataclass(frozen=True)
 class Violation:
-    """A violated instance. The key is made of its part (as `p1`, `r`, `s`), rule, place and, of `upgrade`, aspect.
+    """A violation. Its key has a part (such as `p1`, `r`, `s`), a rule, a place and, for `upgrade`, an aspect.
 
-    `name` and `version` are those of the package or the unknown stanza, or None where the request is violated; `added` is
-    what an explained line says behind its text, or None.
+    `name` and `version` are those of the package or the unknown stanza, or None for the request; `added` is what an
+    explained line says after its text, or None.
     """
 
     key: str
@@ -82,7 +82,7 @@ class Violation:
 
 @dataclass(frozen=True)
 class Rank:
-    """What a ranking says of the solution at a place: `verdict` is `yes`, `no` or `FAIL`; `counts` are those of the aims."""
+    """What a ranking says of the solution at `place`: `verdict` is `yes`, `no` or `FAIL`; `counts` are by aim."""
 
     rank: int
     place: int
@@ -99,7 +99,7 @@ class Linted:
 
 @dataclass(frozen=True)
 class Checked:
-    """`more_after` is the key behind which the next page begins; `verdict` is `yes`, `no`, `FAIL`, or None with a fault."""
+    """`more_after` is the key after which the next page begins; `verdict` is `yes`, `no`, `FAIL`, or None with an error."""
 
     status: Status
     report: str
@@ -111,7 +111,7 @@ class Checked:
 
 @dataclass(frozen=True)
 class Scored:
-    """`counts` by their names; `vectors` by their tracks, where no list was given; `verdict` as that of `Checked`."""
+    """`counts` by name; `vectors` by track, if no list was given; `verdict` as in `Checked`."""
 
     status: Status
     report: str
@@ -133,7 +133,7 @@ class Ranked:
 
 @dataclass(frozen=True)
 class Encoded:
-    """The report is a CNF in DIMACS, or has the problem's fault."""
+    """The report is a CNF in DIMACS, or has the problem's error."""
 
     status: Status
     report: str
@@ -141,20 +141,20 @@ class Encoded:
 
     @property
     def packages(self) -> List[Tuple[str, int]]:
-        """The name and the version of each package; variable 1 says that the first one is installed."""
+        """The name and version of each package; variable 1 means that the first one is installed."""
         told = [line.split(" ") for line in _lines(self.report) if line.startswith(_PACKAGE)]
         return [(name, int(number)) for _, _, name, number in told]
 
     @property
     def clauses(self) -> List[Tuple[int, ...]]:
-        """The variables of each clause, negative where the package isn't installed."""
+        """The literals of each clause: a negative number means that the package isn't installed."""
         told = [] if self.fault else [line for line in _lines(self.report) if not line.startswith((_PACKAGE, _HEADER))]
         return [tuple(map(int, line.split(" ")[:-1])) for line in told]
 
 
 @dataclass(frozen=True)
 class ProofFault:
-    """The first fault of a proof."""
+    """The first error of a proof."""
 
     line: int
     kind: str
@@ -163,7 +163,7 @@ class ProofFault:
 
 @dataclass(frozen=True)
 class Refuted:
-    """`fault` is the problem's, `proof_fault` the proof's. `reasons` are instances of which every answer violates one."""
+    """`fault` is the problem's, `proof_fault` the proof's. Every answer violates one of the `reasons`."""
 
     status: Status
     report: str
@@ -176,7 +176,7 @@ class Refuted:
 
 
 def lint(problem: Document, strict: bool = False, explain: bool = False) -> Linted:
-    """Whether a problem is valid, or its first fault."""
+    """Whether a problem is valid, or its first error."""
     code, report = _call(_library.cudf_check_lint, strict, explain, *_sized(problem))
     return Linted(_status(code), report, _fault(report))
 
@@ -197,7 +197,7 @@ def check(
 
 
 def score(problem: Document, solution: Document, criteria: Optional[Text] = None, strict: bool = False) -> Scored:
-    """What a solution changes and lacks: the counts of a list as `-removed,-changed`, or those of the MISC competition."""
+    """What a solution changes and lacks: the counts of a list, such as `-removed,-changed`, or of the MISC competition."""
     call = _library.cudf_check_score
     code, report = _call(call, strict, *_sized(problem), *_sized(solution), *_sized(criteria or b""))
     status, fault = _status(code, "criteria", criteria), _fault(report)
@@ -208,7 +208,7 @@ def score(problem: Document, solution: Document, criteria: Optional[Text] = None
 
 
 def rank(problem: Document, solutions: Iterable[Document], criteria: Text, strict: bool = False) -> Ranked:
-    """Ranks solutions by a list, the best first. With an empty list their places alone decide between two solutions."""
+    """Ranks solutions by a list, the best first. With an empty list they keep their order."""
     code, report = _call_rank(strict, problem, solutions, criteria)
     status, fault = _status(code, "criteria", criteria), _fault(report)
     return Ranked(status, report, fault, [] if fault else [_rank(line) for line in _lines(report)])
@@ -233,11 +233,11 @@ def version() -> str:
     return _call(_library.cudf_check_version)[1]
 
 
-# ---- the lines of a report, as docs/FORMAT.md tells them
+# ---- the lines of a report, as in docs/FORMAT.md
 
 _MORE, _VERDICT, _TRACKS = "more after ", "solution ", ("paranoid", "trendy")
 _PACKAGE, _HEADER = "c ", "p cnf "
-# a text, and behind `; ` what is added to it; no text has a `;`
+# a text, and after `; ` what is added to it; no text has a `;`
 _SAID = r"([^;\n]*)(?:; (.*))?"
 _FAULT_LINE = re.compile(rf"(problem|solution)(?: (\d+))? line (\d+): (E\d+) {_SAID}\n")
 _VIOLATION_LINE = re.compile(
@@ -339,13 +339,13 @@ def _sized(document: Document) -> Tuple[Union[bytes, ctypes.Array], int]:
     view = memoryview(document)
     try:
         text = (ctypes.c_char * view.nbytes).from_buffer(view) if view.nbytes else b""
-    except TypeError:  # it is read-only, or lies in pieces
+    except TypeError:  # it is read-only, or in pieces
         text = view.tobytes()
     return text, view.nbytes
 
 
 def _call(function, *arguments) -> Tuple[int, str]:
-    """Makes a call with a buffer for its report, and again with a larger one where that was too small."""
+    """Makes a call with a buffer for its report, and again with a larger one if that was too small."""
     room, length = _ROOM, ctypes.c_size_t()
     while True:
         report = ctypes.create_string_buffer(room)

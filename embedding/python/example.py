@@ -1,14 +1,14 @@
 #!/usr/bin/env python3
-"""cudf_check from Python: judges an answer and reads a fault, both explained; counts, ranks, makes a CNF and checks a proof
-that it has no model, and goes through a report by pages.
+"""cudf_check from Python: checks an answer and a malformed problem, both explained; counts and ranks;
+makes a CNF and checks a proof that it has no model; goes through a report by pages.
 
-Prints what stands in embedding/expected.txt.
+Prints embedding/expected.txt.
 
 usage: CUDF_CHECK_LIBRARY=lib/libcudf_check.so.1 python3 embedding/python/example.py
 """
 import cudf_check
 
-# car 1 is installed and needs a newer wheel than the one that is installed beside it
+# car 1 is installed and needs a newer wheel than the one that is installed with it
 PROBLEM = """\
 package: car
 version: 1

@@ -2,7 +2,7 @@
 #   no solution exists   0   FAIL is right; the lines before say why
 #   solution yes         1   FAIL is wrong; the file WITNESS (default: witness) is a solution
 #   not decided          3   cadical had no answer within $seconds (300), or one that cudf_check rejects
-# Any other status is an error: 2 the problem is faulty, 4 wrong arguments, 5 cadical failed, 5 and 6 as of cudf_check,
+# Any other status is an error: 2 the problem is malformed, 4 wrong arguments, 5 cadical failed, 5 and 6 as of cudf_check,
 # 127 cadical isn't installed
 case $# in
   1 | 2) ;;

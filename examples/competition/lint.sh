@@ -1,4 +1,4 @@
-# lint.sh: names each faulty problem with its error; the status is 1 if there is one
+# lint.sh: names each malformed problem with its error; the status is 1 if there is one
 status=0
 for problem in problems/*; do
   [ -e "$problem" ] || continue
