@@ -30,12 +30,19 @@ from shim import EVER, rule
 FILES = TABLE.files
 PROBLEM, GOOD, BAD = (FILES[name] for name in ("p", "good", "bad"))
 BOTH = FILES["both"] = PROBLEM.replace("2\n\nrequest:", "2\ninstalled: true\n\nrequest: r") + "\n" + BAD
+# a problem that has no solution, and a proof of that
+WISH = FILES["wish"] = PROBLEM + "install: car\n"
+PROOF = FILES["proof"] = "3 0 2 1 0\n"
+NEED = "p1.depends.1 car 1 line 1: needs wheel > 2"
 OK, YES, UNMET, UNWRITTEN = map(TABLE.said, ("problem ok", "solution yes", "{unmet}", "{unwritten}"))
 # arguments, the status and the report
 REPORTS = list(map(TABLE.report, (
     "lint p", "check p bad", "rank --criteria=-removed p bad good fail", "score p bad --criteria=-new", "lint faulty",
     "check p faulty", "score p good",
-)))
+))) + [
+    ("cnf p", 0, "c p1 car 1\nc p2 wheel 2\np cnf 2 1\n-1 0\n"), ("refute p bad", 1, "proof line 1: L1 not a step\n"),
+    ("refute wish proof", 0, f"r.install.1 line 9: needs car\n{NEED}\nno solution exists\n"),
+]
 FOUR_FILES = "rank --criteria=-removed p bad fail good"
 HELP = ("--version", "--help", "lint --help", "check -h", "help score", "rank --help")
 BYTES_A_READ, BYTES_A_WRITE, BYTES_OF_HELP_A_WRITE = 9, 7, 301
@@ -115,7 +122,9 @@ def failing_reads(trial):
     for words, name, data, first in (
         (FOUR_FILES, "p", "", 1), (FOUR_FILES, "bad", "", 1), (FOUR_FILES, "fail", "", 1), (FOUR_FILES, "good", "", 1),
         ("check - bad", "0", PROBLEM, 2), ("check p -", "0", BAD, 2),
-        ("rank --criteria=-removed p good - bad", "0", BAD, 2),
+        ("rank --criteria=-removed p good - bad", "0", BAD, 2), ("cnf p", "p", "", 1), ("cnf -", "0", PROBLEM, 2),
+        ("refute wish proof", "wish", "", 1), ("refute wish proof", "proof", "", 1),
+        ("refute - proof", "0", WISH, 2), ("refute wish -", "0", PROOF, 2),
     ):
         few = [rule("read", it, BYTES_A_READ) for it in (*words.split(), "0")]
         reads = len(answers(trial.calls(words, *few, data=data)[1], "read", name))
@@ -126,8 +135,9 @@ def failing_reads(trial):
 
 
 def failing_opens(trial):
-    for name in ("p", "bad", "fail", "good"):
-        each_fails(trial, FOUR_FILES, ("open", name), UNOPENED.format(name, "{}"), OPEN_ERRORS)
+    for words in (FOUR_FILES, "cnf p", "refute wish proof"):
+        for name in (word for word in words.split() if word in FILES):
+            each_fails(trial, words, ("open", name), UNOPENED.format(name, "{}"), OPEN_ERRORS)
 
 
 def slow_reads(trial):
@@ -158,7 +168,8 @@ def too_long(trial):
     """After an input that is too long none is read."""
     with open("huge", "wb") as file:
         file.truncate(GREATEST_INPUT + 1)
-    for words in ("check huge bad", "rank --criteria=-new huge good bad", "rank --criteria=-new p huge bad"):
+    for words in ("check huge bad", "rank --criteria=-new huge good bad", "rank --criteria=-new p huge bad",
+                  "cnf huge", "refute huge bad", "refute wish huge"):
         ran, calls = trial.calls(words)
         trial.same(words, (ran, answers(calls, "read", "bad")), ((5, "", TABLE.said("{too long: huge}")), []))
 
@@ -171,7 +182,8 @@ def orders(trial):
         ("check p -", BAD), ("rank p good empty --criteria=-removed bad", ""), ("lint -", "?\n"),
         ("rank --criteria=-removed p bad - good --strict fail", GOOD), ("rank --criteria=-removed - bad good", PROBLEM),
         ("rank --criteria=-new p -- - --criteria", GOOD), (["check", "p", " "], ""), (["check", " p", " p "], ""),
-        (["rank", "--criteria=-new", "p", " "], ""),
+        (["rank", "--criteria=-new", "p", " "], ""), ("cnf p", ""), ("cnf -", PROBLEM), ("refute p bad", ""),
+        ("refute wish proof", ""), ("refute - proof", WISH), ("refute wish -", PROOF), ("refute faulty proof", ""),
     ):
         ran, calls = trial.calls(words, data=data)
         inputs = ["0" if word == "-" else word for word in split(words) if word in FILES or word == "-"]
@@ -195,6 +207,7 @@ def unopened(trial):
     for words in (
         "--help", "--version", "rank --help", "check - - --limit 0", "check p bad --after x", "score - -", "lint p bad",
         "rank p good", "rank --criteria +new p good", "judge p", "rank --criteria=-new p - -",
+        "cnf", "cnf p bad", "refute p", "refute - -", "refute p bad bad",
     ):
         trial.same(f"{words}: files", [it for it in trial.calls(words)[1] if it.call != "write"], [])
 
