@@ -1,16 +1,16 @@
 -- The definition of the CNF at problems that were reckoned by hand.
-use Rattle.std.proofs.Common.{◌≡◌, ℕ, Bool, true, false, List, [], ◌∷◌, Option, Some, None, codes, refl}
+use Rattle.std.proofs.Common.{◌≡◌, ℕ, true, false, List, [], ◌∷◌, Option, Some, None, codes, refl}
 use Rattle.cudf_value.specs.Formulas.{PlainAtom, truth_atom, falsehood_atom, named}
 use Rattle.cudf_value.specs.Vpkgs.{PlainVpkg}
 use Rattle.cudf_value.specs.declared.relop.Relop.{Relop}
 use Rattle.cudf_value.specs.declared.relop.Relop.TheVariants.{Eq, Geq, Lt}
 use Rattle.cudf_problem.specs.declared.package.Keep.{Keep}
 use Rattle.cudf_problem.specs.declared.package.Keep.TheVariants.{Version, Package, Feature, Nothing}
-use Rattle.cudf_problem.specs.Universe.{PlainPackage, PlainProblem, PlainRequest}
+use Rattle.cudf_problem.specs.Universe.{PlainPackage, PlainProblem}
 use Rattle.cudf_job.specs.declared.key.Aspect.TheVariants.{Unsatisfied, Many, Lower}
 use Rattle.cudf_job.specs.declared.key.Rule.TheVariants as rule
 use Rattle.cudf_job.specs.Keys.{package_key, request_key}
-use Rattle.cudf_cnf.specs.Cnf.{Keyed, clauses_of, cnf, is_in, is_out}
+use Rattle.cudf_cnf.specs.Cnf.{clauses_of, cnf, is_in, is_out}
 
 abbrev any : List ℕ → PlainVpkg
 any name = record { name = name; bound = None }

@@ -19,7 +19,7 @@ use Rattle.cudf_lrat.specs.declared.literal.Literal.{Literal}
 use Rattle.cudf_lrat.specs.Literals.{IsCore, clause_at, is_satisfied_by}
 use Rattle.cudf_referee.specs.Instances.{PlainInstance}
 use Rattle.cudf_referee.specs.Proposals.{holds_place}
-use Rattle.cudf_referee.specs.Violations.{entry_instances, instances, is_violated, kept_instances, listing, needed_instances, of_each, package_instances, request_instances, unknown_instance}
+use Rattle.cudf_referee.specs.Violations.{entry_instances, is_violated, kept_instances, listing, needed_instances, of_each, package_instances, request_instances, unknown_instance}
 use Rattle.cudf_referee.specs.Working.RuleInstances.{conflicts_instance, depends_instance, install_instance, remove_instance}
 use Rattle.cudf_referee.proofs.ListLemmas.{is_empty-append, is_empty-map, list_all-same, list_any-none}
 use Rattle.cudf_referee.proofs.SolutionLemmas.{solution_is_empty}

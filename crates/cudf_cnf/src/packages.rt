@@ -30,28 +30,35 @@ fn key_of(place: u64, rule: Rule, number: u64) -> Key
     Key::new(Part::Package(place), rule, number, None)
 }
 
+/// A conjunct of `depends`.
+#[derive(Clone, Copy)]
+struct Conjunct<'t> {
+    /// Its number, from 1.
+    number: u64,
+    clause: Clause<'t>,
+}
+
 /// Puts the clause of a conjunct of `depends`, unless the package itself would do.
 fn put_conjunct(
     satisfiers: &Satisfiers<'_, '_>,
     place: u64,
     package: &Package<'_>,
-    number: u64,
-    clause: &Clause<'_>,
+    conjunct: Conjunct<'_>,
     scratch: &mut Scratch,
     clauses: &mut KeyedClauses,
 ) -> Result<(), AllocError>
     requires fits { Fits clauses.old.places satisfiers.now }
     requires place { IsPlace clauses.old.places place }
     requires here { IsAt satisfiers.now (place, package_view «package».now) }
-    requires number { 0 < number }
-    ensures put { OnOk result (clauses.new.clauses ≡ clauses.old.clauses ++ conjunct_clauses satisfiers.now (place, package_view «package».now) number (clause_view clause.now)) }
+    requires number { 0 < conjunct.number }
+    ensures put { OnOk result (clauses.new.clauses ≡ clauses.old.clauses ++ conjunct_clauses satisfiers.now (place, package_view «package».now) conjunct.entry.number (clause_view conjunct.entry.clause)) }
     ensures places { clauses.new.places ≡ clauses.old.places }
 {
-    if satisfiers.satisfies_alone(place, clause) {
+    let Conjunct { number, clause } = conjunct;
+    if satisfiers.satisfies_alone(place, &clause) {
         return Ok(());
     }
-    scratch.places.clear();
-    satisfiers.satisfying_clause(clause, &mut scratch.places)?;
+    satisfiers.satisfying_clause(&clause, &mut scratch.places)?;
     scratch.literals.clear();
     scratch.literals.push(is_out(place))?;
     let key = key_of(place, Rule::Depends, number);
@@ -74,9 +81,8 @@ fn put_depends(
     let mut number = 0;
     for clause in package.depends.clauses() {
         number += 1;
-        put_conjunct(
-            satisfiers, place, package, number, &clause, scratch, clauses,
-        )?;
+        let conjunct = Conjunct { number, clause };
+        put_conjunct(satisfiers, place, package, conjunct, scratch, clauses)?;
     }
     Ok(())
 }

@@ -1,6 +1,6 @@
 -- What is kept of a name answers what is asked of it.
 use Rattle.std.proofs.Common.{◌≡◌, ℕ, List, [], ◌++◌, Option, Some, None, sym, ap, ◌∙◌, subst, Result, Ok, Err}
-use Rattle.std.specs.Prelude.{find, option_and_then, OnOk, if◌then◌else◌, is_ok}
+use Rattle.std.specs.Prelude.{find, option_and_then, OnOk}
 use Rattle.std.specs.List.{list_any, enumerate_from}
 use Rattle.cudf_problem.specs.Universe.{PlainPackage}
 use Rattle.cudf_index.specs.Satisfaction.{Placed}
@@ -54,7 +54,3 @@ module _ (f : List ℕ) (ps : List PlainPackage) (now : List Placed) (view : enu
 pub on_ok_joined : {T E : Type 0} (r : Result T E) (new old xs ys : List ℕ) → xs ≡ ys → OnOk r (new ≡ old ++ xs) → OnOk r (new ≡ old ++ ys)
 on_ok_joined (Ok t) new old xs ys same is = is ∙ ap (λ zs. old ++ zs) same
 on_ok_joined (Err e) new old xs ys same is = tt
-
-pub extended : {T E : Type 0} (r : Result T E) (new old xs ys : List ℕ) → new ≡ (if is_ok r then old ++ xs else old) → xs ≡ ys → OnOk r (new ≡ old ++ ys)
-extended (Ok t) new old xs ys is same = is ∙ ap (λ zs. old ++ zs) same
-extended (Err e) new old xs ys is same = tt

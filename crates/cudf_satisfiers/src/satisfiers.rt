@@ -1,5 +1,5 @@
 //! The packages of a universe, to be asked for all that pass a test.
-ghost use Rattle.std.specs.Prelude.{◌≡◌, ℕ, ◌==◌, ◌||◌, List, ◌++◌, length, take, IfOk, OnOk, OnErr};
+ghost use Rattle.std.specs.Prelude.{◌≡◌, ℕ, ◌==◌, ◌||◌, List, [], ◌++◌, length, take, IfOk, OnOk, OnErr};
 ghost use Rattle.std.specs.List.{enumerate_from, list_any, range_with_len};
 ghost use Rattle.std.specs.List.Sorted.{IsStrictlyIncreasing};
 ghost use Rattle.cudf_value.specs.Promises.Views.{vpkg_view, atom_view, clause_view};
@@ -36,7 +36,6 @@ use std::marker::Model;
 #[derive(Drop)]
 pub struct Satisfiers<'p, 't> {
     problem: &'p Problem<'t>,
-    alloc: Global,
     rows: NamedRows<'t>,
 }
 
@@ -72,11 +71,7 @@ impl<'p, 't> Satisfiers<'p, 't> {
     {
         let gathered = gathered(alloc, problem)?;
         let rows = NamedRows::of(alloc, gathered)?;
-        Ok(Satisfiers {
-            problem,
-            alloc,
-            rows,
-        })
+        Ok(Satisfiers { problem, rows })
     }
 
     /// Puts the places of all packages that alone satisfy the vpkg after those in `places`.
@@ -92,24 +87,32 @@ impl<'p, 't> Satisfiers<'p, 't> {
         self.search(vpkg.name, &wanted, places)
     }
 
-    /// Puts the places of all packages that alone satisfy the clause after those in `places`: all places where one of
-    /// its atoms is `true!`.
+    /// Puts the places of all packages that alone satisfy the clause into the list, in place of what was there: all places
+    /// where one of its atoms is `true!`.
     ///
     /// # Errors
     ///
-    /// `AllocError` where memory is refused: `places` is then as before.
+    /// `AllocError` where memory is refused: the list is then empty.
     pub fn satisfying_clause(
         &self,
         clause: &Clause<'_>,
         places: &mut Vec<u64>,
     ) -> Result<(), AllocError>
-        ensures added { OnOk result (places.new.items ≡ places.old.items ++ places_where (meets_clause_alone (clause_view clause.now)) self.now) }
-        ensures unchanged { OnErr result (places.new.items ≡ places.old.items) }
+        ensures found { OnOk result (places.new.items ≡ places_where (meets_clause_alone (clause_view clause.now)) self.now) }
+        ensures emptied { OnErr result (places.new.items ≡ []) }
     {
-        let mut found = Vec::new(self.alloc);
-        self.add_atoms(clause, &mut found)?;
-        make_unique(&mut found);
-        places.extend_from_slice(&found)
+        let _ = &self.problem;
+        places.clear();
+        match self.add_atoms(clause, places) {
+            Ok(()) => {
+                make_unique(places);
+                Ok(())
+            }
+            Err(error) => {
+                places.clear();
+                Err(error)
+            }
+        }
     }
 
     /// Whether the package at this place alone satisfies the clause; not where there is no such place.
