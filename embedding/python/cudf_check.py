@@ -301,10 +301,10 @@ _REPORT = [ctypes.c_void_p, ctypes.c_size_t, ctypes.POINTER(ctypes.c_size_t)]
 _ROOM, _LONGEST = 4096, 268435456
 _USAGE, _UNREAD, _MEMORY = 4, 5, 6
 _FORMS = {
-    "after": "a key is written as in a report, as p1.depends.2",
-    "limit": "it is no number from 1 to 18446744073709551615",
+    "after": "a key is written as in a report, such as p1.depends.2",
+    "limit": "not a number from 1 to 18446744073709551615",
     "criteria": "a list is written without blanks, as -removed,+new, of removed, new, changed, notuptodate, "
-    "unsat_recommends and touched, each behind - or +",
+    "unsat_recommends and touched, each after - or +",
 }
 
 

@@ -80,7 +80,7 @@ const ABOUT_REFUTE_LINES: &str = "Checks a proof that a problem has no solution.
 
 The proof is in the text form of LRAT, as cadical --lrat --no-binary writes it for what cnf prints. It is checked against
 the rules of the problem itself. If it holds, this prints rules that no answer satisfies together, and then no solution
-exists. If not, it prints the first fault of the proof, which says nothing about the problem.";
+exists. If not, it prints the first error of the proof, which says nothing about the problem.";
 
 const STATUSES: &str = "Exit status:
   0  the answer is a solution, or the problem is valid; rank: one of the answers is a solution; refute: the proof holds
@@ -92,7 +92,7 @@ const STATUSES: &str = "Exit status:
   6  there isn't enough memory
 
 FAIL alone in the file of an answer says that its solver found no solution; cnf and refute tell whether there is one.
-A line of a report begins with a key, as p1.depends.2: the second clause of depends of the first package of the problem.";
+A line of a report begins with a key, such as p1.depends.2: the second clause of depends of the first package of the problem.";
 
 /// The program with its commands.
 pub(crate) fn program<'w>(alloc: Global) -> Result<Command<'w>, AllocError>
@@ -273,7 +273,7 @@ fn strict<'w>(alloc: Global) -> Arg<'w>
     ensures local { result.global ≡ false }
 {
     strict_problem(alloc).help(
-        "Refuses a package that lacks a property which the preamble declares without a default, a pair of name and version that a solution gives twice, and a property that has no meaning in its preamble or request",
+        "Rejects a package that lacks a property which the preamble declares without a default, a pair of name and version that a solution gives twice, and a property that has no meaning in its preamble or request",
     )
 }
 
@@ -285,7 +285,7 @@ fn strict_problem<'w>(alloc: Global) -> Arg<'w>
         .long(STRICT)
         .action(ArgAction::SetTrue)
         .help(
-            "Refuses a package that lacks a property which the preamble declares without a default, and a property that has no meaning in its preamble or request",
+            "Rejects a package that lacks a property which the preamble declares without a default, and a property that has no meaning in its preamble or request",
         )
 }
 
@@ -305,7 +305,7 @@ fn explain_fault<'w>(alloc: Global) -> Arg<'w>
     Arg::new(alloc, EXPLAIN)
         .long(EXPLAIN)
         .action(ArgAction::SetTrue)
-        .help("Adds the cause to the line of a fault, as the name that nothing declares")
+        .help("Adds the cause to the line of an error, such as the name that isn't declared")
 }
 
 fn with_filename<'w>(alloc: Global) -> Arg<'w>

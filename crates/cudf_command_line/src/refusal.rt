@@ -47,15 +47,15 @@ impl fmt::Display for Refusal<'_> {
             Refusal::Twice => write!(f, "- can stand for one file only"),
             Refusal::NoKey(word) => write!(
                 f,
-                "invalid value '{word}' for '--after <KEY>': a key is written as in a report, as p1.depends.2"
+                "invalid value '{word}' for '--after <KEY>': a key is written as in a report, such as p1.depends.2"
             ),
             Refusal::NoNumber(word) => write!(
                 f,
-                "invalid value '{word}' for '--limit <N>': it is no number from 1 to 18446744073709551615"
+                "invalid value '{word}' for '--limit <N>': not a number from 1 to 18446744073709551615"
             ),
             Refusal::NoList(word) => write!(
                 f,
-                "invalid value '{word}' for '--criteria=<LIST>': a list is written without blanks, as -removed,+new, of removed, new, changed, notuptodate, unsat_recommends and touched, each behind - or +"
+                "invalid value '{word}' for '--criteria=<LIST>': a list is written without blanks, as -removed,+new, of removed, new, changed, notuptodate, unsat_recommends and touched, each after - or +"
             ),
             Refusal::Apart => write!(
                 f,

@@ -36,7 +36,7 @@ impl Failure<'_> {
         match self {
             Failure::Words(error) => writeln!(
                 errors,
-                "cudf_check: the words can't be read: {error}; give them as UTF-8"
+                "cudf_check: the arguments can't be read: {error}; give them as UTF-8"
             ),
             Failure::Usage(usage) => usage.tell(errors),
             Failure::Open(name, error) => {
