@@ -11,7 +11,7 @@ use Rattle.std.proofs.lemmas.Cmp.{nat_cmp_total, nat_list_cmp_total, tied_itself
 use Rattle.cudf_value.specs.Formulas.{PlainAtom}
 use Rattle.cudf_value.specs.Vpkgs.{PlainVpkg}
 use Rattle.cudf_problem.specs.declared.package.Keep.{Keep}
-use Rattle.cudf_problem.specs.declared.package.Keep.TheVariants.{Version, Package, Feature, Nothing}
+use Rattle.cudf_problem.specs.declared.package.Keep.TheVariants.{Feature, Nothing}
 use Rattle.cudf_problem.specs.Statuses.{is_initial}
 use Rattle.cudf_problem.specs.Universe.{PlainPackage, PlainProblem}
 use Rattle.cudf_index.specs.Satisfaction.{Placed, meets_alone, members, numbers_of, without}
@@ -132,11 +132,10 @@ conflicts_rise all p = rises-each (conflict_clauses all p.0) 1 p.0 2 one p.1.con
         (filter (meets_alone e.1) (without p.0 all)) (from_number 1 p.0 2 e.0) (to_next 1 p.0 2 e.0 0)
 
 keep_rises : (all : List Placed) (k : Keep) (p : Placed) → Rises (1 ∷ p.0 ∷ 3 ∷ []) (keep_clauses all k p) (1 ∷ p.0 ∷ 4 ∷ [])
-keep_rises all Version p = (within 1 p.0 (3 ∷ []) (3 ∷ 1 ∷ 0 ∷ []) refl, within 1 p.0 (3 ∷ 1 ∷ 0 ∷ []) (4 ∷ []) refl)
-keep_rises all Package p = (within 1 p.0 (3 ∷ []) (3 ∷ 1 ∷ 0 ∷ []) refl, within 1 p.0 (3 ∷ 1 ∷ 0 ∷ []) (4 ∷ []) refl)
 keep_rises all Feature p = rises-each (λ n v. (package_key p.0 rule.Keep n, one_of (meets_alone v) all) ∷ []) 1 p.0 3
     (λ e. (from_number 1 p.0 3 e.0, to_next 1 p.0 3 e.0 0)) p.1.provides
 keep_rises all Nothing p = within 1 p.0 (3 ∷ []) (4 ∷ []) refl
+keep_rises all once p = (within 1 p.0 (3 ∷ []) (3 ∷ 1 ∷ 0 ∷ []) refl, within 1 p.0 (3 ∷ 1 ∷ 0 ∷ []) (4 ∷ []) refl)
 
 package_rises : (all before : List Placed) (p : Placed) → Rises (1 ∷ p.0 ∷ []) (package_clauses all before p) (1 ∷ (p.0 + 1) ∷ [])
 package_rises all before p =

@@ -9,7 +9,7 @@ use Rattle.std.specs.Ordering.{nat_cmp, ordering_then, is_lt}
 use Rattle.std.specs.declared.cmp.Ordering.TheVariants.{Less}
 use Rattle.cudf_value.specs.Vpkgs.{PlainVpkg}
 use Rattle.cudf_problem.specs.declared.package.Keep.{Keep}
-use Rattle.cudf_problem.specs.declared.package.Keep.TheVariants.{Version, Package, Feature, Nothing}
+use Rattle.cudf_problem.specs.declared.package.Keep.TheVariants.{Feature, Nothing}
 use Rattle.cudf_problem.specs.Universe.{PlainPackage, PlainRequest}
 use Rattle.cudf_problem.specs.Statuses.{PlainUnknown, ascend_above}
 use Rattle.cudf_index.specs.Satisfaction.{Placed}
@@ -131,10 +131,9 @@ climbs-rule {A = A} make part place rule ranks xs =
 -- ---- packages
 
 kept_climb : (k : Keep) (p : Placed) → Climbs instance_ranks (1 ∷ p.0 ∷ 3 ∷ []) (kept_instances k p) (1 ∷ p.0 ∷ 4 ∷ [])
-kept_climb Version p = (same_first p.0 (3 ∷ []) (3 ∷ 1 ∷ 0 ∷ []) refl, same_first p.0 (3 ∷ 1 ∷ 0 ∷ []) (4 ∷ []) refl)
-kept_climb Package p = (same_first p.0 (3 ∷ []) (3 ∷ 1 ∷ 0 ∷ []) refl, same_first p.0 (3 ∷ 1 ∷ 0 ∷ []) (4 ∷ []) refl)
 kept_climb Feature p = climbs-rule (λ v. keep_instance p v.0 (keep_feature v.1)) 1 p.0 3 (λ x. refl) p.1.provides
 kept_climb Nothing p = same_first p.0 (3 ∷ []) (4 ∷ []) refl
+kept_climb once p = (same_first p.0 (3 ∷ []) (3 ∷ 1 ∷ 0 ∷ []) refl, same_first p.0 (3 ∷ 1 ∷ 0 ∷ []) (4 ∷ []) refl)
 
 pub instances_climb : (s : Proposal) (p : Placed) → Climbs instance_ranks (1 ∷ p.0 ∷ []) (package_instances s p) (1 ∷ p.0 ∷ 4 ∷ [])
 instances_climb s p =

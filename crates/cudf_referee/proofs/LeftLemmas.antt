@@ -4,19 +4,19 @@ use Rattle.std.specs.Prelude.{filter}
 use Rattle.cudf_value.specs.Formulas.{PlainAtom}
 use Rattle.cudf_value.specs.Vpkgs.{PlainVpkg}
 use Rattle.cudf_problem.specs.declared.package.Keep.{Keep}
-use Rattle.cudf_problem.specs.declared.package.Keep.TheVariants.{Version, Package, Feature, Nothing}
+use Rattle.cudf_problem.specs.declared.package.Keep.TheVariants.{Feature}
 use Rattle.cudf_index.specs.Satisfaction.{Placed}
 use Rattle.cudf_job.specs.Keys.{PlainKey, key_ranks}
 use Rattle.cudf_referee.specs.declared.left.candidate.Candidate.{Candidate}
 use Rattle.cudf_referee.specs.Proposals.{Proposal}
 use Rattle.cudf_referee.specs.Promises.Stops.{precedes}
 use Rattle.cudf_referee.specs.Violations.{kept_instances, package_instances}
-use Rattle.cudf_referee.specs.Working.RuleInstances.{depends_instance, conflicts_instance, keep_instance}
+use Rattle.cudf_referee.specs.Working.RuleInstances.{depends_instance, conflicts_instance}
 use Rattle.cudf_referee.specs.Working.PackageLeft.{placed_view, Fits, depends_of, conflicts_of, features_of, kept_features, numbered, kept_one, kept_feature}
 use Rattle.cudf_referee.proofs.AheadLemmas.{kept_above}
 use Rattle.cudf_referee.proofs.AscentLemmas.{Climbs, instance_ranks}
 use Rattle.cudf_referee.proofs.PositionLemmas.{lt_less}
-use Rattle.cudf_referee.specs.Instances.{keep_version, keep_package, PlainInstance}
+use Rattle.cudf_referee.specs.Instances.{PlainInstance}
 
 -- ---- a package
 
@@ -28,10 +28,8 @@ if-both false p xs ys = refl
 -- what is kept once, and the features that are kept, are what is kept
 end-left : (xs : List PlainInstance) (b : Bool) (k : Keep) (p : Placed)
     → xs ++ cond b (kept_one k p) [] ++ numbered (kept_feature p) 0 (cond b (kept_features k p.1.provides) []) ≡ xs ++ cond b (kept_instances k p) []
-end-left xs true Version p = append-nil (xs ++ keep_instance p 1 keep_version ∷ [])
-end-left xs true Package p = append-nil (xs ++ keep_instance p 1 keep_package ∷ [])
 end-left xs true Feature p = ap (λ ys. ys ++ numbered (kept_feature p) 0 p.1.provides) (append-nil xs)
-end-left xs true Nothing p = append-nil (xs ++ [])
+end-left xs true k p = append-nil (xs ++ kept_one k p)
 end-left xs false k p = append-nil (xs ++ [])
 
 -- what is left of a package that wasn't begun is all its instances

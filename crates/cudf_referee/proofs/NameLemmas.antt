@@ -1,24 +1,16 @@
 -- Names that occur once each, and what is kept of each of them.
-use Rattle.std.proofs.Common.{◌≡◌, ◌≢◌, ℕ, Bool, true, false, not, ◌&&◌, cond, List, [], ◌∷◌, ◌++◌, map, filter, Bor, bytes_eq, Some, refl, ap, sym, ◌∙◌, arith}
-use Rattle.std.specs.List.{list_any, count_by, AllByRecursion, IsDistinct}
-use Rattle.std.specs.Map.{keys_of, values_of, lookup, set_value}
-use Rattle.std.specs.Set.{is_member}
+use Rattle.std.proofs.Common.{◌≡◌, ◌≢◌, ℕ, Bool, true, false, not, cond, List, [], ◌∷◌, ◌++◌, filter, bytes_eq, refl, ap, sym, ◌∙◌, arith}
+use Rattle.std.specs.List.{list_any, AllByRecursion, IsDistinct}
 use Rattle.std.proofs.lemmas.Bool.{true≢false, false_from_ne_true}
-use Rattle.std.proofs.lemmas.Cmp.{nat_list_eq_equiv, on_equiv}
+use Rattle.std.proofs.lemmas.Cmp.{nat_list_eq_equiv}
 use Rattle.std.proofs.lemmas.List.{append-nil}
 use Rattle.std.proofs.lemmas.List.Elements.{filter-append}
 use Rattle.std.proofs.lemmas.List.Kept.{AllPairs-filter}
-use Rattle.std.proofs.lemmas.List.Sums.{length-filter}
-use Rattle.std.proofs.lemmas.Map.{NonePasses}
-use Rattle.std.proofs.lemmas.Map.Entries.{none_past_head}
-use Rattle.std.proofs.lemmas.Map.Keys.{IsDistinct-tail}
-use Rattle.std.proofs.lemmas.Map.Made.{length-from_same_keys, is_member-filter, AllPairs-from_IsDistinct, IsDistinct-from_AllPairs}
+use Rattle.std.proofs.lemmas.Map.Made.{AllPairs-from_IsDistinct, IsDistinct-from_AllPairs}
 use Rattle.std.proofs.lemmas.Map.Views.{any-filter_same}
 use Rattle.std.proofs.lemmas.Slice.Eq.{bytes_eq-Decides}
-use Rattle.indexmap.specs.IndexMap.{insert_entry}
 use Rattle.indexmap.specs.IndexSet.{insert_key}
 use Rattle.cudf_referee.specs.Criteria.{each_once}
-use Rattle.cudf_referee.proofs.ListLemmas.{and_false}
 use Rattle.std.proofs.lemmas.Grind.{common_steps}
 
 abbrev Name : Type 0

@@ -17,7 +17,7 @@ use Rattle.cudf_index.specs.Satisfaction.{Placed, first_satisfying, meets_alone,
 use Rattle.cudf_index.proofs.SatisfactionLemmas.{member_alone}
 use Rattle.cudf_index.proofs.SearchLemmas.{find-filter, list_any-filter}
 use Rattle.cudf_referee.specs.Explanations.{first_helping}
-use Rattle.cudf_referee.specs.Instances.{PlainWhat, needs, conflicts_with, keep_version, keep_package, keep_feature, install, remove, upgrade, unknown}
+use Rattle.cudf_referee.specs.Instances.{PlainWhat, needs, install, upgrade}
 use Rattle.cudf_referee.specs.Promises.Laws.{NothingDoes, satisfies_what, WasInstalled, WouldDo}
 use Rattle.cudf_referee.specs.Working.Firsts.{lesser_of, searched}
 use Rattle.cudf_referee.specs.declared.referee.remedies.Among.{Among}
@@ -264,12 +264,7 @@ helping_is : (ps : List Placed) (what : PlainWhat) (place : ℕ) → first_helpi
 helping_is ps (needs clause) place h = h
 helping_is ps (install v) place h = h
 helping_is ps (upgrade v) place h = h
-helping_is ps (conflicts_with v) place h = absurd cc
-helping_is ps keep_version place h = absurd cc
-helping_is ps keep_package place h = absurd cc
-helping_is ps (keep_feature v) place h = absurd cc
-helping_is ps (remove v) place h = absurd cc
-helping_is ps unknown place h = absurd cc
+helping_is ps what place h = absurd cc
 
 pub would_do_does : WouldDo
 would_do_does problem i place found =
@@ -383,9 +378,4 @@ nothing_does problem holds i lacks none = by i.what lacks none
     by (needs clause) h none = none_does (λ status. satisfies_clause status clause) (λ status. clause_alone status clause h) problem.packages holds none
     by (install v) h none = none_does (λ status. satisfies status v) (λ status. member_alone status v) problem.packages holds none
     by (upgrade v) h none = none_does (λ status. satisfies status v) (λ status. member_alone status v) problem.packages holds none
-    by (conflicts_with v) h none = refl
-    by keep_version h none = refl
-    by keep_package h none = refl
-    by (keep_feature v) h none = refl
-    by (remove v) h none = refl
-    by unknown h none = refl
+    by what h none = refl

@@ -7,7 +7,7 @@ use Rattle.std.proofs.lemmas.Bool.{true≢false, ltb-true, ltb-false, eqb-true, 
 use Rattle.std.proofs.lemmas.Map.Made.{AllPairs-from_IsDistinct}
 use Rattle.std.proofs.lemmas.List.Quantifiers.{position-Some}
 use Rattle.std.proofs.lemmas.Slice.Eq.{bytes_eq-Decides}
-use Rattle.std.proofs.lemmas.List.{append_assoc, same_lists, length-set, get_or-set_same, get_or-set_other, append-nil, map-append, length-map, take-map, get_or-map, length-take-le, map_push, take_more}
+use Rattle.std.proofs.lemmas.List.{append_assoc, same_lists, length-set, get_or-set_same, get_or-set_other, append-nil, length-map, take-map, get_or-map, length-take-le, map_push, take_more}
 use Rattle.std.proofs.lemmas.List.Elements.{filter-append}
 use Rattle.std.proofs.lemmas.List.Folds.{list_any-append, list_all-append}
 use Rattle.indexmap.specs.IndexSet.{insert_all}
@@ -25,7 +25,7 @@ use Rattle.cudf_referee.specs.Criteria.{each_once, versions_of, is_number_among,
 use Rattle.cudf_referee.specs.Violations.{has_package}
 use Rattle.cudf_referee.specs.Working.Standings.{no_standing, differ, standing_with, held, names_of, standing_of, standings_of}
 use Rattle.cudf_referee.proofs.EntryLemmas.{enumerate-push}
-use Rattle.cudf_referee.proofs.ListLemmas.{and_false, and_true, or_true, count-map, filter-both, weaker_case, is_empty-map, is_empty-filter, list_any-none}
+use Rattle.cudf_referee.proofs.ListLemmas.{and_false, and_true, count-map, is_empty-map, is_empty-filter, list_any-none}
 use Rattle.cudf_referee.proofs.NameLemmas.{same_text, text_same, once_push, distinct-once}
 use Rattle.std.proofs.lemmas.Grind.{common_steps}
 use Rattle.std.proofs.lemmas.Bool.Decides.{nat_tests}

@@ -1,17 +1,15 @@
 -- Of which packages the name alone is to be kept, and is proposed.
 use Rattle.std.specs.Prelude.{ℕ, Bool, true, false, ◌&&◌, List, map}
 use Rattle.cudf_problem.specs.declared.package.Keep.{Keep}
-use Rattle.cudf_problem.specs.declared.package.Keep.TheVariants.{Version, Package, Feature, Nothing}
+use Rattle.cudf_problem.specs.declared.package.Keep.TheVariants.{Package}
 use Rattle.cudf_problem.specs.Universe.{PlainPackage, PlainProblem}
 use Rattle.cudf_index.specs.Satisfaction.{Placed, members}
 use Rattle.cudf_referee.specs.Violations.{has_package}
 
 -- `keep: package`
 abbrev pub keeps_name : Keep → Bool
-keeps_name Version = false
 keeps_name Package = true
-keeps_name Feature = false
-keeps_name Nothing = false
+keeps_name keep = false
 
 -- the name of the package is to be kept, and the status has it
 abbrev pub has_kept_name : List Placed → PlainPackage → Bool

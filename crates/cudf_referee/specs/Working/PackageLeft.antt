@@ -5,7 +5,7 @@ use Rattle.cudf_value.specs.Formulas.{PlainAtom}
 use Rattle.cudf_value.specs.Vpkgs.{PlainVpkg}
 use Rattle.cudf_value.specs.Promises.Views.{formula_view, list_view, clauses_view, vpkgs_view}
 use Rattle.cudf_problem.specs.declared.package.Keep.{Keep}
-use Rattle.cudf_problem.specs.declared.package.Keep.TheVariants.{Version, Package, Feature, Nothing}
+use Rattle.cudf_problem.specs.declared.package.Keep.TheVariants.{Version, Package, Feature}
 use Rattle.cudf_problem.specs.Promises.Views.{package_view}
 use Rattle.cudf_index.specs.Satisfaction.{Placed}
 use Rattle.cudf_referee.specs.declared.left.candidate.Candidate.{Candidate}
@@ -34,10 +34,8 @@ abbrev pub conflicts_of : Candidate → List PlainVpkg
 conflicts_of c = if c.is_installed then list_view c.package.now.conflicts else []
 
 abbrev pub kept_features : Keep → List PlainVpkg → List PlainVpkg
-kept_features Version vs = []
-kept_features Package vs = []
 kept_features Feature vs = vs
-kept_features Nothing vs = []
+kept_features keep vs = []
 
 abbrev pub features_of : Candidate → List PlainVpkg
 features_of c = if c.package.now.installed then kept_features c.package.now.keep (list_view c.package.now.provides) else []
@@ -51,8 +49,7 @@ numbered make n entries = map (λ e. make e.0 e.1) (enumerate_from (n + 1) entri
 abbrev pub kept_one : Keep → Placed → List PlainInstance
 kept_one Version p = keep_instance p 1 keep_version ∷ []
 kept_one Package p = keep_instance p 1 keep_package ∷ []
-kept_one Feature p = []
-kept_one Nothing p = []
+kept_one keep p = []
 
 -- a feature that is to be kept
 abbrev pub kept_feature : Placed → ℕ → PlainVpkg → PlainInstance

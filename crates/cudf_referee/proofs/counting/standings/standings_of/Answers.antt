@@ -1,15 +1,13 @@
-use Rattle.std.proofs.Common.{◌≡◌, ℕ, Bool, ◌+◌, ◌<◌, List, [], length, get_or, map, take, subst, Some, arith, ap, sym, ◌∙◌, position, bytes_eq}
+use Rattle.std.proofs.Common.{◌≡◌, ℕ, Bool, ◌+◌, ◌<◌, List, length, get_or, map, take, Some, arith, ap, sym, ◌∙◌}
 use Rattle.std.proofs.Math.ListN.{set as with_item}
 use Rattle.std.specs.Prelude.{replicate, slice_get}
 use Rattle.std.specs.FinSet as set
 use Rattle.std.specs.List.{enumerate_from}
 use Rattle.std.proofs.lemmas.List.{take_all, get_or-map, get_or_read, length-map}
 use Rattle.std.proofs.lemmas.Option.{slice_get-get_or}
-use Rattle.cudf_problem.specs.declared.package.Package.{Package}
 use Rattle.cudf_problem.specs.Promises.Names.{names_in}
 use Rattle.cudf_problem.specs.Promises.Views.{package_view}
 use Rattle.cudf_problem.specs.Universe.{PlainPackage}
-use Rattle.cudf_index.specs.Satisfaction.{Placed}
 use Rattle.cudf_referee.specs.declared.counting.standing.Standing.{Standing}
 use Rattle.cudf_referee.specs.Working.Standings.{standing_of, standing_with}
 use Rattle.cudf_referee.proofs.StandingLemmas.{none_standing, numbered_names, standing_added, standing_within, next_fresh, next_places}
