@@ -176,16 +176,22 @@ name_of text = run is_pkgname_char (trim_start text)
 abbrev pub after_name : List ℕ → List ℕ
 after_name text = rest_after is_pkgname_char (trim_start text)
 
-pub named_begins : (text : List ℕ) → 0 < length (name_of text) → BeginsWith (record { name = name_of text; bound = None }) text (trim_start (after_name text))
-named_begins text some =
+-- the text begins with the name, with blanks or none after it, and the rest comes after these
+begun_by_name : (text behind rest : List ℕ) → after_name text ≡ behind ++ rest → list_all is_blank behind ≡ true → 0 < length (name_of text) → BeginsWith (plain (name_of text)) text rest
+begun_by_name text behind rest cut blank some =
     let start = trim_start text in
-    let tail = after_name text in
     record {
-      part = run is_blank text ++ (name_of text ++ run is_blank tail);
-      whole = run_cut is_blank text _ _ (run_cut is_pkgname_char start _ _ (run_first is_blank tail));
-      inside = run_inside is_blank blank_inside text _ (run_inside is_pkgname_char name_inside start _ (all_pass is_blank is_inside blank_inside (run is_blank tail) (run_passes is_blank tail)));
-      value = named_part (run is_blank text) (name_of text) (run is_blank tail) (run_passes is_blank text) (run_passes is_pkgname_char start) some (run_passes is_blank tail);
+      part = run is_blank text ++ (name_of text ++ behind);
+      whole = run_cut is_blank text _ _ (run_cut is_pkgname_char start _ _ cut);
+      inside = run_inside is_blank blank_inside text _ (run_inside is_pkgname_char name_inside start _ (all_pass is_blank is_inside blank_inside behind blank));
+      value = named_part (run is_blank text) (name_of text) behind (run_passes is_blank text) (run_passes is_pkgname_char start) some blank;
     }
+
+pub named_begins : (text : List ℕ) → 0 < length (name_of text) → BeginsWith (record { name = name_of text; bound = None }) text (trim_start (after_name text))
+named_begins text some = begun_by_name text (run is_blank (after_name text)) _ (run_first is_blank (after_name text)) (run_passes is_blank (after_name text)) some
+
+pub named_at_once : (text : List ℕ) → 0 < length (name_of text) → BeginsWith (record { name = name_of text; bound = None }) text (after_name text)
+named_at_once text some = begun_by_name text [] _ refl refl some
 
 -- ---- a name with a bound
 

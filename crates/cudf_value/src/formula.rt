@@ -109,6 +109,7 @@ impl<'t> Iterator for Atoms<'t> {
 
     ghost remaining = { item_count atoms_view };
 
+    #[inline(always)]
     fn next(&mut self) -> Option<Atom<'t>> {
         let text = self.rest?;
         let (atom, rest) = next_atom(text);

@@ -7,7 +7,7 @@ ghost use Rattle.cudf_value.specs.Working.Rests.{BeginsWith, BoundBegins, vpkg_a
 
 use crate::number::posint_of;
 use crate::relop::Relop;
-use cudf_text::scan::{Class, split_run, trim_start};
+use cudf_text::scan::{Class, first_byte, split_run, trim_start};
 use cudf_text::trim;
 
 /// A package or a feature by its name, at the versions that the bound admits, or at all (CUDF 2.0, the type library).
@@ -60,6 +60,10 @@ pub(crate) fn vpkg_at(text: &str) -> Option<(Vpkg<'_>, &str)>
     let (name, rest) = split_run(trim_start(text), Class::Name);
     if name.is_empty() {
         return None;
+    }
+    // Most names have no bound.
+    if matches!(first_byte(rest), 0 | b',' | b'|') {
+        return Some((Vpkg { name, bound: None }, rest));
     }
     let rest = trim_start(rest);
     match bound_at(rest) {

@@ -76,6 +76,7 @@ impl<'t> Iterator for Vpkgs<'t> {
 
     ghost remaining = { item_count vpkgs_view };
 
+    #[inline(always)]
     fn next(&mut self) -> Option<Vpkg<'t>> {
         let text = self.rest?;
         let (vpkg, rest) = first_entry(text, false);

@@ -1,5 +1,11 @@
-use Rattle.cudf_value.proofs.VpkgLemmas.{named_begins, bounded_begins, some_run}
+use Rattle.cudf_value.proofs.VpkgLemmas.{named_begins, named_at_once, bounded_begins, some_run}
 use Rattle.cudf_value.proofs.vpkg.vpkg_at.Goals as goal
+
+pub returns-then-matches-clause-begins : goal.returns-then-matches-clause-begins
+returns-then-matches-clause-begins c =
+    rw (c.split_run.ensures.run, c.split_run.ensures.rest, c.trim_start.ensures)
+    (named_at_once c.args.text.now
+    (rw (c.split_run.ensures.run, c.trim_start.ensures) at (some_run c.split_run.result.0.now c.if-is_empty.ensures)))
 
 pub returns-in-Some-clause-begins : goal.returns-in-Some-clause-begins
 returns-in-Some-clause-begins c =
