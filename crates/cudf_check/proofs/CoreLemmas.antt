@@ -4,16 +4,16 @@ use Rattle.std.proofs.lemmas.List.{length-map}
 use Rattle.std.specs.List.{list_all, range_with_len}
 use Rattle.std.specs.Ordering.{is_le}
 use Rattle.cudf_text.specs.Lines.{lines}
-use Rattle.cudf_job.specs.Keys.{PlainKey, key_cmp}
+use Rattle.cudf_job.specs.Keys.{PlainKey, key_cmp, never_descend}
 use Rattle.cudf_problem.specs.Universe.{PlainProblem}
 use Rattle.cudf_lrat.specs.Answers.{PlainAnswer, Taken, answer_after, checked, checked_from, core, done, fault, faulty, is_among, needs, on, refuted, taken, unless_empty}
 use Rattle.cudf_lrat.specs.Lines.{is_empty, line_of}
 use Rattle.cudf_lrat.specs.Steps.{Derived, last_number}
 use Rattle.cudf_lrat.specs.declared.literal.Literal.{Literal}
 use Rattle.cudf_cnf.specs.Cnf.{Keyed, clauses_of, cnf}
-use Rattle.cudf_cnf.specs.Laws as cnf_laws
+use Rattle.cudf_cnf.specs.Laws.{KeysNeverDescend}
 use Rattle.cudf_cnf.proofs.OrderLemmas.{some_never_descend}
-use Rattle.cudf_reasons.specs.Reasons.{keys_of, never_descend}
+use Rattle.cudf_reasons.specs.Laws.{keys_of}
 use Rattle.cudf_check.specs.Report.{needed}
 
 -- ---- the numbers of a core
@@ -49,10 +49,6 @@ core_of places clauses text numbers is = by (position is_empty clauses) is
 
 -- ---- their keys
 
-same_order : (keys : List PlainKey) → cnf_laws.never_descend keys ≡ never_descend keys
-same_order [] = refl
-same_order (key ∷ keys) = ap (λ rest. list_all (λ later. is_le (key_cmp key later)) keys && rest) (same_order keys)
-
 alone : (clauses : List Keyed) (n : ℕ) → IsTrue (never_descend (keys_of (needed clauses (n ∷ []))))
 alone clauses n = by (slice_get clauses (n - 1))
   where
@@ -60,19 +56,16 @@ alone clauses n = by (slice_get clauses (n - 1))
     by None = refl
     by (Some c) = refl
 
-several : (clauses : List Keyed) (steps : List Derived) → IsTrue (cnf_laws.never_descend (map (λ c. c.0) clauses))
+several : (clauses : List Keyed) (steps : List Derived) → IsTrue (never_descend (map (λ c. c.0) clauses))
     → IsTrue (never_descend (keys_of (needed clauses (core (clauses_of clauses) steps))))
 unfolding core
 several clauses steps h =
     let wanted : ℕ → Bool = λ n. is_among n (needs steps (last_number (clauses_of clauses) steps ∷ [])) in
-    let numbers = filter wanted (range_with_len 1 (length (clauses_of clauses))) in
-    let kept : IsTrue (cnf_laws.never_descend (keys_of (needed clauses numbers))) =
-    subst (λ count. IsTrue (cnf_laws.never_descend (keys_of (needed clauses (filter wanted (range_with_len 1 count)))))) (sym (length-map clauses (λ c. c.1)))
-    (some_never_descend clauses wanted h) in
-    subst (λ (b : Bool). IsTrue b) (same_order (keys_of (needed clauses numbers))) kept
+    subst (λ count. IsTrue (never_descend (keys_of (needed clauses (filter wanted (range_with_len 1 count)))))) (sym (length-map clauses (λ c. c.1)))
+    (some_never_descend clauses wanted h)
 
 -- the clauses of a core come by key, as all do
-pub core_by_key : (problem : PlainProblem) (places : ℕ) (clauses : List Keyed) (text numbers : List ℕ) → cnf_laws.KeysNeverDescend → clauses ≡ cnf problem
+pub core_by_key : (problem : PlainProblem) (places : ℕ) (clauses : List Keyed) (text numbers : List ℕ) → KeysNeverDescend → clauses ≡ cnf problem
     → checked places (clauses_of clauses) text ≡ refuted numbers → IsTrue (never_descend (keys_of (needed clauses numbers)))
 core_by_key problem places clauses text numbers law same is = by (core_of places (clauses_of clauses) text numbers is)
   where
@@ -80,4 +73,4 @@ core_by_key problem places clauses text numbers law same is = by (core_of places
     by (inl one) = subst (λ ns. IsTrue (never_descend (keys_of (needed clauses ns)))) (sym one.1) (alone clauses one.0)
     by (inr some) =
         subst (λ ns. IsTrue (never_descend (keys_of (needed clauses ns)))) (sym some.1)
-        (several clauses some.0 (subst (λ cs. IsTrue (cnf_laws.never_descend (map (λ c. c.0) cs))) (sym same) (law problem)))
+        (several clauses some.0 (subst (λ cs. IsTrue (never_descend (map (λ c. c.0) cs))) (sym same) (law problem)))

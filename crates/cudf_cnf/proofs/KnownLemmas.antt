@@ -17,7 +17,7 @@ use Rattle.cudf_job.specs.Keys.{PlainKey, request_key}
 use Rattle.cudf_referee.specs.Violations.{are_lower, are_many}
 use Rattle.cudf_referee.proofs.ListLemmas.{none_kept}
 use Rattle.cudf_satisfiers.specs.Answers.{differ, differs_after, gives_below, gives_number, numbers_by, places_where}
-use Rattle.cudf_cnf.specs.Cnf.{Keyed, differing_clauses, entry_clauses, is_out, lower_clauses, many_clauses, one_of, upgrade_clauses}
+use Rattle.cudf_cnf.specs.Cnf.{Keyed, differing_clauses, entry_clauses, for_each, is_out, lower_clauses, one_of}
 use Rattle.cudf_cnf.specs.Working.Parts.{IsAt, differing_at, entry_by, givers_of, lower_by}
 use Rattle.cudf_cnf.specs.Working.Known.{AreKnown, IsKnown, known_at, nothing}
 use Rattle.cudf_cnf.specs.declared.upgrades.known.Known.{Known}
@@ -102,7 +102,7 @@ same_at {A} f g n (x ∷ xs) same =
     let first : f (n, x) ≡ g (n, x) = let same_place : n + 0 ≡ n = omega arith in subst (λ (m : ℕ). f (m, x) ≡ g (m, x)) same_place (same 0 x (omega arith)) in
     (λ i. first i ++ same_at f g (n + 1) xs (λ k d inside. let later : n + suc k ≡ n + 1 + k = omega arith in subst (λ (m : ℕ). f (m, get_or xs k d) ≡ g (m, get_or xs k d)) later (same (suc k) d (omega arith))) i)
 
-pub many_same : (packages : List PlainPackage) (n : ℕ) (name : List ℕ) → let all = enumerate_from 1 packages in flat_map (differing_at all n name) (places_where (gives_number name) all) ≡ many_clauses all n name
+pub many_same : (packages : List PlainPackage) (n : ℕ) (name : List ℕ) → let all = enumerate_from 1 packages in flat_map (differing_at all n name) (places_where (gives_number name) all) ≡ flat_map (differing_clauses all n name) all
 many_same packages n name =
     let all = enumerate_from 1 packages in
     flat_map-map (differing_at all n name) (λ (q : Placed). q.0) (filter (gives_number name) all)
@@ -118,7 +118,7 @@ many_same packages n name =
         by false h = silent (enumerate_from 1 packages) n name q h
 
 -- where the packages give one number of the name at most, there is nothing
-alike_none : (all : List Placed) (n : ℕ) (name : List ℕ) → any_pair (differ name) all ≡ false → [] ≡ many_clauses all n name
+alike_none : (all : List Placed) (n : ℕ) (name : List ℕ) → any_pair (differ name) all ≡ false → [] ≡ flat_map (differing_clauses all n name) all
 alike_none all n name alike = sym (nothing_made all (λ p of. none_for p of))
   where
     key : PlainKey
@@ -141,7 +141,7 @@ alike_none all n name alike = sym (nothing_made all (λ p of. none_for p of))
     nothing_made (x ∷ xs) h =
         (λ i. h x (λ test passes. or_left (test x) (list_any test xs) passes) i ++ nothing_made xs (λ p of. h p (λ test passes. or_right (test x) (list_any test xs) (of test passes))) i)
 
-pub givers_same : (packages : List PlainPackage) (n : ℕ) (name : List ℕ) (several : Bool) → let all = enumerate_from 1 packages in several ≡ are_many (numbers_of name all) → flat_map (differing_at all n name) (givers_of all name several) ≡ many_clauses all n name
+pub givers_same : (packages : List PlainPackage) (n : ℕ) (name : List ℕ) (several : Bool) → let all = enumerate_from 1 packages in several ≡ are_many (numbers_of name all) → flat_map (differing_at all n name) (givers_of all name several) ≡ flat_map (differing_clauses all n name) all
 givers_same packages n name true known = many_same packages n name
 givers_same packages n name false known = alike_none (enumerate_from 1 packages) n name (sym (many-pair name (enumerate_from 1 packages)) ∙ sym known)
 
@@ -166,7 +166,7 @@ entries_from packages before known m (v ∷ vs) (k ∷ ks) is told =
     (λ i. entry_same packages before known (m + 1) v k own told.0 i ++ entries_from packages before known (m + 1) vs ks rest told.1 i)
 
 pub upgrade_same : (packages : List PlainPackage) (before : List Placed) (known : List Known) (vs : List PlainVpkg)
-    → let all = enumerate_from 1 packages in AreKnown before all vs known → flat_map (λ e. entry_by all known e.0 e.1) (enumerate_from 1 vs) ≡ upgrade_clauses all before vs
+    → let all = enumerate_from 1 packages in AreKnown before all vs known → flat_map (λ e. entry_by all known e.0 e.1) (enumerate_from 1 vs) ≡ for_each (entry_clauses all before) vs
 upgrade_same packages before known vs told = entries_from packages before known 0 vs known refl told
 
 -- ---- all packages

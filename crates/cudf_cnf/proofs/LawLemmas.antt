@@ -23,7 +23,7 @@ use Rattle.cudf_referee.specs.Violations.{entry_instances, is_violated, kept_ins
 use Rattle.cudf_referee.specs.Working.RuleInstances.{conflicts_instance, depends_instance, install_instance, remove_instance}
 use Rattle.cudf_referee.proofs.ListLemmas.{is_empty-append, is_empty-map, list_all-same, list_any-none}
 use Rattle.cudf_referee.proofs.SolutionLemmas.{solution_is_empty}
-use Rattle.cudf_cnf.specs.Cnf.{Keyed, clauses_of, cnf, conflicts_clauses, depends_clauses, install_clauses, keep_clauses, package_clauses, remove_clauses, upgrade_clauses}
+use Rattle.cudf_cnf.specs.Cnf.{Keyed, clauses_of, cnf, conflict_clauses, conjunct_clauses, entry_clauses, for_each, install_clauses, keep_clauses, package_clauses, removal_clauses}
 use Rattle.cudf_cnf.specs.Laws.{FalsifiedIsViolated, RefutedAreViolated, RefutedHasNone, SolutionSatisfies, falsified, proposed}
 use Rattle.cudf_cnf.proofs.RuleLemmas.{breaks, conflicts_any, depends_any, fails, holds_own, install_any, keep_any, remove_any, upgrade_any}
 use Rattle.cudf_cnf.proofs.TestLemmas.{IsOneOf, and-false, and-or, and-swap, contains-any, element, element-any, element-map, list_any-flat, list_any-if, list_any-same, list_any-where, not-not, passing}
@@ -38,8 +38,8 @@ package_any problem is t p of =
     let all = enumerate_from 1 problem.packages in
     let s = proposed problem is [] in
     let kept = holds_place s.initial p.0 in
-    let d = depends_clauses all p in
-    let c = conflicts_clauses all p in
+    let d = for_each (conjunct_clauses all p) p.1.depends in
+    let c = for_each (conflict_clauses all p.0) p.1.conflicts in
     let vd = of_each (depends_instance p) p.1.depends in
     let vc = of_each (conflicts_instance p) p.1.conflicts in
     list_any-append (fails is t) (d ++ c) (if kept then keep_clauses all p.1.keep p else [])
@@ -61,9 +61,9 @@ agrees problem is t =
     let f = fails is t in
     let g = breaks s t in
     let p = flat_map (package_clauses all s.initial) all in
-    let i = install_clauses all r.install in
-    let m = remove_clauses all r.remove in
-    let u = upgrade_clauses all s.initial r.upgrade in
+    let i = for_each (install_clauses all) r.install in
+    let m = for_each (removal_clauses all) r.remove in
+    let u = for_each (entry_clauses all s.initial) r.upgrade in
     let vp = flat_map (package_instances s) all in
     let vi = of_each (install_instance r) r.install in
     let vm = of_each (remove_instance r) r.remove in

@@ -14,17 +14,17 @@ use Rattle.cudf_problem.specs.declared.package.Keep.{Keep}
 use Rattle.cudf_problem.specs.declared.package.Keep.TheVariants.{Feature, Nothing}
 use Rattle.cudf_problem.specs.Statuses.{is_initial}
 use Rattle.cudf_problem.specs.Universe.{PlainPackage, PlainProblem}
-use Rattle.cudf_index.specs.Satisfaction.{Placed, meets_alone, members, numbers_of, without}
+use Rattle.cudf_index.specs.Satisfaction.{Placed, meets_alone, members, numbers_of, without, meets_clause_alone}
 use Rattle.cudf_job.specs.declared.key.Aspect.TheVariants.{Many, Lower}
 use Rattle.cudf_job.specs.declared.key.Rule.TheVariants as rule
-use Rattle.cudf_job.specs.Keys.{PlainKey, key_cmp, key_ranks, package_key, request_key}
+use Rattle.cudf_job.specs.Keys.{PlainKey, key_cmp, key_ranks, package_key, request_key, never_descend}
 use Rattle.cudf_lrat.specs.declared.literal.Literal.{Literal}
 use Rattle.cudf_referee.specs.Proposals.{holds_place}
 use Rattle.cudf_referee.specs.Violations.{are_lower}
 use Rattle.cudf_referee.proofs.ListLemmas.{and_left, and_right}
-use Rattle.cudf_satisfiers.specs.Answers.{differ, meets_clause_alone}
-use Rattle.cudf_cnf.specs.Cnf.{Keyed, cnf, conflict_clauses, conflicts_clauses, conjunct_clauses, depends_clauses, differing_clauses, entry_clauses, for_each, install_clauses, is_out, keep_clauses, lower_clauses, many_clauses, one_of, package_clauses, removal_clauses, remove_clauses, upgrade_clauses}
-use Rattle.cudf_cnf.specs.Laws.{KeysNeverDescend, never_descend}
+use Rattle.cudf_satisfiers.specs.Answers.{differ}
+use Rattle.cudf_cnf.specs.Cnf.{Keyed, cnf, conflict_clauses, conjunct_clauses, differing_clauses, entry_clauses, for_each, install_clauses, is_out, keep_clauses, lower_clauses, one_of, package_clauses, removal_clauses}
+use Rattle.cudf_cnf.specs.Laws.{KeysNeverDescend}
 
 -- ---- ranks
 
@@ -116,7 +116,7 @@ to_next_bare part place rule n = of_rule part place rule (n ∷ []) ((n + 1) ∷
 
 -- ---- packages
 
-depends_rise : (all : List Placed) (p : Placed) → Rises (1 ∷ p.0 ∷ 1 ∷ []) (depends_clauses all p) (1 ∷ p.0 ∷ 2 ∷ [])
+depends_rise : (all : List Placed) (p : Placed) → Rises (1 ∷ p.0 ∷ 1 ∷ []) (for_each (conjunct_clauses all p) p.1.depends) (1 ∷ p.0 ∷ 2 ∷ [])
 depends_rise all p = rises-each (conjunct_clauses all p) 1 p.0 1 one p.1.depends
   where
     one : (e : ℕ × List PlainAtom) → Rises (1 ∷ p.0 ∷ 1 ∷ e.0 ∷ []) (conjunct_clauses all p e.0 e.1) (1 ∷ p.0 ∷ 1 ∷ (e.0 + 1) ∷ [])
@@ -124,7 +124,7 @@ depends_rise all p = rises-each (conjunct_clauses all p) 1 p.0 1 one p.1.depends
         ((package_key p.0 rule.Depends e.0, is_out p.0 ∷ one_of (meets_clause_alone e.1) all) ∷ [])
         (to_next_bare 1 p.0 1 e.0) (from_number 1 p.0 1 e.0, to_next 1 p.0 1 e.0 0)
 
-conflicts_rise : (all : List Placed) (p : Placed) → Rises (1 ∷ p.0 ∷ 2 ∷ []) (conflicts_clauses all p) (1 ∷ p.0 ∷ 3 ∷ [])
+conflicts_rise : (all : List Placed) (p : Placed) → Rises (1 ∷ p.0 ∷ 2 ∷ []) (for_each (conflict_clauses all p.0) p.1.conflicts) (1 ∷ p.0 ∷ 3 ∷ [])
 conflicts_rise all p = rises-each (conflict_clauses all p.0) 1 p.0 2 one p.1.conflicts
   where
     one : (e : ℕ × PlainVpkg) → Rises (1 ∷ p.0 ∷ 2 ∷ e.0 ∷ []) (conflict_clauses all p.0 e.0 e.1) (1 ∷ p.0 ∷ 2 ∷ (e.0 + 1) ∷ [])
@@ -141,8 +141,8 @@ package_rises : (all before : List Placed) (p : Placed) → Rises (1 ∷ p.0 ∷
 package_rises all before p =
     from_lower (1 ∷ p.0 ∷ []) (1 ∷ p.0 ∷ 1 ∷ []) (1 ∷ (p.0 + 1) ∷ []) (package_clauses all before p) (within 1 p.0 [] (1 ∷ []) refl)
     (to_higher (1 ∷ p.0 ∷ 1 ∷ []) (1 ∷ p.0 ∷ 4 ∷ []) (1 ∷ (p.0 + 1) ∷ []) (package_clauses all before p)
-    (rises-append (1 ∷ p.0 ∷ 1 ∷ []) (1 ∷ p.0 ∷ 3 ∷ []) (1 ∷ p.0 ∷ 4 ∷ []) (depends_clauses all p ++ conflicts_clauses all p) kept
-    (rises-append (1 ∷ p.0 ∷ 1 ∷ []) (1 ∷ p.0 ∷ 2 ∷ []) (1 ∷ p.0 ∷ 3 ∷ []) (depends_clauses all p) (conflicts_clauses all p) (depends_rise all p) (conflicts_rise all p))
+    (rises-append (1 ∷ p.0 ∷ 1 ∷ []) (1 ∷ p.0 ∷ 3 ∷ []) (1 ∷ p.0 ∷ 4 ∷ []) (for_each (conjunct_clauses all p) p.1.depends ++ for_each (conflict_clauses all p.0) p.1.conflicts) kept
+    (rises-append (1 ∷ p.0 ∷ 1 ∷ []) (1 ∷ p.0 ∷ 2 ∷ []) (1 ∷ p.0 ∷ 3 ∷ []) (for_each (conjunct_clauses all p) p.1.depends) (for_each (conflict_clauses all p.0) p.1.conflicts) (depends_rise all p) (conflicts_rise all p))
     (rises-if (1 ∷ p.0 ∷ 3 ∷ []) (1 ∷ p.0 ∷ 4 ∷ []) (holds_place before p.0) (keep_clauses all p.1.keep p) (within 1 p.0 (3 ∷ []) (4 ∷ []) refl) (keep_rises all p.1.keep p)))
     (same_first 1 (p.0 ∷ 4 ∷ []) ((p.0 + 1) ∷ []) (next_first p.0 (4 ∷ []) [])))
   where
@@ -154,10 +154,10 @@ packages_rise all before packages = rises-flat_map (package_clauses all before) 
 
 -- ---- the request
 
-install_rises : (all : List Placed) (vs : List PlainVpkg) → Rises (2 ∷ 0 ∷ 4 ∷ []) (install_clauses all vs) (2 ∷ 0 ∷ 5 ∷ [])
+install_rises : (all : List Placed) (vs : List PlainVpkg) → Rises (2 ∷ 0 ∷ 4 ∷ []) (for_each (install_clauses all) vs) (2 ∷ 0 ∷ 5 ∷ [])
 install_rises all vs = rises-each (λ n v. (request_key rule.Install n None, one_of (meets_alone v) all) ∷ []) 2 0 4 (λ e. (from_number 2 0 4 e.0, to_next 2 0 4 e.0 0)) vs
 
-remove_rises : (all : List Placed) (vs : List PlainVpkg) → Rises (2 ∷ 0 ∷ 5 ∷ []) (remove_clauses all vs) (2 ∷ 0 ∷ 6 ∷ [])
+remove_rises : (all : List Placed) (vs : List PlainVpkg) → Rises (2 ∷ 0 ∷ 5 ∷ []) (for_each (removal_clauses all) vs) (2 ∷ 0 ∷ 6 ∷ [])
 remove_rises all vs = rises-each (removal_clauses all) 2 0 5 one vs
   where
     one : (e : ℕ × PlainVpkg) → Rises (2 ∷ 0 ∷ 5 ∷ e.0 ∷ []) (removal_clauses all e.0 e.1) (2 ∷ 0 ∷ 5 ∷ (e.0 + 1) ∷ [])
@@ -196,8 +196,8 @@ many_rise all n name (p ∷ ps) = rises-append (upgrade_ranks n 2) (upgrade_rank
 entry_rises : (all before : List Placed) (e : ℕ × PlainVpkg) → Rises (2 ∷ 0 ∷ 6 ∷ e.0 ∷ []) (entry_clauses all before e.0 e.1) (2 ∷ 0 ∷ 6 ∷ (e.0 + 1) ∷ [])
 entry_rises all before e = (
   of_rule 2 0 6 (e.0 ∷ []) (e.0 ∷ 1 ∷ []) (same_first e.0 [] (1 ∷ []) refl),
-  rises-append (upgrade_ranks e.0 1) (upgrade_ranks e.0 2) (2 ∷ 0 ∷ 6 ∷ (e.0 + 1) ∷ []) (many_clauses all e.0 e.1.name) (lower_clauses all before e.0 e.1.name)
-      (from_lower (upgrade_ranks e.0 1) (upgrade_ranks e.0 2) (upgrade_ranks e.0 2) (many_clauses all e.0 e.1.name) (aspects (1 ∷ []) (2 ∷ []) refl) (many_rise all e.0 e.1.name all))
+  rises-append (upgrade_ranks e.0 1) (upgrade_ranks e.0 2) (2 ∷ 0 ∷ 6 ∷ (e.0 + 1) ∷ []) (flat_map (differing_clauses all e.0 e.1.name) all) (lower_clauses all before e.0 e.1.name)
+      (from_lower (upgrade_ranks e.0 1) (upgrade_ranks e.0 2) (upgrade_ranks e.0 2) (flat_map (differing_clauses all e.0 e.1.name) all) (aspects (1 ∷ []) (2 ∷ []) refl) (many_rise all e.0 e.1.name all))
       (rises-map (request_key rule.Upgrade e.0 (Some Lower)) (λ (p : Placed). is_out p.0 ∷ []) (upgrade_ranks e.0 2) (2 ∷ 0 ∷ 6 ∷ (e.0 + 1) ∷ [])
       (filter (λ p. are_lower (numbers_of e.1.name before) (numbers_of e.1.name (p ∷ []))) all) (aspects (2 ∷ []) (3 ∷ []) refl) (to_next 2 0 6 e.0 3)),
 )
@@ -205,7 +205,7 @@ entry_rises all before e = (
     aspects : (xs ys : List ℕ) → UpTo xs ys → UpTo (2 ∷ 0 ∷ 6 ∷ e.0 ∷ xs) (2 ∷ 0 ∷ 6 ∷ e.0 ∷ ys)
     aspects xs ys h = of_rule 2 0 6 (e.0 ∷ xs) (e.0 ∷ ys) (same_first e.0 xs ys h)
 
-upgrade_rises : (all before : List Placed) (vs : List PlainVpkg) → Rises (2 ∷ 0 ∷ 6 ∷ []) (upgrade_clauses all before vs) (2 ∷ 0 ∷ 7 ∷ [])
+upgrade_rises : (all before : List Placed) (vs : List PlainVpkg) → Rises (2 ∷ 0 ∷ 6 ∷ []) (for_each (entry_clauses all before) vs) (2 ∷ 0 ∷ 7 ∷ [])
 upgrade_rises all before vs = rises-each (entry_clauses all before) 2 0 6 (entry_rises all before) vs
 
 -- ---- all of them
@@ -229,13 +229,13 @@ cnf_rises problem =
     packages = flat_map (package_clauses all before) all
 
     installs : List Keyed
-    installs = install_clauses all problem.request.install
+    installs = for_each (install_clauses all) problem.request.install
 
     removals : List Keyed
-    removals = remove_clauses all problem.request.remove
+    removals = for_each (removal_clauses all) problem.request.remove
 
     upgrades : List Keyed
-    upgrades = upgrade_clauses all before problem.request.upgrade
+    upgrades = for_each (entry_clauses all before) problem.request.upgrade
 
 not_after : (o : Ordering) → is_gt o ≡ false → is_le o ≡ true
 not_after Less h = refl

@@ -2,14 +2,14 @@
 use Rattle.std.proofs.Common.{◌≡◌, ℕ, zero, suc, ◌==◌, Bool, true, false, not, ◌&&◌, List, [], ◌∷◌, ◌++◌, map, filter, refl, sym, subst, ap, ◌∙◌, arith, if◌then◌else◌}
 use Rattle.std.specs.Prelude.{All, Result, Ok, Err, OnOk}
 use Rattle.std.proofs.lemmas.List.Elements.{All-append, All-cons, All-filter, All-map, All-nil, All-weaker, filter_agree}
-use Rattle.cudf_index.specs.Satisfaction.{Placed, without}
+use Rattle.cudf_index.specs.Satisfaction.{Placed, without, meets_clause_alone}
 use Rattle.cudf_value.specs.Formulas.{PlainAtom}
 use Rattle.cudf_job.specs.declared.key.Rule.TheVariants as rule
 use Rattle.cudf_job.specs.Keys.{PlainKey, package_key}
 use Rattle.cudf_lrat.specs.declared.literal.Literal.{Literal}
 use Rattle.cudf_lrat.specs.Literals.{IsWithin}
 use Rattle.cudf_referee.proofs.ListLemmas.{filter-both, filter-map}
-use Rattle.cudf_satisfiers.specs.Answers.{meets_clause_alone, places_where}
+use Rattle.cudf_satisfiers.specs.Answers.{places_where}
 use Rattle.cudf_cnf.specs.Cnf.{Keyed, conjunct_clauses, is_in, is_out, one_of}
 use Rattle.cudf_cnf.specs.Working.Parts.{ArePlaces, Fits, IsPlace}
 use Rattle.cudf_cnf.proofs.TestLemmas.{and-swap}

@@ -9,7 +9,7 @@ use Rattle.cudf_problem.specs.declared.package.Keep.{Keep}
 use Rattle.cudf_problem.specs.declared.package.Keep.TheVariants.{Version, Package, Feature, Nothing}
 use Rattle.cudf_problem.specs.Universe.{PlainPackage, PlainProblem, PlainRequest}
 use Rattle.cudf_problem.proofs.ListLemmas.{list_any-map}
-use Rattle.cudf_index.specs.Satisfaction.{Placed, meets_alone, numbers_of, satisfies, satisfies_clause, without}
+use Rattle.cudf_index.specs.Satisfaction.{Placed, meets_alone, numbers_of, satisfies, satisfies_clause, without, meets_clause_alone}
 use Rattle.cudf_index.proofs.SatisfactionLemmas.{member_alone}
 use Rattle.cudf_index.proofs.SearchLemmas.{list_any-filter}
 use Rattle.cudf_job.specs.declared.key.Rule.TheVariants as rule
@@ -21,8 +21,8 @@ use Rattle.cudf_referee.specs.Proposals.{Proposal, holds_place}
 use Rattle.cudf_referee.specs.Violations.{are_lower, are_many, entry_instances, has_package, is_violated, kept_instances, of_each}
 use Rattle.cudf_referee.specs.Working.RuleInstances.{conflicts_instance, depends_instance, install_instance, keep_instance, remove_instance}
 use Rattle.cudf_referee.proofs.StatusLemmas.{holds-filter}
-use Rattle.cudf_satisfiers.specs.Answers.{differ, is_named, meets_clause_alone}
-use Rattle.cudf_cnf.specs.Cnf.{Keyed, conflict_clauses, conflicts_clauses, conjunct_clauses, depends_clauses, differing_clauses, entry_clauses, for_each, install_clauses, is_in, is_out, keep_clauses, lower_clauses, many_clauses, one_of, removal_clauses, remove_clauses, upgrade_clauses}
+use Rattle.cudf_satisfiers.specs.Answers.{differ, is_named}
+use Rattle.cudf_cnf.specs.Cnf.{Keyed, conflict_clauses, conjunct_clauses, differing_clauses, entry_clauses, for_each, install_clauses, is_in, is_out, keep_clauses, lower_clauses, one_of, removal_clauses}
 use Rattle.cudf_cnf.specs.Laws.{proposed}
 use Rattle.cudf_cnf.proofs.PairLemmas.{any_once, differ-swap, lower_any, many-pair, once-pair, pair-filter}
 use Rattle.cudf_cnf.proofs.TestLemmas.{IsOneOf, and-or, and-swap, and-true, list_any-and, list_any-flat, list_any-if, list_any-or, list_any-same, or-assoc, or-false, or-true}
@@ -228,7 +228,7 @@ both_ways is name p q = ap (λ b. is p.0 && (is q.0 && b)) (differ-swap name p q
 
 many_any : (is : ℕ → Bool) (t : PlainKey → Bool) (packages : List PlainPackage) (n : ℕ) (name : List ℕ)
     → let all = enumerate_from 1 packages in
-    list_any (fails is t) (many_clauses all n name) ≡ (are_many (numbers_of name (installed is all)) && t (request_key rule.Upgrade n (Some Many)))
+    list_any (fails is t) (flat_map (differing_clauses all n name) all) ≡ (are_many (numbers_of name (installed is all)) && t (request_key rule.Upgrade n (Some Many)))
 many_any is t packages n name =
     let all = enumerate_from 1 packages in
     let key = request_key rule.Upgrade n (Some Many) in
@@ -254,10 +254,10 @@ module _ (problem : PlainProblem) (is : ℕ → Bool) (t : PlainKey → Bool) wh
   abbrev s : Proposal
   s = proposed problem is []
 
-  pub depends_any : (p : Placed) → IsOneOf all p → list_any (fails is t) (depends_clauses all p) ≡ (is p.0 && list_any (breaks s t) (of_each (depends_instance p) p.1.depends))
+  pub depends_any : (p : Placed) → IsOneOf all p → list_any (fails is t) (for_each (conjunct_clauses all p) p.1.depends) ≡ (is p.0 && list_any (breaks s t) (of_each (depends_instance p) p.1.depends))
   depends_any p of = each_any_if (is p.0) (fails is t) (conjunct_clauses all p) (breaks s t) (depends_instance p) (conjunct_any is t all p of) p.1.depends
 
-  pub conflicts_any : (p : Placed) → list_any (fails is t) (conflicts_clauses all p) ≡ (is p.0 && list_any (breaks s t) (of_each (conflicts_instance p) p.1.conflicts))
+  pub conflicts_any : (p : Placed) → list_any (fails is t) (for_each (conflict_clauses all p.0) p.1.conflicts) ≡ (is p.0 && list_any (breaks s t) (of_each (conflicts_instance p) p.1.conflicts))
   conflicts_any p = each_any_if (is p.0) (fails is t) (conflict_clauses all p.0) (breaks s t) (conflicts_instance p) (conflict_any is t all p) p.1.conflicts
 
   pub keep_any : (k : Keep) (p : Placed) → IsOneOf all p → list_any (fails is t) (keep_clauses all k p) ≡ list_any (breaks s t) (kept_instances k p)
@@ -275,12 +275,12 @@ module _ (problem : PlainProblem) (is : ℕ → Bool) (t : PlainKey → Bool) wh
   abbrev r : PlainRequest
   r = problem.request
 
-  pub install_any : list_any (fails is t) (install_clauses all r.install) ≡ list_any (breaks s t) (of_each (install_instance r) r.install)
+  pub install_any : list_any (fails is t) (for_each (install_clauses all) r.install) ≡ list_any (breaks s t) (of_each (install_instance r) r.install)
   install_any =
       each_any (fails is t) (λ n v. (request_key rule.Install n None, one_of (meets_alone v) all) ∷ []) (breaks s t) (install_instance r)
       (λ n v. one_clause is t (request_key rule.Install n None, one_of (meets_alone v) all) (satisfies s.proposed v) (one_meets is v all)) r.install
 
-  pub remove_any : list_any (fails is t) (remove_clauses all r.remove) ≡ list_any (breaks s t) (of_each (remove_instance r) r.remove)
+  pub remove_any : list_any (fails is t) (for_each (removal_clauses all) r.remove) ≡ list_any (breaks s t) (of_each (remove_instance r) r.remove)
   remove_any =
       each_any (fails is t) (removal_clauses all) (breaks s t) (remove_instance r)
       (λ n v. units_any is t (request_key rule.Remove n None) (meets_alone v) all ∙ ap (λ b. b && t (request_key rule.Remove n None)) (sym (member_alone s.proposed v))) r.remove
@@ -290,7 +290,7 @@ module _ (problem : PlainProblem) (is : ℕ → Bool) (t : PlainKey → Bool) wh
       let n = e.0 in
       let v = e.1 in
       let one : Keyed = (request_key rule.Upgrade n (Some Unsatisfied), one_of (meets_alone v) all) in
-      list_any-append (fails is t) (one ∷ many_clauses all n v.name) (lower_clauses all s.initial n v.name)
+      list_any-append (fails is t) (one ∷ flat_map (differing_clauses all n v.name) all) (lower_clauses all s.initial n v.name)
       ∙ (λ i. ((sym (or-false (fails is t one)) ∙ one_clause is t one (satisfies s.proposed v) (one_meets is v all)) i || many_any is t problem.packages n v.name i) || lower_is is t all s.initial n v.name i)
       ∙ or-assoc (unsatisfied n v) (many n v) (lower n v)
       ∙ ap (λ b. unsatisfied n v || (many n v || b)) (sym (or-false (lower n v)))
@@ -304,7 +304,7 @@ module _ (problem : PlainProblem) (is : ℕ → Bool) (t : PlainKey → Bool) wh
       lower : ℕ → PlainVpkg → Bool
       lower n v = are_lower (numbers_of v.name s.initial) (numbers_of v.name s.proposed) && t (request_key rule.Upgrade n (Some Lower))
 
-  pub upgrade_any : list_any (fails is t) (upgrade_clauses all s.initial r.upgrade) ≡ list_any (breaks s t) (flat_map (entry_instances r) (enumerate_from 1 r.upgrade))
+  pub upgrade_any : list_any (fails is t) (for_each (entry_clauses all s.initial) r.upgrade) ≡ list_any (breaks s t) (flat_map (entry_instances r) (enumerate_from 1 r.upgrade))
   upgrade_any =
       for_each_any (fails is t) (entry_clauses all s.initial) r.upgrade
       ∙ list_any-same (λ (e : ℕ × PlainVpkg). list_any (fails is t) (entry_clauses all s.initial e.0 e.1)) (λ e. list_any (breaks s t) (entry_instances r e)) entry_any (enumerate_from 1 r.upgrade)

@@ -8,8 +8,8 @@ use Rattle.cudf_value.specs.Vpkgs.{PlainVpkg}
 use Rattle.cudf_problem.specs.Statuses.{is_initial}
 use Rattle.cudf_problem.specs.Universe.{PlainPackage, PlainProblem}
 use Rattle.cudf_index.specs.Satisfaction.{Placed, members}
-use Rattle.cudf_cnf.specs.Cnf.{Keyed, cnf, conflicts_clauses, depends_clauses, install_clauses, keep_clauses, package_clauses, remove_clauses, removal_clauses, upgrade_clauses}
-use Rattle.cudf_cnf.specs.Working.Parts.{for_numbered, install_one, own_clauses}
+use Rattle.cudf_cnf.specs.Cnf.{Keyed, cnf, conflict_clauses, conjunct_clauses, entry_clauses, for_each, install_clauses, keep_clauses, package_clauses, removal_clauses}
+use Rattle.cudf_cnf.specs.Working.Parts.{for_numbered, own_clauses}
 use Rattle.cudf_cnf.proofs.KnownLemmas.{same_at}
 use Rattle.cudf_cnf.proofs.RuleLemmas.{holds_own}
 use Rattle.cudf_cnf.proofs.TestLemmas.{IsOneOf, or_left, or_right}
@@ -47,13 +47,13 @@ packages_same problem =
     let x = get_or problem.packages i d in
     let p : Placed = (1 + i, x) in
     let kept = sym (initial_at problem i d inside) ∙ sym (holds_own (is_initial problem) all p (one_at 1 problem.packages i d inside)) in
-    ap (λ b. depends_clauses all p ++ conflicts_clauses all p ++ (if b then keep_clauses all x.keep p else [])) kept)
+    ap (λ b. for_each (conjunct_clauses all p) p.1.depends ++ for_each (conflict_clauses all p.0) p.1.conflicts ++ (if b then keep_clauses all x.keep p else [])) kept)
 
 pub starts : (problem : PlainProblem) (all : List Placed) (install remove : List (ℕ × PlainVpkg)) (upgrade : List Keyed) → all ≡ enumerate_from 1 problem.packages → install ≡ enumerate_from 1 problem.request.install → remove ≡ enumerate_from 1 problem.request.remove
-    → upgrade ≡ upgrade_clauses (enumerate_from 1 problem.packages) (members (is_initial problem) problem.packages) problem.request.upgrade
-    → flat_map (own_clauses all) all ++ for_numbered (install_one all) install ++ for_numbered (removal_clauses all) remove ++ upgrade ≡ cnf problem
+    → upgrade ≡ for_each (entry_clauses (enumerate_from 1 problem.packages) (members (is_initial problem) problem.packages)) problem.request.upgrade
+    → flat_map (own_clauses all) all ++ for_numbered (install_clauses all) install ++ for_numbered (removal_clauses all) remove ++ upgrade ≡ cnf problem
 unfolding cnf
 starts problem all install remove upgrade all_is install_is remove_is upgrade_is =
     let every = enumerate_from 1 problem.packages in
-    (λ i. flat_map (own_clauses (all_is i)) (all_is i) ++ for_numbered (install_one (all_is i)) (install_is i) ++ for_numbered (removal_clauses (all_is i)) (remove_is i) ++ upgrade_is i)
-    ∙ ap (λ ps. ps ++ install_clauses every problem.request.install ++ remove_clauses every problem.request.remove ++ upgrade_clauses every (members (is_initial problem) problem.packages) problem.request.upgrade) (packages_same problem)
+    (λ i. flat_map (own_clauses (all_is i)) (all_is i) ++ for_numbered (install_clauses (all_is i)) (install_is i) ++ for_numbered (removal_clauses (all_is i)) (remove_is i) ++ upgrade_is i)
+    ∙ ap (λ ps. ps ++ for_each (install_clauses every) problem.request.install ++ for_each (removal_clauses every) problem.request.remove ++ for_each (entry_clauses every (members (is_initial problem) problem.packages)) problem.request.upgrade) (packages_same problem)

@@ -9,14 +9,14 @@ use Rattle.cudf_problem.specs.declared.package.Keep.{Keep}
 use Rattle.cudf_problem.specs.declared.package.Keep.TheVariants.{Version, Package, Feature, Nothing}
 use Rattle.cudf_problem.specs.Statuses.{is_initial}
 use Rattle.cudf_problem.specs.Universe.{PlainProblem}
-use Rattle.cudf_index.specs.Satisfaction.{Placed, meets_alone, members, numbers_of, without}
+use Rattle.cudf_index.specs.Satisfaction.{Placed, meets_alone, members, numbers_of, without, meets_clause_alone}
 use Rattle.cudf_job.specs.declared.key.Rule.TheVariants as rule
 use Rattle.cudf_job.specs.declared.key.Aspect.TheVariants.{Unsatisfied, Many, Lower}
 use Rattle.cudf_job.specs.Keys.{PlainKey, package_key, request_key}
 use Rattle.cudf_lrat.specs.declared.literal.Literal.{Literal}
 use Rattle.cudf_referee.specs.Proposals.{holds_place}
 use Rattle.cudf_referee.specs.Violations.{are_lower}
-use Rattle.cudf_satisfiers.specs.Answers.{differ, is_named, meets_clause_alone}
+use Rattle.cudf_satisfiers.specs.Answers.{differ, is_named}
 
 -- ---- what a CNF is made of
 
@@ -47,16 +47,10 @@ conjunct_clauses all (place, p) number clause =
     if meets_clause_alone clause (place, p) then []
     else (package_key place rule.Depends number, is_out place ∷ one_of (meets_clause_alone clause) all) ∷ []
 
-abbrev pub depends_clauses : List Placed → Placed → List Keyed
-depends_clauses all (place, p) = for_each (conjunct_clauses all (place, p)) p.depends
-
 -- conflicts: the package isn't installed, or another one isn't that alone satisfies the entry
 abbrev pub conflict_clauses : List Placed → ℕ → ℕ → PlainVpkg → List Keyed
 conflict_clauses all place number v =
     map (λ q. (package_key place rule.Conflicts number, is_out place ∷ is_out q.0 ∷ [])) (filter (meets_alone v) (without place all))
-
-abbrev pub conflicts_clauses : List Placed → Placed → List Keyed
-conflicts_clauses all (place, p) = for_each (conflict_clauses all place) p.conflicts
 
 -- keep: the package is installed, one of its name is, or for each entry of its `provides` one that alone satisfies it
 abbrev pub keep_clauses : List Placed → Keep → Placed → List Keyed
@@ -68,31 +62,25 @@ keep_clauses all Nothing (place, p) = []
 -- those of one package, where the packages before were installed
 abbrev pub package_clauses : List Placed → List Placed → Placed → List Keyed
 package_clauses all before (place, p) =
-    depends_clauses all (place, p)
-    ++ conflicts_clauses all (place, p)
+    for_each (conjunct_clauses all (place, p)) p.depends
+    ++ for_each (conflict_clauses all place) p.conflicts
     ++ (if holds_place before place then keep_clauses all p.keep (place, p) else [])
 
 -- ---- the request
 
 -- install: one that alone satisfies the entry is installed
-abbrev pub install_clauses : List Placed → List PlainVpkg → List Keyed
-install_clauses all entries = for_each (λ number v. (request_key rule.Install number None, one_of (meets_alone v) all) ∷ []) entries
+abbrev pub install_clauses : List Placed → ℕ → PlainVpkg → List Keyed
+install_clauses all number v = (request_key rule.Install number None, one_of (meets_alone v) all) ∷ []
 
 -- remove: none that alone satisfies the entry is
 abbrev pub removal_clauses : List Placed → ℕ → PlainVpkg → List Keyed
 removal_clauses all number v = map (λ q. (request_key rule.Remove number None, is_out q.0 ∷ [])) (filter (meets_alone v) all)
-
-abbrev pub remove_clauses : List Placed → List PlainVpkg → List Keyed
-remove_clauses all entries = for_each (removal_clauses all) entries
 
 -- upgrade: of two packages that give two different numbers of the name one isn't installed; nor is one that does so alone
 abbrev pub differing_clauses : List Placed → ℕ → List ℕ → Placed → List Keyed
 differing_clauses all number name p =
     (if differ name p p then (request_key rule.Upgrade number (Some Many), is_out p.0 ∷ []) ∷ [] else [])
     ++ map (λ q. (request_key rule.Upgrade number (Some Many), is_out p.0 ∷ is_out q.0 ∷ [])) (filter (λ q. nat_lt p.0 q.0 && differ name p q) all)
-
-abbrev pub many_clauses : List Placed → ℕ → List ℕ → List Keyed
-many_clauses all number name = flat_map (differing_clauses all number name) all
 
 -- upgrade: no package is installed that gives a number of the name below one that was given before
 abbrev pub lower_clauses : List Placed → List Placed → ℕ → List ℕ → List Keyed
@@ -101,11 +89,8 @@ lower_clauses all before number name =
 
 abbrev pub entry_clauses : List Placed → List Placed → ℕ → PlainVpkg → List Keyed
 entry_clauses all before number v =
-    (request_key rule.Upgrade number (Some Unsatisfied), one_of (meets_alone v) all) ∷ many_clauses all number v.name
+    (request_key rule.Upgrade number (Some Unsatisfied), one_of (meets_alone v) all) ∷ flat_map (differing_clauses all number v.name) all
     ++ lower_clauses all before number v.name
-
-abbrev pub upgrade_clauses : List Placed → List Placed → List PlainVpkg → List Keyed
-upgrade_clauses all before entries = for_each (entry_clauses all before) entries
 
 -- ---- all of them
 
@@ -114,9 +99,9 @@ unfoldable pub cnf : PlainProblem → List Keyed
 cnf problem =
     let all = enumerate_from 1 problem.packages in let before = members (is_initial problem) problem.packages in
     flat_map (package_clauses all before) all
-    ++ install_clauses all problem.request.install
-    ++ remove_clauses all problem.request.remove
-    ++ upgrade_clauses all before problem.request.upgrade
+    ++ for_each (install_clauses all) problem.request.install
+    ++ for_each (removal_clauses all) problem.request.remove
+    ++ for_each (entry_clauses all before) problem.request.upgrade
 
 -- the clauses without their keys
 abbrev pub clauses_of : List Keyed → List (List Literal)

@@ -1,11 +1,10 @@
 -- What the CNF of a problem says of its solutions: own.
-use Rattle.std.specs.Prelude.{◌≡◌, ◌↔◌, ◌-◌, ℕ, Bool, true, false, not, ◌&&◌, List, [], ◌∷◌, map, filter, Contains, IsTrue, Some, slice_get}
+use Rattle.std.specs.Prelude.{◌≡◌, ◌↔◌, ◌-◌, ℕ, Bool, false, not, ◌&&◌, List, [], map, filter, Contains, IsTrue, Some, slice_get}
 use Rattle.std.specs.List.{list_all}
-use Rattle.std.specs.Ordering.{is_le}
 use Rattle.cudf_problem.specs.Documents.{is_empty}
 use Rattle.cudf_problem.specs.Statuses.{PlainUnknown, is_initial}
 use Rattle.cudf_problem.specs.Universe.{PlainProblem}
-use Rattle.cudf_job.specs.Keys.{PlainKey, key_cmp}
+use Rattle.cudf_job.specs.Keys.{PlainKey, never_descend}
 use Rattle.cudf_lrat.specs.Literals.{IsCore, is_satisfied_by}
 use Rattle.cudf_referee.specs.Instances.{PlainInstance}
 use Rattle.cudf_referee.specs.Proposals.{Proposal, proposal}
@@ -50,11 +49,6 @@ RefutedAreViolated = (problem : PlainProblem) (core : List ℕ) → IsCore (clau
 abbrev pub RefutedHasNone : Type 0
 RefutedHasNone = (problem : PlainProblem) (core : List ℕ) → IsCore (clauses_of (cnf problem)) core
     → (is_installed : ℕ → Bool) (unknown : List PlainUnknown) → is_solution (proposed problem is_installed unknown) ≡ false
-
--- no key comes before an earlier one
-abbrev pub never_descend : List PlainKey → Bool
-never_descend [] = true
-never_descend (key ∷ keys) = list_all (λ later. is_le (key_cmp key later)) keys && never_descend keys
 
 -- the CNF is in key order, the clauses of one instance beside each other
 abbrev pub KeysNeverDescend : Type 0

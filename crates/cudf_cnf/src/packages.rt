@@ -8,7 +8,7 @@ ghost use Rattle.cudf_job.specs.declared.key.Part.TheVariants as part;
 ghost use Rattle.cudf_job.specs.Keys.{fits, package_key};
 ghost use Rattle.cudf_job.specs.KeyViews.{key_view};
 ghost use Rattle.cudf_satisfiers.specs.Answers.{is_named};
-ghost use Rattle.cudf_cnf.specs.Cnf.{conflict_clauses, conflicts_clauses, conjunct_clauses, depends_clauses, keep_clauses, one_of};
+ghost use Rattle.cudf_cnf.specs.Cnf.{conflict_clauses, conjunct_clauses, for_each, keep_clauses, one_of};
 ghost use Rattle.cudf_cnf.specs.Working.Parts.{Fits, IsAt, IsPlace, own_clauses};
 ghost use Rattle.cudf_cnf.specs.Working.Views.{Goes, packages_left};
 
@@ -75,7 +75,7 @@ fn put_depends(
     requires fits { Fits clauses.old.places satisfiers.now }
     requires place { IsPlace clauses.old.places place }
     requires here { IsAt satisfiers.now (place, package_view «package».now) }
-    ensures put { OnOk result (clauses.new.clauses ≡ clauses.old.clauses ++ depends_clauses satisfiers.now (place, package_view «package».now)) }
+    ensures put { OnOk result (clauses.new.clauses ≡ clauses.old.clauses ++ for_each (conjunct_clauses satisfiers.now (place, package_view «package».now)) (package_view «package».now).depends) }
     ensures places { clauses.new.places ≡ clauses.old.places }
 {
     let mut number = 0;
@@ -130,7 +130,7 @@ fn put_conflicts(
 ) -> Result<(), AllocError>
     requires fits { Fits clauses.old.places satisfiers.now }
     requires place { IsPlace clauses.old.places place }
-    ensures put { OnOk result (clauses.new.clauses ≡ clauses.old.clauses ++ conflicts_clauses satisfiers.now (place, package_view «package».now)) }
+    ensures put { OnOk result (clauses.new.clauses ≡ clauses.old.clauses ++ for_each (conflict_clauses satisfiers.now place) (package_view «package».now).conflicts) }
     ensures places { clauses.new.places ≡ clauses.old.places }
 {
     for entry in Numbered::of(package.conflicts) {

@@ -34,7 +34,7 @@ impl<'t> Upgrades<'t> {
     ghost use Rattle.std.specs.List.{enumerate_from};
     ghost use Rattle.cudf_index.specs.Satisfaction.{members};
     ghost use Rattle.cudf_problem.specs.Statuses.{is_initial};
-    ghost use Rattle.cudf_cnf.specs.Cnf.{upgrade_clauses};
+    ghost use Rattle.cudf_cnf.specs.Cnf.{entry_clauses, for_each};
     ghost use Rattle.cudf_cnf.specs.Working.Parts.{AreHeld, Fits};
     ghost use Rattle.cudf_cnf.specs.Working.Known.{known_at};
     ghost use Rattle.cudf_cnf.specs.Working.Views.{Goes, upgrade_left};
@@ -42,7 +42,7 @@ impl<'t> Upgrades<'t> {
     /// All entries of the problem's `upgrade`.
     pub(crate) fn of(alloc: Global, problem: &Problem<'t>) -> Result<Self, AllocError>
         ensures left { IfOk result (λ u. upgrade_left (enumerate_from 1 problem.now.packages) u
-            ≡ upgrade_clauses (enumerate_from 1 problem.now.packages) (members (is_initial problem.now) problem.now.packages) problem.now.request.upgrade) }
+            ≡ for_each (entry_clauses (enumerate_from 1 problem.now.packages) (members (is_initial problem.now) problem.now.packages)) problem.now.request.upgrade) }
         ensures givers { IfOk result (λ u. u.givers.items ≡ []) }
     {
         let known = known_of(alloc, problem)?;

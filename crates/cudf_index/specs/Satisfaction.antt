@@ -82,13 +82,17 @@ satisfies_clause status clause = list_any (satisfies_atom status) clause
 abbrev pub meets_alone : PlainVpkg → Placed → Bool
 meets_alone v p = satisfies (p ∷ []) v
 
+-- the package, alone, satisfies the clause; each does where an atom is `true!`
+abbrev pub meets_clause_alone : List PlainAtom → Placed → Bool
+meets_clause_alone clause p = satisfies_clause (p ∷ []) clause
+
 -- the least place of a status whose package alone satisfies the vpkg
 abbrev pub first_meeting : List Placed → PlainVpkg → Option ℕ
 first_meeting status v = option_map (λ (place, p). place) (find (meets_alone v) status)
 
 -- the least place of a status whose package alone satisfies the clause
 abbrev pub first_satisfying : List Placed → List PlainAtom → Option ℕ
-first_satisfying status clause = option_map (λ (place, p). place) (find (λ placed. satisfies_clause (placed ∷ []) clause) status)
+first_satisfying status clause = option_map (λ (place, p). place) (find (meets_clause_alone clause) status)
 
 -- the least place of a status whose package has this name
 abbrev pub first_named : List Placed → List ℕ → Option ℕ

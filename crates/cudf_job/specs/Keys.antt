@@ -2,7 +2,7 @@
 use Rattle.std.specs.Prelude.{ℕ, Bool, true, false, ◌&&◌, nat_lt, List, [], ◌∷◌, ◌++◌, codes, decimal, Option, Some, None}
 use Rattle.std.specs.Cmp.Lexicographic.{slice_cmp}
 use Rattle.std.specs.List.{list_all}
-use Rattle.std.specs.Ordering.{nat_cmp, is_lt}
+use Rattle.std.specs.Ordering.{nat_cmp, is_le, is_lt}
 use Rattle.std.specs.declared.cmp.Ordering.{Ordering}
 use Rattle.cudf_job.specs.declared.key.Part.{Part}
 use Rattle.cudf_job.specs.declared.key.Part.TheVariants.{Package, Request, Solution}
@@ -90,6 +90,11 @@ precedes_all key keys = list_all (λ k. is_lt (key_cmp key k)) keys
 abbrev pub ascend : List PlainKey → Bool
 ascend [] = true
 ascend (key ∷ keys) = precedes_all key keys && ascend keys
+
+-- no key comes before an earlier one
+abbrev pub never_descend : List PlainKey → Bool
+never_descend [] = true
+never_descend (key ∷ keys) = list_all (λ later. is_le (key_cmp key later)) keys && never_descend keys
 
 -- ---- texts
 

@@ -9,7 +9,8 @@ use Rattle.cudf_job.specs.Keys.{PlainKey, unknown_key}
 use Rattle.cudf_job.specs.KeyViews.{key_view}
 use Rattle.cudf_job.specs.declared.key.Part.{Part}
 use Rattle.cudf_lrat.specs.declared.literal.Literal.{Literal}
-use Rattle.cudf_reasons.specs.Reasons.{Keyed, PlainReason, ascending, core_of, is_of, keys_of, negative_places, positive_places, reason_of, same_key}
+use Rattle.cudf_reasons.specs.Laws.{keys_of}
+use Rattle.cudf_reasons.specs.Reasons.{Keyed, PlainReason, ascending, core_of, is_of, negative_places, positive_places, reason_of, same_key}
 use Rattle.cudf_reasons.specs.Views.{needed_view}
 use Rattle.cudf_reasons.specs.Working.Gathered.{is_at, literals_in, other_places}
 use Rattle.cudf_reasons.specs.declared.needed.Needed.{Needed}

@@ -5,9 +5,10 @@ use Rattle.std.specs.List.{list_all}
 use Rattle.std.specs.Ordering.{is_le, is_lt}
 use Rattle.std.specs.declared.cmp.Ordering.TheVariants.{Less}
 use Rattle.std.proofs.lemmas.Bool.{and_parts, and_from, cond-true, cond-false}
-use Rattle.cudf_job.specs.Keys.{PlainKey, ascend, key_cmp, precedes_all}
+use Rattle.cudf_job.specs.Keys.{PlainKey, ascend, key_cmp, precedes_all, never_descend}
 use Rattle.cudf_lrat.specs.declared.literal.Literal.{Literal}
-use Rattle.cudf_reasons.specs.Reasons.{Instance, Keyed, PlainReason, core_of, grouped, keys_of, never_descend, reason_of, same_key, with_clause}
+use Rattle.cudf_reasons.specs.Laws.{keys_of}
+use Rattle.cudf_reasons.specs.Reasons.{Instance, Keyed, PlainReason, core_of, grouped, reason_of, same_key, with_clause}
 use Rattle.cudf_reasons.specs.Working.Walks.{keys_ascend}
 use Rattle.cudf_reasons.proofs.KeyOrderLemmas.{key_order, less_from_le, less_from_lt, same_is, same_itself}
 use Rattle.cudf_reasons.proofs.ListLemmas.{all_weaker}

@@ -1,7 +1,11 @@
 -- What follows from the definitions alone: own.
-use Rattle.std.specs.Prelude.{◌≡◌, false, List, All, IsTrue}
+use Rattle.std.specs.Prelude.{◌≡◌, false, List, map, All, IsTrue}
 use Rattle.std.specs.List.Sorted.{IsPermutation}
-use Rattle.cudf_reasons.specs.Reasons.{Keyed, PlainReason, brings, core_of, is_new, keys_of, never_descend, reasons_of, roots_of, told_of}
+use Rattle.cudf_job.specs.Keys.{PlainKey, never_descend}
+use Rattle.cudf_reasons.specs.Reasons.{Keyed, PlainReason, brings, core_of, is_new, reasons_of, roots_of, told_of}
+
+abbrev pub keys_of : List Keyed → List PlainKey
+keys_of needed = map (λ n. n.0) needed
 
 -- each instance of the needed CNF clauses is reported, and none of them twice
 abbrev pub EachIsToldOnce : Type 0

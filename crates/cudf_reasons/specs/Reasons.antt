@@ -1,13 +1,14 @@
 -- The core of a refutation as a list to be read: which instances of rules, each once, in which order, and which packages
 -- each is met by. Own.
 use Rattle.std.specs.Prelude.{ℕ, zero, suc, Bool, true, false, not, ◌&&◌, ◌==◌, nat_lt, List, [], ◌∷◌, ◌++◌, length, map, filter, if◌then◌else◌}
-use Rattle.std.specs.List.{flat_map, list_any, list_all}
-use Rattle.std.specs.Ordering.{is_eq, is_le}
+use Rattle.std.specs.List.{flat_map, list_any}
+use Rattle.std.specs.Ordering.{is_eq}
 use Rattle.cudf_job.specs.declared.key.Part.{Part}
 use Rattle.cudf_job.specs.declared.key.Part.TheVariants.{Package, Request}
 use Rattle.cudf_job.specs.declared.key.Rule.{Rule}
 use Rattle.cudf_job.specs.declared.key.Rule.TheVariants.{Depends, Conflicts, Keep}
 use Rattle.cudf_job.specs.Keys.{PlainKey, key_cmp}
+use Rattle.cudf_lrat.specs.Lines.{is_empty}
 use Rattle.cudf_lrat.specs.declared.literal.Literal.{Literal}
 
 -- ---- the instances of the needed CNF clauses
@@ -23,14 +24,6 @@ pub record Instance : Type 0 where
 
 abbrev pub same_key : PlainKey → PlainKey → Bool
 same_key a b = is_eq (key_cmp a b)
-
-abbrev pub keys_of : List Keyed → List PlainKey
-keys_of needed = map (λ n. n.0) needed
-
--- no key comes before an earlier one
-abbrev pub never_descend : List PlainKey → Bool
-never_descend [] = true
-never_descend (key ∷ keys) = list_all (λ later. is_le (key_cmp key later)) keys && never_descend keys
 
 -- a CNF clause before those of other instances: one more of the first of these, or the only one of its own
 abbrev pub with_clause : Keyed → List Instance → List Instance
@@ -106,10 +99,6 @@ abbrev pub is_depends_or_conflicts : Rule → Bool
 is_depends_or_conflicts Depends = true
 is_depends_or_conflicts Conflicts = true
 is_depends_or_conflicts rule = false
-
-abbrev pub is_empty : List ℕ → Bool
-is_empty [] = true
-is_empty (place ∷ places) = false
 
 -- an instance of the request without a negative literal: the request has no package of its own, so such a one is met by none
 abbrev pub is_asked : PlainReason → Bool

@@ -1,6 +1,8 @@
 //! The order in which reasons are reported.
 ghost use Rattle.std.specs.Prelude.{◌≡◌, ◌<◌, All, IsTrue, IfOk, length, map};
-ghost use Rattle.cudf_reasons.specs.Reasons.{in_order, keys_of, never_descend, reasons_of};
+ghost use Rattle.cudf_job.specs.Keys.{never_descend};
+ghost use Rattle.cudf_reasons.specs.Laws.{keys_of};
+ghost use Rattle.cudf_reasons.specs.Reasons.{in_order, reasons_of};
 ghost use Rattle.cudf_reasons.specs.Views.{needed_view, told_as};
 ghost use Rattle.cudf_reasons.specs.Working.Tables.{reason_at};
 ghost use Rattle.cudf_reasons.specs.Working.Walks.{keys_ascend};

@@ -4,9 +4,9 @@ use Rattle.std.specs.List.{list_any}
 use Rattle.std.proofs.Math.Bool.{or-false}
 use Rattle.std.proofs.lemmas.Bool.{true≢false}
 use Rattle.cudf_value.specs.Formulas.{PlainAtom, truth_atom, falsehood_atom, named}
-use Rattle.cudf_index.specs.Satisfaction.{Placed, satisfies, satisfies_clause, without}
+use Rattle.cudf_index.specs.Satisfaction.{Placed, satisfies, satisfies_clause, without, meets_clause_alone}
 use Rattle.cudf_index.proofs.SearchLemmas.{list_any-filter}
-use Rattle.cudf_referee.specs.Explanations.{is_only, satisfies_alone}
+use Rattle.cudf_referee.specs.Explanations.{is_only}
 use Rattle.cudf_referee.specs.Promises.Laws.{NeededIsMissed}
 use Rattle.cudf_referee.proofs.NeederLemmas.{and_not, any_more, or_right}
 use Rattle.cudf_referee.proofs.RemedyLemmas.{any-or, clause_alone}
@@ -42,7 +42,7 @@ needed_is_missed status place clause others = by (satisfies_clause [] clause) re
     rest = without place status
 
     test : Placed → Bool
-    test = satisfies_alone clause
+    test = meets_clause_alone clause
 
     here : Bool
     here = list_any (λ p. p.0 == place && test p) status

@@ -9,10 +9,10 @@ use Rattle.cudf_value.specs.Formulas.{PlainAtom}
 use Rattle.cudf_problem.proofs.ListLemmas.{is_some-find, option_map-none, option_or-none}
 use Rattle.cudf_problem.specs.Universe.{PlainPackage}
 use Rattle.cudf_index.specs.Promises.Members.{other_than}
-use Rattle.cudf_index.specs.Satisfaction.{Placed, members, satisfies_atom, without}
+use Rattle.cudf_index.specs.Satisfaction.{Placed, members, satisfies_atom, without, meets_clause_alone}
 use Rattle.cudf_index.proofs.MemberLemmas.{members_kept, members_left_out}
 use Rattle.cudf_index.proofs.SearchLemmas.{list_any-filter, none_narrowed}
-use Rattle.cudf_referee.specs.Explanations.{is_only, needs_place, satisfies_alone}
+use Rattle.cudf_referee.specs.Explanations.{is_only, needs_place}
 use Rattle.cudf_referee.specs.Working.Needers.{first_beside, first_passing, holds_other, is_named, only_satisfying, some_satisfying, unless_other, with_clauses, with_other}
 
 -- ---- tests
@@ -140,19 +140,19 @@ beside_is place (p ∷ ps) first second e f = ap (λ o. first_beside place o sec
 
 -- ---- the only one that satisfies a clause
 
-none_satisfying : (ps : List Placed) (clause : List PlainAtom) → some_satisfying ps clause ≡ None → list_any (satisfies_alone clause) ps ≡ false
+none_satisfying : (ps : List Placed) (clause : List PlainAtom) → some_satisfying ps clause ≡ None → list_any (meets_clause_alone clause) ps ≡ false
 none_satisfying ps [] none = nothing_passes ps
 none_satisfying ps (atom ∷ atoms) none = by (first_passing test ps) refl none (none_satisfying ps atoms)
   where
     test : Placed → Bool
     test p = satisfies_atom (p ∷ []) atom
 
-    by : (o : Option ℕ) → first_passing test ps ≡ o → option_or o (some_satisfying ps atoms) ≡ None → (some_satisfying ps atoms ≡ None → list_any (satisfies_alone atoms) ps ≡ false)
-        → list_any (λ p. test p || satisfies_alone atoms p) ps ≡ false
-    by None e none rest = any_neither test (satisfies_alone atoms) ps (none_found test ps e) (rest none)
+    by : (o : Option ℕ) → first_passing test ps ≡ o → option_or o (some_satisfying ps atoms) ≡ None → (some_satisfying ps atoms ≡ None → list_any (meets_clause_alone atoms) ps ≡ false)
+        → list_any (λ p. test p || meets_clause_alone atoms p) ps ≡ false
+    by None e none rest = any_neither test (meets_clause_alone atoms) ps (none_found test ps e) (rest none)
     by (Some m) e none rest = absurd cc
 
-found_satisfying : (ps : List Placed) (clause : List PlainAtom) (m : ℕ) → some_satisfying ps clause ≡ Some m → list_any (λ p. p.0 == m && satisfies_alone clause p) ps ≡ true
+found_satisfying : (ps : List Placed) (clause : List PlainAtom) (m : ℕ) → some_satisfying ps clause ≡ Some m → list_any (λ p. p.0 == m && meets_clause_alone clause p) ps ≡ true
 found_satisfying ps [] m found = absurd cc
 found_satisfying ps (atom ∷ atoms) m found = by (first_passing test ps) refl found (found_satisfying ps atoms m)
   where
@@ -160,26 +160,26 @@ found_satisfying ps (atom ∷ atoms) m found = by (first_passing test ps) refl f
     test p = satisfies_atom (p ∷ []) atom
 
     all : Placed → Bool
-    all p = p.0 == m && (test p || satisfies_alone atoms p)
+    all p = p.0 == m && (test p || meets_clause_alone atoms p)
 
     by_atom : (p : Placed) → (p.0 == m && test p) ≡ true → all p ≡ true
-    by_atom p e = and_both (p.0 == m) (test p || satisfies_alone atoms p) (and_left (p.0 == m) (test p) e) (ap (λ b. b || satisfies_alone atoms p) (and_right (p.0 == m) (test p) e))
+    by_atom p e = and_both (p.0 == m) (test p || meets_clause_alone atoms p) (and_left (p.0 == m) (test p) e) (ap (λ b. b || meets_clause_alone atoms p) (and_right (p.0 == m) (test p) e))
 
-    by_rest : (p : Placed) → (p.0 == m && satisfies_alone atoms p) ≡ true → all p ≡ true
-    by_rest p e = and_both (p.0 == m) (test p || satisfies_alone atoms p) (and_left (p.0 == m) (satisfies_alone atoms p) e) (or_right (test p) (satisfies_alone atoms p) (and_right (p.0 == m) (satisfies_alone atoms p) e))
+    by_rest : (p : Placed) → (p.0 == m && meets_clause_alone atoms p) ≡ true → all p ≡ true
+    by_rest p e = and_both (p.0 == m) (test p || meets_clause_alone atoms p) (and_left (p.0 == m) (meets_clause_alone atoms p) e) (or_right (test p) (meets_clause_alone atoms p) (and_right (p.0 == m) (meets_clause_alone atoms p) e))
 
     by : (o : Option ℕ) → first_passing test ps ≡ o → option_or o (some_satisfying ps atoms) ≡ Some m
-        → (some_satisfying ps atoms ≡ Some m → list_any (λ p. p.0 == m && satisfies_alone atoms p) ps ≡ true) → list_any all ps ≡ true
-    by None e found rest = any_more (λ p. p.0 == m && satisfies_alone atoms p) all by_rest ps (rest found)
+        → (some_satisfying ps atoms ≡ Some m → list_any (λ p. p.0 == m && meets_clause_alone atoms p) ps ≡ true) → list_any all ps ≡ true
+    by None e found rest = any_more (λ p. p.0 == m && meets_clause_alone atoms p) all by_rest ps (rest found)
     by (Some k) e found rest = any_more (λ p. p.0 == m && test p) all by_atom ps (found_at test ps m (e ∙ found))
 
 -- where another one satisfies it too, none is the only one
 two_satisfying : (ps : List Placed) (clause : List PlainAtom) (m place : ℕ) → some_satisfying ps clause ≡ Some m → is_some (some_satisfying (without m ps) clause) ≡ true
     → false ≡ is_only ps place clause
-two_satisfying ps clause m place found more = sym (and_not (list_any (λ p. p.0 == place && satisfies_alone clause p) ps) (list_any (satisfies_alone clause) (without place ps)) (by (m == place) refl))
+two_satisfying ps clause m place found more = sym (and_not (list_any (λ p. p.0 == place && meets_clause_alone clause p) ps) (list_any (meets_clause_alone clause) (without place ps)) (by (m == place) refl))
   where
     test : Placed → Bool
-    test = satisfies_alone clause
+    test = meets_clause_alone clause
 
     two : (o : Option ℕ) → some_satisfying (without m ps) clause ≡ o → is_some o ≡ true → list_any test (without m ps) ≡ true
     two None e some = absurd (true≢false (sym some))
@@ -195,7 +195,7 @@ one_satisfying : (ps : List Placed) (clause : List PlainAtom) (m place : ℕ) �
 one_satisfying ps clause m place found none = by (m == place) refl
   where
     test : Placed → Bool
-    test = satisfies_alone clause
+    test = meets_clause_alone clause
 
     at_place : m ≡ place → is_only ps place clause ≡ true
     at_place e = and_both (list_any (λ p. p.0 == place && test p) ps) (not (list_any test (without place ps)))
@@ -215,8 +215,8 @@ only_is ps clause place = by (some_satisfying ps clause) refl
     beside m found (Some k) e = two_satisfying ps clause m place found (ap is_some e)
 
     by : (o : Option ℕ) → some_satisfying ps clause ≡ o → is_named place (option_and_then (unless_other ps clause) o) ≡ is_only ps place clause
-    by None none = sym (ap (λ b. b && not (list_any (satisfies_alone clause) (without place ps)))
-        (none_narrowed (satisfies_alone clause) (λ (p : Placed). p.0 == place) ps (none_satisfying ps clause none)))
+    by None none = sym (ap (λ b. b && not (list_any (meets_clause_alone clause) (without place ps)))
+        (none_narrowed (meets_clause_alone clause) (λ (p : Placed). p.0 == place) ps (none_satisfying ps clause none)))
     by (Some m) found = beside m found (some_satisfying (without m ps) clause) refl
 
 -- ---- what is kept, clause by clause

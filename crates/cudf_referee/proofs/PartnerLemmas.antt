@@ -4,16 +4,15 @@ use Rattle.std.specs.List.{enumerate_from, list_any}
 use Rattle.std.proofs.lemmas.Bool.{true≢false}
 use Rattle.cudf_value.specs.Formulas.{PlainAtom}
 use Rattle.cudf_problem.specs.Universe.{PlainPackage}
-use Rattle.cudf_index.specs.Satisfaction.{Placed, members, satisfies_clause, without}
+use Rattle.cudf_index.specs.Satisfaction.{Placed, members, satisfies_clause, without, meets_clause_alone}
 use Rattle.cudf_index.proofs.SearchLemmas.{list_any-filter}
-use Rattle.cudf_referee.specs.Explanations.{satisfies_alone}
 use Rattle.cudf_referee.specs.Working.Needers.{IsCovered}
 use Rattle.cudf_referee.proofs.MissedLemmas.{always}
 use Rattle.cudf_referee.proofs.NeederLemmas.{and_both, and_left, and_right, any_more, is_place}
 use Rattle.cudf_referee.proofs.RemedyLemmas.{clause_alone}
 
 -- what one of them alone satisfies, they satisfy together
-together : (clause : List PlainAtom) (ps : List Placed) → list_any (satisfies_alone clause) ps ≡ true → satisfies_clause ps clause ≡ true
+together : (clause : List PlainAtom) (ps : List Placed) → list_any (meets_clause_alone clause) ps ≡ true → satisfies_clause ps clause ≡ true
 together clause ps one = by (satisfies_clause [] clause) refl
   where
     by : (b : Bool) → satisfies_clause [] clause ≡ b → satisfies_clause ps clause ≡ true
@@ -28,7 +27,7 @@ module _ (holds asked : ℕ → Bool) (packages : List PlainPackage) (place : �
       all = enumerate_from 1 packages
 
       test : Placed → Bool
-      test = satisfies_alone clause
+      test = meets_clause_alone clause
 
       here : Placed → Bool
       here p = p.0 == place && test p

@@ -5,7 +5,7 @@ use Rattle.std.specs.Option.{option_map_or}
 use Rattle.cudf_problem.specs.Statuses.{is_initial}
 use Rattle.cudf_problem.specs.Universe.{PlainProblem}
 use Rattle.cudf_value.specs.Formulas.{PlainAtom}
-use Rattle.cudf_index.specs.Satisfaction.{Placed, members, without, satisfies_clause, first_meeting, first_satisfying}
+use Rattle.cudf_index.specs.Satisfaction.{Placed, members, without, satisfies_clause, first_meeting, first_satisfying, meets_clause_alone}
 use Rattle.cudf_referee.specs.Instances.{PlainWhat, needs, install, upgrade, PlainInstance}
 
 -- the place of the first of these packages that alone satisfies the clause or the entry
@@ -25,14 +25,10 @@ was_installed problem i = first_helping (members (is_initial problem) problem.pa
 
 -- ---- which package needs another one
 
--- the package, alone, satisfies the clause; each does where an atom is `true!`
-abbrev pub satisfies_alone : List PlainAtom → Placed → Bool
-satisfies_alone clause p = satisfies_clause (p ∷ []) clause
-
 -- the package at this place alone satisfies the clause, and no other package of the status does
 abbrev pub is_only : List Placed → ℕ → List PlainAtom → Bool
 is_only status place clause =
-    list_any (λ p. p.0 == place && satisfies_alone clause p) status && not (list_any (satisfies_alone clause) (without place status))
+    list_any (λ p. p.0 == place && meets_clause_alone clause p) status && not (list_any (meets_clause_alone clause) (without place status))
 
 -- the package isn't the one at this place, and has a clause of `depends` that this one alone satisfies and no other package
 -- of the status does, itself included

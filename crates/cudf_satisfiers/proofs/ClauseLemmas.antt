@@ -8,8 +8,8 @@ use Rattle.std.proofs.lemmas.List.Folds.{list_any-append}
 use Rattle.std.proofs.lemmas.List.FromFn.{map-range_with_len_more}
 use Rattle.cudf_value.specs.Formulas.{PlainAtom}
 use Rattle.cudf_problem.specs.Universe.{PlainPackage}
-use Rattle.cudf_index.specs.Satisfaction.{Placed}
-use Rattle.cudf_satisfiers.specs.Answers.{places_where, passes_at, meets_clause_alone}
+use Rattle.cudf_index.specs.Satisfaction.{Placed, meets_clause_alone}
+use Rattle.cudf_satisfiers.specs.Answers.{places_where, passes_at}
 use Rattle.cudf_satisfiers.specs.Working.Rows.{meets_atom_alone}
 use Rattle.cudf_satisfiers.proofs.TestLemmas.{and_or, any_agree, any_or, any_never}
 use Rattle.cudf_satisfiers.proofs.PlaceLemmas.{has, has_where}

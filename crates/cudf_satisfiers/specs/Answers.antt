@@ -1,17 +1,12 @@
 -- Which packages of a status are answered (own).
 use Rattle.std.specs.Prelude.{ℕ, Bool, not, ◌==◌, ◌&&◌, nat_lt, List, [], ◌∷◌, map, filter, bytes_eq}
 use Rattle.std.specs.List.{list_any}
-use Rattle.cudf_value.specs.Formulas.{PlainAtom}
 use Rattle.cudf_problem.specs.Documents.{is_empty}
-use Rattle.cudf_index.specs.Satisfaction.{Placed, numbers_of, satisfies_clause}
+use Rattle.cudf_index.specs.Satisfaction.{Placed, numbers_of}
 
 -- the places of those that pass the test, in the order of the status
 abbrev pub places_where : (Placed → Bool) → List Placed → List ℕ
 places_where test status = map (λ q. q.0) (filter test status)
-
--- the package, alone, satisfies the clause
-abbrev pub meets_clause_alone : List PlainAtom → Placed → Bool
-meets_clause_alone clause q = satisfies_clause (q ∷ []) clause
 
 -- the package has this name; features don't count
 abbrev pub is_named : List ℕ → Placed → Bool

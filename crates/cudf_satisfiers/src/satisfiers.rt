@@ -1,10 +1,11 @@
 //! The packages of a universe, to be asked for all that pass a test.
-ghost use Rattle.std.specs.Prelude.{◌≡◌, ℕ, ◌==◌, ◌||◌, List, [], ◌++◌, length, take, IfOk, OnOk, OnErr};
+ghost use Rattle.std.specs.Prelude.{◌≡◌, ℕ, ◌==◌, ◌||◌, List, [], ◌∷◌, ◌++◌, length, take, IfOk, IfSome, OnOk, OnErr};
 ghost use Rattle.std.specs.List.{enumerate_from, list_any, range_with_len};
 ghost use Rattle.std.specs.List.Sorted.{IsStrictlyIncreasing};
+ghost use Rattle.cudf_value.specs.Formulas.{named};
 ghost use Rattle.cudf_value.specs.Promises.Views.{vpkg_view, atom_view, clause_view};
-ghost use Rattle.cudf_index.specs.Satisfaction.{meets_alone};
-ghost use Rattle.cudf_satisfiers.specs.Answers.{places_where, meets_clause_alone, is_named, gives_number, gives_below, differ, passes_at, differs_after};
+ghost use Rattle.cudf_index.specs.Satisfaction.{meets_alone, meets_clause_alone};
+ghost use Rattle.cudf_satisfiers.specs.Answers.{places_where, is_named, gives_number, gives_below, differ, passes_at, differs_after};
 ghost use Rattle.cudf_satisfiers.specs.Working.Wanted.{is_wanted};
 ghost use Rattle.cudf_satisfiers.specs.Working.Rows.{row_of, status_row, span_at, meets_atom_alone};
 
@@ -103,6 +104,9 @@ impl<'p, 't> Satisfiers<'p, 't> {
     {
         let _ = &self.problem;
         places.clear();
+        if let Some(vpkg) = only_vpkg(clause) {
+            return self.satisfying(&vpkg, places);
+        }
         match self.add_atoms(clause, places) {
             Ok(()) => {
                 make_unique(places);
@@ -310,6 +314,21 @@ fn gathered<'t>(alloc: Global, problem: &Problem<'t>) -> Result<GatheredRows<'t>
         gathered.add_package(alloc, before as u64 + 1, package)?;
     }
     Ok(gathered)
+}
+
+/// The vpkg of a clause that has no other atom.
+fn only_vpkg<'t>(clause: &Clause<'t>) -> Option<Vpkg<'t>>
+    ensures { IfSome result (λ vpkg. clause_view clause.now ≡ named (vpkg_view vpkg) ∷ []) }
+{
+    let mut atoms = clause.atoms();
+    let first = atoms.next()?;
+    if atoms.next().is_some() {
+        return None;
+    }
+    match first {
+        Atom::Is(vpkg) => Some(vpkg),
+        Atom::Yes | Atom::No => None,
+    }
 }
 
 /// Puts all places, from 1 to this one, after those in `places`.

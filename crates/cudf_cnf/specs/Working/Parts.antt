@@ -9,7 +9,7 @@ use Rattle.cudf_job.specs.declared.key.Aspect.TheVariants.{Unsatisfied, Many, Lo
 use Rattle.cudf_job.specs.Keys.{request_key}
 use Rattle.cudf_satisfiers.specs.Answers.{differ, differs_after, gives_below, gives_number, passes_at, places_where}
 use Rattle.cudf_cnf.specs.declared.upgrades.known.Known.{Known}
-use Rattle.cudf_cnf.specs.Cnf.{Keyed, conflicts_clauses, depends_clauses, is_out, keep_clauses, one_of}
+use Rattle.cudf_cnf.specs.Cnf.{Keyed, conflict_clauses, conjunct_clauses, for_each, is_out, keep_clauses, one_of}
 use Rattle.cudf_cnf.specs.Working.Known.{known_at}
 
 -- ---- places
@@ -40,8 +40,8 @@ AreHeld all numbers = All (λ n. IsTrue (holds_place all n)) numbers
 -- those of one package, by its own `installed`
 abbrev pub own_clauses : List Placed → Placed → List Keyed
 own_clauses all (place, p) =
-    depends_clauses all (place, p)
-    ++ conflicts_clauses all (place, p)
+    for_each (conjunct_clauses all (place, p)) p.depends
+    ++ for_each (conflict_clauses all place) p.conflicts
     ++ (if p.installed then keep_clauses all p.keep (place, p) else [])
 
 -- ---- the request
@@ -49,9 +49,6 @@ own_clauses all (place, p) =
 -- what is made of numbered entries
 abbrev pub for_numbered : (ℕ → PlainVpkg → List Keyed) → List (ℕ × PlainVpkg) → List Keyed
 for_numbered make entries = flat_map (λ e. make e.0 e.1) entries
-
-abbrev pub install_one : List Placed → ℕ → PlainVpkg → List Keyed
-install_one all number v = (request_key rule.Install number None, one_of (meets_alone v) all) ∷ []
 
 -- upgrade, many: those of the package at a place
 abbrev pub differing_at : List Placed → ℕ → List ℕ → ℕ → List Keyed

@@ -8,10 +8,10 @@ use Rattle.cudf_cnf.specs.declared.numbered.Entry.{Entry}
 use Rattle.cudf_cnf.specs.declared.numbered.Numbered.{Numbered}
 use Rattle.cudf_cnf.specs.declared.upgrades.Upgrades.{Upgrades}
 use Rattle.cudf_cnf.specs.declared.upgrades.known.Known.{Known}
-use Rattle.cudf_cnf.specs.Cnf.{Keyed, removal_clauses}
+use Rattle.cudf_cnf.specs.Cnf.{Keyed, install_clauses, removal_clauses}
 use Rattle.cudf_cnf.specs.Encodings.{PlainKeyedClauses}
 use Rattle.cudf_cnf.specs.Working.Known.{known_at}
-use Rattle.cudf_cnf.specs.Working.Parts.{differing_at, entry_by, for_numbered, install_one, lower_by, own_clauses}
+use Rattle.cudf_cnf.specs.Working.Parts.{differing_at, entry_by, for_numbered, lower_by, own_clauses}
 
 -- an entry beside its number
 abbrev pub entry_view : Entry → ℕ × PlainVpkg
@@ -25,7 +25,7 @@ abbrev pub packages_left : List Placed → ℕ → List Keyed
 packages_left all index = flat_map (own_clauses all) (drop index all)
 
 abbrev pub install_left : List Placed → Numbered → List Keyed
-install_left all entries = for_numbered (install_one all) (numbered_view entries)
+install_left all entries = for_numbered (install_clauses all) (numbered_view entries)
 
 abbrev pub remove_left : List Placed → Numbered → List Keyed
 remove_left all entries = for_numbered (removal_clauses all) (numbered_view entries)

@@ -1,12 +1,11 @@
 use Rattle.std.proofs.Common.{List, [], ◌∷◌, ◌++◌, ap, map, refl, sym, ◌∙◌}
 use Rattle.cudf_value.specs.Promises.Views.{clause_view}
 use Rattle.cudf_problem.specs.Promises.Views.{package_view}
-use Rattle.cudf_index.specs.Satisfaction.{Placed}
+use Rattle.cudf_index.specs.Satisfaction.{Placed, meets_clause_alone}
 use Rattle.cudf_job.specs.declared.key.Rule.TheVariants as rule
 use Rattle.cudf_job.specs.KeyViews.{key_view}
 use Rattle.cudf_job.specs.Keys.{package_key}
 use Rattle.cudf_lrat.specs.declared.literal.Literal.{Literal}
-use Rattle.cudf_satisfiers.specs.Answers.{meets_clause_alone}
 use Rattle.cudf_cnf.specs.Cnf.{conjunct_clauses, is_in, is_out, one_of}
 use Rattle.cudf_cnf.proofs.PlaceLemmas.{conjunct_put, found, found_places, one_of-where, one_put, put_as}
 use Rattle.cudf_cnf.proofs.packages.put_conjunct.Goals as goal

@@ -1,6 +1,7 @@
 use Rattle.std.proofs.Common.{◌||◌, ap, ◌∙◌}
 use Rattle.cudf_value.specs.Promises.Views.{atom_view, atoms_view}
-use Rattle.cudf_satisfiers.specs.Answers.{passes_at, meets_clause_alone}
+use Rattle.cudf_index.specs.Satisfaction.{meets_clause_alone}
+use Rattle.cudf_satisfiers.specs.Answers.{passes_at}
 use Rattle.cudf_satisfiers.proofs.ClauseLemmas.{atom_added, all_added}
 use Rattle.cudf_satisfiers.proofs.satisfiers.Satisfiers.add_atoms.Goals as goal
 

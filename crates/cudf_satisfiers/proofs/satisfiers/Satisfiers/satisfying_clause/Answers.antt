@@ -1,6 +1,7 @@
 use Rattle.std.proofs.Common.{◌||◌, ap, ◌∙◌}
 use Rattle.cudf_value.specs.Promises.Views.{clause_view}
-use Rattle.cudf_satisfiers.specs.Answers.{passes_at, meets_clause_alone}
+use Rattle.cudf_index.specs.Satisfaction.{meets_clause_alone}
+use Rattle.cudf_satisfiers.specs.Answers.{passes_at}
 use Rattle.cudf_satisfiers.proofs.PlaceLemmas.{has, rising_where}
 use Rattle.cudf_satisfiers.proofs.satisfiers.Satisfiers.satisfying_clause.Goals as goal
 
