@@ -68,7 +68,11 @@ pub(crate) fn run_len(bytes: &[u8], class: Class) -> usize
     ensures len { result ≡ prefix_len (is_in_class class) bytes.now }
     ensures ascii { 0 < result → slice_index bytes.now (result - 1) < 128 }
 {
-    let mut n = fours_len(bytes, class);
+    // Names are long, other runs short.
+    let mut n = match class {
+        Class::Ident | Class::Name => fours_len(bytes, class),
+        Class::Blank | Class::Letter | Class::Operator => 0,
+    };
     while n < bytes.len() && class.has(bytes[n]) {
         n += 1;
     }
