@@ -3,7 +3,6 @@ use Rattle.std.proofs.Common.{◌≡◌, ℕ, ◌+◌, ◌<◌, zero, suc, Bool,
 use Rattle.std.specs.Prelude.{filter, filter_map, option_map, slice_get, option_to_list, if◌then◌else◌}
 use Rattle.std.specs.Option.{is_none}
 use Rattle.std.specs.List.{count_by, cons_option}
-use Rattle.std.specs.Global.{Vec}
 use Rattle.std.proofs.Math.Bool.{or-false, or-true}
 use Rattle.std.proofs.lemmas.List.{map-append, flat_map_more}
 use Rattle.std.proofs.lemmas.List.Elements.{filter-append, filter_map-append}
@@ -21,7 +20,7 @@ use Rattle.cudf_index.proofs.CountLemmas.{count-cons, count-append}
 
 -- ---- rows that are completed in turn
 
-pub completes_push : (xs : List (Vec Provision)) (ys : List Entries) (x : Vec Provision) (y : Entries) → length ys ≡ length xs → ((k : ℕ) → CompletesAt (slice_get xs k) (slice_get ys k)) → Completes x.items y
+pub completes_push : (xs : List (List Provision)) (ys : List Entries) (x : List Provision) (y : Entries) → length ys ≡ length xs → ((k : ℕ) → CompletesAt (slice_get xs k) (slice_get ys k)) → Completes x y
     → (k : ℕ) → CompletesAt (slice_get (xs ++ x ∷ []) k) (slice_get (ys ++ y ∷ []) k)
 completes_push [] [] x y same done more zero = more
 completes_push [] [] x y same done more (suc k) = tt

@@ -3,7 +3,6 @@ use Rattle.std.proofs.Common.{◌≡◌, ℕ, List, map, Option, Some, None, sym
 use Rattle.std.specs.Prelude.{filter_map, slice_get, option_and_then, position}
 use Rattle.std.specs.Option.{is_none, is_some, IfSome}
 use Rattle.std.specs.List.{count_by, list_any}
-use Rattle.std.specs.Global.{Vec}
 use Rattle.cudf_index.specs.declared.index.entries.Entries.{Entries}
 use Rattle.cudf_index.specs.declared.index.gathered_names.Provision.{Provision}
 use Rattle.cudf_index.specs.Satisfaction.{Placed}
@@ -22,7 +21,7 @@ module _ (f : List ℕ) where
       sym (found_place (λ p. p.0) (λ p. bytes_eq p.1.name f) status)
       ∙ ap is_some (sym (version_given f status)) ∙ found_place (λ (g : Provision). g.place) (λ g. g.is_version) (given_of f status)
 
-  keeps_row : (status : List Placed) (o : Option (Vec Provision)) (e : Option Entries) → CompletesAt o e → row_items o ≡ given_of f status → Keeps f status e
+  keeps_row : (status : List Placed) (o : Option (List Provision)) (e : Option Entries) → CompletesAt o e → row_items o ≡ given_of f status → Keeps f status e
   keeps_row status None None whole same = record {
     ascending = λ i j d up inside. absurd (omega arith);
     numbers = λ p. ap (λ row. count_by p (filter_map (λ g. g.number) row)) same ∙ ap (count_by p) (sym (numbers_given f status));
@@ -40,11 +39,11 @@ module _ (f : List ℕ) where
     is_package = whole.is_package ∙ ap (list_any (λ g. g.is_version)) same ∙ sym (versions_given status);
   }
 
-  completes_found : (rows : List (Vec Provision)) (entries : List Entries) (o : Option ℕ) → ((k : ℕ) → CompletesAt (slice_get rows k) (slice_get entries k)) → CompletesAt (option_and_then (slice_get rows) o) (option_and_then (slice_get entries) o)
+  completes_found : (rows : List (List Provision)) (entries : List Entries) (o : Option ℕ) → ((k : ℕ) → CompletesAt (slice_get rows k) (slice_get entries k)) → CompletesAt (option_and_then (slice_get rows) o) (option_and_then (slice_get entries) o)
   completes_found rows entries None whole = tt
   completes_found rows entries (Some k) whole = whole k
 
-  pub keeps_found : (status : List Placed) (keys : List (Bor (List ℕ))) (rows : List (Vec Provision)) (entries : List Entries) → ((k : ℕ) → CompletesAt (slice_get rows k) (slice_get entries k)) → row_items (found (λ k. bytes_eq f k.now) keys rows) ≡ given_of f status
+  pub keeps_found : (status : List Placed) (keys : List (Bor (List ℕ))) (rows : List (List Provision)) (entries : List Entries) → ((k : ℕ) → CompletesAt (slice_get rows k) (slice_get entries k)) → row_items (found (λ k. bytes_eq f k.now) keys rows) ≡ given_of f status
       → Keeps f status (found (λ k. bytes_eq f k.now) keys entries)
   keeps_found status keys rows entries whole same =
       keeps_row status (found (λ k. bytes_eq f k.now) keys rows) (found (λ k. bytes_eq f k.now) keys entries)

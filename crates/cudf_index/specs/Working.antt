@@ -4,7 +4,7 @@ pub mod Ends
 pub mod Kept
 pub mod Gathering
 pub mod FirstPlaces
-pub mod NamedTrees
+pub mod Rows
 pub mod Trees
 pub mod TreeFalls
 pub mod Shares

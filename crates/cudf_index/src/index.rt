@@ -19,6 +19,7 @@ pub(crate) mod metered;
 mod named_trees;
 mod numbers;
 pub(crate) mod providers;
+mod row;
 mod share;
 mod sorted;
 mod tree;
@@ -56,16 +57,15 @@ impl<'p, 't> Model for Index<'p, 't> {
     ghost use Rattle.std.specs.Prelude.{◌≡◌, List, ℕ, bytes_eq};
     ghost use Rattle.std.specs.FinSet as set;
     ghost use Rattle.cudf_index.specs.Satisfaction.{Placed, members};
-    ghost use Rattle.cudf_index.specs.Working.Gathering.{given_of};
+    ghost use Rattle.cudf_index.specs.Working.Gathering.{given_of, row_of, AreFilled};
     ghost use Rattle.cudf_index.specs.Working.Kept.{Keeps, found};
-    ghost use Rattle.cudf_index.specs.Working.NamedTrees.{tree_of, AreGiven};
     ghost use Rattle.cudf_index.specs.Working.Shares.{AreShares};
 
     ghost Value = { List Placed };
 
     ghost view = { λ i. members (set.contains i.status) i.problem.now.packages };
 
-    ghost invariant = { λ i. ((name : List ℕ) → (Keeps name (members (set.contains i.status) i.problem.now.packages) (found (λ k. bytes_eq name k.now) i.given.names.keys i.entries.items)) × (tree_of name i.given ≡ given_of name (members (set.contains i.status) i.problem.now.packages))) × AreShares (members (set.contains i.status) i.problem.now.packages) i.shares.items × AreGiven i.given };
+    ghost invariant = { λ i. ((name : List ℕ) → (Keeps name (members (set.contains i.status) i.problem.now.packages) (found (λ k. bytes_eq name k.now) i.given.gathered.names.keys i.entries.items)) × (row_of name i.given.gathered ≡ given_of name (members (set.contains i.status) i.problem.now.packages))) × AreShares (members (set.contains i.status) i.problem.now.packages) i.shares.items × AreFilled i.given.gathered };
 }
 
 /// Its status: all else that it keeps follows from that and the problem.
@@ -304,7 +304,7 @@ impl<'p, 't> Index<'p, 't> {
     fn kept(&self, name: &str) -> Option<&Entries>
         ensures { Keeps name.now self.now (option_map (λ e. e.now) result) }
     {
-        match self.given.names.get_index_of(&name) {
+        match self.given.gathered.names.get_index_of(&name) {
             Some(number) => self.entries.get(number),
             None => None,
         }

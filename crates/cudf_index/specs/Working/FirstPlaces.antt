@@ -1,5 +1,5 @@
 -- The first place that gives a name and meets a bound (own).
-use Rattle.std.specs.Prelude.{ℕ, ◌==◌, Bool, false, not, ◌&&◌, ◌||◌, nat_lt, List, [], find, Option, Some, None, option_map, if◌then◌else◌}
+use Rattle.std.specs.Prelude.{ℕ, ◌==◌, Bool, false, not, ◌&&◌, ◌||◌, nat_lt, List, find, Option, Some, None, option_map, if◌then◌else◌}
 use Rattle.std.specs.List.{count_by}
 use Rattle.std.specs.Option.{option_map_or}
 use Rattle.cudf_value.specs.declared.relop.Relop.{Relop}
@@ -34,8 +34,3 @@ is_sole (Some place) sole = option_map_or (λ s. s == place) sole false
 -- there is another place than the one that is named, and something meets the bound
 abbrev pub may_meet : Option ℕ → Option (Relop × ℕ) → Entries → Bool
 may_meet except bound e = not (is_sole except e.sole) && (nat_lt 0 (count_by (meets bound) e.numbers) || nat_lt 0 (if is_below_one bound then 0 else e.unversioned))
-
--- a name without a tree has no provisions
-abbrev pub tree_items : Option (List Provision) → List Provision
-tree_items None = []
-tree_items (Some row) = row

@@ -3,7 +3,6 @@ use Rattle.std.specs.Prelude.{◌≡◌, ℕ, ◌==◌, Bool, true, false, not, 
 use Rattle.std.specs.List.{flat_map, count_by, list_any, list_all}
 use Rattle.std.specs.List.Sorted.{IsNonDecreasing}
 use Rattle.std.specs.Option.{is_none}
-use Rattle.std.specs.Global.{Vec}
 use Rattle.cudf_value.specs.declared.relop.Relop.TheVariants.{Eq}
 use Rattle.cudf_value.specs.Vpkgs.{PlainVpkg}
 use Rattle.cudf_problem.specs.Documents.{is_empty}
@@ -14,9 +13,10 @@ use Rattle.cudf_index.specs.declared.index.entries.Entries.{Entries}
 use Rattle.cudf_index.specs.declared.index.gathered_names.Provision.{Provision}
 use Rattle.cudf_index.specs.declared.index.gathered_names.GatheredNames.{GatheredNames}
 
-abbrev pub row_items : Option (Vec Provision) → List Provision
+-- a name without a row has no provisions
+abbrev pub row_items : Option (List Provision) → List Provision
 row_items None = []
-row_items (Some row) = row.items
+row_items (Some row) = row
 
 -- the provisions that were gathered of a name
 abbrev pub row_of : List ℕ → GatheredNames → List Provision
@@ -60,7 +60,7 @@ pub record Completes (row : List Provision) (kept : Entries) : Type 0 where
   pub is_package : kept.is_package ≡ list_any (λ g. g.is_version) row
 
 -- at each place, both or neither
-abbrev pub CompletesAt : Option (Vec Provision) → Option Entries → Type 0
+abbrev pub CompletesAt : Option (List Provision) → Option Entries → Type 0
 CompletesAt None None = Unit
-CompletesAt (Some row) (Some kept) = Completes row.items kept
+CompletesAt (Some row) (Some kept) = Completes row kept
 CompletesAt _ _ = ⊥

@@ -2,11 +2,12 @@
 ghost use Rattle.std.specs.Prelude.{◌≡◌, ◌<◌, ℕ, List, Some, [], ◌∷◌, ◌++◌, ◌||◌, map, length, false, bytes_eq, cond, OnOk, IfOk, slice_get, option_to_list};
 ghost use Rattle.std.specs.List.{position_or_len, list_any};
 ghost use Rattle.cudf_value.specs.Promises.Views.{list_view};
-ghost use Rattle.cudf_index.specs.Working.Gathering.{row_of, has_row, AreFilled, given_by, provisions_of, sole_place, Completes, CompletesAt};
+ghost use Rattle.cudf_index.specs.Working.Gathering.{row_of, row_items, has_row, AreFilled, given_by, provisions_of, sole_place, Completes, CompletesAt};
 ghost use Rattle.cudf_index.specs.Working.Members.{member_view};
 
 use crate::index::entries::Entries;
 use crate::index::member::Member;
+use crate::index::row::Row;
 use crate::index::sorted::Sorted;
 use cudf_value::VpkgList;
 use indexmap::IndexSet;
@@ -25,7 +26,7 @@ pub(crate) struct Provision {
 #[derive(Drop)]
 pub(crate) struct GatheredNames<'t> {
     pub(crate) names: IndexSet<&'t str>,
-    pub(crate) rows: Vec<Vec<Provision>>,
+    pub(crate) rows: Vec<Row>,
 }
 
 impl<'t> GatheredNames<'t> {
@@ -53,7 +54,7 @@ impl<'t> GatheredNames<'t> {
         ensures filled { OnOk result (AreFilled self.old → AreFilled self.new) }
     {
         let number = self.number_of(alloc, name)?;
-        push_provision(&mut self.rows[number], provision)?;
+        self.rows[number].push(alloc, provision)?;
         Ok(())
     }
 
@@ -68,10 +69,20 @@ impl<'t> GatheredNames<'t> {
     {
         let (number, is_new) = self.names.insert_full(name)?;
         if is_new {
-            self.rows.push(Vec::new(alloc))?;
+            self.rows.push(Row::none(alloc))?;
             return Ok(number);
         }
         Ok(number)
+    }
+
+    /// The provisions of the name with this number.
+    pub(crate) fn row(&self, number: usize) -> &[Provision]
+        ensures { result.now ≡ row_items (slice_get self.now.rows.items number) }
+    {
+        match self.rows.get(number) {
+            Some(row) => row.as_slice(),
+            None => &[],
+        }
     }
 
     /// Adds all that the package gives.
@@ -121,24 +132,13 @@ impl<'t> GatheredNames<'t> {
     }
 }
 
-/// Adds a provision. Most names have one or two, so there is room for no more than two at first.
-fn push_provision(row: &mut Vec<Provision>, provision: Provision) -> Result<(), AllocError>
-    ensures { OnOk result (row.new.items ≡ row.old.items ++ provision ∷ []) }
-{
-    if row.len() < 2 {
-        row.reserve_exact(1)?;
-    }
-    row.push(provision)?;
-    Ok(())
-}
-
 /// What is kept of each row.
-pub(crate) fn entries_of(alloc: Global, rows: &[Vec<Provision>]) -> Result<Vec<Entries>, AllocError>
+pub(crate) fn entries_of(alloc: Global, rows: &[Row]) -> Result<Vec<Entries>, AllocError>
     ensures { IfOk result (λ entries. (k : ℕ) → CompletesAt (slice_get rows.now k) (slice_get entries.items k)) }
 {
     let mut entries = Vec::with_capacity(alloc, rows.len())?;
     for row in rows {
-        entries.push(completed(alloc, row)?)?;
+        entries.push(completed(alloc, row.as_slice())?)?;
     }
     Ok(entries)
 }

@@ -1,72 +1,95 @@
 //! The provisions of each name, in the order of their places.
-ghost use Rattle.std.specs.Prelude.{◌≡◌, ℕ, List, bytes_eq, IfOk, option_map};
+ghost use Rattle.std.specs.Prelude.{◌≡◌, ℕ, List, Some, All, bytes_eq, IfOk, IfSome, slice_get};
 ghost use Rattle.std.specs.List.{list_any};
 ghost use Rattle.cudf_value.specs.Promises.Views.{vpkg_view};
-ghost use Rattle.cudf_index.specs.Working.FirstPlaces.{first_place_of, first_version_of, tree_items};
-ghost use Rattle.cudf_index.specs.Working.Gathering.{row_of};
-ghost use Rattle.cudf_index.specs.Working.NamedTrees.{tree_of};
+ghost use Rattle.cudf_index.specs.Working.FirstPlaces.{first_place_of, first_version_of};
+ghost use Rattle.cudf_index.specs.Working.Gathering.{row_of, has_row};
 
 use crate::index::gathered_names::GatheredNames;
-use crate::index::tree::{ProvisionTree, trees_of};
+use crate::index::row::Row;
+use crate::index::tree::{FEW, ProvisionTree, first_of, first_version_of};
 use cudf_value::Vpkg;
-use indexmap::IndexSet;
 use std::alloc::{AllocError, Global};
 
-/// A tree of the provisions of each name.
+/// The provisions of each name, and trees of those that have many.
 #[derive(Drop)]
 pub(crate) struct NamedTrees<'t> {
-    pub(crate) names: IndexSet<&'t str>,
-    pub(crate) trees: Vec<ProvisionTree>,
+    pub(crate) gathered: GatheredNames<'t>,
+    /// In the order of the numbers.
+    trees: Vec<NumberedTree>,
+    ghost same: { All (λ t. Some t.tree ≡ slice_get gathered.rows.items t.number) trees.items },
+}
+
+/// The tree of the name with this number.
+#[derive(Drop)]
+pub(crate) struct NumberedTree {
+    pub(crate) number: usize,
+    pub(crate) tree: ProvisionTree,
 }
 
 impl<'t> NamedTrees<'t> {
-    /// The trees of what was gathered.
+    /// What was gathered, and its trees.
     pub(crate) fn of(alloc: Global, gathered: GatheredNames<'t>) -> Result<Self, AllocError>
-        ensures names { IfOk result (λ named. named.names ≡ gathered.entry.names) }
-        ensures trees { IfOk result (λ named. (f : List ℕ) → tree_of f named ≡ row_of f gathered.entry) }
+        ensures { IfOk result (λ named. named.gathered ≡ gathered.entry) }
     {
-        let trees = trees_of(alloc, gathered.rows)?;
-        Ok(NamedTrees {
-            names: gathered.names,
-            trees,
-        })
+        let trees = trees_of(alloc, &gathered.rows)?;
+        Ok(NamedTrees { gathered, trees })
     }
 
-    /// Whether the name has a tree.
+    /// Whether the name has provisions.
     pub(crate) fn has(&self, name: &str) -> bool
-        ensures { result ≡ list_any (λ k. bytes_eq name.now k.now) self.now.names.keys }
+        ensures { result ≡ has_row name.now self.now.gathered }
     {
-        self.names.contains(&name)
+        self.gathered.names.contains(&name)
     }
 
-    /// The provisions of a name.
-    fn tree(&self, name: &str) -> Option<&ProvisionTree>
-        ensures { tree_items (option_map (λ t. t.now) result) ≡ tree_of name.now self.now }
+    /// The tree of the name with this number, if it has one.
+    fn tree(&self, number: usize) -> Option<&ProvisionTree>
+        ensures { IfSome result (λ tree. Some tree.now ≡ slice_get self.now.gathered.rows.items number) }
     {
-        match self.names.get_index_of(&name) {
-            Some(number) => self.trees.get(number),
-            None => None,
+        let near = self.trees.partition_point(|tree| tree.number < number);
+        let found = self.trees.get(near)?;
+        if found.number != number {
+            return None;
         }
+        Some(&found.tree)
     }
 
     /// The place of the first provision of the vpkg's name that is at another place than `except` and meets the
     /// bound.
     pub(crate) fn first_meeting(&self, vpkg: &Vpkg<'_>, except: Option<u64>) -> Option<u64>
-        ensures { result ≡ first_place_of except vpkg.now.bound (tree_of vpkg.now.name.now self.now) }
+        ensures { result ≡ first_place_of except vpkg.now.bound (row_of vpkg.now.name.now self.now.gathered) }
     {
-        match self.tree(vpkg.name) {
+        let number = self.gathered.names.get_index_of(&vpkg.name)?;
+        match self.tree(number) {
             Some(tree) => tree.first(vpkg.bound, except),
-            None => None,
+            None => first_of(self.gathered.row(number), vpkg.bound, except),
         }
     }
 
     /// The place of the first package that has the name, and doesn't give it as a feature.
     pub(crate) fn first_named(&self, name: &str) -> Option<u64>
-        ensures { result ≡ first_version_of (tree_of name.now self.now) }
+        ensures { result ≡ first_version_of (row_of name.now self.now.gathered) }
     {
-        match self.tree(name) {
+        let number = self.gathered.names.get_index_of(&name)?;
+        match self.tree(number) {
             Some(tree) => tree.first_version(),
-            None => None,
+            None => first_version_of(self.gathered.row(number)),
         }
     }
+}
+
+/// The trees of the rows with many provisions.
+fn trees_of(alloc: Global, rows: &[Row]) -> Result<Vec<NumberedTree>, AllocError>
+    ensures { IfOk result (λ trees. All (λ t. Some t.tree ≡ slice_get rows.now t.number) trees.items) }
+{
+    let mut trees = Vec::new(alloc);
+    for (number, row) in rows.iter().enumerate() {
+        let row = row.as_slice();
+        if row.len() > FEW {
+            let tree = ProvisionTree::build(alloc, row)?;
+            trees.push(NumberedTree { number, tree })?;
+        }
+    }
+    Ok(trees)
 }

@@ -1,14 +1,15 @@
-//! Numbers, where mostly there is one.
+//! Numbers, where mostly there are one or two.
 ghost use Rattle.std.specs.Prelude.{◌≡◌};
 ghost use Rattle.cudf_index.specs.Working.Numbers.{numbers_in};
 
 use std::slice;
 
-/// Numbers in their order. One alone, as most names have, is next to what else is kept of the
-/// name, so that a look at it goes to no other block of memory.
+/// Numbers in their order. One or two, as most names have, are next to what else is kept of the
+/// name, so that a look at them goes to no other block of memory.
 #[derive(Drop)]
 pub(crate) enum Numbers {
     One(u64),
+    Two([u64; 2]),
     Others(Vec<u64>),
 }
 
@@ -21,6 +22,7 @@ impl Numbers {
     {
         match numbers.as_slice() {
             [number] => Numbers::One(*number),
+            [first, second] => Numbers::Two([*first, *second]),
             _ => Numbers::Others(numbers),
         }
     }
@@ -30,6 +32,7 @@ impl Numbers {
     {
         match self {
             Numbers::One(number) => slice::from_ref(number),
+            Numbers::Two(both) => both,
             Numbers::Others(numbers) => numbers.as_slice(),
         }
     }

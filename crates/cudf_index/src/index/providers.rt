@@ -33,14 +33,13 @@ impl<'p, 't> Model for Providers<'p, 't> {
     ghost use Rattle.std.specs.FinSet as set;
     ghost use Rattle.cudf_index.specs.Promises.Members.{outside};
     ghost use Rattle.cudf_index.specs.Satisfaction.{Placed};
-    ghost use Rattle.cudf_index.specs.Working.Gathering.{given_of};
-    ghost use Rattle.cudf_index.specs.Working.NamedTrees.{tree_of};
+    ghost use Rattle.cudf_index.specs.Working.Gathering.{given_of, row_of};
 
     ghost Value = { List Placed };
 
     ghost view = { λ p. outside (set.contains p.without) p.problem.now.packages };
 
-    ghost invariant = { λ p. (name : List ℕ) → tree_of name p.given ≡ given_of name (outside (set.contains p.without) p.problem.now.packages) };
+    ghost invariant = { λ p. (name : List ℕ) → row_of name p.given.gathered ≡ given_of name (outside (set.contains p.without) p.problem.now.packages) };
 }
 
 /// The name alone: all that it holds follows from the problem and the status.

@@ -1,5 +1,5 @@
 //! The provisions of a name in the order of their places, to be searched by halves.
-ghost use Rattle.std.specs.Prelude.{◌≡◌, IfOk, map};
+ghost use Rattle.std.specs.Prelude.{◌≡◌, IfOk};
 ghost use Rattle.cudf_index.specs.Working.Members.{is_other};
 ghost use Rattle.cudf_index.specs.Working.FirstPlaces.{first_place_of, first_version_of, number_meets, is_sole, may_meet};
 
@@ -12,7 +12,7 @@ use std::marker::Model;
 
 /// So many provisions are read one by one: few names have more, and a look at this many costs no
 /// more than a few searches.
-const FEW: usize = 32;
+pub(crate) const FEW: usize = 32;
 
 /// Provisions of a name in the order of their places.
 #[cycle(tree)]
@@ -49,18 +49,6 @@ impl Model for ProvisionTree {
 }
 
 impl ProvisionTree {
-    /// The tree of a row, which stays as it is where it is short.
-    fn of_row(alloc: Global, row: Vec<Provision>) -> Result<Self, AllocError>
-        ensures { IfOk result (λ tree. tree ≡ row.items) }
-    {
-        if row.len() <= FEW {
-            return Ok(ProvisionTree {
-                node: Node::Few(row),
-            });
-        }
-        Self::build(alloc, &row)
-    }
-
     /// The tree of these provisions.
     pub(crate) fn build(alloc: Global, row: &[Provision]) -> Result<Self, AllocError>
         ensures { IfOk result (λ tree. tree ≡ row.now) }
@@ -146,7 +134,11 @@ fn is_sole(except: Option<u64>, sole: Option<u64>) -> bool
     }
 }
 
-fn first_of(row: &[Provision], bound: Option<(Relop, u64)>, except: Option<u64>) -> Option<u64>
+pub(crate) fn first_of(
+    row: &[Provision],
+    bound: Option<(Relop, u64)>,
+    except: Option<u64>,
+) -> Option<u64>
     ensures { result ≡ first_place_of except bound row.now }
 {
     row.iter()
@@ -154,7 +146,7 @@ fn first_of(row: &[Provision], bound: Option<(Relop, u64)>, except: Option<u64>)
         .map(|provision| provision.place)
 }
 
-fn first_version_of(row: &[Provision]) -> Option<u64>
+pub(crate) fn first_version_of(row: &[Provision]) -> Option<u64>
     ensures { result ≡ first_version_of row.now }
 {
     row.iter()
@@ -180,18 +172,4 @@ fn meets_bound(provision: Provision, bound: Option<(Relop, u64)>) -> bool
         None => !is_below_one(bound),
         Some(number) => meets(bound, number),
     }
-}
-
-/// The tree of each row.
-pub(crate) fn trees_of(
-    alloc: Global,
-    rows: Vec<Vec<Provision>>,
-) -> Result<Vec<ProvisionTree>, AllocError>
-    ensures { IfOk result (λ trees. trees.items ≡ map (λ row. row.items) rows.items) }
-{
-    let mut trees = Vec::with_capacity(alloc, rows.len())?;
-    for row in rows {
-        trees.push(ProvisionTree::of_row(alloc, row)?)?;
-    }
-    Ok(trees)
 }
