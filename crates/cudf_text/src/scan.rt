@@ -79,7 +79,7 @@ pub(crate) fn run_len(bytes: &[u8], class: Class) -> usize
     n
 }
 
-/// How many bytes are in whole fours of the class at the front.
+/// Passes over bytes of the class at the front, four at a time; `run_len` goes on from there.
 #[inline(always)]
 fn fours_len(bytes: &[u8], class: Class) -> usize
     ensures inside { result ≤ length bytes.now }

@@ -1,7 +1,5 @@
 //! The provisions of each name, in the order of their places.
-ghost use Rattle.std.specs.Prelude.{◌≡◌, ℕ, List, Some, All, bytes_eq, IfOk, IfSome, slice_get};
-ghost use Rattle.std.specs.List.{list_any};
-ghost use Rattle.cudf_value.specs.Promises.Views.{vpkg_view};
+ghost use Rattle.std.specs.Prelude.{◌≡◌, Some, All, IfOk, IfSome, slice_get};
 ghost use Rattle.cudf_index.specs.Working.FirstPlaces.{first_place_of, first_version_of};
 ghost use Rattle.cudf_index.specs.Working.Gathering.{row_of, has_row};
 
