@@ -63,37 +63,58 @@ pub fn are_all(bytes: &[u8], class: Class) -> bool
 }
 
 /// How many bytes of the class are at the front.
+#[inline(always)]
 pub(crate) fn run_len(bytes: &[u8], class: Class) -> usize
     ensures inside { result ≤ length bytes.now }
     ensures len { result ≡ prefix_len (is_in_class class) bytes.now }
     ensures ascii { 0 < result → slice_index bytes.now (result - 1) < 128 }
 {
     // Names are long, other runs short.
-    let mut n = match class {
-        Class::Ident | Class::Name => fours_len(bytes, class),
-        Class::Blank | Class::Letter | Class::Operator => 0,
-    };
-    while n < bytes.len() && class.has(bytes[n]) {
-        n += 1;
+    match class {
+        Class::Ident | Class::Name => long_run_len(bytes, class),
+        Class::Blank | Class::Letter | Class::Operator => run_end(bytes, class, 0),
     }
-    n
 }
 
-/// Passes over bytes of the class at the front, four at a time; `run_len` goes on from there.
+/// The same, four bytes in a turn.
 #[inline(always)]
-fn fours_len(bytes: &[u8], class: Class) -> usize
+fn long_run_len(bytes: &[u8], class: Class) -> usize
     ensures inside { result ≤ length bytes.now }
-    ensures run { result + prefix_len (is_in_class class) (drop result bytes.now) ≡ prefix_len (is_in_class class) bytes.now }
+    ensures len { result ≡ prefix_len (is_in_class class) bytes.now }
     ensures ascii { 0 < result → slice_index bytes.now (result - 1) < 128 }
 {
     let mut n = 0;
-    while n + 4 <= bytes.len()
-        && class.has(bytes[n])
-        && class.has(bytes[n + 1])
-        && class.has(bytes[n + 2])
-        && class.has(bytes[n + 3])
-    {
+    while n + 4 <= bytes.len() {
+        if !class.has(bytes[n]) {
+            return n;
+        }
+        if !class.has(bytes[n + 1]) {
+            return n + 1;
+        }
+        if !class.has(bytes[n + 2]) {
+            return n + 2;
+        }
+        if !class.has(bytes[n + 3]) {
+            return n + 3;
+        }
         n += 4;
+    }
+    run_end(bytes, class, n)
+}
+
+/// Where the run at the front ends, of which the first `known` bytes are known.
+#[inline(always)]
+fn run_end(bytes: &[u8], class: Class, known: usize) -> usize
+    requires inside { known ≤ length bytes.now }
+    requires run { known + prefix_len (is_in_class class) (drop known bytes.now) ≡ prefix_len (is_in_class class) bytes.now }
+    requires ascii { 0 < known → slice_index bytes.now (known - 1) < 128 }
+    ensures inside { result ≤ length bytes.now }
+    ensures len { result ≡ prefix_len (is_in_class class) bytes.now }
+    ensures ascii { 0 < result → slice_index bytes.now (result - 1) < 128 }
+{
+    let mut n = known;
+    while n < bytes.len() && class.has(bytes[n]) {
+        n += 1;
     }
     n
 }

@@ -1,7 +1,7 @@
 use Rattle.std.proofs.Common.{◌≡◌, ◌+◌, ◌-◌, ◌<◌, ◌≤◌, length, drop, get_or}
 use Rattle.std.specs.List.{prefix_len}
 use Rattle.cudf_text.specs.Promises.Classes.{is_in_class}
-use Rattle.cudf_text.proofs.scan.run_len.Given as goal
+use Rattle.cudf_text.proofs.scan.run_end.Given as goal
 
 abbrev pub invariant-loop-n : goal.invariant-loop-n
 invariant-loop-n l = record {
