@@ -1,34 +1,31 @@
 //! Counting what a proposed status changes and lacks.
 ghost use Rattle.std.specs.Prelude.{◌≡◌, [], IfOk};
 ghost use Rattle.std.specs.FinSet as set;
-ghost use Rattle.cudf_index.specs.Satisfaction.{members};
 ghost use Rattle.cudf_referee.specs.Criteria.{criteria};
 ghost use Rattle.cudf_referee.specs.Proposals.{proposal};
+ghost use Rattle.cudf_referee.specs.Working.Standings.{without_recommends};
 
 mod recommends;
 mod standing;
 mod standings;
 mod touched;
 
-use cudf_index::Index;
 use cudf_job::Criteria;
 use cudf_problem::{Problem, Status};
-use recommends::count_unsatisfied;
+pub(crate) use recommends::count_unsatisfied;
 use standing::{count_changed, count_new, count_not_up_to_date, count_removed};
 use standings::standings_of;
 use std::alloc::{AllocError, Global};
 use touched::count_touched;
 
-/// The counts of a proposed status beside the one before.
-pub(crate) fn count(
+/// The counts of a proposed status beside the one before, with 0 for recommends: `count_unsatisfied` counts these.
+pub(crate) fn count_changes(
     alloc: Global,
     problem: &Problem<'_>,
     before: &Status,
     proposed: &Status,
-    index: &Index<'_, '_>,
 ) -> Result<Criteria, AllocError>
-    requires { index.now ≡ members (set.contains proposed.now) problem.now.packages }
-    ensures { IfOk result (λ c. c ≡ criteria (proposal problem.now (set.contains before.now) (set.contains proposed.now) [])) }
+    ensures { IfOk result (λ c. c ≡ without_recommends (criteria (proposal problem.now (set.contains before.now) (set.contains proposed.now) []))) }
 {
     let standings = standings_of(alloc, problem, before, proposed)?;
     Ok(Criteria {
@@ -36,7 +33,7 @@ pub(crate) fn count(
         new: count_new(&standings),
         changed: count_changed(&standings),
         notuptodate: count_not_up_to_date(&standings),
-        unsat_recommends: count_unsatisfied(problem, proposed, index),
+        unsat_recommends: 0,
         touched: count_touched(problem, before, proposed),
     })
 }

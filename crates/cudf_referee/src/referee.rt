@@ -17,7 +17,7 @@ mod numbered;
 mod partners;
 mod remedies;
 
-use crate::counting::count;
+use crate::counting::{count_changes, count_unsatisfied};
 use crate::instance::{Instance, What};
 use before::greatest_before;
 use cudf_index::Index;
@@ -159,9 +159,14 @@ impl<'p, 't> Referee<'p, 't> {
         keys_can_be_written(problem, solution);
         let was_installed = initial(alloc, problem)?;
         let before = greatest_before(alloc, problem, &was_installed)?;
+        // The lists that this needs are dropped before the index is built.
+        let changes = count_changes(alloc, problem, &was_installed, &solution.status)?;
         let now = Index::build(alloc, problem, &solution.status)?;
         let named = named_in(alloc, problem, &now)?;
-        let criteria = count(alloc, problem, &was_installed, &solution.status, &now)?;
+        let criteria = Criteria {
+            unsat_recommends: count_unsatisfied(problem, &solution.status, &now),
+            ..changes
+        };
         let verdict = has_none(Instances::new(problem, solution, &now, &before, &named));
         Ok(Referee {
             problem,

@@ -1,6 +1,7 @@
 -- What counting gathers of each name.
 use Rattle.std.specs.Prelude.{ℕ, Bool, false, not, ◌||◌, List, map, filter, max, if◌then◌else◌}
 use Rattle.cudf_index.specs.Satisfaction.{Placed}
+use Rattle.cudf_job.specs.declared.criteria.Criteria.{Criteria}
 use Rattle.cudf_referee.specs.declared.counting.standing.Standing.{Standing}
 use Rattle.cudf_referee.specs.Criteria.{each_once, versions_of, is_same_set, greatest}
 use Rattle.cudf_referee.specs.Violations.{has_package}
@@ -43,3 +44,7 @@ names_of packages = each_once (map (λ p. p.1.name) packages)
 -- the standings of these names
 abbrev pub standings_of : (ℕ → Bool) → (ℕ → Bool) → List Placed → List Standing
 standings_of was is packages = map (standing_of was is packages) (names_of packages)
+
+-- the counts with 0 for recommends
+abbrev pub without_recommends : Criteria → Criteria
+without_recommends c = record c { unsat_recommends = 0 }

@@ -5,7 +5,7 @@ use Rattle.cudf_index.specs.Satisfaction.{Placed}
 use Rattle.cudf_referee.specs.Criteria.{criteria, is_removed, is_new, is_changed, is_not_up_to_date}
 use Rattle.cudf_referee.specs.Proposals.{Proposal, proposal}
 use Rattle.cudf_referee.proofs.StandingLemmas.{names_counted, outdated}
-use Rattle.cudf_referee.proofs.counting.count.Goals as goal
+use Rattle.cudf_referee.proofs.counting.count_changes.Goals as goal
 
 pub returns : goal.returns
 unfolding criteria
@@ -22,4 +22,4 @@ returns c =
     (c.deref-3.ensures.value ∙ c.in_ok-standings.ensures) (λ f. refl) c.count_changed.ensures c.count_changed.type_inv in
     let outdated_names = names_counted was is xs _ c.count_not_up_to_date.result (λ s. s.is_installed && nat_lt s.greatest_installed s.greatest) (is_not_up_to_date s)
     (c.deref-4.ensures.value ∙ c.in_ok-standings.ensures) (outdated is xs) c.count_not_up_to_date.ensures c.count_not_up_to_date.type_inv in
-    λ i. record { removed = removed i; new = fresh i; changed = changed i; notuptodate = outdated_names i; unsat_recommends = c.count_unsatisfied.ensures was i; touched = c.count_touched.ensures i }
+    λ i. record { removed = removed i; new = fresh i; changed = changed i; notuptodate = outdated_names i; unsat_recommends = 0; touched = c.count_touched.ensures i }
