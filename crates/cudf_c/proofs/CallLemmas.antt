@@ -1,11 +1,11 @@
 -- What a call answers of a report that was made, or wasn't.
-use Rattle.std.proofs.Common.{◌≡◌, ◌⊎◌, inl, inr, ◌∙◌, ℕ, List, Result, Ok, Err, ap, sym}
+use Rattle.std.proofs.Common.{◌≡◌, ◌⊎◌, inl, inr, ◌∙◌, ℕ, List, Result, Ok, Err, ap}
 use Rattle.std.specs.List.{All}
 use Rattle.cudf_check.specs.Readers.{OfOne}
 use Rattle.cudf_check.specs.Report.{Report}
 use Rattle.cudf_check.specs.Runs.{outcome_status}
-use Rattle.cudf_c.specs.Calls.{Answers, BreaksOff, IsLong, IsShort, Left, left}
-use Rattle.cudf_c.specs.Working.Made.{IsLeft, IsMade, IsTold, IsUnmade}
+use Rattle.cudf_c.specs.Calls.{Answers, IsLong, IsShort, left}
+use Rattle.cudf_c.specs.Working.Made.{IsLeft, IsTold, IsUnmade}
 use Rattle.cudf_c.specs.Working.Stops.{stop_status}
 use Rattle.cudf_c.specs.declared.made.Made.{Made}
 use Rattle.cudf_c.specs.declared.stop.Stop.{Stop}

@@ -1,10 +1,9 @@
 -- The needed clauses of a proof come by key.
-use Rattle.std.proofs.Common.{◌≡◌, ◌⊎◌, inl, inr, ◌+◌, ◌-◌, ◌&&◌, ℕ, Bool, List, [], ◌∷◌, length, map, filter, filter_map, position, slice_get, Option, Some, None, IsTrue, refl, ap, sym, subst}
+use Rattle.std.proofs.Common.{◌≡◌, ◌⊎◌, inl, inr, ◌+◌, ◌-◌, ℕ, Bool, List, [], ◌∷◌, map, filter, filter_map, position, slice_get, Option, Some, None, IsTrue, refl, ap, sym, subst}
 use Rattle.std.proofs.lemmas.List.{length-map}
-use Rattle.std.specs.List.{list_all, range_with_len}
-use Rattle.std.specs.Ordering.{is_le}
+use Rattle.std.specs.List.{range_with_len}
 use Rattle.cudf_text.specs.Lines.{lines}
-use Rattle.cudf_job.specs.Keys.{PlainKey, key_cmp, never_descend}
+use Rattle.cudf_job.specs.Keys.{never_descend}
 use Rattle.cudf_problem.specs.Universe.{PlainProblem}
 use Rattle.cudf_lrat.specs.Answers.{PlainAnswer, Taken, answer_after, checked, checked_from, core, done, fault, faulty, is_among, needs, on, refuted, taken, unless_empty}
 use Rattle.cudf_lrat.specs.Lines.{is_empty, line_of}

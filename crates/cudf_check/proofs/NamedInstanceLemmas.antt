@@ -25,7 +25,7 @@ use Rattle.cudf_job.specs.Keys.{PlainKey, is_key, key_cmp, package_key, request_
 use Rattle.cudf_job.proofs.KeyLemmas.{equal_keys}
 use Rattle.cudf_referee.specs.Instances.{PlainInstance, PlainWhat, needs, conflicts_with, keep_version, keep_package, keep_feature, install, remove, upgrade}
 use Rattle.cudf_referee.specs.Proposals.{Proposal, holds_place}
-use Rattle.cudf_referee.specs.Violations.{at_package, at_request, entry_instances, instance, instances, is_violated, kept_instances, listing, needed_instances, of_each, package_instances, request_instances, unknown_instance}
+use Rattle.cudf_referee.specs.Violations.{at_package, at_request, entry_instances, instance, is_violated, kept_instances, listing, needed_instances, of_each, package_instances, request_instances, unknown_instance}
 use Rattle.cudf_referee.proofs.ListLemmas.{and_right}
 use Rattle.cudf_cnf.specs.Laws.{proposed}
 use Rattle.cudf_cnf.proofs.TestLemmas.{element-any, list_any-flat, or_left, or_right}

@@ -21,8 +21,6 @@ use Rattle.cudf_problem.specs.Statuses.{is_initial, is_proposed, unknown_stanzas
 use Rattle.cudf_problem.specs.Ids.{Id}
 use Rattle.cudf_job.specs.Aims.{aim_text, count_of, count_text}
 use Rattle.cudf_job.specs.declared.aims.Aim.{Aim}
-use Rattle.cudf_job.specs.declared.key.Part.TheVariants as part
-use Rattle.cudf_job.specs.declared.key.Rule.TheVariants as rule
 use Rattle.cudf_job.specs.declared.key.Aspect.{Aspect}
 use Rattle.cudf_job.specs.declared.key.Aspect.TheVariants.{Unsatisfied, Many, Lower}
 use Rattle.cudf_job.specs.declared.criteria.Count.{Count}

@@ -2,7 +2,7 @@
 use Rattle.std.proofs.Common.{◌≡◌, ℕ, ◌≤◌, Bool, true, false, not, ◌&&◌, List, [], ◌∷◌, ◌++◌, Option, None, Some, All, find, filter_map, refl, ap, subst, arith, is_none, is_some, option_and_then, if◌then◌else◌, codes}
 use Rattle.std.proofs.lemmas.List.Elements.{All-nil, All-cons, All-append, All-head, All-tail}
 use Rattle.std.specs.List.{list_any, flat_map}
-use Rattle.std.specs.Option.{option_map_or, option_zip}
+use Rattle.std.specs.Option.{option_zip}
 use Rattle.cudf_text.specs.declared.fault.Fault.{Fault}
 use Rattle.cudf_text.specs.declared.fault.Kind.{Kind}
 use Rattle.cudf_text.specs.declared.fault.Kind.TheVariants.{E4, E5, E6, E7, E8, E9, E10, E11, E12, E14, E15, E16}
@@ -14,12 +14,10 @@ use Rattle.cudf_value.specs.Parts.{look_up, trimmed}
 use Rattle.cudf_problem.specs.declared.mode.Mode.{Mode}
 use Rattle.cudf_problem.specs.declared.mode.Mode.TheVariants.{Lenient, Strict}
 use Rattle.cudf_problem.specs.declared.postmark.Postmark.{Postmark}
-use Rattle.cudf_problem.specs.declared.postmark.Postmark.TheVariants.{Package}
 use Rattle.cudf_problem.specs.Documents.{is_empty, with_earlier, postmark, marks_preamble, marks_package, is_request, has_name, line_of, value_of}
 use Rattle.cudf_problem.specs.Ids.{Id, id_of, is_known}
 use Rattle.cudf_problem.specs.Preamble.{declared, declared_by, declared_after}
 use Rattle.cudf_problem.specs.Values.{name_value}
-use Rattle.cudf_document.specs.Details.{stanza_on}
 use Rattle.cudf_document.specs.Faults.{fault_if}
 use Rattle.cudf_document.specs.ProblemFaults.{tests, declares, repeats, property_faults, place_faults, version_property, required_names, lacks_one, missing_faults, problem_misplaces, misplaced_faults, inner_faults, stanza_faults}
 use Rattle.cudf_document.specs.SolutionFaults.{solution_tests, value_faults, values_faults, solution_misplaces, solution_stanza_faults, repeated_pair_faults}

@@ -1,12 +1,12 @@
 -- A line is found in the stanza and the property that have it.
-use Rattle.std.proofs.Common.{◌≡◌, ℕ, ◌+◌, ◌<◌, ◌≤◌, ◌==◌, nat_le, Bool, true, false, cond, List, [], ◌∷◌, ◌++◌, Option, None, Some, All, find, filter, filter_map, map, slice_get, refl, sym, ap, subst, ◌∙◌, arith, option_map}
+use Rattle.std.proofs.Common.{◌≡◌, ℕ, ◌+◌, ◌<◌, ◌≤◌, ◌==◌, nat_le, Bool, true, false, cond, List, [], ◌∷◌, ◌++◌, Option, Some, All, find, filter, filter_map, map, slice_get, refl, sym, ap, subst, ◌∙◌, arith, option_map}
 use Rattle.std.proofs.lemmas.Bool.Decides.{nat_tests}
 use Rattle.std.proofs.lemmas.List.Elements.{All-nil, All-cons}
 use Rattle.std.specs.List.{enumerate_from, slice_split, onto_first, last_or, cons_option}
 use Rattle.std.specs.Option.{option_map_or}
 use Rattle.cudf_text.specs.Lines.{Class, comment, blank, continuation, named, faulty, NumberedLine, class, lines, is_no_comment, is_blank_line, judged_lines}
 use Rattle.cudf_text.specs.LineFaults.{is_read, first_fault, read_lines}
-use Rattle.cudf_text.specs.Stanzas.{PlainProperty, PlainStanza, joined, continuations, properties, last_number, stanza_of, stanzas_of, plain_text}
+use Rattle.cudf_text.specs.Stanzas.{PlainProperty, PlainStanza, properties, last_number, stanza_of, stanzas_of}
 use Rattle.cudf_problem.specs.Documents.{with_earlier}
 use Rattle.cudf_document.specs.Details.{stanza_on, property_on}
 

@@ -1,5 +1,5 @@
 -- A value is of a property's type where it can be read.
-use Rattle.std.proofs.Common.{◌≡◌, ℕ, Bool, true, false, List, [], ◌∷◌, map, Some, is_some, codes, refl, sym, ap, ◌∙◌}
+use Rattle.std.proofs.Common.{◌≡◌, ℕ, Bool, true, false, List, [], ◌∷◌, map, Some, is_some, codes, refl}
 use mathlib.Core.List.{map-map}
 use Rattle.cudf_text.specs.Chars.{trim}
 use Rattle.cudf_value.specs.Parts.{some_if, look_up}

@@ -5,7 +5,7 @@ use Rattle.std.specs.Option.{option_map_or}
 use Rattle.cudf_problem.specs.Statuses.{is_initial}
 use Rattle.cudf_problem.specs.Universe.{PlainProblem}
 use Rattle.cudf_value.specs.Formulas.{PlainAtom}
-use Rattle.cudf_index.specs.Satisfaction.{Placed, members, without, satisfies_clause, first_meeting, first_satisfying, meets_clause_alone}
+use Rattle.cudf_index.specs.Satisfaction.{Placed, members, without, first_meeting, first_satisfying, meets_clause_alone}
 use Rattle.cudf_referee.specs.Instances.{PlainWhat, needs, install, upgrade, PlainInstance}
 
 -- the place of the first of these packages that alone satisfies the clause or the entry

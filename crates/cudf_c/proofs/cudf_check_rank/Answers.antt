@@ -1,4 +1,4 @@
-use Rattle.std.proofs.Common.{[], ◌∷◌, map, inl, inr, subst}
+use Rattle.std.proofs.Common.{◌∷◌, map, inl, inr, subst}
 use Rattle.cudf_check.specs.RankReport.{rank_report}
 use Rattle.cudf_c.specs.Calls.{Answers, left, mode_of, nameless}
 use Rattle.cudf_c.proofs.CallLemmas.{answers}

@@ -1,5 +1,5 @@
 -- A front as a run sees it, for proofs.
-use Rattle.std.specs.Prelude.{◌≡◌, ℕ, List, ◌∷◌, ◌++◌, Some, Ok, length, min}
+use Rattle.std.specs.Prelude.{◌≡◌, ◌∷◌, ◌++◌, Some, Ok, length, min}
 use Rattle.cudf_check.specs.Device.{SinkState}
 use Rattle.cudf_check.specs.Report.{Report}
 use Rattle.cudf_check.specs.declared.outcome.Outcome.{Outcome}

@@ -1,9 +1,8 @@
 -- The CNF of a problem, held whole.
-use Rattle.std.specs.Prelude.{◌≡◌, ◌<◌, ◌≤◌, ℕ, Bool, true, false, List, [], length, Option, Some, None}
+use Rattle.std.specs.Prelude.{◌≡◌, ◌≤◌, ℕ, Bool, true, false, [], length, Option, Some, None}
 use Rattle.cudf_problem.specs.Universe.{PlainProblem}
 use Rattle.cudf_cnf.specs.Cnf.{cnf}
 use Rattle.cudf_cnf.specs.Encodings.{PlainEncoder, PlainKeyedClauses}
-use Rattle.cudf_cnf.specs.declared.clauses.KeyedClauses.{KeyedClauses}
 use Rattle.cudf_check.specs.Report.{is_too_large}
 
 -- all clauses are held, which aren't many; or many are

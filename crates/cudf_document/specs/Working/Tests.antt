@@ -1,5 +1,5 @@
 -- What properties have to be, by how their values are read.
-use Rattle.std.specs.Prelude.{ℕ, true, List, [], ◌∷◌, ◌++◌, map, codes}
+use Rattle.std.specs.Prelude.{ℕ, true, List, [], ◌∷◌, map, codes}
 use Rattle.cudf_text.specs.Chars.{trim}
 use Rattle.cudf_value.specs.Types.{can_be, is_of_type}
 use Rattle.cudf_value.specs.Declarations.{PlainDeclaration}

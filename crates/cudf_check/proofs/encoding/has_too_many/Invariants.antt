@@ -1,5 +1,5 @@
 -- So many are counted, and no piece is held.
-use Rattle.std.proofs.Common.{◌≡◌, ◌+◌, ◌≤◌, [], length}
+use Rattle.std.proofs.Common.{◌≡◌, ◌+◌, [], length}
 use Rattle.cudf_cnf.specs.Cnf.{cnf}
 use Rattle.cudf_check.proofs.encoding.has_too_many.Given as goal
 

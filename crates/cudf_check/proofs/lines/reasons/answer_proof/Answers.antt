@@ -1,5 +1,5 @@
 use Rattle.std.proofs.Common.{◌≡◌, IsTrue, ap, subst, sym, ◌∙◌}
-use Rattle.cudf_lrat.specs.Answers.{answer_view, checked, refuted}
+use Rattle.cudf_lrat.specs.Answers.{answer_view, checked}
 use Rattle.cudf_job.specs.Keys.{never_descend}
 use Rattle.cudf_reasons.specs.Laws.{keys_of}
 use Rattle.cudf_check.specs.Report.{needed}
