@@ -1,6 +1,6 @@
 # make run: proves and builds the program, and checks the example of the README.
 # make library: proves and builds the library for C, in lib/. make linked ARCHIVE=..: the same from what rt lib built before.
-# make test: the gate. make statement: the files on which the headline rests, compared with docs/PROOFS.md.
+# make test: the gate. make mutants CRATES=..: the mutants of these crates that the gate leaves out. make statement: the files on which the headline rests, compared with docs/PROOFS.md.
 # make install PREFIX=..: copies the program and the library, whichever was built, with the man page, the completions, the
 # pages for users, and the library's callers in other languages; make uninstall takes all of it away.
 # make dist, make deb: packages of program and library, in dist/. What was built from one commit makes the same bytes.
@@ -21,18 +21,21 @@ VERSION := $(shell sed -n 's/^.define CUDF_CHECK_VERSION "\(.*\)"$$/\1/p' includ
 # for the scripts of packaging/
 export DESTDIR PREFIX LIBDIR PROGRAM LIBRARY DIST PAGES VERSION
 
-.PHONY: run library linked test statement install uninstall dist deb toolchain
+# the crates whose mutants are tried, all if none is named
+CRATES :=
+
+.PHONY: run library linked test mutants statement install uninstall dist deb toolchain
 
 # The answer is no solution, so the program's status is 1. rt's status is 1 too where a proof fails: then there is no program.
 run: toolchain
 	@echo "Everything is proved before it is built: later runs prove only what changed."
 	@rm -f $(BUILT)
-	tools/lanes.sh cudf_referee cudf_command_line -- sh -c 'cd crates/cudf_program && rt run -- check ../../examples/car.problem.cudf ../../examples/car.broken.cudf --explain'; test $$? -eq 1
+	cd crates/cudf_program && rt run -- check ../../examples/car.problem.cudf ../../examples/car.broken.cudf --explain; test $$? -eq 1
 	install -D -m 755 $(BUILT) "$(PROGRAM)"
 	@echo "the program is $(PROGRAM)"
 
 library: toolchain
-	tools/lanes.sh cudf_referee -- sh -c 'cd crates/cudf_c && rt lib'
+	cd crates/cudf_c && rt lib
 	$(MAKE) linked
 
 linked:
@@ -40,6 +43,9 @@ linked:
 
 test: toolchain
 	.ci/run
+
+mutants: toolchain
+	tools/mutants.sh $(CRATES)
 
 statement:
 	python3 tools/statement.py

@@ -14,7 +14,7 @@ usage: memory.py PROGRAM [TESTS]
   - reads: of a file one for each 65,536 bytes, of a pipe that gives a byte at a time one for each byte, and 8
   - processor time: for twice the input 3 times, where a square takes 4; the least of some runs of both in turn
 - Inputs of 268,435,456 bytes, with 3 bytes of memory for each byte and 1 MB; and of one byte more, which is too long.
-- TESTS is the executable of the tests of cudf_run_tests (`rt test` leaves it in out/). Its tests in `memory` make calls
+- TESTS is the executable of the tests of cudf_tests (`rt test` leaves it in out/). Its tests in `memory` make calls
   that take memory, and say where one answered that a growth was refused: each is refused as above. At their ends they
   hold no more blocks than `memory::none`, which takes no memory, and passes with every growth refused.
 

@@ -3,10 +3,9 @@
 
 usage: stored.py [PROGRAM]
 
-The rows are data of cudf_rows and tables of cudf_tests, the vectors data of cudf_vectors, of which the program is given
-the keys and the lists of criteria. Then shown.txt is compared with the pages, the data and the tests.
+Both are data of cudf_rows. Of the vectors the program is given the keys and the lists of criteria. Then shown.txt is
+compared with the pages, the data and the tests.
 """
-import ast
 import os
 import re
 import sys
@@ -15,8 +14,6 @@ from collections import namedtuple
 from common import EMPTY, ROOT, lines_of, read, run, section, sections, start, unescaped, write
 from second import calls, documents, keys, reports
 
-TABLES = [f"crates/cudf_tests/src/rows/{name}.rt" for name in ("worked", "faults", "lists")]
-STATUSES = {"Yes": 0, "No": 1, "Faulty": 2, "Fail": 3}
 SHOWN = "crosscheck/shown.txt"
 NAMED = "--with-filename"
 COMMENT = b"\n#" + b"." * 2000
@@ -25,15 +22,6 @@ Row = namedtuple("Row", "name job problem solutions report status")
 
 
 # ---- the data
-
-
-def tested_rows():
-    """The rows of the tables, which have only literals and outcomes."""
-    for path in TABLES:
-        text = re.search(r"\[Row; \d+\] = (\[\n.*?\n\]);\n", read(path), re.DOTALL)[1]
-        plain = re.sub(r"Outcome::(\w+)", lambda found: str(STATUSES[found[1]]), text.replace("&[", "["))
-        for name, job, problem, solutions, report, status in ast.literal_eval(plain):
-            yield Row(name, job, problem, tuple(solutions), report.decode().split("\n")[:-1], status)
 
 
 def lines_below(path):
@@ -63,8 +51,8 @@ def document_of(lines, before):
 def stored_rows():
     """The rows of the data with their answers."""
     problem = b""
-    given = zip(lines_below("crates/cudf_rows/stdin"), lines_below("crates/cudf_rows/stdout"), strict=True)
-    for (head, lines), (answer, report) in given:
+    *answers, _example = lines_below("crates/cudf_rows/stdout")
+    for (head, lines), (answer, report) in zip(lines_below("crates/cudf_rows/stdin"), answers, strict=True):
         (name, job), (answered, status) = head.rsplit(": ", 1), answer.rsplit(": ", 1)
         if answered != name:
             raise ValueError(f"{name} is answered as {answered}")
@@ -79,8 +67,9 @@ def stored_rows():
 
 
 def stored_vectors():
-    """The line, the call, the bytes and the answer of each."""
-    asked, answered = (read(f"crates/cudf_vectors/{name}").split("\n") for name in ("stdin", "stdout"))
+    """The line, the call, the bytes and the answer of each, which are what is before the rows."""
+    files = (read(f"crates/cudf_rows/{name}") for name in ("stdin", "stdout"))
+    asked, answered = (text.partition("\n== ")[0].removesuffix("\n").split("\n") for text in files)
     for number, (line, answer) in enumerate(zip(asked, answered, strict=True), 1):
         if line and not line.startswith("#"):
             call, _, text = line.partition(" ")
@@ -129,9 +118,9 @@ def program_answer(trial, job, problem, solutions):
 
 def answered_rows(trial):
     """Rows, if their job says so also with a long comment, by both implementations."""
-    for row in (*stored_rows(), *tested_rows()):
-        job = row.job.replace(" --also-long", "")
-        for problem in [row.problem] if job == row.job else [row.problem, row.problem + COMMENT]:
+    for row in stored_rows():
+        job = re.sub(" --also-[a-z]+", "", row.job)
+        for problem in [row.problem, row.problem + COMMENT] if "--also-long" in row.job else [row.problem]:
             yield f"second, {row.name}", second_answer(job, problem, row.solutions), (row.report, row.status)
             if trial.program:
                 yield row.name, program_answer(trial, job, problem, row.solutions), (row.report, row.status)
@@ -238,10 +227,9 @@ def section_rows(head, lines, names, vectors):
 
 def shown(_):
     """The list beside the pages, the data and the tests."""
-    tested, vectors, found = [row.name for row in tested_rows()], list(stored_vectors()), dict(lines_below(SHOWN))
-    names = [row.name for row in stored_rows()] + tested
+    names, vectors, found = [row.name for row in stored_rows()], list(stored_vectors()), dict(lines_below(SHOWN))
     yield "names of several rows", [name for name in names if names.count(name) > 1], []
-    yield f"{SHOWN}, worked examples", {it for it in found.pop("worked examples") if not is_test(it)}, set(tested)
+    yield f"{SHOWN}, worked examples", [it for it in found.pop("worked examples") if it not in names and not is_test(it)], []
     yield f"sections that {SHOWN} lacks", {LINES, *PATTERNS} - found.keys(), set()
     for head, lines in found.items():
         yield from section_rows(head, lines, names, vectors)

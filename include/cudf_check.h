@@ -13,7 +13,7 @@
  *     5  a document is longer than 256 MiB (268435456 bytes); cnf and refute: the CNF has more than 4294967295 clauses
  *     6  out of memory
  *
- * Status 4 comes before 5. Neither needs a byte of a document: the length shows that one is too long.
+ * Status 4 comes before 5, and a document that is too long is known by its length alone.
  *
  * The report is written to your buffer `report` of `room` bytes, as far as it fits, and `*length` is the length of the
  * whole report. If that is more than `room`, the report was cut: call again with a larger buffer. The rest of the buffer

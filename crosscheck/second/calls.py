@@ -1,4 +1,4 @@
-"""Answers to the single calls of crates/cudf_vectors, in its words. Python's standard library alone."""
+"""Answers to vectors, in the words of crates/cudf_rows. Python's standard library alone."""
 from functools import partial
 
 from second import documents, values

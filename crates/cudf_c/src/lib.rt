@@ -1,45 +1,18 @@
-//! The library for C, and for each language that calls C: reports of documents that are held in memory.
-//!
-//! A call answers the exit status that the program has for the same documents. Its report goes to the front of the
-//! caller's buffer as far as there is room, and the rest is only counted: no more of a report is held in memory. The
-//! length of the whole report is given: where that is more than the buffer has, a second call with a larger one gives all
-//! of it. With status 4, 5 and 6 nothing is written, and the length is 0.
-//!
-//! Status 4, of words that ask for nothing, comes before 5. Status 5 is known from the lengths of the documents alone, before a
-//! byte of one is read. Nothing is kept between calls, so any number of threads may call at once. Own.
+//! The library for C, and for each language that calls C: the calls of `cudf_calls`, under the names that C knows.
 #![tactic(auto)]
 
-ghost use Rattle.std.specs.Prelude.{◌≡◌, [], ◌∷◌, Some, None, codes, map};
+ghost use Rattle.std.specs.Prelude.{[], ◌∷◌, Some, None, codes, map};
+ghost use Rattle.cudf_calls.specs.Calls.{Answers, AnswersAsked, AnswersRead, Shows, left, mode_of, nameless};
+ghost use Rattle.cudf_calls.specs.Words.{IsAims, IsNoKey, IsNoList, IsPage, IsScore};
 ghost use Rattle.cudf_check.specs.Naming.{unnamed};
 ghost use Rattle.cudf_check.specs.RankReport.{rank_report};
 ghost use Rattle.cudf_check.specs.Report.{report};
 ghost use Rattle.cudf_job.specs.declared.job.Job.TheVariants.{Cnf, Lint, Refute};
-ghost use Rattle.cudf_c.specs.Calls.{Answers, AnswersAsked, AnswersRead, Shows, left, mode_of, nameless};
-ghost use Rattle.cudf_c.specs.Words.{IsAims, IsNoKey, IsNoList, IsPage, IsScore};
 
-mod document;
-mod front;
-mod lengths;
-mod made;
-mod stop;
-mod taken;
-mod words;
-
-use cudf_check::{Job, Mode};
-use front::copy_front;
-use made::{judged, ranked, refuse, single, tell};
+use cudf_calls::Text;
 use std::alloc::Global;
-use words::{aims, page, score};
 
-/// A text of a caller's.
-#[repr(C)]
-#[derive(Clone, Copy, Debug, PartialEq, Eq)]
-pub struct Text<'t> {
-    /// Its bytes: a pointer, which isn't null, and how many there are.
-    pub bytes: &'t [u8],
-}
-
-/// Checks that a text is a valid problem, as the program's `lint` does; `explain` is its `--explain`.
+/// [`cudf_calls::lint`] for C.
 #[unsafe(no_mangle)]
 pub extern "C" fn cudf_check_lint(
     alloc: Global,
@@ -51,14 +24,10 @@ pub extern "C" fn cudf_check_lint(
 ) -> u8
     ensures { Answers (problem.now ∷ []) (report (Lint explain) (mode_of strict) unnamed problem.now None) (left room.old room.new length.new result) }
 {
-    let lint = Job::Lint { explain };
-    let report = single(alloc, &lint, mode(strict), problem, room);
-    tell(report, length)
+    cudf_calls::lint(alloc, strict, explain, problem, room, length)
 }
 
-/// Checks a solution of a problem, as the program's `check` does; `explain` is its `--explain`. It reports the violations
-/// after the key `after`, which may be a text of no bytes, and at most `limit` of them, unless that is 0. Status 4 where
-/// `after` is no key.
+/// [`cudf_calls::check`] for C.
 #[unsafe(no_mangle)]
 pub extern "C" fn cudf_check_check(
     alloc: Global,
@@ -74,17 +43,12 @@ pub extern "C" fn cudf_check_check(
     ensures { AnswersAsked (IsPage after.now limit explain) (IsNoKey after.now) (problem.now ∷ solution.now ∷ [])
         (λ job. report job (mode_of strict) (nameless (solution.now ∷ [])) problem.now (Some solution.now)) (left room.old room.new length.new result) }
 {
-    match page(after, limit, explain) {
-        Ok(page) => {
-            let report = judged(alloc, &page, mode(strict), problem, solution, room);
-            tell(report, length)
-        }
-        Err(stop) => refuse(stop, length),
-    }
+    cudf_calls::check(
+        alloc, strict, explain, problem, solution, after, limit, room, length,
+    )
 }
 
-/// Counts what a solution of a problem changes and lacks, as the program's `score` does: by the list `criteria`, or, where
-/// that has no bytes, by the criteria of the MISC competition. Status 4 where `criteria` is no list.
+/// [`cudf_calls::score`] for C.
 #[unsafe(no_mangle)]
 pub extern "C" fn cudf_check_score(
     alloc: Global,
@@ -98,17 +62,10 @@ pub extern "C" fn cudf_check_score(
     ensures { AnswersRead (IsScore criteria.now) (IsNoList criteria.now) (problem.now ∷ solution.now ∷ [])
         (λ job. report job (mode_of strict) (nameless (solution.now ∷ [])) problem.now (Some solution.now)) (left room.old room.new length.new result) }
 {
-    match score(alloc, criteria) {
-        Ok(score) => {
-            let report = judged(alloc, &score, mode(strict), problem, solution, room);
-            tell(report, length)
-        }
-        Err(stop) => refuse(stop, length),
-    }
+    cudf_calls::score(alloc, strict, problem, solution, criteria, room, length)
 }
 
-/// Ranks solutions of a problem by the list `criteria`, as the program's `rank` does; where that has no bytes, by their
-/// places alone. Status 4 where `criteria` is no list.
+/// [`cudf_calls::rank`] for C.
 #[unsafe(no_mangle)]
 pub extern "C" fn cudf_check_rank(
     alloc: Global,
@@ -122,17 +79,10 @@ pub extern "C" fn cudf_check_rank(
     ensures { AnswersRead (IsAims criteria.now) (IsNoList criteria.now) (problem.now ∷ map (λ text. text.bytes.now) solutions.now)
         (λ aims. rank_report aims (mode_of strict) (nameless (map (λ text. text.bytes.now) solutions.now)) problem.now (map (λ text. text.bytes.now) solutions.now)) (left room.old room.new length.new result) }
 {
-    match aims(alloc, criteria) {
-        Ok(aims) => {
-            let report = ranked(alloc, &aims, mode(strict), problem, solutions, room);
-            tell(report, length)
-        }
-        Err(stop) => refuse(stop, length),
-    }
+    cudf_calls::rank(alloc, strict, problem, solutions, criteria, room, length)
 }
 
-/// Makes the rules of a problem a CNF for a SAT solver, as the program's `cnf` does. Status 5 where a document is too long,
-/// and where the problem has more packages or CNF clauses than 4294967295: then the report has no bytes.
+/// [`cudf_calls::cnf`] for C.
 #[unsafe(no_mangle)]
 pub extern "C" fn cudf_check_cnf(
     alloc: Global,
@@ -143,13 +93,10 @@ pub extern "C" fn cudf_check_cnf(
 ) -> u8
     ensures { Answers (problem.now ∷ []) (report Cnf (mode_of strict) unnamed problem.now None) (left room.old room.new length.new result) }
 {
-    let cnf = Job::Cnf;
-    let report = single(alloc, &cnf, mode(strict), problem, room);
-    tell(report, length)
+    cudf_calls::cnf(alloc, strict, problem, room, length)
 }
 
-/// Checks a proof that a problem has no solution, as the program's `refute` does, with its `--explain` where `explain` says
-/// so. Status 5 as of `cudf_check_cnf`.
+/// [`cudf_calls::refute`] for C.
 #[unsafe(no_mangle)]
 pub extern "C" fn cudf_check_refute(
     alloc: Global,
@@ -162,24 +109,13 @@ pub extern "C" fn cudf_check_refute(
 ) -> u8
     ensures { Answers (problem.now ∷ proof.now ∷ []) (report (Refute explain) (mode_of strict) (nameless (proof.now ∷ [])) problem.now (Some proof.now)) (left room.old room.new length.new result) }
 {
-    let refute = Job::Refute { explain };
-    let report = judged(alloc, &refute, mode(strict), problem, proof, room);
-    tell(report, length)
+    cudf_calls::refute(alloc, strict, explain, problem, proof, room, length)
 }
 
-/// Tells the library's version, which is that of the program: as `1.0.0`.
+/// Shows the library's version, which is that of the program: as `1.0.0`.
 #[unsafe(no_mangle)]
 pub extern "C" fn cudf_check_version(room: &mut [u8], length: &mut usize)
     ensures { Shows (codes "1.0.0") (left room.old room.new length.new 0) }
 {
-    let version = b"1.0.0";
-    *length = version.len();
-    copy_front(version, room);
-}
-
-/// How documents are read.
-fn mode(strict: bool) -> Mode
-    ensures { result ≡ mode_of strict }
-{
-    if strict { Mode::Strict } else { Mode::Lenient }
+    cudf_calls::show(b"1.0.0", room, length)
 }

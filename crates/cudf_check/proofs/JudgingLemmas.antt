@@ -1,6 +1,7 @@
 -- One more solution is judged.
-use Rattle.std.proofs.Common.{◌≡◌, ℕ, zero, suc, ◌+◌, ◌<◌, ◌≤◌, List, [], ◌∷◌, ◌++◌, length, map, drop, get_or, Option, Some, None, option_map, slice_get, refl, sym, ap, ◌∙◌, append_assoc, append-nil, arith}
-use Rattle.std.specs.List.{filter_map, cons_option, enumerate_from}
+use Rattle.std.proofs.Common.{◌≡◌, ℕ, zero, suc, ◌+◌, ◌<◌, ◌≤◌, ◌==◌, Bool, true, false, not, eqb-true, List, [], ◌∷◌, ◌++◌, length, map, drop, get_or, Option, Some, None, option_map, slice_get, refl, sym, ap, ◌∙◌, append_assoc, append-nil, arith}
+use Rattle.std.proofs.lemmas.Bool.{and_from as both}
+use Rattle.std.specs.List.{filter_map, cons_option, enumerate_from, list_all}
 use Rattle.cudf_problem.specs.declared.mode.Mode.{Mode}
 use Rattle.cudf_text.specs.declared.fault.Fault.{Fault}
 use Rattle.cudf_document.specs.declared.error.ReadError.{ReadError}
@@ -11,8 +12,9 @@ use Rattle.cudf_check.specs.RankReport.{placed_fault, placed_faults, entrant_of,
 use Rattle.cudf_check.specs.Report.{Report, faulty, solution_fault}
 use Rattle.cudf_check.specs.Working.Judged.{IsJudged, AreJudged, IsFaultAt}
 use Rattle.cudf_check.specs.Working.Unjudged.{IsFaultOf}
-use Rattle.cudf_check.specs.declared.ranking.Judgement.{Judgement}
-use Rattle.cudf_check.specs.declared.ranking.Entrant.{Entrant}
+use Rattle.cudf_job.specs.Ranking.{have_own_places}
+use Rattle.cudf_job.specs.declared.ranking.Judgement.{Judgement}
+use Rattle.cudf_job.specs.declared.ranking.Entrant.{Entrant}
 
 -- those that are left, with their places
 abbrev pub left : {A : Type 0} → (A → List ℕ) → List A → ℕ → List (ℕ × List ℕ)
@@ -82,3 +84,19 @@ pub faulty_at : {A : Type 0} (mode : Mode) (problem : PlainProblem) (view : A �
 faulty_at mode problem view xs n d ss below m bytes same (read_error.Memory e) first = tt
 faulty_at mode problem view xs n d ss below m bytes same (read_error.Fault f) first =
     faulty_here mode problem view xs n d ss below m (n + 1) refl f (ap (solution_fault mode) (sym same) ∙ first)
+
+-- ---- the places of a problem's solutions
+
+later_places : (problem : PlainProblem) (m n : ℕ) (solutions : List (List ℕ)) → m < n → list_all (λ y. not (m == y.place)) (map (entrant_of problem) (enumerate_from n solutions)) ≡ true
+later_places problem m n [] below = refl
+later_places problem m n (bytes ∷ more) below = both (not (m == n)) (list_all (λ y. not (m == y.place)) (map (entrant_of problem) (enumerate_from (n + 1) more))) (by (m == n) refl)
+    (later_places problem m (n + 1) more (omega arith))
+  where
+    by : (b : Bool) → (m == n) ≡ b → not b ≡ true
+    by true is = let same = eqb-true m n is in absurd (omega (arith, same))
+    by false is = refl
+
+pub entrants_own : (problem : PlainProblem) (n : ℕ) (solutions : List (List ℕ)) → have_own_places (map (entrant_of problem) (enumerate_from n solutions)) ≡ true
+entrants_own problem n [] = refl
+entrants_own problem n (bytes ∷ more) = both (list_all (λ y. not (n == y.place)) (map (entrant_of problem) (enumerate_from (n + 1) more))) (have_own_places (map (entrant_of problem) (enumerate_from (n + 1) more)))
+    (later_places problem n (n + 1) more (omega arith)) (entrants_own problem (n + 1) more)

@@ -3,7 +3,6 @@ pub mod CallLemmas
 pub mod CommonLemmas
 pub mod CoreLemmas
 pub mod EncodingLemmas
-mod Examples
 pub mod InputsLemmas
 pub mod JudgingLemmas
 pub mod NamedInstanceLemmas
@@ -11,10 +10,7 @@ pub mod OutputLemmas
 pub mod PageLemmas
 pub mod PagePriceLemmas
 pub mod PaperLemmas
-pub mod RankExamples
-pub mod RankingLawLemmas
 pub mod ReadingLemmas
 pub mod RefutationLemmas
 pub mod RunLemmas
-mod ShownExamples
 pub mod ShownLemmas

@@ -17,7 +17,7 @@ use Rattle.cudf_check.specs.Report.{line, instance_line, listed, limited, more_t
 use Rattle.cudf_referee.specs.Promises.Pages as pages
 use Rattle.cudf_referee.specs.Promises.Walks.{Walking, left}
 use Rattle.cudf_check.specs.Working.Pages.{Ascends, IsPageEnd, IsEnded, end_key, more_after, more_behind}
-use Rattle.cudf_check.proofs.CommonLemmas.{and_left, and_right, is_less}
+use Rattle.cudf_job.proofs.RankingLemmas.{and_left, and_right, is_less}
 
 -- ---- the order of keys
 

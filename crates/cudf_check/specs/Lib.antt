@@ -4,7 +4,6 @@ pub mod ManyRuns
 pub mod Naming
 pub mod Promises
 pub mod RankReport
-pub mod Ranking
 pub mod Readers
 pub mod Refutations
 pub mod Report

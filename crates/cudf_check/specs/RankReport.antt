@@ -12,15 +12,15 @@ use Rattle.cudf_referee.specs.Proposals.{Proposal}
 use Rattle.cudf_referee.specs.Solutions.{is_solution}
 use Rattle.cudf_job.specs.declared.aims.Aim.{Aim}
 use Rattle.cudf_job.specs.declared.criteria.Criteria.{Criteria}
-use Rattle.cudf_check.specs.Ranking.{class, have_own_places, ranking}
+use Rattle.cudf_job.specs.Ranking.{class, have_own_places, ranking}
 use Rattle.cudf_check.specs.Naming.{Names, name_at, own_file}
 use Rattle.cudf_check.specs.Shown.{shown}
 use Rattle.cudf_check.specs.Report.{Report, line, faulty, faulty_or, problem_fault, solution_fault, proposal_of}
 use Rattle.cudf_check.specs.declared.outcome.Outcome.{Outcome}
 use Rattle.cudf_check.specs.declared.outcome.Outcome.TheVariants.{Yes, No, Fail}
-use Rattle.cudf_check.specs.declared.ranking.Judgement.{Judgement}
-use Rattle.cudf_check.specs.declared.ranking.Judgement.TheVariants.{Solution, NoSolution, SaysFail}
-use Rattle.cudf_check.specs.declared.ranking.Entrant.{Entrant}
+use Rattle.cudf_job.specs.declared.ranking.Judgement.{Judgement}
+use Rattle.cudf_job.specs.declared.ranking.Judgement.TheVariants.{Solution, NoSolution, SaysFail}
+use Rattle.cudf_job.specs.declared.ranking.Entrant.{Entrant}
 
 -- ---- one solution
 

@@ -30,10 +30,8 @@ impl ReportBuffer {
         ensures empty { IfOk result (λ b. b ≡ []) }
         ensures only { IsOkUnless result RunError.Memory }
     {
-        match Vec::with_capacity(alloc, SIZE) {
-            Ok(waiting) => Ok(ReportBuffer { waiting }),
-            Err(_) => Err(RunError::Memory),
-        }
+        let waiting = Vec::with_capacity(alloc, SIZE)?;
+        Ok(ReportBuffer { waiting })
     }
 
     /// Puts `text` after what waits, where there is room for it.

@@ -11,7 +11,7 @@ use cudf_index::Steps;
 use std::io::{self, ErrorKind, Read, Write};
 
 /// Why a call of a device gave or took no byte.
-#[derive(Clone, Copy, Debug, PartialEq, Eq)]
+#[derive(Clone, Copy, PartialEq, Eq)]
 pub enum Trouble {
     /// The call was interrupted, and a read may be tried again.
     Interrupted,
@@ -65,18 +65,12 @@ pub trait Sink {
 /// A reader or a writer of std, as a `Source` or a `Sink`. It tells its bytes where the reader or
 /// writer does, as one over memory, and a file doesn't.
 #[derive(Drop)]
-#[derive_where(Debug; T)]
 pub struct Device<T> {
     inner: T,
-    #[derive_where(skip(Debug))]
     calls: Steps,
-    #[derive_where(skip(Debug))]
     failures: Steps,
-    #[derive_where(skip(Debug))]
     ends: Steps,
-    #[derive_where(skip(Debug))]
     given: Steps,
-    #[derive_where(skip(Debug))]
     last: Option<Result<usize, Trouble>>,
 }
 

@@ -1,7 +1,7 @@
 //! The CNF of a problem, held whole.
 ghost use Rattle.std.specs.Prelude.{◌≡◌, ◌<◌, ◌≤◌, ◌^◌, ◌++◌, true, false, [], nat_lt, length, IfOk, OnOk};
 ghost use Rattle.cudf_cnf.specs.Cnf.{cnf};
-ghost use Rattle.cudf_check.specs.Working.Encoded.{FillsUpTo, IsEncoded};
+ghost use Rattle.cudf_check.specs.Working.Encoded.{FillsUpTo, IsEncoded, IsHeld};
 
 use cudf_cnf::{Encoder, KeyedClauses};
 use cudf_document::Problem;
@@ -26,16 +26,48 @@ pub(crate) fn encoded(
     if count > u32::MAX as usize {
         return Ok(None);
     }
-    let mut encoder = Encoder::new(alloc, problem)?;
     let mut clauses = KeyedClauses::new(alloc, count as u32);
-    if fill_up_to_many(&mut encoder, &mut clauses)? {
-        return Ok(Some(clauses));
+    if hold(alloc, problem, &mut clauses)? {
+        Ok(Some(clauses))
+    } else {
+        Ok(None)
     }
-    if has_too_many(alloc, problem, count as u32)? {
-        return Ok(None);
+}
+
+/// Puts the clauses of the problem's CNF. Answers false where it is too large.
+fn hold(
+    alloc: Global,
+    problem: &Problem<'_>,
+    clauses: &mut KeyedClauses,
+) -> Result<bool, AllocError>
+    requires small { length problem.now.packages < 2 ^ 32 }
+    requires blank { clauses.old ≡ record { places = length problem.now.packages; clauses = [] } }
+    ensures { IfOk result (IsHeld problem.now clauses.new) }
+{
+    let mut encoder = Encoder::new(alloc, problem)?;
+    hold_by(alloc, problem, &mut encoder, clauses)
+}
+
+/// The same, by the encoder of the problem, which has put none.
+fn hold_by(
+    alloc: Global,
+    problem: &Problem<'_>,
+    encoder: &mut Encoder<'_, '_>,
+    clauses: &mut KeyedClauses,
+) -> Result<bool, AllocError>
+    requires small { length problem.now.packages < 2 ^ 32 }
+    requires encoder { encoder.old ≡ record { places = length problem.now.packages; left = cnf problem.now } }
+    requires blank { clauses.old ≡ record { places = length problem.now.packages; clauses = [] } }
+    ensures { IfOk result (IsHeld problem.now clauses.new) }
+{
+    if fill_up_to_many(encoder, clauses)? {
+        return Ok(true);
     }
-    fill(&mut encoder, &mut clauses)?;
-    Ok(Some(clauses))
+    if has_too_many(alloc, problem)? {
+        return Ok(false);
+    }
+    fill(encoder, clauses)?;
+    Ok(true)
 }
 
 /// Puts the clauses that are left after those that are held, until there are many. Answers whether none is left.
@@ -68,14 +100,27 @@ fn fill(encoder: &mut Encoder<'_, '_>, clauses: &mut KeyedClauses) -> Result<(),
 }
 
 /// Whether the CNF has more than 4294967295 clauses. Only a piece of them is held at a time.
-fn has_too_many(alloc: Global, problem: &Problem<'_>, places: u32) -> Result<bool, AllocError>
-    requires { length problem.now.packages ≡ places }
+fn has_too_many(alloc: Global, problem: &Problem<'_>) -> Result<bool, AllocError>
+    requires { length problem.now.packages < 2 ^ 32 }
     ensures { IfOk result (λ is. is ≡ nat_lt 4294967295 (length (cnf problem.now))) }
 {
+    let places = problem.packages().len() as u32;
     let mut encoder = Encoder::new(alloc, problem)?;
     let mut piece = KeyedClauses::new(alloc, places);
+    leaves_too_many(&mut encoder, &mut piece)
+}
+
+/// Whether more than 4294967295 clauses are left. Each piece of them is held alone.
+fn leaves_too_many(
+    encoder: &mut Encoder<'_, '_>,
+    piece: &mut KeyedClauses,
+) -> Result<bool, AllocError>
+    requires over { encoder.old.places ≡ piece.old.places }
+    requires blank { piece.old.clauses ≡ [] }
+    ensures { IfOk result (λ is. is ≡ nat_lt 4294967295 (length encoder.old.left)) }
+{
     let mut left = u32::MAX as usize;
-    while encoder.next(&mut piece)? {
+    while encoder.next(piece)? {
         if piece.len() > left {
             return Ok(true);
         }

@@ -1,22 +1,24 @@
-//! Judges the solutions of a problem.
+//! Judges the solutions of a problem, and says what comes of them together.
 ghost use Rattle.std.specs.Prelude.{◌≡◌, ℕ, List, map, IfOk, IfErr};
+ghost use Rattle.std.specs.List.{list_any};
 ghost use Rattle.cudf_problem.specs.Universe.{PlainProblem};
 ghost use Rattle.cudf_problem.specs.declared.mode.Mode.{Mode};
-ghost use Rattle.cudf_check.specs.RankReport.{judgement_of};
+ghost use Rattle.cudf_check.specs.RankReport.{best_outcome, is_a_solution, is_no_solution, judgement_of};
 ghost use Rattle.cudf_check.specs.Report.{solution_fault};
 ghost use Rattle.cudf_check.specs.Working.Judged.{IsJudged, AreJudged, IsUnranked};
 ghost use Rattle.cudf_check.specs.Working.Unjudged.{IsFaultOf, IsUnjudged};
 
-use crate::ranking::{Entrant, Judgement};
+use crate::outcome::Outcome;
 use crate::readings::{Unjudged, proposed_in};
 use crate::setting::Setting;
 use cudf_document::{Problem, ReadError, solution_of};
+use cudf_job::{Entrant, Judgement};
 use cudf_referee::Referee;
 use cudf_text::Room;
 use std::alloc::AllocError;
 
 /// Why the solutions aren't ranked.
-#[derive(Debug, Drop)]
+#[derive(Drop)]
 pub(crate) struct Unranked {
     /// The place of the solution, from 1.
     pub(crate) place: u64,
@@ -85,4 +87,51 @@ pub(crate) fn judge_each(
         }
     }
     Ok(entrants)
+}
+
+/// Whether it is a solution.
+fn is_a_solution(entrant: &Entrant) -> bool
+    ensures { result ≡ is_a_solution entrant.now }
+{
+    match entrant.judgement {
+        Judgement::Solution(_) => true,
+        Judgement::NoSolution | Judgement::SaysFail => false,
+    }
+}
+
+/// Whether it was judged to be none.
+fn is_no_solution(entrant: &Entrant) -> bool
+    ensures { result ≡ is_no_solution entrant.now }
+{
+    match entrant.judgement {
+        Judgement::NoSolution => true,
+        Judgement::Solution(_) | Judgement::SaysFail => false,
+    }
+}
+
+/// Whether one is a solution.
+fn any_solution(entrants: &[Entrant]) -> bool
+    ensures { result ≡ list_any is_a_solution entrants.now }
+{
+    entrants.iter().any(|entrant| is_a_solution(entrant))
+}
+
+/// Whether one was judged to be none.
+fn any_no_solution(entrants: &[Entrant]) -> bool
+    ensures { result ≡ list_any is_no_solution entrants.now }
+{
+    entrants.iter().any(|entrant| is_no_solution(entrant))
+}
+
+/// `Yes` where one is a solution, or else `No` where one was judged to be none, or else `Fail`.
+pub(crate) fn best_outcome(entrants: &[Entrant]) -> Outcome
+    ensures { result ≡ best_outcome entrants.now }
+{
+    if any_solution(entrants) {
+        Outcome::Yes
+    } else if any_no_solution(entrants) {
+        Outcome::No
+    } else {
+        Outcome::Fail
+    }
 }

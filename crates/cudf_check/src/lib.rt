@@ -26,7 +26,6 @@ mod outcome;
 mod output;
 mod paper;
 mod rank_report;
-mod ranking;
 mod readings;
 mod report;
 mod setting;

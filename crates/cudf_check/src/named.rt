@@ -3,7 +3,7 @@
 use crate::device::{Source, Trouble};
 
 /// A source with a name, as of the file that it reads: lines of reports begin with it. Own.
-#[derive(Debug, Drop)]
+#[derive(Drop)]
 pub struct Named<'n, S> {
     source: S,
     name: Option<&'n str>,

@@ -1,10 +1,11 @@
 //! What a run answers, and the exit status of each answer.
 ghost use Rattle.std.specs.Prelude.{◌≡◌};
 
+use std::alloc::AllocError;
 use thiserror::Error;
 
 /// What the report of whole inputs says.
-#[derive(Clone, Copy, Debug, PartialEq, Eq)]
+#[derive(Clone, Copy, PartialEq, Eq)]
 pub enum Outcome {
     /// The proposed status is a solution, or the problem has no fault; of a ranking, at least one is a solution; of a
     /// proof, it shows that there is none.
@@ -64,5 +65,16 @@ impl RunError {
             RunError::Read | RunError::TooLong | RunError::Write => 5,
             RunError::Memory => 6,
         }
+    }
+}
+
+impl From<AllocError> for RunError {
+    ghost use Rattle.std.specs.Prelude.{◌≡◌};
+    ghost use Rattle.cudf_check.specs.declared.outcome.RunError.TheVariants.{Memory};
+
+    ghost from_gives = { λ _ error. error ≡ Memory };
+
+    fn from(_error: AllocError) -> Self {
+        RunError::Memory
     }
 }

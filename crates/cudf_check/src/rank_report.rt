@@ -8,15 +8,15 @@ ghost use Rattle.cudf_check.specs.Working.Judged.{IsUnranked};
 ghost use Rattle.cudf_check.specs.Working.Named.{names_in};
 
 use crate::device::{Sink, Source};
-use crate::judging::{Unranked, judge_each};
+use crate::judging::{Unranked, best_outcome, judge_each};
 use crate::lines::{answer_faulty_solution, answer_ranked};
 use crate::naming::{Given, name_at, own_file};
 use crate::outcome::{Outcome, RunError};
-use crate::ranking::{best_outcome, ranked as in_order};
 use crate::readings::problem_in;
 use crate::report::{Document, answer_unread};
 use crate::setting::Setting;
 use cudf_document::{NameRoom, ReadError};
+use cudf_job::ranked as in_order;
 use cudf_referee::Aim;
 use cudf_text::Room;
 use std::alloc::Global;

@@ -12,7 +12,7 @@ use cudf_document::{NameRoom, Problem, Proposed, ReadError, first_fault, problem
 use cudf_text::{Room, Stanzas, is_fail, source_of, stanzas};
 
 /// Why what a solution puts forward isn't judged.
-#[derive(Debug, Drop)]
+#[derive(Drop)]
 pub(crate) enum Unjudged {
     /// It says that there is none.
     SaysFail,

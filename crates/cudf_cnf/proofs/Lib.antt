@@ -9,5 +9,4 @@ pub mod PieceLemmas
 pub mod KnownLemmas
 pub mod EncoderLemmas
 pub mod StartLemmas
-mod Examples
 pub mod OrderLemmas

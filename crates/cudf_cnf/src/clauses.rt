@@ -2,7 +2,6 @@
 use cudf_job::Key;
 use cudf_lrat::{Cnf, Literal};
 use std::alloc::{AllocError, Global};
-use std::fmt;
 use std::marker::Model;
 
 /// CNF clauses over the places from 1 to a number, each with the key of the instance that it rules out.
@@ -22,15 +21,6 @@ impl Model for KeyedClauses {
     ghost view = { λ c. record { places = c.cnf.places; clauses = zip (map key_view c.keys.items) c.cnf.clauses } };
 
     ghost invariant = { λ c. length c.keys.items ≡ length c.cnf.clauses };
-}
-
-/// The number of clauses alone: there may be millions.
-impl fmt::Debug for KeyedClauses {
-    fn fmt<W: fmt::Write>(&self, f: &mut fmt::Formatter<W>) -> fmt::Result {
-        f.debug_struct("KeyedClauses")
-            .field("len", &self.keys.len())
-            .finish_non_exhaustive()
-    }
 }
 
 impl KeyedClauses {

@@ -8,7 +8,6 @@ use crate::upgrades::Upgrades;
 use cudf_problem::Problem;
 use cudf_satisfiers::Satisfiers;
 use std::alloc::{AllocError, Global};
-use std::fmt;
 use std::marker::Model;
 
 /// The CNF of a problem, put out in pieces in key order: the clauses of one package, those of one entry of the request,
@@ -42,13 +41,6 @@ impl<'p, 't> Model for Encoder<'p, 't> {
     } };
 
     ghost invariant = { λ e. (e.satisfiers ≡ enumerate_from 1 e.problem.now.packages) × (length e.problem.now.packages < 2 ^ 32) × AreHeld e.satisfiers e.upgrade.givers.items };
-}
-
-/// The name alone: what is left follows from the problem.
-impl fmt::Debug for Encoder<'_, '_> {
-    fn fmt<W: fmt::Write>(&self, f: &mut fmt::Formatter<W>) -> fmt::Result {
-        f.debug_struct("Encoder").finish_non_exhaustive()
-    }
 }
 
 impl<'p, 't> Encoder<'p, 't> {

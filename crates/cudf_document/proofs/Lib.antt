@@ -19,7 +19,6 @@ pub mod SolutionPackageLemmas
 mod PairLemmas
 mod ProposedLemmas
 mod PlacedLemmas
-mod Examples
 mod WalkLemmas
 mod PartsLemmas
 pub mod DetailLemmas

@@ -189,12 +189,12 @@ required_next mode false old new k (t ∷ before) s first ds old_is here later =
 -- ---- the stanzas of a text, one after the other
 
 pub GoesOn-start : (mode : Mode) (Kept : List PlainStanza → Type 0) (k : Walk) (required : List (List ℕ)) (text : PlainText)
-    → k.declarations ≡ [] → IsKnown mode k [] → Kept [] → required ≡ [] → GoesOn mode Kept k true required text text
-GoesOn-start mode Kept k required text ds knows keeps none = record {
+    → IsSoFar mode Kept k [] → required ≡ [] → GoesOn mode Kept k true required text text
+GoesOn-start mode Kept k required text start none = record {
   now = [];
   first_is = refl;
   required_are = none ∙ required_none mode;
-  so_far = IsSoFar-none mode Kept k ds knows keeps;
+  so_far = start;
   whole = refl;
 }
 

@@ -10,7 +10,7 @@ pub(crate) mod of_stanza;
 pub(crate) mod pair;
 
 /// What a document says beside its first fault (own). Lines count from 1 in the text that the fault is of.
-#[derive(Clone, Copy, Debug, PartialEq, Eq)]
+#[derive(Clone, Copy, Debug)]
 pub enum Detail<'t> {
     /// Of E1: the first byte that isn't UTF-8, by its place in its line. It counts from 1.
     InvalidByte {
@@ -69,7 +69,7 @@ pub enum Detail<'t> {
 }
 
 /// A format of files that aren't UTF-8 (own), by the bytes with which they begin.
-#[derive(Clone, Copy, Debug, PartialEq, Eq)]
+#[derive(Clone, Copy, Debug)]
 pub enum Format {
     /// 1F 8B.
     Gzip,

@@ -7,7 +7,7 @@ use std::error::Error;
 use std::fmt;
 
 /// Why a document has no value.
-#[derive(Clone, Copy, Debug, PartialEq, Eq)]
+#[derive(Clone, Copy, Debug)]
 pub enum ReadError {
     /// The document's first fault: by line, then by kind.
     Fault(Fault),

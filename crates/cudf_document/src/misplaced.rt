@@ -14,7 +14,7 @@ use cudf_problem::{Mode, Postmark};
 use cudf_text::{Fault, Kind, StanzaRef};
 
 /// What document a stanza is of.
-#[derive(Clone, Copy, Debug, PartialEq, Eq)]
+#[derive(Clone, Copy)]
 pub(crate) enum Document {
     Problem,
     Solution,

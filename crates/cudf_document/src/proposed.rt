@@ -8,7 +8,7 @@ use cudf_problem::Unknown;
 use std::marker::Model;
 
 /// What a well-formed solution proposes, whatever the problem is.
-#[derive(Debug, Drop)]
+#[derive(Drop)]
 pub struct Proposed<'t> {
     pub(crate) installed: Vec<Unknown<'t>>,
 }

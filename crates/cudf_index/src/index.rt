@@ -34,7 +34,6 @@ use metered::Metered;
 use named_trees::NamedTrees;
 use share::{Share, shares_of};
 use std::alloc::{AllocError, Global};
-use std::fmt;
 use std::marker::Model;
 
 /// The packages of a status, to be asked what they give and satisfy. Places are from 1, and the bounds of vpkgs are
@@ -66,15 +65,6 @@ impl<'p, 't> Model for Index<'p, 't> {
     ghost view = { λ i. members (set.contains i.status) i.problem.now.packages };
 
     ghost invariant = { λ i. ((name : List ℕ) → (Keeps name (members (set.contains i.status) i.problem.now.packages) (found (λ k. bytes_eq name k.now) i.given.gathered.names.keys i.entries.items)) × (row_of name i.given.gathered ≡ given_of name (members (set.contains i.status) i.problem.now.packages))) × AreShares (members (set.contains i.status) i.problem.now.packages) i.shares.items × AreFilled i.given.gathered };
-}
-
-/// Its status: all else that it keeps follows from that and the problem.
-impl fmt::Debug for Index<'_, '_> {
-    fn fmt<W: fmt::Write>(&self, f: &mut fmt::Formatter<W>) -> fmt::Result {
-        f.debug_struct("Index")
-            .field("status", &self.status)
-            .finish_non_exhaustive()
-    }
 }
 
 impl<'p, 't> Index<'p, 't> {

@@ -1,3 +1,4 @@
 pub mod AimLemmas
 pub mod KeyLemmas
 pub mod KeyTextLemmas
+pub mod RankingLemmas

@@ -10,7 +10,7 @@ pub use reading::read_criterion;
 use std::cmp::Ordering;
 
 /// Whether a count is to be small or great. Own.
-#[derive(Clone, Copy, Debug, PartialEq, Eq, Hash)]
+#[derive(Clone, Copy, PartialEq, Eq, Hash)]
 pub enum Sign {
     /// `-`: the lesser count is the better one.
     Least,
@@ -22,7 +22,7 @@ pub enum Sign {
 ///
 /// As lists of aims the MISC competition's track paranoid is `-removed,-changed`, and its track trendy is
 /// `-removed,-notuptodate,-unsat_recommends,-new`.
-#[derive(Clone, Copy, Debug, PartialEq, Eq, Hash)]
+#[derive(Clone, Copy, PartialEq, Eq, Hash)]
 pub struct Aim {
     /// Whether it is to be small or great.
     pub sign: Sign,

@@ -5,7 +5,7 @@ ghost use Rattle.cudf_job.specs.Vectors.{paranoid, trendy};
 
 /// The counts of the MISC competition's criteria. They are counted whether or not the proposed status is a solution;
 /// unknown stanzas don't count. A count ends at 18446744073709551615 (own).
-#[derive(Clone, Copy, Debug, PartialEq, Eq)]
+#[derive(Clone, Copy, PartialEq, Eq)]
 pub struct Criteria {
     /// Names with a package that was installed, and none that is to be.
     pub removed: u64,
@@ -24,7 +24,7 @@ pub struct Criteria {
 }
 
 /// A count of `Criteria`, named as its field.
-#[derive(Clone, Copy, Debug, PartialEq, Eq, Hash)]
+#[derive(Clone, Copy, PartialEq, Eq, Hash)]
 pub enum Count {
     Removed,
     New,

@@ -3,7 +3,7 @@ use crate::aims::Aim;
 use crate::key::Key;
 
 /// One run's task.
-#[derive(Clone, Debug, PartialEq, Eq, Drop)]
+#[derive(Clone, PartialEq, Eq, Drop)]
 pub enum Job {
     /// Say whether the input is a valid problem. The whole input is the problem, also what follows its request, and no
     /// solution is read.

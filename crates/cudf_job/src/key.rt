@@ -7,7 +7,7 @@ use itoa::Buffer;
 use std::fmt;
 
 /// What an instance is about: a package by its place in the universe (from 1), the request, or the solution. Own.
-#[derive(Clone, Copy, Debug, PartialEq, Eq, PartialOrd, Ord, Hash)]
+#[derive(Clone, Copy, PartialEq, Eq, PartialOrd, Ord, Hash)]
 pub enum Part {
     Package(u64),
     Request,
@@ -15,7 +15,7 @@ pub enum Part {
 }
 
 /// The rules, in the order of their keys within a part. Own.
-#[derive(Clone, Copy, Debug, PartialEq, Eq, PartialOrd, Ord, Hash)]
+#[derive(Clone, Copy, PartialEq, Eq, PartialOrd, Ord, Hash)]
 pub enum Rule {
     Depends,
     Conflicts,
@@ -27,7 +27,7 @@ pub enum Rule {
 }
 
 /// The three ways in which an entry of `upgrade` can be violated, in the order of their keys. Own.
-#[derive(Clone, Copy, Debug, PartialEq, Eq, PartialOrd, Ord, Hash)]
+#[derive(Clone, Copy, PartialEq, Eq, PartialOrd, Ord, Hash)]
 pub enum Aspect {
     Unsatisfied,
     Many,
@@ -37,7 +37,7 @@ pub enum Aspect {
 /// The name of one instance of a rule, as `p1.depends.2`. Own.
 ///
 /// Its parts fit each other, and its numbers are at least 1. Keys are ordered by part, then rule, place and aspect.
-#[derive(Clone, Copy, Debug, PartialEq, Eq, PartialOrd, Ord, Hash)]
+#[derive(Clone, Copy, PartialEq, Eq, PartialOrd, Ord, Hash)]
 pub struct Key {
     part: Part,
     rule: Rule,

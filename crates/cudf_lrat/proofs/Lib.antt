@@ -1,4 +1,3 @@
-mod Examples
 mod FollowLemmas
 mod IndexLemmas
 mod KnownLemmas

@@ -18,7 +18,7 @@ use crate::steps::Steps;
 use std::alloc::{AllocError, Global};
 
 /// What a line did.
-#[derive(Clone, Copy, Debug, PartialEq, Eq)]
+#[derive(Clone, Copy)]
 pub(crate) enum Taken {
     /// The proof goes on.
     On,

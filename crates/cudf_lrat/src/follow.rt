@@ -11,7 +11,7 @@ use crate::marks::{Mark, Reading, deny, make_true, read};
 use crate::steps::Steps;
 
 /// Where clauses lead to.
-#[derive(Clone, Copy, Debug, PartialEq, Eq)]
+#[derive(Clone, Copy)]
 pub(crate) enum Followed {
     /// To one that is false, the last of so many.
     Conflict(usize),

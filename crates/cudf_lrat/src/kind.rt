@@ -3,7 +3,7 @@ ghost use Rattle.std.specs.Prelude.{◌≡◌};
 ghost use Rattle.cudf_lrat.specs.Kinds.{kind_text};
 
 /// What is wrong with a line of a proof (own), in the order in which faults of one line are reported.
-#[derive(Clone, Copy, Debug, PartialEq, Eq)]
+#[derive(Clone, Copy)]
 pub enum Kind {
     /// L1: it is no step, deletion, comment or blank line.
     NotAStep,

@@ -8,7 +8,7 @@ ghost use Rattle.cudf_lrat.specs.Working.Views.{reading_view};
 use crate::literal::Literal;
 
 /// What a step knew of a place. Another step's mark says nothing.
-#[derive(Clone, Copy, Debug, PartialEq, Eq)]
+#[derive(Clone, Copy)]
 pub(crate) struct Mark {
     /// The step, from 1.
     pub step: u32,
@@ -17,7 +17,7 @@ pub(crate) struct Mark {
 }
 
 /// What a clause says.
-#[derive(Clone, Copy, Debug, PartialEq, Eq)]
+#[derive(Clone, Copy)]
 pub(crate) enum Reading {
     /// All of its literals are known to be false.
     Falsified,

@@ -5,7 +5,7 @@ ghost use Rattle.cudf_lrat.specs.Lines.{number, signed};
 ghost use Rattle.cudf_lrat.specs.Working.Words.{number_after};
 
 /// A number with a sign or without.
-#[derive(Clone, Copy, Debug, PartialEq, Eq)]
+#[derive(Clone, Copy)]
 pub(crate) struct Signed {
     pub negative: bool,
     pub value: u64,

@@ -12,7 +12,7 @@ use crate::needed::core_of;
 use std::alloc::{AllocError, Global};
 
 /// What a proof shows of some clauses.
-#[derive(Debug, PartialEq, Eq, Drop)]
+#[derive(Drop)]
 pub enum Answer {
     /// No assignment satisfies the clauses of these numbers from 1, which ascend: those that the
     /// proof's step without literals needs.

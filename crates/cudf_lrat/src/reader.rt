@@ -9,7 +9,7 @@ use crate::words::{is_letter, next_word};
 use std::alloc::AllocError;
 
 /// What a line says.
-#[derive(Clone, Copy, Debug, PartialEq, Eq)]
+#[derive(Clone, Copy)]
 pub(crate) enum Line {
     /// Nothing: it is blank, a comment, or a deletion.
     Skipped,

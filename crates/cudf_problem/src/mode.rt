@@ -1,7 +1,7 @@
 //! How strictly documents are read.
 
 /// How strictly a document is read (own).
-#[derive(Clone, Copy, Debug, PartialEq, Eq, Hash)]
+#[derive(Clone, Copy, PartialEq, Eq, Hash)]
 pub enum Mode {
     /// A package may leave out a declared property that has no default, a solution may give a pair of name and
     /// version twice: then both mean the same pair, and a property that has no meaning in its stanza is skipped.

@@ -21,7 +21,7 @@ pub enum Keep {
 }
 
 /// A package of the universe. Name and version together identify it.
-#[derive(Debug, PartialEq, Eq, Drop)]
+#[derive(Debug, Drop)]
 pub struct Package<'t> {
     /// The line of its `package` property, from 1.
     pub line: u64,

@@ -2,7 +2,7 @@
 use cudf_value::VpkgList;
 
 /// What is asked for; each list is empty by default.
-#[derive(Debug, PartialEq, Eq, Drop)]
+#[derive(Debug, Drop)]
 pub struct Request<'t> {
     /// The line of its `request` property, from 1.
     pub line: u64,

@@ -5,7 +5,7 @@ use crate::solution::status::Status;
 use crate::unknown::Unknown;
 
 /// What a solution proposes for a problem.
-#[derive(Debug, Drop)]
+#[derive(Drop)]
 pub struct Solution<'t> {
     /// The packages of the universe that it installs.
     pub status: Status,

@@ -1,7 +1,7 @@
 //! Stanzas of a solution that install a pair of name and version: CUDF 2.0, installations.
 
 /// A stanza that installs a pair. Of a `Solution` the pair isn't in the universe.
-#[derive(Clone, Copy, Debug, PartialEq, Eq)]
+#[derive(Clone, Copy)]
 pub struct Unknown<'t> {
     /// Its number among all stanzas, from 1.
     pub stanza: u64,

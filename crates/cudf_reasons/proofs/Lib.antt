@@ -1,4 +1,3 @@
-mod Examples
 pub mod GatherLemmas
 pub mod GroupLemmas
 pub mod KeyOrderLemmas

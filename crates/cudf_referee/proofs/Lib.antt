@@ -5,7 +5,7 @@ pub mod ComesLemmas
 pub mod CursorLemmas
 pub mod EachLemmas
 pub mod EntryLemmas
-pub mod Examples
+mod Examples
 pub mod ExplanationLemmas
 pub mod GroundLemmas
 pub mod KeyTellLemmas
@@ -15,7 +15,6 @@ pub mod LocatedLemmas
 pub mod MissedLemmas
 pub mod MoveLemmas
 pub mod NameLemmas
-pub mod NeederExamples
 pub mod NeederLemmas
 pub mod NumberLemmas
 pub mod PagingLemmas

@@ -5,7 +5,7 @@ use cudf_problem::{Request, Unknown};
 use cudf_value::{Clause, Vpkg};
 
 /// One violated instance of a rule. Own.
-#[derive(Clone, Copy, Debug, PartialEq, Eq)]
+#[derive(Clone, Copy)]
 pub struct Instance<'t> {
     /// Its name.
     pub key: Key,
@@ -19,7 +19,7 @@ pub struct Instance<'t> {
 }
 
 /// What an instance says is wrong. Own.
-#[derive(Clone, Copy, Debug, PartialEq, Eq)]
+#[derive(Clone, Copy)]
 pub enum What<'t> {
     /// The status doesn't satisfy this conjunct.
     Needs(Clause<'t>),

@@ -18,7 +18,7 @@ use cudf_job::{Key, Part};
 use cudf_problem::Unknown;
 
 /// A position in the walk. (own)
-#[derive(Clone, Copy, Debug)]
+#[derive(Clone, Copy)]
 pub(crate) enum Position {
     /// Before all instances.
     Start,

@@ -30,7 +30,6 @@ use numbered::keys_can_be_written;
 use partners::partners_of;
 pub use remedies::Remedies;
 use std::alloc::{AllocError, Global};
-use std::fmt;
 use std::marker::Model;
 
 /// The referee of a proposed status for a problem. Contracts see what it judges.
@@ -66,16 +65,6 @@ impl<'p, 't> Model for Referee<'p, 't> {
         × (r.verdict ≡ is_solution (put_forward r.problem.now r.now (map unknown_view r.solution.now.unknown.items)))
         × (r.criteria ≡ counts (put_forward r.problem.now r.now (map unknown_view r.solution.now.unknown.items)))
         × IsNumbered (put_forward r.problem.now r.now (map unknown_view r.solution.now.unknown.items)) };
-}
-
-/// The verdict and the counts.
-impl fmt::Debug for Referee<'_, '_> {
-    fn fmt<W: fmt::Write>(&self, f: &mut fmt::Formatter<W>) -> fmt::Result {
-        f.debug_struct("Referee")
-            .field("is_solution", &self.verdict)
-            .field("criteria", &self.criteria)
-            .finish_non_exhaustive()
-    }
 }
 
 /// For each package of the universe, whether its name is to be kept, and the status has a package of it.

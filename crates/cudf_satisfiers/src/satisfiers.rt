@@ -23,12 +23,10 @@ use crate::satisfiers::wanted::{Places, Reach, Wanted};
 use cudf_problem::Problem;
 use cudf_value::{Atom, Clause, Relop, Vpkg};
 use std::alloc::{AllocError, Global};
-use std::fmt;
 use std::marker::Model;
 
 /// The packages of a universe, installed or not, to be asked which of them alone satisfy a vpkg or a clause, and which
-/// give numbers of a name. Places are from 1, and the bounds of vpkgs are taken to be at least 1, as readers give them
-/// (CUDF 2.0, installations and features).
+/// give numbers of a name (CUDF 2.0, installations and features). Places are from 1.
 ///
 /// A call that puts places after those in a list puts them in ascending order, each once; where memory is refused, the
 /// list is as it was before.
@@ -52,13 +50,6 @@ impl<'p, 't> Model for Satisfiers<'p, 't> {
     ghost view = { λ s. enumerate_from 1 s.problem.now.packages };
 
     ghost invariant = { λ s. (f : List ℕ) → Keeps f (enumerate_from 1 s.problem.now.packages) (found (λ k. bytes_eq f k.now) s.rows.names.keys s.rows.rows.items) };
-}
-
-/// The name alone: all that it holds follows from the problem.
-impl fmt::Debug for Satisfiers<'_, '_> {
-    fn fmt<W: fmt::Write>(&self, f: &mut fmt::Formatter<W>) -> fmt::Result {
-        f.debug_struct("Satisfiers").finish_non_exhaustive()
-    }
 }
 
 impl<'p, 't> Satisfiers<'p, 't> {

@@ -1,6 +1,37 @@
-//! Tests of what runs print, from documents to reports, as an outside user of `cudf_check` sees it. Expected
-//! values come from the format's own rules, never from what the program printed. Rows beyond these are data of `cudf_rows`.
+//! Tests over the public items of the libraries, as an outside user calls them: what only code can test. All other rows
+//! are data of `cudf_rows`. Expected values come from the format's own rules, never from what the
+//! program printed.
 #![tactic(auto)]
 
 #[cfg(test)]
-mod rows;
+mod chain;
+#[cfg(test)]
+mod details;
+#[cfg(test)]
+mod devices;
+#[cfg(test)]
+mod documents;
+#[cfg(test)]
+mod explanations;
+#[cfg(test)]
+mod fronts;
+#[cfg(test)]
+mod keys;
+#[cfg(test)]
+mod large;
+#[cfg(test)]
+mod listings;
+#[cfg(test)]
+mod memory;
+#[cfg(test)]
+mod pages;
+#[cfg(test)]
+mod reports;
+#[cfg(test)]
+mod runs;
+#[cfg(test)]
+mod statuses;
+#[cfg(test)]
+mod table;
+#[cfg(test)]
+mod values;

@@ -1,7 +1,6 @@
 mod Boundary
 mod ClassLemmas
 mod CountLemmas
-mod Examples
 mod JoinedLemmas
 mod LawLemmas
 mod LineLemmas

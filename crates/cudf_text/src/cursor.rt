@@ -1,9 +1,9 @@
 //! The cursor over a text's stanzas.
-ghost use Rattle.std.specs.Prelude.{◌≡◌, ◌++◌, [], ◌∷◌, IfOk, IsTrue};
+ghost use Rattle.std.specs.Prelude.{◌≡◌, ◌++◌, [], ◌∷◌, None, IfOk, IsTrue};
 ghost use Rattle.cudf_text.specs.Promises.Cursor.{is_end};
 ghost use Rattle.cudf_text.specs.Lines.{class};
 ghost use Rattle.cudf_text.specs.Working.Left.{text_left, with_tracked, IsCounted};
-ghost use Rattle.cudf_text.specs.Working.Steps.{open_state, line_of, step, stepped};
+ghost use Rattle.cudf_text.specs.Working.Steps.{open_state, line_of, continued, with_property, step, stepped};
 ghost use Rattle.cudf_text.specs.Working.Tracked.{tracked_part, tracked_properties};
 
 use crate::continuation::{continue_last, owned};
@@ -17,7 +17,7 @@ use std::fmt;
 use std::marker::Model;
 
 /// What a cursor answers.
-#[derive(Clone, Copy, Debug, PartialEq, Eq)]
+#[derive(Clone, Copy)]
 pub enum Next {
     /// A stanza, by the line of its first property and its last line.
     Stanza { line: u64, last: u64 },
@@ -233,36 +233,61 @@ fn take<'a>(
         ≡ stepped taken number (open_state (tracked_properties parts.new.items others.new.items) last.new)) }
 {
     match classify(line) {
-        Line::Comment => {}
-        Line::Blank => {
-            if let Some(first) = first_line_of(parts.as_slice(), others.as_slice()) {
-                return Ok(Taken::End(first));
-            }
-        }
-        Line::Continuation(text) => {
-            if first_line_of(parts.as_slice(), others.as_slice()).is_none() {
-                return Ok(Taken::Fault(Kind::E3));
-            }
-            continue_last(alloc, parts, others, text)?;
-            *last = number;
-        }
+        Line::Comment => Ok(Taken::On),
+        Line::Blank => match first_line_of(parts.as_slice(), others.as_slice()) {
+            Some(first) => Ok(Taken::End(first)),
+            None => Ok(Taken::On),
+        },
+        Line::Continuation(text) => take_continuation(alloc, parts, others, last, number, text),
         Line::Named(name, text) => {
-            add(
-                parts,
-                others,
-                PropertyRef {
-                    line: number,
-                    name,
-                    value: text,
-                },
-            )?;
-            *last = number;
+            let part = PropertyRef {
+                line: number,
+                name,
+                value: text,
+            };
+            take_property(parts, others, last, part)
         }
         Line::Faulty => {
             *last = number;
-            return Ok(Taken::Fault(Kind::E2));
+            Ok(Taken::Fault(Kind::E2))
         }
     }
+}
+
+/// Takes a continuation of this text.
+fn take_continuation<'a>(
+    alloc: Global,
+    parts: &mut Vec<PropertyRef<'a>>,
+    others: &mut Vec<Property<'a>>,
+    last: &mut u64,
+    number: u64,
+    text: &'a str,
+) -> Result<Taken, AllocError>
+    ensures { IfOk result (λ taken.
+        continued (open_state (tracked_properties parts.old.items others.old.items) last.old) number text.now
+        ≡ stepped taken number (open_state (tracked_properties parts.new.items others.new.items) last.new)) }
+{
+    if first_line_of(parts.as_slice(), others.as_slice()).is_none() {
+        return Ok(Taken::Fault(Kind::E3));
+    }
+    continue_last(alloc, parts, others, text)?;
+    *last = number;
+    Ok(Taken::On)
+}
+
+/// Takes a line with a property's name.
+fn take_property<'a>(
+    parts: &mut Vec<PropertyRef<'a>>,
+    others: &mut Vec<Property<'a>>,
+    last: &mut u64,
+    part: PropertyRef<'a>,
+) -> Result<Taken, AllocError>
+    ensures { IfOk result (λ taken.
+        (with_property (open_state (tracked_properties parts.old.items others.old.items) last.old) part.entry.line part.entry.name.now part.entry.value.now, None)
+        ≡ stepped taken part.entry.line (open_state (tracked_properties parts.new.items others.new.items) last.new)) }
+{
+    *last = part.line;
+    add(parts, others, part)?;
     Ok(Taken::On)
 }
 

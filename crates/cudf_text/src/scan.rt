@@ -6,7 +6,7 @@ ghost use Rattle.cudf_text.specs.Promises.Classes.{is_in_class};
 ghost use Rattle.cudf_text.specs.Working.ClassBits.{class_bit};
 
 /// A class of ASCII characters (CUDF 2.0, the type library).
-#[derive(Clone, Copy, Debug, PartialEq, Eq)]
+#[derive(Clone, Copy)]
 pub enum Class {
     /// A space or a tab.
     Blank,

@@ -9,7 +9,7 @@ use std::fmt;
 
 /// A document as its stanzas (CUDF 2.0, syntax of stanzas and properties), each part with its
 /// line. Reading ends at the first line that is faulty; only `lines` counts those after it.
-#[derive(Debug, PartialEq, Eq, Drop)]
+#[derive(Drop)]
 pub struct Text<'a> {
     /// The bytes that were read.
     pub source: &'a str,
@@ -22,7 +22,7 @@ pub struct Text<'a> {
 }
 
 /// Properties without a blank line between them, one at least.
-#[derive(Debug, PartialEq, Eq, Drop)]
+#[derive(Drop)]
 pub struct Stanza<'a> {
     /// The line of the first property, from 1.
     pub line: u64,
@@ -33,7 +33,7 @@ pub struct Stanza<'a> {
 }
 
 /// A name and its value.
-#[derive(Debug, PartialEq, Eq, Drop)]
+#[derive(Drop)]
 pub struct Property<'a> {
     /// The line of the name, from 1.
     pub line: u64,
@@ -46,7 +46,7 @@ pub struct Property<'a> {
 }
 
 /// A stanza that is read as it is asked for.
-#[derive(Debug, Drop)]
+#[derive(Drop)]
 pub struct StanzaRef<'t> {
     /// The line of the first property, from 1.
     pub line: u64,
@@ -57,7 +57,7 @@ pub struct StanzaRef<'t> {
 }
 
 /// A property of such a stanza.
-#[derive(Clone, Copy, Debug, PartialEq, Eq)]
+#[derive(Clone, Copy)]
 pub struct PropertyRef<'t> {
     /// The line of the name, from 1.
     pub line: u64,
@@ -69,7 +69,7 @@ pub struct PropertyRef<'t> {
 }
 
 /// Why bytes have no `Text`.
-#[derive(Clone, Copy, Debug, PartialEq, Eq)]
+#[derive(Clone, Copy, Debug)]
 pub enum TextError {
     /// Always of kind E1: the bytes aren't UTF-8.
     Fault(Fault),

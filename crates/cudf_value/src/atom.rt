@@ -10,7 +10,7 @@ use cudf_text::scan::{after, before};
 use cudf_text::trim;
 
 /// An atom of a clause.
-#[derive(Clone, Copy, Debug, PartialEq, Eq, Hash)]
+#[derive(Clone, Copy, PartialEq, Eq, Hash)]
 pub enum Atom<'t> {
     /// `true!`
     Yes,

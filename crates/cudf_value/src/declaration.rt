@@ -20,7 +20,7 @@ use cudf_text::{is_ident, trim};
 use std::alloc::{AllocError, Global};
 
 /// The declaration of a package property (CUDF 2.0, preamble).
-#[derive(Clone, Debug, PartialEq, Eq, Drop)]
+#[derive(Clone, PartialEq, Eq, Drop)]
 pub struct Declaration<'t> {
     /// An `ident`, in what the reader gives.
     pub name: &'t str,

@@ -20,7 +20,7 @@ pub struct Formula<'t> {
 }
 
 /// A disjunction, of one atom at least. Two are equal where their texts are.
-#[derive(Clone, Copy, Debug, PartialEq, Eq)]
+#[derive(Clone, Copy, PartialEq, Eq)]
 pub struct Clause<'t> {
     text: &'t str,
     ghost sound: { IsTrue (is_some (clause text.now)) },
@@ -28,14 +28,14 @@ pub struct Clause<'t> {
 }
 
 /// The clauses of a formula, in the order of the text.
-#[derive(Clone, Copy, Debug)]
+#[derive(Clone, Copy)]
 pub struct Clauses<'t> {
     rest: Option<&'t str>,
     ghost sound: { IsTrue (is_some (clauses_in (option_copied rest))) },
 }
 
 /// The atoms of a clause, in the order of the text.
-#[derive(Clone, Copy, Debug)]
+#[derive(Clone, Copy)]
 pub struct Atoms<'t> {
     rest: Option<&'t str>,
     ghost sound: { IsTrue (is_some (atoms_in (option_copied rest))) },

@@ -2,7 +2,7 @@ ghost use Rattle.std.specs.Prelude.{◌≡◌};
 ghost use Rattle.cudf_value.specs.Vpkgs.{relop_text, relop, meets};
 
 /// A relational operator of the type `vpkg`.
-#[derive(Clone, Copy, Debug, PartialEq, Eq, Hash)]
+#[derive(Clone, Copy, PartialEq, Eq, Hash)]
 pub enum Relop {
     /// `=`
     Eq,

@@ -14,7 +14,7 @@ use cudf_text::{is_ident, trim};
 use std::alloc::{AllocError, Global};
 
 /// A type of values (CUDF 2.0, the type library).
-#[derive(Clone, Debug, PartialEq, Eq, Drop)]
+#[derive(Clone, PartialEq, Eq, Drop)]
 pub enum ValueType<'t> {
     /// `posint`: 1 to `u64::MAX` (own range).
     Positive,

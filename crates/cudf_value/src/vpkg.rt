@@ -11,7 +11,7 @@ use cudf_text::scan::{Class, first_byte, split_run, trim_start};
 use cudf_text::trim;
 
 /// A package or a feature by its name, at the versions that the bound admits, or at all (CUDF 2.0, the type library).
-#[derive(Clone, Copy, Debug, PartialEq, Eq, Hash)]
+#[derive(Clone, Copy, PartialEq, Eq, Hash)]
 pub struct Vpkg<'t> {
     /// A `pkgname` in what the readers give.
     pub name: &'t str,

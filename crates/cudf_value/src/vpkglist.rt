@@ -21,7 +21,7 @@ pub struct VpkgList<'t> {
 }
 
 /// The vpkgs of a list, in the order of the text.
-#[derive(Clone, Copy, Debug)]
+#[derive(Clone, Copy)]
 pub struct Vpkgs<'t> {
     rest: Option<&'t str>,
     ghost sound: { IsTrue (is_some (vpkgs_in (option_copied rest))) },

@@ -14,3 +14,8 @@ FillsUpTo many encoder held false = Unit {0}
 abbrev pub IsEncoded : PlainProblem → Option PlainKeyedClauses → Type 0
 IsEncoded problem None = is_too_large problem ≡ true
 IsEncoded problem (Some held) = (is_too_large problem ≡ false) × (held ≡ record { places = length problem.packages; clauses = cnf problem })
+
+-- all clauses of the CNF are held, or it is too large
+abbrev pub IsHeld : PlainProblem → PlainKeyedClauses → Bool → Type 0
+IsHeld problem held true = IsEncoded problem (Some held)
+IsHeld problem held false = IsEncoded problem None

@@ -7,8 +7,8 @@ use Rattle.cudf_problem.specs.Universe.{PlainProblem}
 use Rattle.cudf_check.specs.RankReport.{judgement, entrants, placed_faults}
 use Rattle.cudf_check.specs.Report.{solution_fault}
 use Rattle.cudf_check.specs.declared.judging.Unranked.{Unranked}
-use Rattle.cudf_check.specs.declared.ranking.Judgement.{Judgement}
-use Rattle.cudf_check.specs.declared.ranking.Entrant.{Entrant}
+use Rattle.cudf_job.specs.declared.ranking.Judgement.{Judgement}
+use Rattle.cudf_job.specs.declared.ranking.Entrant.{Entrant}
 
 -- it has no fault, and this is found of it
 pub record IsJudged (mode : Mode) (problem : PlainProblem) (bytes : List ℕ) (j : Judgement) : Type 0 where

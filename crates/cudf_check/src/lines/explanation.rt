@@ -98,6 +98,21 @@ fn print_number<W: Sink>(paper: &mut Paper<'_, W>, number: Option<u64>, behind: 
     paper.text(behind);
 }
 
+/// Prints two numbers of an entry of `upgrade`, each with the text after it.
+fn print_pair<W: Sink>(
+    paper: &mut Paper<'_, W>,
+    first: Option<u64>,
+    between: &str,
+    second: Option<u64>,
+    behind: &str,
+)
+    ensures { Says W.state paper.old paper.new (codes "; " ++ number_text first ++ between.now ++ number_text second ++ behind.now) }
+{
+    paper.text("; ");
+    print_number(paper, first, between);
+    print_number(paper, second, behind);
+}
+
 /// Prints the numbers of an entry of `upgrade` that is violated by them.
 fn print_numbers<W: Sink>(
     paper: &mut Paper<'_, W>,
@@ -107,17 +122,15 @@ fn print_numbers<W: Sink>(
 )
     ensures { Says W.state paper.old paper.new (numbers_added explainer.now name.now aspect) }
 {
+    let least = explainer.least(name);
     match aspect {
         None | Some(Aspect::Unsatisfied) => {}
         Some(Aspect::Many) => {
-            paper.text("; ");
-            print_number(paper, explainer.least(name), " and ");
-            print_number(paper, explainer.greatest(name), " now");
+            print_pair(paper, least, " and ", explainer.greatest(name), " now");
         }
         Some(Aspect::Lower) => {
-            paper.text("; ");
-            print_number(paper, explainer.least(name), " now, ");
-            print_number(paper, explainer.greatest_before(name), " before");
+            let greatest = explainer.greatest_before(name);
+            print_pair(paper, least, " now, ", greatest, " before");
         }
     }
 }

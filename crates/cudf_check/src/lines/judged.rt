@@ -74,6 +74,21 @@ fn print_found<W: Sink>(paper: &mut Paper<'_, W>, scribe: &Scribe<'_, '_, '_>, j
     }
 }
 
+/// Prints what is found for the job, and the verdict, and answers its outcome.
+fn print_judged<W: Sink>(
+    paper: &mut Paper<'_, W>,
+    scribe: &Scribe<'_, '_, '_>,
+    job: &Job,
+) -> Outcome
+    requires ascending { Ascends scribe.now.judged }
+    requires explained { is_solution scribe.now.judged ≡ false → scribe.now.explain ≡ explains job.now }
+    ensures text { Says W.state paper.old paper.new (judged_report (found_text job.now scribe.entry.now.origins) scribe.entry.now.judged).text }
+    ensures outcome { result ≡ (judged_report (found_text job.now scribe.entry.now.origins) scribe.entry.now.judged).outcome }
+{
+    print_found(paper, scribe, job);
+    print_verdict(paper, scribe.referee().is_solution())
+}
+
 /// Judges what a solution proposes, and writes the report: what is found for the job, and the verdict.
 pub(crate) fn answer_judged<W: Sink>(
     alloc: Global,
@@ -88,19 +103,40 @@ pub(crate) fn answer_judged<W: Sink>(
         (map unknown_view solution.now.unknown.items))) result }
 {
     ascending();
-    let referee = match Referee::new(alloc, problem, solution) {
-        Ok(referee) => referee,
-        Err(_) => return Err(RunError::Memory),
-    };
-    let mut waiting = ReportBuffer::new(alloc)?;
+    let referee = Referee::new(alloc, problem, solution)?;
+    answer_by(alloc, out, job, origins, &referee)
+}
+
+/// The same, by the referee.
+fn answer_by<W: Sink>(
+    alloc: Global,
+    out: &mut W,
+    job: &Job,
+    origins: Origins<'_>,
+    referee: &Referee<'_, '_>,
+) -> Result<Outcome, RunError>
+    requires { Ascends referee.now }
+    ensures { Answers (W.state out.old) (W.state out.new) (judged_report (found_text job.now (origins_view origins.entry)) referee.entry.now) result }
+{
     // Where the status is a solution, there is no line to explain.
     let explain = explains(job) && !referee.is_solution();
-    let scribe = match Scribe::new(alloc, &referee, explain, origins) {
-        Ok(scribe) => scribe,
-        Err(_) => return Err(RunError::Memory),
-    };
+    let scribe = Scribe::new(alloc, referee, explain, origins)?;
+    answer_found(alloc, out, job, &scribe)
+}
+
+/// Writes what is found for the job, and the verdict.
+fn answer_found<W: Sink>(
+    alloc: Global,
+    out: &mut W,
+    job: &Job,
+    scribe: &Scribe<'_, '_, '_>,
+) -> Result<Outcome, RunError>
+    requires ascending { Ascends scribe.now.judged }
+    requires explained { is_solution scribe.now.judged ≡ false → scribe.now.explain ≡ explains job.now }
+    ensures { Answers (W.state out.old) (W.state out.new) (judged_report (found_text job.now scribe.entry.now.origins) scribe.entry.now.judged) result }
+{
+    let mut waiting = ReportBuffer::new(alloc)?;
     let mut paper = Paper::new(out, &mut waiting);
-    print_found(&mut paper, &scribe, job);
-    let outcome = print_verdict(&mut paper, referee.is_solution());
+    let outcome = print_judged(&mut paper, scribe, job);
     paper.finish(outcome)
 }

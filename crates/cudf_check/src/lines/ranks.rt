@@ -16,7 +16,7 @@ use crate::lines::shown::print_shown;
 use crate::naming::{name_at, own_file};
 use crate::outcome::{Outcome, RunError};
 use crate::paper::Paper;
-use crate::ranking::{Entrant, Judgement};
+use cudf_job::{Entrant, Judgement};
 use cudf_referee::{Aim, Criteria};
 use cudf_text::Fault;
 use std::alloc::Global;

@@ -10,7 +10,7 @@ ghost use Rattle.cudf_reasons.specs.Laws.{keys_of};
 ghost use Rattle.cudf_reasons.specs.Reasons.{reasons_of};
 ghost use Rattle.cudf_reasons.specs.Views.{needed_view, told_as};
 ghost use Rattle.cudf_check.specs.declared.outcome.Outcome.TheVariants.{No, Yes};
-ghost use Rattle.cudf_check.specs.Report.{alone, also_text, core_text, met_texts, needed, refute_answer};
+ghost use Rattle.cudf_check.specs.Report.{alone, also_text, core_text, line, met_texts, needed, reason_line, refute_answer};
 ghost use Rattle.cudf_check.specs.Working.Answering.{Answers};
 ghost use Rattle.cudf_check.specs.Working.Paper.{Says};
 
@@ -204,15 +204,36 @@ fn answer_core<W: Sink>(
     requires ordered { IsTrue (never_descend (keys_of (needed clauses.now.clauses numbers.now))) }
     ensures { Answers (W.state out.old) (W.state out.new) (record { text = core_text explain problem.now numbers.now; outcome = Yes }) result }
 {
-    let Ok(reasons) = reasons_of(alloc, clauses, numbers) else {
-        return Err(RunError::Memory);
-    };
-    let Ok(scribe) = ReasonScribe::new(alloc, problem, explain) else {
-        return Err(RunError::Memory);
-    };
+    let reasons = reasons_of(alloc, clauses, numbers)?;
+    answer_reasons(alloc, out, problem, &reasons, explain)
+}
+
+/// Writes these instances, of which no status keeps all.
+fn answer_reasons<W: Sink>(
+    alloc: Global,
+    out: &mut W,
+    problem: &Problem<'_>,
+    reasons: &Reasons,
+    explain: bool,
+) -> Result<Outcome, RunError>
+    ensures { Answers (W.state out.old) (W.state out.new) (record { text = flat_map (reason_line explain problem.now) reasons.now ++ line (codes "no solution exists"); outcome = Yes }) result }
+{
+    let scribe = ReasonScribe::new(alloc, problem, explain)?;
+    answer_by(alloc, out, &scribe, reasons)
+}
+
+/// The same, by a scribe.
+fn answer_by<W: Sink>(
+    alloc: Global,
+    out: &mut W,
+    scribe: &ReasonScribe<'_, '_>,
+    reasons: &Reasons,
+) -> Result<Outcome, RunError>
+    ensures { Answers (W.state out.old) (W.state out.new) (record { text = flat_map (reason_line scribe.now.explain scribe.now.problem) reasons.now ++ line (codes "no solution exists"); outcome = Yes }) result }
+{
     let mut waiting = ReportBuffer::new(alloc)?;
     let mut paper = Paper::new(out, &mut waiting);
-    scribe.print_core(&mut paper, &reasons);
+    scribe.print_core(&mut paper, reasons);
     paper.finish(Outcome::Yes)
 }
 

@@ -3,7 +3,7 @@ ghost use Rattle.std.specs.Prelude.{◌≡◌};
 ghost use Rattle.cudf_document.specs.Working.PackageFields.{package_property_named};
 
 /// A property that CUDF defines for packages, but name and version, or `recommends`.
-#[derive(Clone, Copy, Debug, PartialEq, Eq)]
+#[derive(Clone, Copy)]
 pub(crate) enum PackageProperty {
     Depends,
     Conflicts,

@@ -1,11 +1,11 @@
 //! Reading a problem whose stanzas are held.
-ghost use Rattle.std.specs.Prelude.{◌≡◌, [], true, IfOk, IfErr};
+ghost use Rattle.std.specs.Prelude.{◌≡◌, [], true, IfOk, IfErr, OnOk};
 ghost use Rattle.cudf_text.specs.Promises.Views.{text_view};
 ghost use Rattle.cudf_document.specs.Promises.Faults.{IsFirstFault};
 ghost use Rattle.cudf_document.specs.ProblemFaults.{problem_faults};
 ghost use Rattle.cudf_problem.specs.Universe.{plain_problem};
 ghost use Rattle.cudf_document.specs.Working.Kept.{AreParts};
-ghost use Rattle.cudf_document.specs.Working.Walks.{IsWhole};
+ghost use Rattle.cudf_document.specs.Working.Walks.{IsSoFar, IsWhole};
 
 use crate::declarations::required::require;
 use crate::error::ReadError;
@@ -40,7 +40,7 @@ pub fn read_problem<'t, 'a>(
     Ok(parts.into_problem(walk))
 }
 
-/// Walks over all stanzas, each as it is lent.
+/// Walks over all stanzas.
 fn walk_held<'t, 'a>(
     alloc: Global,
     text: &'t Text<'a>,
@@ -51,6 +51,22 @@ fn walk_held<'t, 'a>(
 {
     let mut walk: Walk<'t> = Walk::new(alloc);
     let mut parts: Parts<'t> = Parts::new(alloc, true, None);
+    take_lent(alloc, text, &mut walk, &mut parts, mode)?;
+    walk.end(text.fault, text.lines);
+    Ok((walk, parts))
+}
+
+/// Takes all stanzas, each as it is lent.
+fn take_lent<'t, 'a>(
+    alloc: Global,
+    text: &'t Text<'a>,
+    walk: &mut Walk<'t>,
+    parts: &mut Parts<'t>,
+    mode: Mode,
+) -> Result<(), AllocError>
+    ensures { IsSoFar mode (λ ss. AreParts true ss parts.old) walk.old [] →
+        OnOk result (IsSoFar mode (λ ss. AreParts true ss parts.new) walk.new (text_view text.now).stanzas) }
+{
     let mut lent = StanzaRef {
         line: 0,
         last: 0,
@@ -60,10 +76,9 @@ fn walk_held<'t, 'a>(
     let mut is_first = true;
     for stanza in &text.stanzas {
         lend(stanza, &mut lent)?;
-        walk.take(alloc, &mut parts, is_first, &lent, &required, mode)?;
+        walk.take(alloc, parts, is_first, &lent, &required, mode)?;
         require(alloc, &mut required, is_first, &walk.declarations, mode)?;
         is_first = false;
     }
-    walk.end(text.fault, text.lines);
-    Ok((walk, parts))
+    Ok(())
 }

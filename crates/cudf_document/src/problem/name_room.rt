@@ -3,7 +3,7 @@
 ghost use Rattle.std.specs.Prelude.{◌≡◌, ◌≤◌, length, is_some, IfOk, IsTrue, OnOk};
 
 use std::alloc::{AllocError, Global};
-use std::{fmt, mem, str};
+use std::{mem, str};
 
 /// The bytes of the first block.
 const FIRST: usize = 1024;
@@ -27,13 +27,6 @@ impl NameRoom {
             bytes: Vec::new(alloc),
             more: None,
         }
-    }
-}
-
-/// Its name alone: what it holds is seen by none but those who read the copies.
-impl fmt::Debug for NameRoom {
-    fn fmt<W: fmt::Write>(&self, f: &mut fmt::Formatter<W>) -> fmt::Result {
-        f.debug_struct("NameRoom").finish_non_exhaustive()
     }
 }
 

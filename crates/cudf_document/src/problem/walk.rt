@@ -10,7 +10,7 @@ ghost use Rattle.cudf_document.specs.Working.Judging.{properties_faults, placed_
 ghost use Rattle.cudf_document.specs.Working.Identities.{IsIdentity};
 ghost use Rattle.cudf_document.specs.Working.SeenNames.{AreNames};
 ghost use Rattle.cudf_document.specs.Working.Kept.{AreParts};
-ghost use Rattle.cudf_document.specs.Working.Walks.{texts, IsWhole};
+ghost use Rattle.cudf_document.specs.Working.Walks.{texts, IsSoFar, IsWhole};
 ghost use Rattle.cudf_problem.specs.declared.postmark.Postmark.TheVariants.{Preamble as PreambleMark, Package as PackageMark};
 
 use crate::declarations::Declarations;
@@ -37,9 +37,25 @@ pub(crate) fn walk_all<'t>(
 ) -> Result<(Walk<'t>, Parts<'t>), AllocError>
     ensures { IfOk result (λ w. IsWhole mode (λ ss. AreParts keeps ss w.1) w.0 stanzas.entry) }
 {
-    let mut stanzas = stanzas;
     let mut kept = Parts::new(alloc, keeps, names);
     let mut walk: Walk<'t> = Walk::new(alloc);
+    take_stanzas(alloc, stanzas, &mut walk, &mut kept, mode)?;
+    Ok((walk, kept))
+}
+
+/// Takes all stanzas, and the end of the text.
+fn take_stanzas<'t>(
+    alloc: Global,
+    stanzas: Stanzas<'t>,
+    walk: &mut Walk<'t>,
+    kept: &mut Parts<'t>,
+    mode: Mode,
+) -> Result<(), AllocError>
+    ensures { (keeps : Bool) →
+        IsSoFar mode (λ ss. AreParts keeps ss kept.old) walk.old [] →
+        OnOk result (IsWhole mode (λ ss. AreParts keeps ss kept.new) walk.new stanzas.entry) }
+{
+    let mut stanzas = stanzas;
     let mut required: Vec<&'t str> = Vec::new(alloc);
     let mut is_first = true;
     let mut stanza = StanzaRef {
@@ -52,13 +68,13 @@ pub(crate) fn walk_all<'t>(
             Next::Stanza { line, last } => {
                 stanza.line = line;
                 stanza.last = last;
-                walk.take(alloc, &mut kept, is_first, &stanza, &required, mode)?;
+                walk.take(alloc, kept, is_first, &stanza, &required, mode)?;
                 require(alloc, &mut required, is_first, &walk.declarations, mode)?;
                 is_first = false;
             }
             Next::End { fault, lines } => {
                 walk.end(fault, lines);
-                return Ok((walk, kept));
+                return Ok(());
             }
         }
     }

@@ -13,7 +13,7 @@ use cudf_text::{Fault, Kind, PropertyRef, StanzaRef};
 use cudf_value::{read_bool, read_posint};
 
 /// A property of a solution's package that counts.
-#[derive(Clone, Copy, Debug, PartialEq, Eq)]
+#[derive(Clone, Copy)]
 pub(crate) enum SolutionProperty {
     Package,
     Version,

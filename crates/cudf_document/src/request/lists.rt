@@ -16,7 +16,7 @@ use cudf_value::{VpkgList, read_vpkglist};
 use std::alloc::{AllocError, Global};
 
 /// A property of a request that counts.
-#[derive(Clone, Copy, Debug, PartialEq, Eq)]
+#[derive(Clone, Copy)]
 pub(crate) enum RequestProperty {
     Install,
     Remove,

@@ -14,7 +14,7 @@ use indexmap::IndexSet;
 use std::alloc::{AllocError, Global};
 
 /// What a package gives of a name: a number, or all versions.
-#[derive(Clone, Copy, Debug)]
+#[derive(Clone, Copy)]
 pub(crate) struct Provision {
     pub(crate) number: Option<u64>,
     pub(crate) place: u64,

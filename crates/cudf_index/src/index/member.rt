@@ -10,7 +10,7 @@ use cudf_problem::Package;
 use cudf_value::{Vpkg, VpkgList, meets};
 
 /// A package of a status, with its place in the universe, from 1.
-#[derive(Clone, Copy, Debug)]
+#[derive(Clone, Copy)]
 pub(crate) struct Member<'p, 't> {
     pub(crate) place: u64,
     pub(crate) package: &'p Package<'t>,

@@ -8,7 +8,6 @@ ghost use Rattle.cudf_index.specs.Promises.Members.{IsLeast, IsGreatest};
 use crate::index::Index;
 use crate::steps::Steps;
 use cudf_value::{Clause, Vpkg};
-use std::fmt;
 use std::marker::Model;
 
 /// An index, and the steps that were taken in it: each look-up by name, each reading of an entry
@@ -27,15 +26,6 @@ impl<'i, 'p, 't> Model for Metered<'i, 'p, 't> {
     ghost Value = { Metering };
 
     ghost view = { λ m. record { status = m.index.now; steps = m.steps } };
-}
-
-/// Its index: at run time there is no count.
-impl fmt::Debug for Metered<'_, '_, '_> {
-    fn fmt<W: fmt::Write>(&self, f: &mut fmt::Formatter<W>) -> fmt::Result {
-        f.debug_struct("Metered")
-            .field("index", &self.index)
-            .finish_non_exhaustive()
-    }
 }
 
 impl<'i, 'p, 't> Metered<'i, 'p, 't> {

@@ -12,7 +12,6 @@ use crate::index::named_trees::NamedTrees;
 use cudf_problem::{Problem, Status};
 use cudf_value::Vpkg;
 use std::alloc::{AllocError, Global};
-use std::fmt;
 use std::marker::Model;
 
 /// The packages of a universe that a status doesn't hold, to be asked which of them comes first that gives a name.
@@ -40,13 +39,6 @@ impl<'p, 't> Model for Providers<'p, 't> {
     ghost view = { λ p. outside (set.contains p.without) p.problem.now.packages };
 
     ghost invariant = { λ p. (name : List ℕ) → row_of name p.given.gathered ≡ given_of name (outside (set.contains p.without) p.problem.now.packages) };
-}
-
-/// The name alone: all that it holds follows from the problem and the status.
-impl fmt::Debug for Providers<'_, '_> {
-    fn fmt<W: fmt::Write>(&self, f: &mut fmt::Formatter<W>) -> fmt::Result {
-        f.debug_struct("Providers").finish_non_exhaustive()
-    }
 }
 
 impl<'p, 't> Providers<'p, 't> {

@@ -10,7 +10,7 @@ use std::alloc::{AllocError, Global};
 use std::marker::Model;
 
 /// A set of places of a universe, counted from 1.
-#[derive(Debug, Drop)]
+#[derive(Drop)]
 pub struct Status {
     flags: Vec<bool>,
 }

@@ -4,7 +4,7 @@ ghost use Rattle.std.specs.List.{count_by};
 ghost use Rattle.cudf_referee.specs.Working.Standings.{no_standing, standing_with};
 
 /// What the initial and the proposed status hold of a name, and its greatest versions.
-#[derive(Clone, Copy, Debug)]
+#[derive(Clone, Copy)]
 pub(crate) struct Standing {
     pub(crate) was_installed: bool,
     pub(crate) is_installed: bool,

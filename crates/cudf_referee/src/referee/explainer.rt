@@ -4,7 +4,6 @@ use crate::referee::needers::Needers;
 use crate::referee::remedies::Remedies;
 use cudf_problem::Status;
 use std::alloc::{AllocError, Global};
-use std::fmt;
 use std::marker::Model;
 
 /// Says what would help where an instance is violated, what needs a package that is in the way, and which numbers an
@@ -35,15 +34,6 @@ impl<'r, 'p, 't> Model for Explainer<'r, 'p, 't> {
     ghost invariant = { λ e. (e.remedies ≡ e.referee.now.problem)
         × (e.referee.now.initial ≡ members (is_initial e.referee.now.problem) e.referee.now.problem.packages)
         × ((place : ℕ) → set.contains e.partners place ≡ true → kept_needer place e.needers ≡ needed_by e.referee.now.proposed place) };
-}
-
-/// Its referee: all else that it keeps follows from what that judges.
-impl fmt::Debug for Explainer<'_, '_, '_> {
-    fn fmt<W: fmt::Write>(&self, f: &mut fmt::Formatter<W>) -> fmt::Result {
-        f.debug_struct("Explainer")
-            .field("referee", &self.referee)
-            .finish_non_exhaustive()
-    }
 }
 
 impl<'r, 'p, 't> Explainer<'r, 'p, 't> {

@@ -15,7 +15,6 @@ use crate::rules::{Known, is_violated};
 use cudf_index::{Index, Metered, Steps};
 use cudf_job::{Key, Part};
 use cudf_problem::{Package, Problem, Solution};
-use std::fmt;
 use std::marker::Model;
 
 /// The walk over the violated instances, in key order. It holds none of them: each call of `next`
@@ -60,15 +59,6 @@ impl<'r, 'p, 't> Model for Instances<'r, 'p, 't> {
         × IsFitting (position_view i.position)
         × (stops_from (put_forward i.problem.now i.now.status (map unknown_view i.solution.now.unknown.items)) i.cursor
         ≡ ahead (put_forward i.problem.now i.now.status (map unknown_view i.solution.now.unknown.items)) (position_view i.position)) };
-}
-
-/// Where it is.
-impl fmt::Debug for Instances<'_, '_, '_> {
-    fn fmt<W: fmt::Write>(&self, f: &mut fmt::Formatter<W>) -> fmt::Result {
-        f.debug_struct("Instances")
-            .field("position", &self.position)
-            .finish_non_exhaustive()
-    }
 }
 
 impl<'r, 'p, 't> Instances<'r, 'p, 't> {

@@ -8,7 +8,6 @@ use cudf_index::{Index, Providers};
 use cudf_problem::{Package, Problem, initial};
 use cudf_value::{Atom, Clause, Vpkg};
 use std::alloc::{AllocError, Global};
-use std::fmt;
 use std::marker::Model;
 
 /// The packages among which one is searched.
@@ -47,15 +46,6 @@ impl<'p, 't> Model for Remedies<'p, 't> {
     ghost invariant = { λ r. (r.others ≡ outside (is_initial r.problem.now) r.problem.now.packages)
         × (r.initial ≡ members (is_initial r.problem.now) r.problem.now.packages)
         × (r.first_installed ≡ option_map (λ p. p.0) (find (λ _. true) (members (is_initial r.problem.now) r.problem.now.packages))) };
-}
-
-/// Its problem: all else that it keeps follows from that.
-impl fmt::Debug for Remedies<'_, '_> {
-    fn fmt<W: fmt::Write>(&self, f: &mut fmt::Formatter<W>) -> fmt::Result {
-        f.debug_struct("Remedies")
-            .field("problem", &self.problem)
-            .finish_non_exhaustive()
-    }
 }
 
 impl<'p, 't> Remedies<'p, 't> {

@@ -3,14 +3,14 @@ ghost use Rattle.std.specs.Prelude.{◌≡◌, option_map};
 ghost use Rattle.cudf_satisfiers.specs.Working.Givers.{lone_span, single, join, join_any, join_spans};
 
 /// The least and the greatest of some numbers.
-#[derive(Clone, Copy, Debug)]
+#[derive(Clone, Copy)]
 pub(crate) struct Span {
     pub(crate) least: u64,
     pub(crate) greatest: u64,
 }
 
 /// What a package gives of a name, or what several packages give of it together.
-#[derive(Clone, Copy, Debug)]
+#[derive(Clone, Copy)]
 pub(crate) struct Giver {
     /// The place of the first of these packages.
     pub(crate) first: u64,

@@ -8,7 +8,7 @@ use std::marker::Model;
 
 /// A number of a name, and the place of a package that gives it. Pairs ascend by their numbers, and by their places
 /// where these are the same.
-#[derive(Clone, Copy, Debug, PartialEq, Eq, PartialOrd, Ord)]
+#[derive(Clone, Copy, PartialEq, Eq, PartialOrd, Ord)]
 pub(crate) struct Pair {
     pub(crate) number: u64,
     pub(crate) place: u64,

@@ -8,14 +8,14 @@ use crate::satisfiers::pairs::Pairs;
 use cudf_value::Relop;
 
 /// The numbers below one end, and those from the other one on: what a bound admits that isn't met by one number alone.
-#[derive(Clone, Copy, Debug)]
+#[derive(Clone, Copy)]
 pub(crate) struct Reach {
     pub(crate) below: u128,
     pub(crate) from: Option<u128>,
 }
 
 /// Which places are asked for.
-#[derive(Clone, Copy, Debug)]
+#[derive(Clone, Copy)]
 pub(crate) enum Places {
     Everywhere,
     At(u64),
@@ -24,7 +24,7 @@ pub(crate) enum Places {
 
 /// What is asked for: packages at some places that have the name, or give all versions of it, or a number that is
 /// admitted or is this one.
-#[derive(Clone, Copy, Debug)]
+#[derive(Clone, Copy)]
 pub(crate) struct Wanted {
     pub(crate) places: Places,
     pub(crate) named: bool,

@@ -4,7 +4,7 @@ use Rattle.cudf_text.specs.Stanzas.{plain_text}
 use Rattle.cudf_problem.specs.Promises.Views.{unknown_view}
 use Rattle.cudf_check.specs.RankReport.{judgement_of}
 use Rattle.cudf_check.specs.Report.{proposal_of}
-use Rattle.cudf_check.specs.declared.ranking.Judgement.TheVariants.{SaysFail}
+use Rattle.cudf_job.specs.declared.ranking.Judgement.TheVariants.{SaysFail}
 use Rattle.cudf_check.proofs.ReadingLemmas.{put_forward}
 use Rattle.cudf_check.proofs.judging.judge.Goals as goal
 

@@ -2,7 +2,7 @@ use Rattle.std.proofs.Common.{if◌then◌else◌, ap, sym, subst}
 use Rattle.cudf_text.specs.Stanzas.{plain_text}
 use Rattle.cudf_check.specs.RankReport.{judgement_of}
 use Rattle.cudf_check.specs.Report.{proposal_of}
-use Rattle.cudf_check.specs.declared.ranking.Judgement.TheVariants.{SaysFail}
+use Rattle.cudf_job.specs.declared.ranking.Judgement.TheVariants.{SaysFail}
 use Rattle.cudf_check.specs.Working.Unjudged.{IsUnjudged}
 use Rattle.cudf_check.proofs.judging.said_fail.Goals as goal
 

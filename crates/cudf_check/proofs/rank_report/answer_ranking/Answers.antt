@@ -1,12 +1,12 @@
 use Rattle.std.proofs.Common.{map, IsTrue, ap, codes, false, subst, sym}
 use Rattle.cudf_text.specs.Stanzas.{plain_text}
 use Rattle.cudf_problem.specs.Universe.{plain_problem}
-use Rattle.cudf_check.specs.Ranking.{have_own_places}
+use Rattle.cudf_job.specs.Ranking.{have_own_places}
 use Rattle.cudf_check.specs.RankReport.{rank_report, ranked_report, placed_faults, first_faulty_or, entrants}
 use Rattle.cudf_check.specs.Report.{faulty_or, problem_fault, detail_if}
 use Rattle.cudf_check.specs.Working.Named.{names_in}
 use Rattle.cudf_check.proofs.AnswerLemmas.{answers_as, memory_first}
-use Rattle.cudf_check.proofs.RankingLawLemmas.{entrants_own}
+use Rattle.cudf_check.proofs.JudgingLemmas.{entrants_own}
 use Rattle.cudf_check.proofs.rank_report.answer_ranking.Goals as goal
 
 pub returns-in-Err : goal.returns-in-Err

@@ -1,0 +1,27 @@
+-- A document in memory as a run sees it, for proofs.
+use Rattle.std.specs.Prelude.{◌≡◌, ℕ, List, None, Some, Ok}
+use Rattle.cudf_check.specs.Device.{SourceState}
+use Rattle.cudf_calls.specs.Working.Given.{given_before}
+use Rattle.cudf_calls.specs.declared.document.Document.{Document}
+
+-- it has the rest of its text left, and never fails
+abbrev pub document_state : Document → SourceState
+document_state d = record {
+  name = None;
+  remaining = Some d.rest.now;
+  calls = d.calls;
+  failures = 0;
+  ends = d.ends;
+  given = given_before d.rest.now;
+  last = Some (Ok d.last);
+}
+
+-- the whole text is left
+pub record IsUnread (text : List ℕ) (d : Document) : Type 0 where
+  pub rest : d.rest.now ≡ text
+  pub calls : d.calls ≡ given_before text
+  pub ends : d.ends ≡ 0
+
+-- nothing of it was read
+abbrev pub IsNew : Document → Type 0
+IsNew d = IsUnread d.rest.now d

@@ -1,0 +1,104 @@
+//! The front of a report, which goes to a caller's buffer as far as there is room.
+ghost use Rattle.std.specs.Prelude.{◌≡◌, ◌++◌, ◌≤◌, drop, length, take};
+ghost use Rattle.cudf_calls.specs.Working.Rooms.{IsFilled, over};
+
+use crate::taken::Taken;
+use cudf_check::{Sink, Trouble};
+
+/// What contracts see of a front beside its buffer. It takes no bytes at run time.
+#[derive(Drop)]
+pub(crate) struct Seen {
+    /// What the buffer held before the report.
+    pub before: Taken,
+    /// What was taken of the report.
+    pub report: Taken,
+}
+
+impl Seen {
+    ghost use Rattle.std.specs.Prelude.{◌≡◌, []};
+
+    /// A buffer that has nothing of a report.
+    pub fn of(room: &[u8]) -> Seen
+        ensures before { result.before ≡ room.now }
+        ensures report { result.report ≡ [] }
+    {
+        let mut before = Taken::new();
+        before.append(room);
+        Seen {
+            before,
+            report: Taken::new(),
+        }
+    }
+}
+
+/// A report on its way to a caller's buffer: what fits is written there, and the rest is only counted. No call fails.
+#[derive(Drop)]
+pub(crate) struct Front<'r> {
+    pub(crate) room: &'r mut [u8],
+    /// How long the report is so far, or 18446744073709551615 where it is longer.
+    pub(crate) length: usize,
+    /// How many bytes the last call took.
+    pub(crate) last: usize,
+    pub(crate) seen: &'r mut Seen,
+    ghost filled: { IsFilled room.now length seen.now.before seen.now.report },
+}
+
+impl<'r> Front<'r> {
+    ghost use Rattle.std.specs.Prelude.{◌≡◌, []};
+
+    /// The front of a report of which nothing was written.
+    pub fn new(room: &'r mut [u8], seen: &'r mut Seen) -> Front<'r>
+        requires before { seen.old.before ≡ room.old }
+        requires report { seen.old.report ≡ [] }
+
+        ensures same_reference { result.room.ghost_name ≡ room.entry.ghost_name }
+        ensures before { result.room.now ≡ room.old }
+        ensures report { result.seen.now.report ≡ [] }
+    {
+        Front {
+            room,
+            length: 0,
+            last: 0,
+            seen,
+        }
+    }
+
+    /// How long the report is, or 18446744073709551615 where it is longer.
+    pub fn length(&self) -> usize
+        ensures { result ≡ self.now.length }
+    {
+        self.length
+    }
+}
+
+impl Sink for Front<'_> {
+    ghost use Rattle.cudf_calls.specs.Working.Fronts.{front_state};
+
+    ghost state = { front_state };
+
+    fn write(&mut self, bytes: &[u8]) -> Result<usize, Trouble> {
+        put(self.room, self.length, bytes);
+        self.length = self.length.saturating_add(bytes.len());
+        self.seen.report.append(bytes);
+        self.last = bytes.len();
+        Ok(bytes.len())
+    }
+}
+
+/// Copies a text to the room from the place `at` on, as far as it fits. What lies before and after it stays.
+fn put(room: &mut [u8], at: usize, text: &[u8])
+    ensures written { room.new ≡ take at room.old ++ over (drop at room.old) text.now }
+    ensures few { length room.old ≤ usize.MAX }
+{
+    if at < room.len() {
+        copy_front(text, &mut room[at..]);
+    }
+}
+
+/// Copies a text to the front of the room, as far as it fits. What follows it stays.
+pub(crate) fn copy_front(text: &[u8], room: &mut [u8])
+    ensures { room.new ≡ take (length room.old) text.now ++ drop (length text.now) room.old }
+{
+    let shown = text.len().min(room.len());
+    room[..shown].copy_from_slice(&text[..shown]);
+}

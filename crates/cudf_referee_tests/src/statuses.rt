@@ -1,5 +1,0 @@
-//! What a status gives and satisfies.
-
-mod index;
-mod large;
-mod providers;
