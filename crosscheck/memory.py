@@ -30,6 +30,7 @@ import resource
 import shutil
 import signal
 import subprocess
+import time
 
 import made
 import shim
@@ -166,7 +167,8 @@ CHUNK = 65_536
 BYTES_PER_BYTE, GREATEST_BYTES_PER_BYTE, MORE_BYTES = 64, 3, MEGABYTE
 MORE_GROWTHS, MORE_READS = 500, 8
 GROWTHS_DOUBLED, TIME_DOUBLED = 2.2, 3.0
-TURNS, ROUNDS = 3, 8
+# a measure that is too great is taken again after a pause, each twice as long as the one before, since other programs disturb it
+TURNS, ROUNDS, PAUSE = 3, 9, 0.1
 # what the greatest input G begins and ends with, in a command with the small one S or the problem P, and the report
 GREATEST = (
     ("lint G", "request:\n#", "", "problem ok\n"), ("check G", "request:\n#", "", "solution yes\n"),
@@ -201,11 +203,12 @@ def seconds_of(trial, job):
 def doubled(trial, jobs):
     """The time for twice the input by that for the input, and the time."""
     least = [float("inf")] * 2
-    for _ in range(ROUNDS):
+    for turn in range(ROUNDS):
         for _ in range(TURNS):
-            least = [min(time, seconds_of(trial, job)) for time, job in zip(least, jobs)]
+            least = [min(one, seconds_of(trial, job)) for one, job in zip(least, jobs)]
         if least[1] <= TIME_DOUBLED * least[0]:
             break
+        time.sleep(PAUSE * 2**turn)
     return least[1] / max(least[0], 1e-4), least[1]
 
 
