@@ -6,7 +6,8 @@ use Rattle.std.proofs.lemmas.List.{append-nil}
 use Rattle.std.specs.List.{flat_map}
 use Rattle.std.specs.Option.{option_or}
 use Rattle.cudf_text.specs.declared.fault.Fault.{Fault}
-use Rattle.cudf_document.specs.Faults.{precedes, lesser, least}
+use Rattle.cudf_text.specs.Faults.{precedes}
+use Rattle.cudf_document.specs.Faults.{lesser, least}
 use Rattle.cudf_problem.specs.Documents.{with_earlier}
 use Rattle.cudf_document.specs.Working.Judging.{faults_or}
 use Rattle.cudf_problem.proofs.ListLemmas.{with_earlier-push}

@@ -6,7 +6,8 @@ use Rattle.std.proofs.lemmas.List.Elements.{Contains-append_cases, Contains-appe
 use Rattle.cudf_text.specs.declared.fault.Fault.{Fault}
 use Rattle.cudf_text.specs.declared.fault.Kind.{Kind}
 use Rattle.cudf_text.specs.declared.fault.Kind.TheVariants.{E1, E2, E3, E4, E5, E6, E7, E8, E9, E10, E11, E12, E13, E14, E15, E16}
-use Rattle.cudf_document.specs.Faults.{rank, precedes, lesser, least}
+use Rattle.cudf_text.specs.Faults.{rank, precedes}
+use Rattle.cudf_document.specs.Faults.{lesser, least}
 use Rattle.cudf_document.specs.Promises.Laws.{IsFirst, LeastIsFirst}
 use Rattle.cudf_document.proofs.FaultLemmas.{precedes_along, least-none}
 

@@ -14,7 +14,8 @@ use Rattle.cudf_document.proofs.NameLemmas.{AreNames-more}
 use Rattle.std.proofs.lemmas.Bool.Decides.{nat_tests}
 use Rattle.cudf_text.specs.declared.fault.Kind.{Kind}
 use Rattle.cudf_text.specs.declared.fault.Kind.TheVariants.{E7, E8, E9, E10}
-use Rattle.cudf_document.specs.Faults.{rank, lesser, least, fault_if}
+use Rattle.cudf_text.specs.Faults.{rank}
+use Rattle.cudf_document.specs.Faults.{lesser, least, fault_if}
 use Rattle.cudf_problem.specs.Values.{Test}
 use Rattle.cudf_document.specs.Working.Judging.{fails}
 use Rattle.cudf_document.specs.Working.PackageFields.{wrong_kind, fault_on}

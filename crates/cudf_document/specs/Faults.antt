@@ -1,16 +1,8 @@
--- Faults and their order: by line, then by kind (own).
-use Rattle.std.specs.Prelude.{ℕ, Bool, ◌&&◌, ◌||◌, ◌==◌, nat_lt, List, [], ◌∷◌, Option, Some, None, if◌then◌else◌}
+-- The first of several faults (own).
+use Rattle.std.specs.Prelude.{ℕ, Bool, List, [], ◌∷◌, Option, Some, None, if◌then◌else◌}
 use Rattle.cudf_text.specs.declared.fault.Fault.{Fault}
 use Rattle.cudf_text.specs.declared.fault.Kind.{Kind}
-use Rattle.cudf_text.specs.Faults.{described}
-
--- a kind's number
-abbrev pub rank : Kind → ℕ
-rank kind = (described kind).0
-
--- f is on an earlier line than g, or on the same line and of a lesser kind
-abbrev pub precedes : Fault → Fault → Bool
-precedes f g = nat_lt f.line g.line || f.line == g.line && nat_lt (rank f.kind) (rank g.kind)
+use Rattle.cudf_text.specs.Faults.{precedes}
 
 -- the one that precedes the other
 abbrev pub lesser : Option Fault → Option Fault → Option Fault

@@ -1,6 +1,6 @@
 //! Faults, alone and compared.
 ghost use Rattle.std.specs.Prelude.{◌≡◌, Some, None, if◌then◌else◌};
-ghost use Rattle.cudf_document.specs.Faults.{precedes, lesser, least, fault_if};
+ghost use Rattle.cudf_document.specs.Faults.{lesser, least, fault_if};
 ghost use Rattle.cudf_document.specs.Working.PackageFields.{fault_on};
 
 use cudf_text::{Fault, Kind};
@@ -10,7 +10,7 @@ pub(crate) fn lesser(one: Option<Fault>, other: Option<Fault>) -> Option<Fault>
     ensures { result ≡ lesser one other }
 {
     match (one, other) {
-        (Some(f), Some(g)) => Some(if precedes(g, f) { g } else { f }),
+        (Some(f), Some(g)) => Some(if g.precedes(f) { g } else { f }),
         (Some(f), None) => Some(f),
         (None, g) => g,
     }
@@ -24,12 +24,6 @@ pub(crate) fn keep_lesser(first: &mut Option<Fault>, fault: Option<Fault>)
     if fault.is_some() {
         *first = lesser(*first, fault);
     }
-}
-
-fn precedes(f: Fault, g: Fault) -> bool
-    ensures { result ≡ precedes f g }
-{
-    f < g
 }
 
 /// A fault of this kind on this line, where the test says so.

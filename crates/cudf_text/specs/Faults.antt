@@ -1,5 +1,6 @@
--- The kinds of faults: their numbers and their texts (own).
-use Rattle.std.specs.Prelude.{ℕ, List, codes}
+-- Faults: the kinds, their numbers and their texts, and the order (own).
+use Rattle.std.specs.Prelude.{ℕ, Bool, ◌&&◌, ◌||◌, ◌==◌, nat_lt, List, codes}
+use Rattle.cudf_text.specs.declared.fault.Fault.{Fault}
 use Rattle.cudf_text.specs.declared.fault.Kind.{Kind}
 use Rattle.cudf_text.specs.declared.fault.Kind.TheVariants.{E1, E2, E3, E4, E5, E6, E7, E8, E9, E10, E11, E12, E13, E14, E15, E16}
 
@@ -24,3 +25,11 @@ described E16 = (16, codes "E16 property out of place")
 
 abbrev pub fault_text : Kind → List ℕ
 fault_text kind = (described kind).1
+
+-- a kind's number
+abbrev pub rank : Kind → ℕ
+rank kind = (described kind).0
+
+-- f is on an earlier line than g, or on the same line and of a lesser kind
+abbrev pub precedes : Fault → Fault → Bool
+precedes f g = nat_lt f.line g.line || f.line == g.line && nat_lt (rank f.kind) (rank g.kind)

@@ -75,6 +75,17 @@ pub struct Fault {
     pub kind: Kind,
 }
 
+impl Fault {
+    ghost use Rattle.cudf_text.specs.Faults.{precedes};
+
+    /// Whether it is on an earlier line than the other one, or on the same line and of a lesser kind.
+    pub fn precedes(self, other: Self) -> bool
+        ensures { result ≡ precedes self other }
+    {
+        self < other
+    }
+}
+
 /// What a report says of a fault, as `line 3: E9 value is not of its type`.
 impl fmt::Display for Fault {
     ghost use Rattle.std.specs.Prelude.{Some};

@@ -30,6 +30,18 @@ pub struct Declaration<'t> {
     pub default: Option<&'t str>,
 }
 
+impl<'t> Declaration<'t> {
+    ghost use Rattle.std.specs.Prelude.{◌≡◌, is_some};
+    ghost use Rattle.cudf_value.specs.Promises.Types.{declaration_view};
+
+    /// Whether the property has a default.
+    pub fn has_default(&self) -> bool
+        ensures { result ≡ is_some (declaration_view self.now).default }
+    {
+        self.default.is_some()
+    }
+}
+
 /// Reads the value of a `property` (CUDF 2.0, preamble), with blanks or none round it: nothing (own), or declarations
 /// between the commas outside quotes and brackets, each as `name: type`, `name: type = [default]` or
 /// `name: type = default`.

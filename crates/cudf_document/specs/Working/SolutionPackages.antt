@@ -1,6 +1,5 @@
 -- The values of a solution's package while they are gathered.
-use Rattle.std.specs.Prelude.{ℕ, Bool, true, false, List, Option, Some, None, is_some, option_copied, unwrap_or, bytes_eq, codes, if◌then◌else◌}
-use Rattle.std.specs.Option.{option_zip}
+use Rattle.std.specs.Prelude.{ℕ, Bool, true, false, List, Option, Some, None, is_some, option_copied, bytes_eq, codes, if◌then◌else◌}
 use Rattle.std.specs.List.{list_any}
 use Rattle.cudf_text.specs.declared.fault.Kind.{Kind}
 use Rattle.cudf_text.specs.declared.fault.Kind.TheVariants.{E7, E9}
@@ -9,7 +8,6 @@ use Rattle.cudf_document.specs.declared.proposed.package.SolutionProperty.{Solut
 use Rattle.cudf_document.specs.declared.proposed.package.SolutionProperty.TheVariants.{Package, Version, Installed}
 use Rattle.cudf_document.specs.declared.proposed.package.SolutionPackage.{SolutionPackage}
 use Rattle.cudf_problem.specs.Documents.{has_name, value_of}
-use Rattle.cudf_problem.specs.Ids.{Id}
 use Rattle.cudf_problem.specs.Values.{name_value, truth_value}
 use Rattle.cudf_document.specs.Working.Reads.{version_value}
 
@@ -31,11 +29,11 @@ pub record PlainSolutionPackage : Type 0 where
 abbrev pub solution_package_view : SolutionPackage → PlainSolutionPackage
 solution_package_view e = record {
   is_named = e.is_named;
-  name = option_copied e.name;
+  name = option_copied e.said.name;
   has_version = e.has_version;
-  version = e.version;
+  version = e.said.version;
   has_installed = e.has_installed;
-  installed = e.installed;
+  installed = e.said.installed;
 }
 
 -- what the first property of each name says
@@ -76,7 +74,3 @@ with_property p e = with_solution_property (solution_property_named p.name) p.va
 
 abbrev pub solution_kind_of : PlainProperty → PlainSolutionPackage → Option Kind
 solution_kind_of p e = solution_kind (solution_property_named p.name) p.value e
-
--- the pair that it installs, if it installs one
-abbrev pub solution_package_id : PlainSolutionPackage → Option Id
-solution_package_id e = if unwrap_or e.installed false then option_zip e.name e.version else None

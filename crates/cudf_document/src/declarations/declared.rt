@@ -64,7 +64,7 @@ impl<'t> Declared<'t> {
     pub(crate) fn has_default(&self) -> bool
         ensures { result ≡ is_some self.now.default }
     {
-        self.declaration.default.is_some()
+        self.declaration.has_default()
     }
 
     /// Whether the text, but for blanks round it, is of the declared type.

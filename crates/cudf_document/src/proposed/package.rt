@@ -9,6 +9,7 @@ ghost use Rattle.cudf_document.specs.Working.SolutionPackages.{solution_property
 
 use crate::fault::{fault_on, keep_lesser, mistyped_unless};
 use crate::package::identity::read_name;
+use cudf_problem::ProposedPackage;
 use cudf_text::{Fault, Kind, PropertyRef, StanzaRef};
 use cudf_value::{read_bool, read_posint};
 
@@ -34,32 +35,31 @@ fn solution_property_named(name: &str) -> Option<SolutionProperty>
 /// What the properties of a package stanza say, each value where it is of its type.
 #[derive(Drop)]
 pub(crate) struct SolutionPackage<'a> {
+    pub(crate) said: ProposedPackage<'a>,
     is_named: bool,
-    name: Option<&'a str>,
     pub(crate) has_version: bool,
-    version: Option<u64>,
     has_installed: bool,
-    installed: Option<bool>,
 }
 
 impl<'a> SolutionPackage<'a> {
-    ghost use Rattle.std.specs.Prelude.{◌≡◌, [], Some, option_map};
+    ghost use Rattle.std.specs.Prelude.{◌≡◌, [], Some};
     ghost use Rattle.cudf_text.specs.Promises.Views.{property_view};
-    ghost use Rattle.std.specs.Option.{option_zip};
     ghost use Rattle.cudf_document.specs.Working.PackageFields.{fault_on};
-    ghost use Rattle.cudf_document.specs.Working.SolutionPackages.{solution_property_named, solution_package_view, solution_package_of, with_solution_property, solution_kind, with_property, solution_kind_of, solution_package_id};
+    ghost use Rattle.cudf_document.specs.Working.SolutionPackages.{solution_property_named, solution_package_view, solution_package_of, with_solution_property, solution_kind, with_property, solution_kind_of};
     ghost use Rattle.cudf_document.specs.declared.proposed.package.SolutionProperty.TheVariants as counted;
 
     fn new() -> Self
         ensures { solution_package_view result ≡ solution_package_of [] }
     {
         SolutionPackage {
+            said: ProposedPackage {
+                name: None,
+                version: None,
+                installed: None,
+            },
             is_named: false,
-            name: None,
             has_version: false,
-            version: None,
             has_installed: false,
-            installed: None,
         }
     }
 
@@ -89,8 +89,8 @@ impl<'a> SolutionPackage<'a> {
             return Some(Kind::E7);
         }
         self.is_named = true;
-        self.name = read_name(text);
-        mistyped_unless(self.name.is_some())
+        self.said.name = read_name(text);
+        mistyped_unless(self.said.name.is_some())
     }
 
     fn read_version(&mut self, text: &str) -> Option<Kind>
@@ -102,8 +102,8 @@ impl<'a> SolutionPackage<'a> {
             return Some(Kind::E7);
         }
         self.has_version = true;
-        self.version = read_posint(text);
-        mistyped_unless(self.version.is_some())
+        self.said.version = read_posint(text);
+        mistyped_unless(self.said.version.is_some())
     }
 
     fn read_installed(&mut self, text: &str) -> Option<Kind>
@@ -116,26 +116,8 @@ impl<'a> SolutionPackage<'a> {
             return Some(Kind::E7);
         }
         self.has_installed = true;
-        self.installed = read_bool(text);
-        mistyped_unless(self.installed.is_some())
-    }
-
-    /// The name and the version, where both are of their types.
-    pub(crate) fn id(&self) -> Option<(&'a str, u64)>
-        ensures { option_map (λ id. (id.0.now, id.1)) result ≡ option_zip (solution_package_view self.now).name (solution_package_view self.now).version }
-    {
-        Some((self.name?, self.version?))
-    }
-
-    /// The name and the version, if they are installed.
-    pub(crate) fn installed_id(&self) -> Option<(&'a str, u64)>
-        ensures { option_map (λ id. (id.0.now, id.1)) result ≡ solution_package_id (solution_package_view self.now) }
-    {
-        if self.installed.unwrap_or(false) {
-            self.id()
-        } else {
-            None
-        }
+        self.said.installed = read_bool(text);
+        mistyped_unless(self.said.installed.is_some())
     }
 }
 

@@ -38,8 +38,8 @@ pub(crate) fn read_stanza<'a>(stanza: &StanzaRef<'a>, mode: Mode) -> SaidOfStanz
             let unversioned = fault_if(!entry.has_version, stanza.last, Kind::E12);
             SaidOfStanza {
                 fault: lesser(fault, unversioned),
-                id: entry.id(),
-                installed: entry.installed_id(),
+                id: entry.said.id(),
+                installed: entry.said.installed_id(),
             }
         }
         Some(Postmark::Preamble | Postmark::Request) => SaidOfStanza {
