@@ -7,14 +7,15 @@ class Reasons:
     """The violations whose clauses have these numbers: their keys and their lines, as they are printed."""
 
     def __init__(self, rules, numbers, explains=False):
-        self.rules, self.literals, self.told = rules, {}, []
+        self.rules, self.literals = rules, {}
         for number in numbers:
             key, clause = rules.clauses[number - 1]
             self.literals.setdefault(key, set()).update(clause)
         self.order = sorted(self.literals, key=keys.parse)
         asked = [key for key in self.order if key.startswith("r.") and not self.places(key, -1)]
-        for key in asked + [key for key in self.order if ".keep." in key]:
-            self.add(key)
+        self.told = asked + [key for key in self.order if ".keep." in key]
+        for key in self.told:
+            self.told += [other for place in self.places(key, 1) for other in self.brought(place) if other not in self.told]
         self.told += [key for key in self.order if key not in self.told]
         explainer = explained.Explainer(rules.packages)
         causes = [self.cause(key, explainer) if explains else "" for key in self.told]
@@ -24,14 +25,9 @@ class Reasons:
         """The places of the literals of this sign."""
         return sorted(abs(literal) for literal in self.literals[key] if literal * sign > 0)
 
-    def add(self, key):
-        if key in self.told:
-            return
-        self.told.append(key)
-        for place in self.places(key, 1):
-            for other in self.order:
-                if other.startswith((f"p{place}.depends.", f"p{place}.conflicts.")):
-                    self.add(other)
+    def brought(self, place):
+        """What the package at this place needs and conflicts with."""
+        return [key for key in self.order if key.startswith((f"p{place}.depends.", f"p{place}.conflicts."))]
 
     def line(self, key):
         met = [self.rules.packages[place - 1] for place in self.places(key, -1) if not key.startswith(f"p{place}.")]

@@ -10,6 +10,9 @@ pub mod FoundLemmas
 pub mod HalvesLemmas
 pub mod TreeLemmas
 pub mod VersionLemmas
+pub mod WantedLemmas
+pub mod PlaceLemmas
+pub mod ClauseLemmas
 pub mod KeptLemmas
 pub mod PriceLemmas
 pub mod ShareLemmas

@@ -48,7 +48,7 @@ none_elsewhere place bound (g ∷ gs) e = by (g.place == place) e (none_elsewher
     by false e rest = absurd (true≢false (sym e))
 
 -- all places are the sole one
-sole_all : (places : List ℕ) (sole : ℕ) → Some sole ≡ sole_place places → list_all (λ q. q == sole) places ≡ true
+pub sole_all : (places : List ℕ) (sole : ℕ) → Some sole ≡ sole_place places → list_all (λ q. q == sole) places ≡ true
 sole_all [] sole e = refl
 sole_all (place ∷ places) sole e = by (list_all (λ q. q == place) (place ∷ places)) refl e
   where
@@ -59,12 +59,17 @@ sole_all (place ∷ places) sole e = by (list_all (λ q. q == place) (place ∷ 
         inside e = cc
     by false all e = absurd cc
 
+-- what is kept of a row tells whether one of it meets the bound
+pub counted : (bound : Option (Relop × ℕ)) (row : List Provision) (e : Entries) → Completes row e
+    → list_any (λ g. number_meets bound g.number) row ≡ (nat_lt 0 (count_by (meets bound) e.numbers) || nat_lt 0 (if is_below_one bound then 0 else e.unversioned))
+counted bound row e whole =
+    any_tells bound row
+    ∙ (λ i. (any-count (meets bound) (filter_map (λ g. g.number) row) ∙ ap (nat_lt 0) (sym (whole.numbers (meets bound)))) i || ((any-count (λ g. is_none g.number) row ∙ ap (nat_lt 0) (sym whole.unversioned)) i && not (is_below_one bound)))
+    ∙ ap (λ b. nat_lt 0 (count_by (meets bound) e.numbers) || b) (sym (unless 0 (is_below_one bound) e.unversioned))
+
 module _ (except : Option ℕ) (bound : Option (Relop × ℕ)) (row : List Provision) (e : Entries) (whole : Completes row e) where
   none_counted : (nat_lt 0 (count_by (meets bound) e.numbers) || nat_lt 0 (if is_below_one bound then 0 else e.unversioned)) ≡ false → list_any (meets_beside except bound) row ≡ false
-  none_counted none =
-      none_narrowed (λ g. number_meets bound g.number) (λ g. is_other except g.place) row (any_tells bound row
-      ∙ (λ i. (any-count (meets bound) (filter_map (λ g. g.number) row) ∙ ap (nat_lt 0) (sym (whole.numbers (meets bound)))) i || ((any-count (λ g. is_none g.number) row ∙ ap (nat_lt 0) (sym whole.unversioned)) i && not (is_below_one bound)))
-      ∙ ap (λ b. nat_lt 0 (count_by (meets bound) e.numbers) || b) (sym (unless 0 (is_below_one bound) e.unversioned)) ∙ none)
+  none_counted none = none_narrowed (λ g. number_meets bound g.number) (λ g. is_other except g.place) row (counted bound row e whole ∙ none)
 
 pub none_met : (except : Option ℕ) (bound : Option (Relop × ℕ)) (row : List Provision) (e : Entries) → Completes row e → may_meet except bound e ≡ false → first_place_of except bound row ≡ None
 none_met except bound row e whole never = ap (option_map (λ g. g.place)) (find_none (meets_beside except bound) row (by except e.sole refl never))
@@ -115,7 +120,7 @@ module _ (v : PlainVpkg) (except : Option ℕ) where
           placed true false = refl
           placed false m = refl
 
-  first_by : (p : Placed) → first_in (given_by v.name p) ≡ cond (is_other except p.0 && meets_alone v p) (Some p.0) None
+  pub first_by : (p : Placed) → first_in (given_by v.name p) ≡ cond (is_other except p.0 && meets_alone v p) (Some p.0) None
   first_by p =
       first-append (meets_beside except v.bound) (provisions_of true v.name p.0 (own_entry p.1 ∷ [])) (provisions_of false v.name p.0 p.1.provides)
       ∙ ap (λ o. option_or o (first_in (provisions_of false v.name p.0 p.1.provides))) (first_of_entries true p.0 (own_entry p.1 ∷ []))

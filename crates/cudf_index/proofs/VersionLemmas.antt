@@ -21,7 +21,7 @@ features place [] = refl
 features place (e ∷ es) = features place es
 
 -- that of a package, where it has the name
-version_by : (f : List ℕ) (p : Placed) → first_version_of (given_by f p) ≡ cond (bytes_eq p.1.name f) (Some p.0) None
+pub version_by : (f : List ℕ) (p : Placed) → first_version_of (given_by f p) ≡ cond (bytes_eq p.1.name f) (Some p.0) None
 version_by f p =
     first-append (λ g. g.is_version) (provisions_of true f p.0 (own_entry p.1 ∷ [])) (provisions_of false f p.0 p.1.provides)
     ∙ ap (option_or (first_version_of (provisions_of true f p.0 (own_entry p.1 ∷ [])))) (features p.0 (filter (λ entry. bytes_eq entry.name f) p.1.provides))

@@ -4,6 +4,8 @@ pub mod Ends
 pub mod Kept
 pub mod Gathering
 pub mod FirstPlaces
+pub mod Wanted
+pub mod Places
 pub mod Rows
 pub mod Trees
 pub mod TreeFalls

@@ -1,13 +1,14 @@
 //! What a status gives and satisfies: CUDF 2.0, installations and features.
-ghost use Rattle.std.specs.Prelude.{◌≡◌, ◌≤◌, ◌+◌, ◌==◌, ◌*◌, ℕ, not, List, Some, length, bytes_eq, option_map, find, IfOk, IfSome};
+ghost use Rattle.std.specs.Prelude.{◌≡◌, ◌≤◌, ◌+◌, ◌==◌, ◌*◌, ℕ, not, List, Some, length, bytes_eq, option_map, find, IfOk, IfSome, OnOk};
 ghost use Rattle.std.specs.List.{count_by, list_any};
 ghost use Rattle.std.specs.FinSet as set;
 ghost use Rattle.cudf_value.specs.Promises.Views.{atom_view, clause_view, vpkg_view};
 ghost use Rattle.cudf_problem.specs.Documents.{is_empty};
 ghost use Rattle.cudf_value.specs.Vpkgs.{meets};
 ghost use Rattle.cudf_index.specs.Promises.Prices.{digits, search_cost, atom_cost, atom_lookups, clause_cost, clause_lookups, own_cost};
-ghost use Rattle.cudf_index.specs.Satisfaction.{members, satisfies, satisfies_atom, satisfies_clause, without, first_meeting, first_named, numbers_of, gives_all_versions};
+ghost use Rattle.cudf_index.specs.Satisfaction.{members, satisfies, satisfies_atom, satisfies_clause, without, meets_alone, first_meeting, first_named, numbers_of, gives_all_versions};
 ghost use Rattle.cudf_index.specs.Promises.Members.{IsLeast, IsGreatest, other_than};
+ghost use Rattle.cudf_index.specs.Promises.Places.{places_where, is_named, gives_number};
 ghost use Rattle.cudf_index.specs.Working.Gathering.{row_of, given_of, AreFilled};
 ghost use Rattle.cudf_index.specs.Working.Kept.{Keeps};
 ghost use Rattle.cudf_index.specs.Working.Members.{member_view};
@@ -23,10 +24,12 @@ mod row;
 mod share;
 mod sorted;
 mod tree;
+mod union;
+mod wanted;
 
 use crate::steps::Steps;
 use cudf_problem::{Problem, Status};
-use cudf_value::{Atom, Clause, Vpkg};
+use cudf_value::{Atom, Clause, Relop, Vpkg};
 use entries::{Entries, Met};
 use gathered_names::{GatheredNames, entries_of};
 use member::Member;
@@ -35,6 +38,7 @@ use named_trees::NamedTrees;
 use share::{Share, shares_of};
 use std::alloc::{AllocError, Global};
 use std::marker::Model;
+use wanted::Wanted;
 
 /// The packages of a status, to be asked what they give and satisfy. Places are from 1, and the bounds of vpkgs are
 /// taken to be at least 1, as readers give them (CUDF 2.0, installations and features).
@@ -137,6 +141,50 @@ impl<'p, 't> Index<'p, 't> {
         ensures { result ≡ first_named self.now name.now }
     {
         self.given.first_named(name)
+    }
+
+    /// Puts the places, from 1, of all packages of the status that alone satisfy the vpkg into the list, ascending, in place of
+    /// what was there.
+    ///
+    /// # Errors
+    ///
+    /// `AllocError` where memory for them is refused.
+    pub fn all_meeting(&self, vpkg: &Vpkg<'_>, places: &mut Vec<u64>) -> Result<(), AllocError>
+        ensures { OnOk result (places.new.items ≡ places_where (meets_alone (vpkg_view vpkg.now)) self.now) }
+    {
+        places.clear();
+        self.given
+            .all(vpkg.name, Wanted::Meeting(vpkg.bound), places)
+    }
+
+    /// The same of those that have this name; features don't count (own).
+    ///
+    /// # Errors
+    ///
+    /// `AllocError` where memory for them is refused.
+    pub fn all_named(&self, name: &str, places: &mut Vec<u64>) -> Result<(), AllocError>
+        ensures { OnOk result (places.new.items ≡ places_where (is_named name.now) self.now) }
+    {
+        places.clear();
+        self.given.all(name, Wanted::Version, places)
+    }
+
+    /// The same of those that give a number of the name that meets the bound, as their version or by a versioned
+    /// feature; features without a number don't count (own).
+    ///
+    /// # Errors
+    ///
+    /// `AllocError` where memory for them is refused.
+    pub fn all_giving(
+        &self,
+        name: &str,
+        bound: Option<(Relop, u64)>,
+        places: &mut Vec<u64>,
+    ) -> Result<(), AllocError>
+        ensures { OnOk result (places.new.items ≡ places_where (gives_number name.now bound) self.now) }
+    {
+        places.clear();
+        self.given.all(name, Wanted::Number(bound), places)
     }
 
     /// The least number that the status gives of the name, as a version or by a versioned

@@ -12,7 +12,7 @@ pub struct ProposedPackage<'t> {
 }
 
 impl<'t> ProposedPackage<'t> {
-    ghost use Rattle.std.specs.Prelude.{◌≡◌, None, if◌then◌else◌, option_map, option_copied, unwrap_or};
+    ghost use Rattle.std.specs.Prelude.{◌≡◌, false, None, if◌then◌else◌, option_map, option_copied, unwrap_or};
     ghost use Rattle.std.specs.Option.{option_zip};
 
     /// The name and the version, where it has both, installed or not.

@@ -1,19 +1,20 @@
 -- The reasons are those of the core, each once; the walk's steps are enough.
-use Rattle.std.proofs.Common.{◌+◌, ◌⊎◌, inl, inr, ◌≡◌, ◌≢◌, ℕ, ◌<◌, zero, suc, Bool, true, false, cond, List, [], ◌∷◌, ◌++◌, length, get_or, filter, Contains, refl, sym, ap, ◌∙◌, subst, arith}
-use Rattle.std.specs.Prelude.{All, IsTrue}
+use Rattle.std.proofs.Common.{◌+◌, ◌⊎◌, inl, inr, ◌≡◌, ◌≢◌, ℕ, ◌<◌, ◌≤◌, zero, suc, Bool, true, false, cond, List, [], ◌∷◌, ◌++◌, length, get_or, filter, Option, Some, None, Contains, refl, sym, ap, ◌∙◌, subst, arith}
+use Rattle.std.specs.Prelude.{All, IsTrue, slice_get}
 use Rattle.std.specs.List.{flat_map}
 use Rattle.std.specs.List.Sorted.{IsPermutation}
-use Rattle.std.proofs.lemmas.Bool.{cond-true, cond-false, false_from_ne_true, true≢false}
-use Rattle.std.proofs.lemmas.List.{append_assoc, get_or_default, length-append, length_push, nil_from_length}
-use Rattle.std.proofs.lemmas.List.Elements.{All-append, All-contains_itself, All-filter, All-head, All-nil, All-push, All-tail, All-weaker, Contains-append_left, Contains-append_right, filter_passes}
+use Rattle.std.proofs.lemmas.Bool.{cases_eq, cond-true, cond-false}
+use Rattle.std.proofs.lemmas.List.{append-nil, append_assoc, get_or_default, length-append}
+use Rattle.std.proofs.lemmas.List.Elements.{All-append, All-contains_itself, All-filter, All-head, All-nil, All-tail, All-weaker}
 use Rattle.std.proofs.lemmas.List.Sorted.{IsPermutation-append_right, IsPermutation-cons, IsPermutation-middle, IsPermutation-refl, IsPermutation-trans, length_permutation}
 use Rattle.cudf_reasons.specs.Laws.{EachIsToldOnce, IsTold, StepsAreEnough}
-use Rattle.cudf_reasons.specs.Reasons.{PlainReason, brings, brought, core_of, is_asked, is_brought_by, is_kept, is_new, same_key, tell_first, walk}
+use Rattle.cudf_reasons.specs.Reasons.{PlainReason, brings, brought, core_of, is_asked, is_brought_by, is_kept, is_new, roots_of, same_key, told_of, walk, with_brought, with_reason, with_reasons}
 use Rattle.cudf_reasons.specs.Working.Tables.{no_reason, reason_at}
 use Rattle.cudf_reasons.specs.Working.Walks.{keys_ascend}
 use Rattle.cudf_reasons.proofs.GroupLemmas.{core_ascends}
 use Rattle.cudf_reasons.proofs.KeyOrderLemmas.{distinct_at}
-use Rattle.cudf_reasons.proofs.WalkLemmas.{new_before, new_as_before, told_itself}
+use Rattle.cudf_reasons.proofs.ListLemmas.{all_places}
+use Rattle.cudf_reasons.proofs.WalkLemmas.{all_told, new_as_before, old_with_all, told_itself, with_new, with_old}
 
 abbrev Reasons : Type 0
 Reasons = List PlainReason
@@ -68,138 +69,140 @@ brings_core : (core : Reasons) (named : List ℕ) → All (Contains core) (flat_
 brings_core core [] = All-nil (Contains core)
 brings_core core (place ∷ places) = All-append (Contains core) (brought core place) (flat_map (brought core) places) (All-filter (is_brought_by place) (Contains core) core (All-contains_itself core)) (brings_core core places)
 
-walk_whole : (n : ℕ) (core waiting told : Reasons) → IsTrue (keys_ascend core) → All (Contains core) waiting → Whole core told → Whole core (walk n core waiting told)
-walk_whole zero core waiting told up inside whole = whole
-walk_whole (suc n) core waiting told up inside whole =
-    by (filter (is_new told) waiting) (All-filter (is_new told) (Contains core) waiting inside) (filter_passes (is_new told) waiting) (λ waiting' told' inside' whole'. walk_whole n core waiting' told' up inside' whole')
+whole_with : (core told : Reasons) (r : PlainReason) → IsTrue (keys_ascend core) → Contains core r → Whole core told → Whole core (with_reason told r)
+whole_with core told r up there whole = by (is_new told r) refl
   where
-    by : (left : Reasons) → All (Contains core) left → All (λ r. is_new told r ≡ true) left → ((waiting' told' : Reasons) → All (Contains core) waiting' → Whole core told' → Whole core (walk n core waiting' told'))
-        → Whole core (tell_first (walk n core) core told left)
-    by [] there new more = whole
-    by (r ∷ later) there new more =
-        more (brings core r ++ later) (told ++ r ∷ []) (All-append (Contains core) (brings core r) later (brings_core core r.named) (All-tail (Contains core) r later there))
-        (whole_more core told r up (All-head (Contains core) r later there) (All-head (λ x. is_new told x ≡ true) r later new) whole)
+    by : (b : Bool) → is_new told r ≡ b → Whole core (with_reason told r)
+    by true new = subst (Whole core) (sym (with_new told r new)) (whole_more core told r up there new whole)
+    by false old = subst (Whole core) (sym (with_old told r old)) whole
+
+whole_with_all : (core told xs : Reasons) → IsTrue (keys_ascend core) → All (Contains core) xs → Whole core told → Whole core (with_reasons told xs)
+whole_with_all core told [] up there whole = whole
+whole_with_all core told (x ∷ xs) up there whole =
+    whole_with_all core (with_reason told x) xs up (All-tail (Contains core) x xs there) (whole_with core told x up (All-head (Contains core) x xs there) whole)
+
+walk_whole : (n : ℕ) (core : Reasons) (index : ℕ) (told : Reasons) → IsTrue (keys_ascend core) → Whole core told → Whole core (walk n core index told)
+walk_whole zero core index told up whole = whole
+walk_whole (suc n) core index told up whole = walk_whole n core (index + 1) (with_brought core told (slice_get told index)) up (by (slice_get told index))
+  where
+    by : (next : Option PlainReason) → Whole core (with_brought core told next)
+    by None = whole
+    by (Some r) = whole_with_all core told (brings core r) up (brings_core core r.named) whole
 
 all_new : (core : Reasons) → filter (is_new []) core ≡ core
 all_new [] = refl
 all_new (r ∷ core) = ap (λ (rs : Reasons). r ∷ rs) (all_new core)
 
+roots_core : (core : Reasons) → All (Contains core) (roots_of core)
+roots_core core = All-append (Contains core) (filter is_asked core) (filter is_kept core) (All-filter is_asked (Contains core) core (All-contains_itself core)) (All-filter is_kept (Contains core) core (All-contains_itself core))
+
+told_whole : (core : Reasons) → IsTrue (keys_ascend core) → Whole core (told_of core)
+told_whole core up =
+    walk_whole (length core) core 0 (with_reasons [] (roots_of core)) up
+    (whole_with_all core [] (roots_of core) up (roots_core core) (subst (IsPermutation core) (sym (all_new core)) (IsPermutation-refl core)))
+
+nothing_left : (p : PlainReason → Bool) (xs : Reasons) → All (λ x. p x ≡ false) xs → filter p xs ≡ []
+nothing_left p [] none = refl
+nothing_left p (x ∷ xs) none =
+    cond-false (p x) (x ∷ filter p xs) (filter p xs) (All-head (λ y. p y ≡ false) x xs none) ∙ nothing_left p xs (All-tail (λ y. p y ≡ false) x xs none)
+
 pub each_told_once : EachIsToldOnce
 each_told_once needed up =
     let core : Reasons = core_of needed in
-    walk_whole (length core) core (filter is_asked core ++ filter is_kept core) [] (core_ascends needed up)
-    (All-append (Contains core) (filter is_asked core) (filter is_kept core) (All-filter is_asked (Contains core) core (All-contains_itself core)) (All-filter is_kept (Contains core) core (All-contains_itself core)))
-    (subst (IsPermutation core) (sym (all_new core)) (IsPermutation-refl core))
+    let ascends = core_ascends needed up in
+    let all : Reasons = with_reasons (told_of core) core in
+    subst (IsPermutation core) (ap (λ (left : Reasons). all ++ left) (nothing_left (is_new all) core (all_told (told_of core) core)) ∙ append-nil all)
+    (whole_with_all core (told_of core) core ascends (All-contains_itself core) (told_whole core ascends))
 
 -- ---- the steps are enough
 
--- reported already, or among those that wait
-abbrev Covered : Reasons → Reasons → PlainReason → Type 0
-Covered told waiting r = (is_new told r ≡ false) ⊎ Contains waiting r
+-- what comes after those that were reported
+abbrev More : Reasons → Reasons → Type 0
+More told now = (more : Reasons) × (now ≡ told ++ more)
 
-kept_in : (p : PlainReason → Bool) (xs : Reasons) (r : PlainReason) → Contains xs r → p r ≡ true → Contains (filter p xs) r
-kept_in p [] r there passes = absurd (omega (arith, there.1))
-kept_in p (x ∷ xs) r there passes = by there.0 (p x) refl there.1 there.2 (kept_in p xs r)
+more_with : (told xs : Reasons) → More told (with_reasons told xs)
+more_with told [] = ([], sym (append-nil told))
+more_with told (x ∷ xs) = by (is_new told x) refl (λ t. more_with t xs)
   where
-    further : (b : Bool) → Contains (filter p xs) r → Contains (cond b (x ∷ filter p xs) (filter p xs)) r
-    further true found = (suc found.0, omega (arith, found.1), found.2)
-    further false found = found
+    by : (b : Bool) → is_new told x ≡ b → ((t : Reasons) → More t (with_reasons t xs)) → More told (with_reasons (with_reason told x) xs)
+    by true new more =
+        let later = more (told ++ x ∷ []) in
+        (x ∷ later.0, ap (λ t. with_reasons t xs) (with_new told x new) ∙ later.1 ∙ append_assoc told (x ∷ []) later.0)
+    by false old more =
+        let later = more told in
+        (later.0, ap (λ t. with_reasons t xs) (with_old told x old) ∙ later.1)
 
-    by : (k : ℕ) (b : Bool) → p x ≡ b → k < length (x ∷ xs) → get_or (x ∷ xs) k r ≡ r → (Contains xs r → p r ≡ true → Contains (filter p xs) r) → Contains (cond b (x ∷ filter p xs) (filter p xs)) r
-    by zero true e within here later = (0, omega arith, here)
-    by zero false e within here later = absurd (true≢false (sym passes ∙ ap p (sym here) ∙ e))
-    by (suc k) b e within here later = further b (later (k, omega arith, here) passes)
+more_brought : (core told : Reasons) (next : Option PlainReason) → More told (with_brought core told next)
+more_brought core told None = ([], sym (append-nil told))
+more_brought core told (Some r) = more_with told (brings core r)
 
-Contains-cons_cases : (xs : Reasons) (x r : PlainReason) → Contains (x ∷ xs) r → (x ≡ r) ⊎ Contains xs r
-Contains-cons_cases xs x r there = by there.0 there.1 there.2
+walk_more : (n : ℕ) (core : Reasons) (index : ℕ) (told : Reasons) → More told (walk n core index told)
+walk_more zero core index told = ([], sym (append-nil told))
+walk_more (suc n) core index told =
+    let first = more_brought core told (slice_get told index) in
+    let later = walk_more n core (index + 1) (with_brought core told (slice_get told index)) in
+    (first.0 ++ later.0, later.1 ∙ ap (λ (t : Reasons). t ++ later.0) first.1 ∙ append_assoc told first.0 later.0)
+
+walk_old : (n : ℕ) (core : Reasons) (index : ℕ) (told : Reasons) (r : PlainReason) → IsTold told r → IsTold (walk n core index told) r
+walk_old zero core index told r old = old
+walk_old (suc n) core index told r old = walk_old n core (index + 1) (with_brought core told (slice_get told index)) r (by (slice_get told index))
   where
-    by : (k : ℕ) → k < length (x ∷ xs) → get_or (x ∷ xs) k r ≡ r → (x ≡ r) ⊎ Contains xs r
-    by zero within here = inl here
-    by (suc k) within here = inr (k, omega arith, here)
+    by : (next : Option PlainReason) → IsTold (with_brought core told next) r
+    by None = old
+    by (Some t) = old_with_all told (brings core t) r old
 
-told_still : (told : Reasons) (t r : PlainReason) → IsTold told r → IsTold (told ++ t ∷ []) r
-told_still told t r old = false_from_ne_true (is_new (told ++ t ∷ []) r) (λ new. true≢false (sym (new_before told t r new) ∙ old))
+-- nothing more comes once the walk is past the last one
+pub get_past : (xs : Reasons) (i : ℕ) → length xs ≤ i → slice_get xs i ≡ None
+get_past [] i past = refl
+get_past (x ∷ xs) zero past = absurd (omega arith)
+get_past (x ∷ xs) (suc i) past = get_past xs i (omega arith)
 
--- one step on
-covered_next : (core told waiting later : Reasons) (t r : PlainReason) → filter (is_new told) waiting ≡ t ∷ later → Covered told waiting r → Covered (told ++ t ∷ []) (brings core t ++ later) r
-covered_next core told waiting later t r first (inl old) = inl (told_still told t r old)
-covered_next core told waiting later t r first (inr there) = by (is_new told r) refl
+get_here : (xs more : Reasons) (i : ℕ) (r : PlainReason) → slice_get xs i ≡ Some r → get_or (xs ++ more) i no_reason ≡ r
+get_here [] more i r is = absurd (cc is)
+get_here (x ∷ xs) more zero r is = cc
+get_here (x ∷ xs) more (suc i) r is = get_here xs more i r is
+
+get_none : (xs : Reasons) (i : ℕ) → slice_get xs i ≡ None → length xs ≤ i
+get_none [] i none = omega arith
+get_none (x ∷ xs) zero none = absurd (cc none)
+get_none (x ∷ xs) (suc i) none = omega (arith, get_none xs i none)
+
+walk_past : (n : ℕ) (core : Reasons) (index : ℕ) (told : Reasons) → length told ≤ index → walk n core index told ≡ told
+walk_past zero core index told past = refl
+walk_past (suc n) core index told past = ap (λ next. walk n core (index + 1) (with_brought core told next)) (get_past told index past) ∙ walk_past n core (index + 1) told (omega arith)
+
+-- what each one brings in is reported
+walk_brings : (n : ℕ) (core : Reasons) (index : ℕ) (told : Reasons) (i : ℕ) → index ≤ i → i < index + n → i < length (walk n core index told)
+    → All (IsTold (walk n core index told)) (brings core (get_or (walk n core index told) i no_reason))
+walk_brings zero core index told i from upto within = absurd (omega arith)
+walk_brings (suc n) core index told i from upto within = by (cases_eq i index) (λ behind. walk_brings n core (index + 1) (with_brought core told (slice_get told index)) i behind (omega arith) within)
   where
-    at : Contains (t ∷ later) r → Covered (told ++ t ∷ []) (brings core t ++ later) r
-    at found = elim (Contains-cons_cases later t r found) [
-      | inl same ↦ inl (ap (is_new (told ++ t ∷ [])) (sym same) ∙ told_itself told t)
-      | inr behind ↦ inr (Contains-append_right (brings core t) later r behind)
-    ]
+    here : (next : Option PlainReason) → slice_get told index ≡ next → i ≡ index → All (IsTold (walk (suc n) core index told)) (brings core (get_or (walk (suc n) core index told) i no_reason))
+    here None none same =
+        let past : length told ≤ index = get_none told index none in
+        absurd (omega (arith, ap length (walk_past (suc n) core index told past)))
+    here (Some r) found same =
+        let after : Reasons = with_brought core told (slice_get told index) in
+        let now : Reasons = walk n core (index + 1) after in
+        let more = walk_more (suc n) core index told in
+        let is : get_or now i no_reason ≡ r = ap (λ t. get_or t i no_reason) more.1 ∙ ap (λ k. get_or (told ++ more.0) k no_reason) same ∙ get_here told more.0 index r found in
+        let brought : All (IsTold after) (brings core r) = subst (λ next. All (IsTold (with_brought core told next)) (brings core r)) (sym found) (all_told told (brings core r)) in
+        subst (λ (x : PlainReason). All (IsTold now) (brings core x)) (sym is)
+        (All-weaker (IsTold after) (IsTold now) (λ b old. walk_old n core (index + 1) after b old) (brings core r) brought)
 
-    by : (b : Bool) → is_new told r ≡ b → Covered (told ++ t ∷ []) (brings core t ++ later) r
-    by true new = at (subst (λ (xs : Reasons). Contains xs r) first (kept_in (is_new told) waiting r there new))
-    by false old = inl (told_still told t r old)
-
--- nothing that waits is new any more
-covered_end : (told waiting : Reasons) (r : PlainReason) → filter (is_new told) waiting ≡ [] → Covered told waiting r → IsTold told r
-covered_end told waiting r none (inl old) = old
-covered_end told waiting r none (inr there) = by (is_new told r) refl
-  where
-    by : (b : Bool) → is_new told r ≡ b → IsTold told r
-    by true new = absurd (omega (arith, (subst (λ (xs : Reasons). Contains xs r) none (kept_in (is_new told) waiting r there new)).1))
-    by false old = old
-
--- where as many are reported as there are, all are reported
-all_told : (core told : Reasons) (r : PlainReason) → Whole core told → length told ≡ length core → Contains core r → IsTold told r
-all_told core told r whole full there =
-    let left : filter (is_new told) core ≡ [] =
-    nil_from_length (filter (is_new told) core) (omega (arith, length_permutation core (told ++ filter (is_new told) core) whole, length-append told (filter (is_new told) core))) in
-    covered_end told core r left (inr there)
-
--- what is reported, with all that it brings in
-abbrev Closed : Reasons → Reasons → Reasons → Type 0
-Closed core told waiting = All (λ r. All (Covered told waiting) (brings core r)) told
-
-abbrev IsClosed : Reasons → Reasons → Type 0
-IsClosed core told = All (λ r. All (IsTold told) (brings core r)) told
-
--- the walk ends where all that it covers is reported, and all that it brings in
-record Ends (core first told : Reasons) : Type 0 where
-  covers : All (IsTold told) first
-  closed : IsClosed core told
-
-walk_ends : (n : ℕ) (core first waiting told : Reasons) → IsTrue (keys_ascend core) → All (Contains core) first → All (Contains core) waiting → Whole core told → n + length told ≡ length core
-    → All (Covered told waiting) first → Closed core told waiting → Ends core first (walk n core waiting told)
-walk_ends zero core first waiting told up there inside whole full covers closed =
-    let all : (r : PlainReason) → Contains core r → IsTold told r = λ r h. all_told core told r whole (omega arith) h in
-    record {
-      covers = All-weaker (Contains core) (IsTold told) all first there;
-      closed = All-weaker (λ r. All (Covered told waiting) (brings core r)) (λ r. All (IsTold told) (brings core r)) (λ r h. All-weaker (Contains core) (IsTold told) all (brings core r) (brings_core core r.named)) told closed;
-    }
-walk_ends (suc n) core first waiting told up there inside whole full covers closed =
-    by (filter (is_new told) waiting) refl (All-filter (is_new told) (Contains core) waiting inside) (filter_passes (is_new told) waiting)
-    (λ waiting' told' inside' whole' full' covers' closed'. walk_ends n core first waiting' told' up there inside' whole' full' covers' closed')
-  where
-    by : (left : Reasons) → filter (is_new told) waiting ≡ left → All (Contains core) left → All (λ r. is_new told r ≡ true) left
-        → ((waiting' told' : Reasons) → All (Contains core) waiting' → Whole core told' → n + length told' ≡ length core → All (Covered told' waiting') first → Closed core told' waiting' → Ends core first (walk n core waiting' told'))
-        → Ends core first (tell_first (walk n core) core told left)
-    by [] none ins new more = record {
-      covers = All-weaker (Covered told waiting) (IsTold told) (λ r h. covered_end told waiting r none h) first covers;
-      closed = All-weaker (λ r. All (Covered told waiting) (brings core r)) (λ r. All (IsTold told) (brings core r)) (λ r h. All-weaker (Covered told waiting) (IsTold told) (λ b g. covered_end told waiting b none g) (brings core r) h) told closed;
-    }
-    by (t ∷ later) next ins new more =
-        let step : (b : PlainReason) → Covered told waiting b → Covered (told ++ t ∷ []) (brings core t ++ later) b = λ b h. covered_next core told waiting later t b next h in
-        more (brings core t ++ later) (told ++ t ∷ [])
-        (All-append (Contains core) (brings core t) later (brings_core core t.named) (All-tail (Contains core) t later ins))
-        (whole_more core told t up (All-head (Contains core) t later ins) (All-head (λ x. is_new told x ≡ true) t later new) whole)
-        (omega (arith, length_push told t))
-        (All-weaker (Covered told waiting) (Covered (told ++ t ∷ []) (brings core t ++ later)) step first covers)
-        (All-push (λ r. All (Covered (told ++ t ∷ []) (brings core t ++ later)) (brings core r)) told t
-        (All-weaker (λ r. All (Covered told waiting) (brings core r)) (λ r. All (Covered (told ++ t ∷ []) (brings core t ++ later)) (brings core r))
-        (λ r h. All-weaker (Covered told waiting) (Covered (told ++ t ∷ []) (brings core t ++ later)) step (brings core r) h) told closed)
-        (All-weaker (Contains (brings core t)) (Covered (told ++ t ∷ []) (brings core t ++ later)) (λ b h. inr (Contains-append_left (brings core t) later b h)) (brings core t) (All-contains_itself (brings core t))))
+    by : (i ≡ index) ⊎ (i ≢ index) → (index + 1 ≤ i → All (IsTold (walk (suc n) core index told)) (brings core (get_or (walk (suc n) core index told) i no_reason)))
+        → All (IsTold (walk (suc n) core index told)) (brings core (get_or (walk (suc n) core index told) i no_reason))
+    by (inl same) later = here (slice_get told index) refl same
+    by (inr other) later = later (omega arith)
 
 pub steps_are_enough : StepsAreEnough
 steps_are_enough needed up =
     let core : Reasons = core_of needed in
-    let roots : Reasons = filter is_asked core ++ filter is_kept core in
-    let there : All (Contains core) roots =
-    All-append (Contains core) (filter is_asked core) (filter is_kept core) (All-filter is_asked (Contains core) core (All-contains_itself core)) (All-filter is_kept (Contains core) core (All-contains_itself core)) in
-    let ends = walk_ends (length core) core roots roots [] (core_ascends needed up) there there (subst (IsPermutation core) (sym (all_new core)) (IsPermutation-refl core)) (omega arith)
-    (All-weaker (Contains roots) (Covered [] roots) (λ r h. inr h) roots (All-contains_itself roots)) (All-nil (λ r. All (Covered [] roots) (brings core r))) in
-    record { roots = ends.covers; brought = ends.closed }
+    let roots : Reasons = with_reasons [] (roots_of core) in
+    let told : Reasons = told_of core in
+    let short : length told ≤ length core =
+    omega (arith, length_permutation core (told ++ filter (is_new told) core) (told_whole core (core_ascends needed up)), length-append told (filter (is_new told) core)) in
+    record {
+      roots = All-weaker (IsTold roots) (IsTold told) (λ r old. walk_old (length core) core 0 roots r old) (roots_of core) (all_told [] (roots_of core));
+      brought = all_places (λ r. All (IsTold told) (brings core r)) told no_reason (λ i within. walk_brings (length core) core 0 roots i (omega arith) (omega arith) within);
+    }

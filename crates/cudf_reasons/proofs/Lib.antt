@@ -4,8 +4,8 @@ pub mod KeyOrderLemmas
 pub mod LawLemmas
 pub mod ListLemmas
 pub mod MarkLemmas
+pub mod OrderLemmas
 pub mod PlaceLemmas
 pub mod RunLemmas
 pub mod TableLemmas
-pub mod TourLemmas
 pub mod WalkLemmas

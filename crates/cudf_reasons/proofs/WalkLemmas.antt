@@ -1,14 +1,12 @@
--- The steps of a walk.
-use Rattle.std.proofs.Common.{◌≡◌, ℕ, ◌-◌, ◌<◌, zero, suc, Bool, true, false, not, ◌||◌, List, [], ◌∷◌, ◌++◌, length, filter, refl, sym, ap, ◌∙◌, arith}
+-- What is new, and what is reported after the others.
+use Rattle.std.proofs.Common.{◌≡◌, Bool, true, false, not, ◌||◌, List, [], ◌∷◌, ◌++◌, refl, sym, ap, ◌∙◌}
+use Rattle.std.specs.Prelude.{All}
 use Rattle.std.specs.List.{list_any}
-use Rattle.std.proofs.lemmas.Bool.{not-true, not_from_true, not_from_false, or_parts, or_left, or_right, cond-true, cond-false}
-use Rattle.std.proofs.lemmas.List.{length_push}
-use Rattle.std.proofs.lemmas.List.Elements.{filter-append}
+use Rattle.std.proofs.lemmas.Bool.{not-true, not_from_true, not_from_false, or_parts, or_left, or_right, cond-true, cond-false, true≢false}
+use Rattle.std.proofs.lemmas.List.Elements.{All-cons, All-head, All-nil, All-tail}
 use Rattle.std.proofs.lemmas.List.Folds.{list_any-append}
-use Rattle.cudf_reasons.specs.Reasons.{PlainReason, brings, is_new, same_key, tell_first, walk}
-use Rattle.cudf_reasons.specs.Working.Walks.{walk_on}
+use Rattle.cudf_reasons.specs.Reasons.{PlainReason, is_new, same_key, with_reason, with_reasons}
 use Rattle.cudf_reasons.proofs.KeyOrderLemmas.{same_itself}
-use Rattle.cudf_reasons.proofs.ListLemmas.{filter_both}
 
 abbrev Reasons : Type 0
 Reasons = List PlainReason
@@ -39,61 +37,50 @@ new_as_before told t r other = new_push told t r ∙ ap not (ap (λ b. list_any 
     or_none true = refl
     or_none false = refl
 
--- ---- steps
-
-abbrev new_with : Reasons → PlainReason → PlainReason → Bool
-new_with told r = is_new (told ++ r ∷ [])
-
--- what is reported doesn't count among those that wait
-walk_same : (n : ℕ) (core xs ys told : Reasons) → filter (is_new told) xs ≡ filter (is_new told) ys → walk n core xs told ≡ walk n core ys told
-walk_same zero core xs ys told same = refl
-walk_same (suc n) core xs ys told same = ap (tell_first (walk n core) core told) same
-
--- a step that tells one more. The rest of those that wait are those that are still new
-walk_tells : (n : ℕ) (core xs zs told rest : Reasons) (r : PlainReason) → filter (is_new told) xs ≡ r ∷ rest → filter (is_new (told ++ r ∷ [])) rest ≡ filter (is_new (told ++ r ∷ [])) zs
-    → walk (suc n) core xs told ≡ walk n core (brings core r ++ zs) (told ++ r ∷ [])
-walk_tells n core xs zs told rest r first same =
-    ap (tell_first (walk n core) core told) first
-    ∙ walk_same n core (brings core r ++ rest) (brings core r ++ zs) (told ++ r ∷ [])
-    (filter-append (new_with told r) (brings core r) rest ∙ ap (λ ys. filter (new_with told r) (brings core r) ++ ys) same ∙ sym (filter-append (new_with told r) (brings core r) zs))
-
--- with as many steps as are left
-walk_on_tells : (core xs zs told rest : Reasons) (r : PlainReason) → length told < length core → filter (is_new told) xs ≡ r ∷ rest → filter (is_new (told ++ r ∷ [])) rest ≡ filter (is_new (told ++ r ∷ [])) zs
-    → walk_on core xs told ≡ walk_on core (brings core r ++ zs) (told ++ r ∷ [])
-walk_on_tells core xs zs told rest r room first same =
-    let steps : length core - length told ≡ suc (length core - length (told ++ r ∷ [])) = omega (arith, length_push told r) in
-    ap (λ n. walk n core xs told) steps ∙ walk_tells (length core - length (told ++ r ∷ [])) core xs zs told rest r first same
-
--- what was still new after it
-rest_is_new : (told xs rest : Reasons) (r : PlainReason) → filter (is_new told) xs ≡ r ∷ rest → filter (is_new (told ++ r ∷ [])) rest ≡ filter (is_new (told ++ r ∷ [])) xs
-rest_is_new told xs rest r first =
-    sym (cond-false (is_new (told ++ r ∷ []) r) (r ∷ filter (is_new (told ++ r ∷ [])) rest) (filter (is_new (told ++ r ∷ [])) rest) (told_itself told r))
-    ∙ ap (filter (is_new (told ++ r ∷ []))) (sym first)
-    ∙ filter_both (is_new told) (is_new (told ++ r ∷ [])) xs (new_before told r)
-
--- the first new one of these is reported, and they wait on
-pub walk_on_first : (core xs later told rest : Reasons) (r : PlainReason) → length told < length core → filter (is_new told) xs ≡ r ∷ rest
-    → walk_on core (xs ++ later) told ≡ walk_on core (brings core r ++ (xs ++ later)) (told ++ r ∷ [])
-walk_on_first core xs later told rest r room first =
-    let all : filter (is_new told) (xs ++ later) ≡ r ∷ (rest ++ filter (is_new told) later) = filter-append (is_new told) xs later ∙ ap (λ ys. ys ++ filter (is_new told) later) first in
-    walk_on_tells core (xs ++ later) (xs ++ later) told (rest ++ filter (is_new told) later) r room all (rest_is_new told (xs ++ later) (rest ++ filter (is_new told) later) r all)
-
--- one that waits is reported
-pub walk_on_one : (core later told : Reasons) (r : PlainReason) → length told < length core → is_new told r ≡ true
-    → walk_on core (r ∷ later) told ≡ walk_on core (brings core r ++ later) (told ++ r ∷ [])
-walk_on_one core later told r room new =
-    walk_on_tells core (r ∷ later) later told (filter (is_new told) later) r room (cond-true (is_new told r) (r ∷ filter (is_new told) later) (filter (is_new told) later) new)
-    (filter_both (is_new told) (is_new (told ++ r ∷ [])) later (new_before told r))
-
--- none of these is new
-pub walk_on_past : (core xs later told : Reasons) → filter (is_new told) xs ≡ [] → walk_on core (xs ++ later) told ≡ walk_on core later told
-walk_on_past core xs later told none =
-    walk_same (length core - length told) core (xs ++ later) later told (filter-append (is_new told) xs later ∙ ap (λ ys. ys ++ filter (is_new told) later) none)
-
--- nothing waits
-pub walk_on_none : (core told : Reasons) → walk_on core [] told ≡ told
-walk_on_none core told = ends (length core - length told)
+-- what was reported stays so
+old_stays : (told : Reasons) (t r : PlainReason) → is_new told r ≡ false → is_new (told ++ t ∷ []) r ≡ false
+old_stays told t r old = by (is_new (told ++ t ∷ []) r) refl
   where
-    ends : (n : ℕ) → walk n core [] told ≡ told
-    ends zero = refl
-    ends (suc n) = refl
+    by : (b : Bool) → is_new (told ++ t ∷ []) r ≡ b → b ≡ false
+    by true e = absurd (true≢false (sym (new_before told t r e) ∙ old))
+    by false e = refl
+
+-- ---- one more, unless it was reported
+
+pub with_new : (told : Reasons) (r : PlainReason) → is_new told r ≡ true → with_reason told r ≡ told ++ r ∷ []
+with_new told r new = cond-true (is_new told r) (told ++ r ∷ []) told new
+
+pub with_old : (told : Reasons) (r : PlainReason) → is_new told r ≡ false → with_reason told r ≡ told
+with_old told r old = cond-false (is_new told r) (told ++ r ∷ []) told old
+
+with_itself : (told : Reasons) (r : PlainReason) → is_new (with_reason told r) r ≡ false
+with_itself told r = by (is_new told r) refl
+  where
+    by : (b : Bool) → is_new told r ≡ b → is_new (with_reason told r) r ≡ false
+    by true new = ap (λ t. is_new t r) (with_new told r new) ∙ told_itself told r
+    by false old = ap (λ t. is_new t r) (with_old told r old) ∙ old
+
+pub old_with : (told : Reasons) (t r : PlainReason) → is_new told r ≡ false → is_new (with_reason told t) r ≡ false
+old_with told t r old = by (is_new told t) refl
+  where
+    by : (b : Bool) → is_new told t ≡ b → is_new (with_reason told t) r ≡ false
+    by true new = ap (λ ts. is_new ts r) (with_new told t new) ∙ old_stays told t r old
+    by false was = ap (λ ts. is_new ts r) (with_old told t was) ∙ old
+
+-- ---- several
+
+pub old_with_all : (told xs : Reasons) (r : PlainReason) → is_new told r ≡ false → is_new (with_reasons told xs) r ≡ false
+old_with_all told [] r old = old
+old_with_all told (x ∷ xs) r old = old_with_all (with_reason told x) xs r (old_with told x r old)
+
+-- all of them are reported then
+pub all_told : (told xs : Reasons) → All (λ r. is_new (with_reasons told xs) r ≡ false) xs
+all_told told [] = All-nil (λ r. is_new told r ≡ false)
+all_told told (x ∷ xs) =
+    All-cons (λ r. is_new (with_reasons (with_reason told x) xs) r ≡ false) x xs (old_with_all (with_reason told x) xs x (with_itself told x)) (all_told (with_reason told x) xs)
+
+-- nothing changes where all were reported
+pub none_new : (told xs : Reasons) → All (λ r. is_new told r ≡ false) xs → with_reasons told xs ≡ told
+none_new told [] old = refl
+none_new told (x ∷ xs) old =
+    ap (λ t. with_reasons t xs) (with_old told x (All-head (λ r. is_new told r ≡ false) x xs old)) ∙ none_new told xs (All-tail (λ r. is_new told r ≡ false) x xs old)

@@ -1,7 +1,7 @@
 -- The core of a refutation as a list to be read: which instances of rules, each once, in which order, and which packages
 -- each is met by. Own.
-use Rattle.std.specs.Prelude.{ℕ, zero, suc, Bool, true, false, not, ◌&&◌, ◌==◌, nat_lt, List, [], ◌∷◌, ◌++◌, length, map, filter, if◌then◌else◌}
-use Rattle.std.specs.List.{flat_map, list_any}
+use Rattle.std.specs.Prelude.{ℕ, zero, suc, ◌+◌, Bool, true, false, not, ◌&&◌, ◌==◌, nat_lt, List, [], ◌∷◌, ◌++◌, length, map, filter, Option, Some, None, slice_get, if◌then◌else◌}
+use Rattle.std.specs.List.{flat_map, fold, list_any}
 use Rattle.std.specs.Ordering.{is_eq}
 use Rattle.cudf_job.specs.declared.key.Part.{Part}
 use Rattle.cudf_job.specs.declared.key.Part.TheVariants.{Package, Request}
@@ -123,29 +123,36 @@ brings core reason = flat_map (brought core) reason.named
 abbrev pub is_new : List PlainReason → PlainReason → Bool
 is_new told reason = not (list_any (λ earlier. same_key earlier.key reason.key) told)
 
--- The first of those that wait is reported, and those that it brings in wait before the others: depth first. `more` goes on
--- from there with those that wait and those that were reported.
-abbrev pub tell_first : (List PlainReason → List PlainReason → List PlainReason) → List PlainReason → List PlainReason → List PlainReason → List PlainReason
-tell_first more core told [] = told
-tell_first more core told (reason ∷ waiting) = more (brings core reason ++ waiting) (told ++ reason ∷ [])
+-- one more is reported, unless it was
+abbrev pub with_reason : List PlainReason → PlainReason → List PlainReason
+with_reason told reason = if is_new told reason then told ++ reason ∷ [] else told
 
--- Reasons one after the other: those that were reported, and after them all that wait and all that these bring in, each once.
--- A step tells one more of the core, so as many steps as the core has reasons are enough (Laws: StepsAreEnough).
-abbrev pub walk : ℕ → List PlainReason → List PlainReason → List PlainReason → List PlainReason
-walk zero core waiting told = told
-walk (suc steps) core waiting told = tell_first (walk steps core) core told (filter (is_new told) waiting)
+-- these are reported one after the other
+abbrev pub with_reasons : List PlainReason → List PlainReason → List PlainReason
+with_reasons told reasons = fold with_reason told reasons
+
+-- those that a reason brings in are reported
+abbrev pub with_brought : List PlainReason → List PlainReason → Option PlainReason → List PlainReason
+with_brought core told None = told
+with_brought core told (Some reason) = with_reasons told (brings core reason)
+
+-- Breadth first: each reason in turn, in the order in which they are reported and from this index on, brings in others, which are
+-- reported after all so far. As many steps as the core has reasons are enough (Laws: StepsAreEnough).
+abbrev pub walk : ℕ → List PlainReason → ℕ → List PlainReason → List PlainReason
+walk zero core index told = told
+walk (suc steps) core index told = walk steps core (index + 1) (with_brought core told (slice_get told index))
 
 -- what is asked, then what is kept, each by key
 abbrev pub roots_of : List PlainReason → List PlainReason
 roots_of core = filter is_asked core ++ filter is_kept core
 
--- these, and after each of them what it brings in
+-- these, and all that they bring in
 abbrev pub told_of : List PlainReason → List PlainReason
-told_of core = walk (length core) core (roots_of core) []
+told_of core = walk (length core) core 0 (with_reasons [] (roots_of core))
 
 -- then what is left, by key
 abbrev pub in_order : List PlainReason → List PlainReason
-in_order core = told_of core ++ filter (is_new (told_of core)) core
+in_order core = with_reasons (told_of core) core
 
 abbrev pub reasons_of : List Keyed → List PlainReason
 reasons_of needed = in_order (core_of needed)

@@ -15,8 +15,8 @@ use crate::walk::Walk;
 use std::alloc::{AllocError, Global};
 
 /// The instances of the needed CNF clauses, in the order in which they are reported: those of the request that are met by none,
-/// then those of `keep`, each by key; after each of them, depth first, those of `depends` and `conflicts` of the packages
-/// that it names positively, by place and key; then what is left, by key. Each is reported once. Own.
+/// then those of `keep`, each by key; then, breadth first, those of `depends` and `conflicts` of the packages that they
+/// name positively, package by package and by key; then what is left, by key. Each is reported once. Own.
 ///
 /// The clauses come by key: those of one instance are one after the other. The only error is that memory is refused.
 pub fn reasons(alloc: Global, needed: &[Needed<'_>]) -> Result<Reasons, AllocError>
@@ -37,5 +37,7 @@ fn order_of(alloc: Global, table: &Table) -> Result<Vec<usize>, AllocError>
     let mut walk = Walk::new(alloc, table)?;
     walk.tell_roots(Root::Asked)?;
     walk.tell_roots(Root::Kept)?;
-    walk.finish()
+    walk.follow()?;
+    walk.tell_roots(Root::Any)?;
+    Ok(walk.into_order())
 }

@@ -62,13 +62,15 @@ impl Model for Table {
     ghost invariant = { λ t. All (IsInside t.places.items) t.rows.items };
 }
 
-/// Which reasons are asked for, to be reported first.
+/// Which reasons are asked for.
 #[derive(Clone, Copy)]
 pub(crate) enum Root {
     /// Those of the request that are met by none.
     Asked,
     /// Those of `keep`.
     Kept,
+    /// All.
+    Any,
 }
 
 /// Reasons that are one after the other: from the first to before the end.
@@ -136,6 +138,7 @@ impl Table {
         match root {
             Root::Asked => matches!(key.part(), Part::Request) && self.met(index).is_empty(),
             Root::Kept => matches!(key.rule(), Rule::Keep),
+            Root::Any => true,
         }
     }
 

@@ -20,11 +20,9 @@ mod keys;
 #[cfg(test)]
 mod large;
 #[cfg(test)]
-mod listings;
-#[cfg(test)]
 mod memory;
 #[cfg(test)]
-mod pages;
+mod rankings;
 #[cfg(test)]
 mod reports;
 #[cfg(test)]

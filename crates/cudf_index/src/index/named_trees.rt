@@ -1,11 +1,13 @@
 //! The provisions of each name, in the order of their places.
-ghost use Rattle.std.specs.Prelude.{◌≡◌, Some, All, IfOk, IfSome, slice_get};
+ghost use Rattle.std.specs.Prelude.{◌≡◌, Some, All, IfOk, IfSome, OnOk, slice_get};
 ghost use Rattle.cudf_index.specs.Working.FirstPlaces.{first_place_of, first_version_of};
 ghost use Rattle.cudf_index.specs.Working.Gathering.{row_of, has_row};
+ghost use Rattle.cudf_index.specs.Working.Wanted.{with_all};
 
 use crate::index::gathered_names::GatheredNames;
 use crate::index::row::Row;
 use crate::index::tree::{FEW, ProvisionTree, first_of, first_version_of};
+use crate::index::wanted::{Wanted, put_each};
 use cudf_value::Vpkg;
 use std::alloc::{AllocError, Global};
 
@@ -73,6 +75,24 @@ impl<'t> NamedTrees<'t> {
         match self.tree(number) {
             Some(tree) => tree.first_version(),
             None => first_version_of(self.gathered.row(number)),
+        }
+    }
+
+    /// Puts the places of all provisions of the name that are wanted after the others, each once.
+    pub(crate) fn all(
+        &self,
+        name: &str,
+        wanted: Wanted,
+        places: &mut Vec<u64>,
+    ) -> Result<(), AllocError>
+        ensures { OnOk result (places.new.items ≡ with_all wanted places.old.items (row_of name.now self.now.gathered)) }
+    {
+        let Some(number) = self.gathered.names.get_index_of(&name) else {
+            return Ok(());
+        };
+        match self.tree(number) {
+            Some(tree) => tree.all(wanted, places),
+            None => put_each(self.gathered.row(number), wanted, places),
         }
     }
 }

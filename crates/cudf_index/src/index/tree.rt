@@ -1,10 +1,12 @@
 //! The provisions of a name in the order of their places, to be searched by halves.
-ghost use Rattle.std.specs.Prelude.{◌≡◌, IfOk};
+ghost use Rattle.std.specs.Prelude.{◌≡◌, IfOk, OnOk};
 ghost use Rattle.cudf_index.specs.Working.Members.{is_other};
 ghost use Rattle.cudf_index.specs.Working.FirstPlaces.{first_place_of, first_version_of, number_meets, is_sole, may_meet};
+ghost use Rattle.cudf_index.specs.Working.Wanted.{with_all};
 
 use crate::index::entries::{Entries, is_below_one};
 use crate::index::gathered_names::{Provision, completed};
+use crate::index::wanted::{Wanted, push_new, put_each};
 use crate::steps::Steps;
 use cudf_value::{Relop, meets};
 use std::alloc::{AllocError, Global};
@@ -92,6 +94,28 @@ impl ProvisionTree {
         }
     }
 
+    /// Puts the places of all of them that are wanted after the others, each once.
+    ///
+    /// Its cost is that of a search at each answer, times the binary digits of the number of provisions: a first half is
+    /// entered only where one of its provisions is wanted, and not where all of them are of one package.
+    pub(crate) fn all(&self, wanted: Wanted, places: &mut Vec<u64>) -> Result<(), AllocError>
+        ensures { OnOk result (places.new.items ≡ with_all wanted places.old.items self.now) }
+    {
+        match &self.node {
+            Node::Few(few) => put_each(few, wanted, places),
+            Node::Halves(entries, front, back) => {
+                if !wanted.some_passes(entries) {
+                    return back.all(wanted, places);
+                }
+                match entries.sole {
+                    Some(place) => push_new(places, place)?,
+                    None => front.all(wanted, places)?,
+                }
+                back.all(wanted, places)
+            }
+        }
+    }
+
     /// The place of the first of them that is a package's own version. A first half is entered only where it holds one.
     pub(crate) fn first_version(&self) -> Option<u64>
         ensures { result ≡ first_version_of self.now }
@@ -165,7 +189,7 @@ fn is_other(except: Option<u64>, place: u64) -> bool
 }
 
 /// Whether the provision's number meets the bound, or some version does where it has none.
-fn meets_bound(provision: Provision, bound: Option<(Relop, u64)>) -> bool
+pub(crate) fn meets_bound(provision: Provision, bound: Option<(Relop, u64)>) -> bool
     ensures { result ≡ number_meets bound provision.number }
 {
     match provision.number {

@@ -4,7 +4,7 @@ use Rattle.cudf_reasons.specs.Reasons.{PlainReason}
 use Rattle.cudf_reasons.specs.Views.{needed_view}
 use Rattle.cudf_reasons.specs.Working.Walks.{keys_ascend}
 use Rattle.cudf_reasons.proofs.GroupLemmas.{core_ascends}
-use Rattle.cudf_reasons.proofs.TourLemmas.{told_listed}
+use Rattle.cudf_reasons.proofs.OrderLemmas.{told_listed}
 use Rattle.cudf_reasons.proofs.order.reasons.Goals as goal
 
 pub order_of-requires : goal.order_of-requires

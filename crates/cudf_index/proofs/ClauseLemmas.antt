@@ -1,0 +1,159 @@
+-- The places of the packages that satisfy one of a clause's atoms, atom by atom.
+use Rattle.std.proofs.Common.{◌≡◌, ℕ, ◌+◌, ◌-◌, ◌<◌, Bool, true, false, cond, ◌||◌, ◌&&◌, ◌==◌, List, [], ◌∷◌, ◌++◌, length, map, take, get_or, Option, Some, None, refl, sym, ap, ◌∙◌, append_assoc}
+use Rattle.std.specs.Prelude.{slice_get}
+use Rattle.std.specs.List.{list_any}
+use Rattle.std.specs.Option.{option_map_or}
+use Rattle.std.proofs.Math.Bool.{or_assoc}
+use Rattle.std.proofs.lemmas.Bool.{true≢false, eqb-true}
+use Rattle.std.proofs.lemmas.List.{map-append}
+use Rattle.std.proofs.lemmas.List.Folds.{list_any-append, list_any_at}
+use Rattle.std.proofs.lemmas.List.Sums.{fold-append}
+use Rattle.std.proofs.lemmas.Option.{slice_get_within, get_or_from_slice_get}
+use Rattle.cudf_value.specs.Formulas.{PlainAtom}
+use Rattle.cudf_value.specs.Vpkgs.{PlainVpkg}
+use Rattle.cudf_problem.specs.Universe.{PlainPackage}
+use Rattle.cudf_index.specs.Satisfaction.{Placed, members, meets_alone, meets_clause_alone}
+use Rattle.cudf_index.specs.Working.Gathering.{given_by, given_of}
+use Rattle.cudf_index.specs.Working.Places.{has, passes_at, Adds, meets_atom_alone}
+use Rattle.cudf_index.specs.Working.Wanted.{ends_in, with_new, with_passing, with_all}
+use Rattle.cudf_index.specs.declared.index.gathered_names.Provision.{Provision}
+use Rattle.cudf_index.specs.declared.index.wanted.Wanted.TheVariants.{Meeting}
+use Rattle.cudf_index.proofs.MemberLemmas.{members_kept, members_left_out}
+use Rattle.cudf_index.proofs.WantedLemmas.{one_wanted, package_places, meeting_tells}
+
+-- ---- tests of lists
+
+or_four : (a b c d : Bool) → ((a || b) || (c || d)) ≡ ((a || c) || (b || d))
+or_four true b c d = refl
+or_four false true true d = refl
+or_four false true false d = refl
+or_four false false c d = refl
+
+and_or : (n a b : Bool) → (n && (a || b)) ≡ ((n && a) || (n && b))
+and_or true a b = refl
+and_or false a b = refl
+
+or_none : (b : Bool) → b ≡ (b || false)
+or_none true = refl
+or_none false = refl
+
+module _ {X : Type 0} where
+  any_agree : (p q : X → Bool) → ((x : X) → p x ≡ q x) → (xs : List X) → list_any p xs ≡ list_any q xs
+  any_agree p q same [] = refl
+  any_agree p q same (x ∷ xs) = ap (λ b. b || list_any p xs) (same x) ∙ ap (λ b. q x || b) (any_agree p q same xs)
+
+  any_or : (p q : X → Bool) (xs : List X) → list_any (λ x. p x || q x) xs ≡ (list_any p xs || list_any q xs)
+  any_or p q [] = refl
+  any_or p q (x ∷ xs) = ap (λ b. (p x || q x) || b) (any_or p q xs) ∙ or_four (p x) (q x) (list_any p xs) (list_any q xs)
+
+  any_never : (p : X → Bool) → ((x : X) → p x ≡ false) → (xs : List X) → list_any p xs ≡ false
+  any_never p never [] = refl
+  any_never p never (x ∷ xs) = ap (λ b. b || list_any p xs) (never x) ∙ any_never p never xs
+
+-- ---- one atom after the other
+
+module _ (p : ℕ) (status : List Placed) where
+  pub passes_first : (a : PlainAtom) (rest : List PlainAtom) → passes_at (meets_clause_alone (a ∷ rest)) p status ≡ (passes_at (meets_atom_alone a) p status || passes_at (meets_clause_alone rest) p status)
+  passes_first a rest =
+      any_agree (λ q. (q.0 == p) && (meets_atom_alone a q || meets_clause_alone rest q)) (λ q. ((q.0 == p) && meets_atom_alone a q) || ((q.0 == p) && meets_clause_alone rest q))
+      (λ q. and_or (q.0 == p) (meets_atom_alone a q) (meets_clause_alone rest q)) status
+      ∙ any_or (λ q. (q.0 == p) && meets_atom_alone a q) (λ q. (q.0 == p) && meets_clause_alone rest q) status
+
+  left_out : (b : Bool) → (b && false) ≡ false
+  left_out true = refl
+  left_out false = refl
+
+  pub passes_never : passes_at (λ q. false) p status ≡ false
+  passes_never = any_never (λ (q : Placed). (q.0 == p) && false) (λ q. left_out (q.0 == p)) status
+
+  -- the places of an atom are added
+  pub atom_added : (old new : List ℕ) (all rest : List PlainAtom) (a : PlainAtom) (target : Bool) → has new p ≡ (has old p || passes_at (meets_atom_alone a) p status) → all ≡ a ∷ rest
+      → (has old p || passes_at (meets_clause_alone all) p status) ≡ target → (has new p || passes_at (meets_clause_alone rest) p status) ≡ target
+  atom_added old new all rest a target added is told =
+      ap (λ b. b || passes_at (meets_clause_alone rest) p status) added
+      ∙ or_assoc (has old p) (passes_at (meets_atom_alone a) p status) (passes_at (meets_clause_alone rest) p status)
+      ∙ ap (λ b. has old p || b) (sym (passes_first a rest)) ∙ ap (λ as'. has old p || passes_at (meets_clause_alone as') p status) (sym is) ∙ told
+
+  pub all_added : (old : List ℕ) (all : List PlainAtom) (target : Bool) → all ≡ [] → (has old p || passes_at (meets_clause_alone all) p status) ≡ target → has old p ≡ target
+  all_added old all target is told =
+      last (has old p) ∙ ap (λ b. has old p || b) (sym passes_never) ∙ ap (λ as'. has old p || passes_at (meets_clause_alone as') p status) (sym is) ∙ told
+    where
+      last : (b : Bool) → b ≡ (b || false)
+      last true = refl
+      last false = refl
+
+-- ---- the places of an atom
+
+ends_has : (n : ℕ) (places : List ℕ) → ends_in n places ≡ true → has places n ≡ true
+ends_has n places e = by (slice_get places (length places - 1)) refl e
+  where
+    by : (o : Option ℕ) → slice_get places (length places - 1) ≡ o → option_map_or (λ last. last == n) o false ≡ true → has places n ≡ true
+    by None is e = absurd (true≢false (sym e))
+    by (Some last) is e =
+        list_any_at (λ p. p == n) places (length places - 1) n (slice_get_within places (length places - 1) last is)
+        (ap (λ p. p == n) (get_or_from_slice_get places (length places - 1) last n is) ∙ e)
+
+has_new : (n p : ℕ) (places : List ℕ) → has (with_new places n) p ≡ (has places p || (n == p))
+has_new n p places = by (ends_in n places) refl
+  where
+    there : (b : Bool) → (n == p) ≡ b → ends_in n places ≡ true → has places p ≡ (has places p || b)
+    there false e ends = or_none (has places p)
+    there true e ends = let found = ap (has places) (sym (eqb-true n p e)) ∙ ends_has n places ends in found ∙ sym (ap (λ b. b || true) found)
+
+    by : (b : Bool) → ends_in n places ≡ b → has (cond b places (places ++ n ∷ [])) p ≡ (has places p || (n == p))
+    by true ends = there (n == p) refl ends
+    by false ends = list_any-append (λ q. q == p) places (n ∷ []) ∙ ap (λ b. has places p || b) (sym (or_none (n == p)))
+
+vpkg_adds : (v : PlainVpkg) (status : List Placed) (places : List ℕ) → Adds (meets_alone v) status places (with_all (Meeting v.bound) places (given_of v.name status))
+vpkg_adds v [] places p = or_none (has places p)
+vpkg_adds v (q ∷ qs) places p =
+    ap (λ xs. has xs p) (fold-append (with_passing (Meeting v.bound)) places (given_by v.name q) (given_of v.name qs))
+    ∙ vpkg_adds v qs (with_all (Meeting v.bound) places (given_by v.name q)) p
+    ∙ ap (λ b. b || passes_at (meets_alone v) p qs) (ap (λ xs. has xs p) (one_wanted (Meeting v.bound) q.0 places (given_by v.name q) (package_places v.name q) ∙ ap (λ b. cond b (with_new places q.0) places) (meeting_tells v q)) ∙ by (meets_alone v q))
+    ∙ or_assoc (has places p) ((q.0 == p) && meets_alone v q) (passes_at (meets_alone v) p qs)
+  where
+    never : (b : Bool) → false ≡ (b && false)
+    never true = refl
+    never false = refl
+
+    always : (b : Bool) → b ≡ (b && true)
+    always true = refl
+    always false = refl
+
+    by : (b : Bool) → has (cond b (with_new places q.0) places) p ≡ (has places p || ((q.0 == p) && b))
+    by true = has_new q.0 p places ∙ ap (λ b. has places p || b) (always (q.0 == p))
+    by false = or_none (has places p) ∙ ap (λ b. has places p || b) (never (q.0 == p))
+
+-- of a status as it is kept
+pub row_adds : (v : PlainVpkg) (status now : List Placed) (row : List Provision) (old new : List ℕ) → status ≡ now → row ≡ given_of v.name status → new ≡ with_all (Meeting v.bound) old row → Adds (meets_alone v) now old new
+row_adds v status now row old new view kept put p =
+    ap (λ xs. has xs p) (put ∙ ap (with_all (Meeting v.bound) old) kept) ∙ vpkg_adds v status old p ∙ ap (λ s. has old p || passes_at (meets_alone v) p s) view
+
+places_of : (p : ℕ) (status : List Placed) → has (map (λ q. q.0) status) p ≡ passes_at (λ q. true) p status
+places_of p [] = refl
+places_of p (q ∷ qs) = ap (λ b. (q.0 == p) || b) (places_of p qs) ∙ ap (λ b. b || passes_at (λ x. true) p qs) (by (q.0 == p))
+  where
+    by : (b : Bool) → b ≡ (b && true)
+    by true = refl
+    by false = refl
+
+pub members_add : (status : List Placed) (old new : List ℕ) → new ≡ old ++ map (λ q. q.0) status → Adds (λ q. true) status old new
+members_add status old new put p =
+    ap (λ xs. has xs p) put ∙ list_any-append (λ q. q == p) old (map (λ q. q.0) status) ∙ ap (λ b. has old p || b) (places_of p status)
+
+pub none_added : (status : List Placed) (old : List ℕ) → Adds (λ q. false) status old old
+none_added status old p = or_none (has old p) ∙ ap (λ b. has old p || b) (sym (passes_never p status))
+
+-- ---- one package more
+
+module _ {A : Type 0} (view : A → PlainPackage) (holds : ℕ → Bool) (xs : List A) (i : ℕ) (d : A) (inside : i < length xs) (old : List ℕ) where
+  abbrev before_it : List ℕ
+  before_it = map (λ q. q.0) (members holds (map view (take i xs)))
+
+  pub member_put : (done now : List ℕ) → holds (i + 1) ≡ true → done ≡ old ++ before_it → now ≡ done ++ (i + 1) ∷ [] → now ≡ old ++ map (λ q. q.0) (members holds (map view (take (i + 1) xs)))
+  member_put done now e before more =
+      more ∙ ap (λ ps. ps ++ (i + 1) ∷ []) before ∙ append_assoc old before_it ((i + 1) ∷ [])
+      ∙ ap (λ ps. old ++ ps) (sym (ap (map (λ (q : Placed). q.0)) (members_kept view holds xs i d inside e) ∙ map-append (λ (q : Placed). q.0) (members holds (map view (take i xs))) ((i + 1, view (get_or xs i d)) ∷ [])))
+
+  pub member_left_out : (done : List ℕ) → holds (i + 1) ≡ false → done ≡ old ++ before_it → done ≡ old ++ map (λ q. q.0) (members holds (map view (take (i + 1) xs)))
+  member_left_out done e before = before ∙ ap (λ ps. old ++ map (λ (q : Placed). q.0) ps) (sym (members_left_out view holds xs i d inside e))
