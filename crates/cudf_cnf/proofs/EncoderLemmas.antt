@@ -1,6 +1,6 @@
 -- What is left of an encoder, part by part, and the places of its packages.
-use Rattle.std.proofs.Common.{◌≡◌, ℕ, ◌<◌, ◌≤◌, ◌^◌, ◌==◌, Bool, true, false, List, [], ◌++◌, length, filter, sym, subst, ap, ◌∙◌, arith, append_assoc}
-use Rattle.std.specs.Prelude.{IsTrue, Result, Ok, Err, OnOk, OnErr, IfOk}
+use Rattle.std.proofs.Common.{◌≡◌, ℕ, ◌<◌, ◌≤◌, ◌^◌, ◌==◌, Bool, true, false, List, ◌++◌, length, filter, sym, subst, ap, ◌∙◌, arith, append_assoc}
+use Rattle.std.specs.Prelude.{IsTrue, Result, Ok, Err, OnOk, IfOk}
 use Rattle.std.specs.List.{enumerate_from}
 use Rattle.std.proofs.lemmas.Bool.Decides.{nat_tests}
 use Rattle.std.proofs.lemmas.List.Elements.{All-contains, All-filter, All-map, All-weaker}
@@ -9,7 +9,7 @@ use Rattle.cudf_problem.specs.Universe.{PlainPackage}
 use Rattle.cudf_index.specs.Satisfaction.{Placed}
 use Rattle.cudf_referee.specs.Proposals.{holds_place}
 use Rattle.cudf_referee.proofs.StatusLemmas.{holds-own}
-use Rattle.cudf_satisfiers.specs.Answers.{places_where}
+use Rattle.cudf_index.specs.Promises.Places.{places_where}
 use Rattle.cudf_cnf.specs.Cnf.{Keyed}
 use Rattle.cudf_cnf.specs.Encodings.{PlainEncoder, PlainKeyedClauses, Tells}
 use Rattle.cudf_cnf.specs.Working.Parts.{AreHeld, ArePlaces, Fits, IsPlace}
@@ -25,10 +25,6 @@ pub held_where : (test : Placed → Bool) (all : List Placed) → AreHeld all (p
 held_where test all =
     All-map (λ n. IsTrue (holds_place all n)) (λ (q : Placed). q.0) (filter test all)
     (All-filter test (λ (q : Placed). IsTrue (holds_place all q.0)) all (AllPass-from_list_all (λ (q : Placed). holds_place all q.0) all (holds-own all)))
-
--- a search among them that began with none
-pub held_found : (test : Placed → Bool) (all : List Placed) (old new : List ℕ) → new ≡ old ++ places_where test all → old ≡ [] → AreHeld all new
-held_found test all old new added empty = subst (AreHeld all) (sym (added ∙ ap (λ ns. ns ++ places_where test all) empty)) (held_where test all)
 
 pub held_places : (places : ℕ) (all : List Placed) (ns : List ℕ) → Fits places all → AreHeld all ns → ArePlaces places ns
 held_places places all ns fit held = All-weaker (λ n. IsTrue (holds_place all n)) (IsPlace places) one ns held
@@ -92,8 +88,3 @@ puts (Err x) old new e held put is goes = goes
 pub later : {E : Type 0} (r : Result Bool E) (first first' old new : List Keyed) (start held put : PlainKeyedClauses) → Goes false first start first' held → IfOk r (λ more. Goes more old held new put) → IfOk r (λ more. Goes more (first ++ old) start (first' ++ new) put)
 later (Ok more) first first' old new start held put none goes = second more first first' old new start held put none goes
 later (Err x) first first' old new start held put none goes = goes
-
--- a search that may have been refused, and then left none
-pub held_or_none : {E : Type 0} (r : Result (Unit {0}) E) (test : Placed → Bool) (all : List Placed) (old new : List ℕ) → OnOk r (new ≡ old ++ places_where test all) → OnErr r (new ≡ old) → old ≡ [] → AreHeld all new
-held_or_none (Ok u) test all old new added unchanged empty = held_found test all old new added empty
-held_or_none (Err e) test all old new added unchanged empty = subst (AreHeld all) (sym (unchanged ∙ empty)) (λ k d inside. absurd (omega arith))

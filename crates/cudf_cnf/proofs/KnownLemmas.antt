@@ -2,23 +2,24 @@
 use Rattle.std.proofs.Common.{◌≡◌, ℕ, suc, ◌+◌, ◌-◌, ◌<◌, Bool, true, false, not, ◌&&◌, nat_lt, List, [], ◌∷◌, ◌++◌, length, get_or, map, filter, drop, refl, sym, subst, ap, ◌∙◌, arith, append_assoc, ◌==◌, cond, if◌then◌else◌}
 use Rattle.std.specs.Prelude.{IfOk, Option, Some, None, Result}
 use Rattle.std.specs.List.{list_any, flat_map, enumerate_from}
+use Rattle.std.proofs.lemmas.Bool.{true≢false}
 use Rattle.std.proofs.lemmas.Bool.Decides.{nat_tests}
 use Rattle.std.proofs.lemmas.List.{append-nil, drop-drop, get_or-drop}
 use Rattle.std.proofs.lemmas.List.Elements.{filter_agree}
 use Rattle.std.proofs.lemmas.List.Folds.{flat_map-map, list_any_at, list_any_none}
-use Rattle.cudf_problem.specs.Documents.{is_empty}
 use Rattle.cudf_problem.specs.Universe.{PlainPackage}
-use Rattle.cudf_value.specs.Vpkgs.{PlainVpkg}
+use Rattle.cudf_value.specs.declared.relop.Relop.TheVariants.{Lt}
+use Rattle.cudf_value.specs.Vpkgs.{PlainVpkg, meets}
 use Rattle.cudf_index.specs.Promises.Members.{IsGreatest}
+use Rattle.cudf_index.specs.Promises.Places.{gives_number, places_where}
 use Rattle.cudf_index.specs.Satisfaction.{Placed, meets_alone, members, numbers_of}
 use Rattle.cudf_job.specs.declared.key.Rule.TheVariants as rule
 use Rattle.cudf_job.specs.declared.key.Aspect.TheVariants.{Unsatisfied, Many, Lower}
 use Rattle.cudf_job.specs.Keys.{PlainKey, request_key}
 use Rattle.cudf_referee.specs.Violations.{are_lower, are_many}
 use Rattle.cudf_referee.proofs.ListLemmas.{none_kept}
-use Rattle.cudf_satisfiers.specs.Answers.{differ, differs_after, gives_below, gives_number, numbers_by, places_where}
-use Rattle.cudf_cnf.specs.Cnf.{Keyed, differing_clauses, entry_clauses, for_each, is_out, lower_clauses, one_of}
-use Rattle.cudf_cnf.specs.Working.Parts.{IsAt, differing_at, entry_by, givers_of, lower_by}
+use Rattle.cudf_cnf.specs.Cnf.{Keyed, differ, differing_clauses, entry_clauses, for_each, lower_clauses, one_of}
+use Rattle.cudf_cnf.specs.Working.Parts.{IsAt, differing_at, differs_from, entry_by, givers_of, lower_by}
 use Rattle.cudf_cnf.specs.Working.Known.{AreKnown, IsKnown, known_at, nothing}
 use Rattle.cudf_cnf.specs.declared.upgrades.known.Known.{Known}
 use Rattle.cudf_problem.specs.Working.Flags.{flag_at}
@@ -59,31 +60,32 @@ pub lower_same : (all before : List Placed) (n : ℕ) (name : List ℕ) (floor :
 lower_same all before n name None greatest =
     let empty : numbers_of name before ≡ [] = greatest.none.0 refl in
     ap (map (λ (p : Placed). unit (request_key rule.Upgrade n (Some Lower)) p.0))
-    (sym (none_kept (λ (p : Placed). are_lower (numbers_of name before) (numbers_by name p)) (λ p. ap (λ old. are_lower old (numbers_by name p)) empty ∙ none (numbers_by name p)) all))
+    (sym (none_kept (λ (p : Placed). are_lower (numbers_of name before) (numbers_of name (p ∷ []))) (λ p. ap (λ old. are_lower old (numbers_of name (p ∷ []))) empty ∙ none (numbers_of name (p ∷ []))) all))
 lower_same all before n name (Some most) greatest =
-    units_where (request_key rule.Upgrade n (Some Lower)) (gives_below name most) all
+    units_where (request_key rule.Upgrade n (Some Lower)) (gives_number name (Some (Lt, most))) all
     ∙ ap (map (λ (p : Placed). unit (request_key rule.Upgrade n (Some Lower)) p.0))
-    (filter_agree (gives_below name most) (λ (p : Placed). are_lower (numbers_of name before) (numbers_by name p))
-    (λ p. sym (list_any-same (λ m. list_any (λ old. nat_lt m old) (numbers_of name before)) (λ m. nat_lt m most) (λ m. below_greatest (numbers_of name before) most m greatest) (numbers_by name p))) all)
+    (filter_agree (gives_number name (Some (Lt, most))) (λ (p : Placed). are_lower (numbers_of name before) (numbers_of name (p ∷ [])))
+    (λ p. sym (list_any-same (λ m. list_any (λ old. nat_lt m old) (numbers_of name before)) (λ m. nat_lt m most) (λ m. below_greatest (numbers_of name before) most m greatest) (numbers_of name (p ∷ [])))) all)
 
 -- ---- many
 
 differing_same : (all : List Placed) (n : ℕ) (name : List ℕ) (p : Placed) → IsAt all p → differing_at all n name p.0 ≡ differing_clauses all n name p
 differing_same all n name p here =
     let key = request_key rule.Upgrade n (Some Many) in
-    (λ i. (if here (λ q. differ name q q) i then (key, is_out p.0 ∷ []) ∷ [] else [])
-    ++ (pairs_where key p.0 (differs_after name p.0 all) all ∙ ap (map (λ (q : Placed). pair key p.0 q.0)) (filter_agree (differs_after name p.0 all) (λ q. nat_lt p.0 q.0 && differ name p q) (λ q. ap (λ b. nat_lt p.0 q.0 && b) (here (λ r. differ name r q))) all)) i)
+    let own = ap (numbers_of name) here in
+    (λ i. (if are_many (own i) then unit key p.0 ∷ [] else []) ++ map (pair key p.0) (places_where (λ q. nat_lt p.0 q.0 && differs_from name (own i) q) all))
+    ∙ ap (λ ks. (if differ name p p then unit key p.0 ∷ [] else []) ++ ks) (pairs_where key p.0 (λ q. nat_lt p.0 q.0 && differ name p q) all)
 
-silent_empty : (ns : List ℕ) → not (is_empty ns) ≡ false → ns ≡ []
+silent_empty : (ns : List ℕ) → list_any (meets None) ns ≡ false → ns ≡ []
 silent_empty [] h = refl
-silent_empty (n ∷ ns) h = cc
+silent_empty (n ∷ ns) h = absurd (true≢false h)
 
 -- a package that gives no number differs from none
-silent : (all : List Placed) (n : ℕ) (name : List ℕ) (p : Placed) → gives_number name p ≡ false → [] ≡ differing_clauses all n name p
+silent : (all : List Placed) (n : ℕ) (name : List ℕ) (p : Placed) → gives_number name None p ≡ false → [] ≡ differing_clauses all n name p
 silent all n name p h =
     let key = request_key rule.Upgrade n (Some Many) in
-    let empty = silent_empty (numbers_by name p) h in
-    let no : (q : Placed) → differ name p q ≡ false = λ q. ap (list_any (λ (m : ℕ). list_any (λ (k : ℕ). not (m == k)) (numbers_by name q))) empty in
+    let empty = silent_empty (numbers_of name (p ∷ [])) h in
+    let no : (q : Placed) → differ name p q ≡ false = λ q. ap (list_any (λ (m : ℕ). list_any (λ (k : ℕ). not (m == k)) (numbers_of name (q ∷ [])))) empty in
     let none_after = none_kept (λ (q : Placed). nat_lt p.0 q.0 && differ name p q) (λ q. ap (λ b. nat_lt p.0 q.0 && b) (no q) ∙ and-false (nat_lt p.0 q.0)) all in
     (λ i. (if sym (no p) i then unit key p.0 ∷ [] else []) ++ map (λ (q : Placed). pair key p.0 q.0) (sym none_after i))
 
@@ -102,18 +104,18 @@ same_at {A} f g n (x ∷ xs) same =
     let first : f (n, x) ≡ g (n, x) = let same_place : n + 0 ≡ n = omega arith in subst (λ (m : ℕ). f (m, x) ≡ g (m, x)) same_place (same 0 x (omega arith)) in
     (λ i. first i ++ same_at f g (n + 1) xs (λ k d inside. let later : n + suc k ≡ n + 1 + k = omega arith in subst (λ (m : ℕ). f (m, get_or xs k d) ≡ g (m, get_or xs k d)) later (same (suc k) d (omega arith))) i)
 
-pub many_same : (packages : List PlainPackage) (n : ℕ) (name : List ℕ) → let all = enumerate_from 1 packages in flat_map (differing_at all n name) (places_where (gives_number name) all) ≡ flat_map (differing_clauses all n name) all
+pub many_same : (packages : List PlainPackage) (n : ℕ) (name : List ℕ) → let all = enumerate_from 1 packages in flat_map (differing_at all n name) (places_where (gives_number name None) all) ≡ flat_map (differing_clauses all n name) all
 many_same packages n name =
     let all = enumerate_from 1 packages in
-    flat_map-map (differing_at all n name) (λ (q : Placed). q.0) (filter (gives_number name) all)
-    ∙ flat_map-filter (gives_number name) (λ (q : Placed). differing_at all n name q.0) all
-    ∙ same_at (λ (q : Placed). if gives_number name q then differing_at all n name q.0 else []) (differing_clauses all n name) 1 packages
+    flat_map-map (differing_at all n name) (λ (q : Placed). q.0) (filter (gives_number name None) all)
+    ∙ flat_map-filter (gives_number name None) (λ (q : Placed). differing_at all n name q.0) all
+    ∙ same_at (λ (q : Placed). if gives_number name None q then differing_at all n name q.0 else []) (differing_clauses all n name) 1 packages
     (λ i d inside. let same : i + 1 ≡ 1 + i = omega arith in at (1 + i, get_or packages i d) (subst (λ (m : ℕ). IsAt (enumerate_from 1 packages) (m, get_or packages i d)) same (package_at_index packages i d inside)))
   where
-    at : (q : Placed) → IsAt (enumerate_from 1 packages) q → (if gives_number name q then differing_at (enumerate_from 1 packages) n name q.0 else []) ≡ differing_clauses (enumerate_from 1 packages) n name q
-    at q here = by (gives_number name q) refl
+    at : (q : Placed) → IsAt (enumerate_from 1 packages) q → (if gives_number name None q then differing_at (enumerate_from 1 packages) n name q.0 else []) ≡ differing_clauses (enumerate_from 1 packages) n name q
+    at q here = by (gives_number name None q) refl
       where
-        by : (b : Bool) → gives_number name q ≡ b → (if b then differing_at (enumerate_from 1 packages) n name q.0 else []) ≡ differing_clauses (enumerate_from 1 packages) n name q
+        by : (b : Bool) → gives_number name None q ≡ b → (if b then differing_at (enumerate_from 1 packages) n name q.0 else []) ≡ differing_clauses (enumerate_from 1 packages) n name q
         by true h = differing_same (enumerate_from 1 packages) n name q here
         by false h = silent (enumerate_from 1 packages) n name q h
 
@@ -187,7 +189,6 @@ every_member holds flags packages read set =
     read (1 + i) ∙ ap (λ b. if b then false else get_or flags (1 + i - 1) false) other ∙ ap (λ (m : ℕ). get_or flags m false) index ∙ set i inside)
 
 -- the same entries and packages before, said otherwise
-pub known_as : {V E : Type 0} (items : V → List Known) (r : Result V E) (b c all every : List Placed) (vs ws : List PlainVpkg) → b ≡ c → all ≡ every → vs ≡ ws → IfOk r (λ k. AreKnown b all vs (items k)) → IfOk r (λ k. AreKnown c every ws (items k))
-known_as {V} items r b c all every vs ws before_is all_is is h =
-    subst (λ (xs : List Placed). IfOk r (λ (k : V). AreKnown xs every ws (items k))) before_is
-    (subst (λ (xs : List Placed). IfOk r (λ (k : V). AreKnown b xs ws (items k))) all_is (subst (λ (es : List PlainVpkg). IfOk r (λ (k : V). AreKnown b all es (items k))) is h))
+pub known_as : {V E : Type 0} (items : V → List Known) (r : Result V E) (b c all : List Placed) (vs ws : List PlainVpkg) → b ≡ c → vs ≡ ws → IfOk r (λ k. AreKnown b all vs (items k)) → IfOk r (λ k. AreKnown c all ws (items k))
+known_as {V} items r b c all vs ws before_is is h =
+    subst (λ (xs : List Placed). IfOk r (λ (k : V). AreKnown xs all ws (items k))) before_is (subst (λ (es : List PlainVpkg). IfOk r (λ (k : V). AreKnown b all es (items k))) is h)

@@ -6,6 +6,7 @@ pub mod ZipLemmas
 pub mod HeldLemmas
 pub mod PlaceLemmas
 pub mod PieceLemmas
+pub mod ManyLemmas
 pub mod KnownLemmas
 pub mod EncoderLemmas
 pub mod StartLemmas

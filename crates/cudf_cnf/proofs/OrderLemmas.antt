@@ -22,8 +22,7 @@ use Rattle.cudf_lrat.specs.declared.literal.Literal.{Literal}
 use Rattle.cudf_referee.specs.Proposals.{holds_place}
 use Rattle.cudf_referee.specs.Violations.{are_lower}
 use Rattle.cudf_referee.proofs.ListLemmas.{and_left, and_right}
-use Rattle.cudf_satisfiers.specs.Answers.{differ}
-use Rattle.cudf_cnf.specs.Cnf.{Keyed, cnf, conflict_clauses, conjunct_clauses, differing_clauses, entry_clauses, for_each, install_clauses, is_out, keep_clauses, lower_clauses, one_of, package_clauses, removal_clauses}
+use Rattle.cudf_cnf.specs.Cnf.{Keyed, cnf, conflict_clauses, conjunct_clauses, differ, differing_clauses, entry_clauses, for_each, install_clauses, is_out, keep_clauses, lower_clauses, one_of, package_clauses, removal_clauses}
 use Rattle.cudf_cnf.specs.Laws.{KeysNeverDescend}
 
 -- ---- ranks

@@ -9,7 +9,7 @@ use Rattle.cudf_problem.specs.Ids.{Id}
 use Rattle.cudf_index.specs.Satisfaction.{Placed, gives, numbers_of, package_pairs}
 use Rattle.cudf_index.proofs.SearchLemmas.{list_any-filter}
 use Rattle.cudf_referee.specs.Violations.{are_lower, are_many}
-use Rattle.cudf_satisfiers.specs.Answers.{differ}
+use Rattle.cudf_cnf.specs.Cnf.{differ}
 use Rattle.cudf_cnf.proofs.TestLemmas.{list_any-and, list_any-flat, list_any-or, list_any-same, list_any-swap, list_any-where, IsOneOf}
 
 -- ---- each pair once

@@ -1,18 +1,17 @@
 -- Pieces: what is put of a list that is left, and the package at an index.
-use Rattle.std.proofs.Common.{◌≡◌, ℕ, zero, suc, ◌+◌, ◌<◌, ◌≤◌, ◌==◌, Bool, true, false, ◌&&◌, ◌||◌, List, [], ◌∷◌, ◌++◌, length, get_or, map, drop, refl, sym, subst, ap, ◌∙◌, arith, append_assoc, length-append, eq-eqb}
-use Rattle.std.specs.List.{list_any, flat_map, enumerate_from}
+use Rattle.std.proofs.Common.{◌≡◌, ℕ, zero, suc, ◌+◌, ◌<◌, ◌≤◌, ◌==◌, true, false, cond, List, [], ◌∷◌, ◌++◌, length, get_or, map, filter, drop, refl, sym, subst, ap, ◌∙◌, arith, append_assoc, length-append, eq-eqb}
+use Rattle.std.specs.List.{flat_map, enumerate_from}
 use Rattle.std.proofs.lemmas.Bool.Decides.{nat_tests}
 use Rattle.std.proofs.lemmas.List.{append-nil, drop_all, drop_more, length-map}
 use Rattle.cudf_problem.specs.Promises.Views.{package_view}
 use Rattle.cudf_problem.specs.declared.package.Package.{Package}
 use Rattle.cudf_problem.specs.Universe.{PlainPackage}
+use Rattle.cudf_index.specs.Promises.Places.{at}
 use Rattle.cudf_index.specs.Satisfaction.{Placed}
-use Rattle.cudf_satisfiers.specs.Answers.{passes_at}
 use Rattle.cudf_cnf.specs.Cnf.{Keyed}
 use Rattle.cudf_cnf.specs.Encodings.{PlainKeyedClauses}
 use Rattle.cudf_cnf.specs.Working.Parts.{Fits, IsAt, IsPlace, own_clauses}
 use Rattle.cudf_cnf.specs.Working.Views.{Goes, packages_left}
-use Rattle.cudf_cnf.proofs.TestLemmas.{or-false}
 
 -- ---- pieces
 
@@ -48,24 +47,27 @@ package_first own packages i d inside =
     let same : 1 + i ≡ i + 1 = omega arith in
     ap (flat_map own) (numbered-at 1 packages i d inside) ∙ ap (λ m. own (m, get_or packages i d) ++ flat_map own (drop (i + 1) (enumerate_from 1 packages))) same
 
-past : {A : Type 0} (test : ℕ × A → Bool) (n m : ℕ) (xs : List A) → m < n → list_any (λ q. (q.0 == m) && test q) (enumerate_from n xs) ≡ false
-past test n m [] h = refl
-past test n m (x ∷ xs) h = let other : (n == m) ≡ false = grind (arith, nat_tests) in (λ i. (other i && test (n, x)) || past test (n + 1) m xs (omega arith) i)
+none_at : {A : Type 0} (n m : ℕ) (xs : List A) → m < n → filter (λ q. q.0 == m) (enumerate_from n xs) ≡ []
+none_at n m [] h = refl
+none_at n m (x ∷ xs) h =
+    let other : (n == m) ≡ false = grind (arith, nat_tests) in
+    ap (λ b. cond b ((n, x) ∷ filter (λ q. q.0 == m) (enumerate_from (n + 1) xs)) (filter (λ q. q.0 == m) (enumerate_from (n + 1) xs))) other ∙ none_at (n + 1) m xs (omega arith)
 
-at_index : {A : Type 0} (test : ℕ × A → Bool) (n : ℕ) (xs : List A) (i : ℕ) (d : A) → i < length xs → list_any (λ q. (q.0 == n + i) && test q) (enumerate_from n xs) ≡ test (n + i, get_or xs i d)
-at_index test n [] i d h = absurd (omega arith)
-at_index test n (x ∷ xs) zero d h =
+one_at : {A : Type 0} (n : ℕ) (xs : List A) (i : ℕ) (d : A) → i < length xs → filter (λ q. q.0 == n + i) (enumerate_from n xs) ≡ (n + i, get_or xs i d) ∷ []
+one_at n [] i d h = absurd (omega arith)
+one_at n (x ∷ xs) zero d h =
     let same : n ≡ n + 0 = omega arith in
-    (λ i. (eq-eqb n (n + 0) same i && test (same i, x)) || past test (n + 1) (n + 0) xs (omega arith) i) ∙ or-false (test (n + 0, x))
-at_index test n (x ∷ xs) (suc i) d h =
+    (λ i. cond (eq-eqb n (n + 0) same i) ((same i, x) ∷ none_at (n + 1) (n + 0) xs (omega arith) i) (filter (λ q. q.0 == n + 0) (enumerate_from (n + 1) xs)))
+one_at n (x ∷ xs) (suc i) d h =
     let same : n + 1 + i ≡ n + suc i = omega arith in
     let other : (n == n + suc i) ≡ false = grind (arith, nat_tests) in
-    (λ j. (other j && test (n, x)) || list_any (λ q. (q.0 == sym same j) && test q) (enumerate_from (n + 1) xs)) ∙ at_index test (n + 1) xs i d (omega arith) ∙ ap (λ m. test (m, get_or xs i d)) same
+    ap (λ b. cond b ((n, x) ∷ filter (λ q. q.0 == n + suc i) (enumerate_from (n + 1) xs)) (filter (λ q. q.0 == n + suc i) (enumerate_from (n + 1) xs))) other
+    ∙ subst (λ m. filter (λ q. q.0 == m) (enumerate_from (n + 1) xs) ≡ (m, get_or xs i d) ∷ []) same (one_at (n + 1) xs i d (omega arith))
 
 pub package_at_index : (packages : List PlainPackage) (i : ℕ) (d : PlainPackage) → i < length packages → IsAt (enumerate_from 1 packages) (i + 1, get_or packages i d)
-package_at_index packages i d inside test =
-    let same : i + 1 ≡ 1 + i = omega arith in
-    ap (λ m. passes_at test m (enumerate_from 1 packages)) same ∙ at_index test 1 packages i d inside ∙ ap (λ m. test (m, get_or packages i d)) (sym same)
+package_at_index packages i d inside =
+    let same : 1 + i ≡ i + 1 = omega arith in
+    subst (λ m. at m (enumerate_from 1 packages) ≡ (m, get_or packages i d) ∷ []) same (one_at 1 packages i d inside)
 
 pub places-length : {A : Type 0} (n : ℕ) (xs : List A) → length (map (λ q. q.0) (enumerate_from n xs)) ≡ length xs
 places-length n [] = refl
@@ -102,8 +104,8 @@ left_first all ps i x known inside read =
     ∙ (λ j. own_clauses all (i + 1, read_is ps i x read j) ++ flat_map (own_clauses all) (drop (i + 1) (sym known j)))
 
 pub left_here : (all : List Placed) (ps : List Package) (i : ℕ) (x : Package) → all ≡ enumerate_from 1 (map package_view ps) → i < length ps → x ≡ get_or ps i x → IsAt all (i + 1, package_view x)
-left_here all ps i x known inside read test =
-    ap (passes_at test (i + 1)) known ∙ package_at_index (map package_view ps) i (package_view x) (within ps i inside) test ∙ ap (λ (p : PlainPackage). test (i + 1, p)) (read_is ps i x read)
+left_here all ps i x known inside read =
+    ap (at (i + 1)) known ∙ package_at_index (map package_view ps) i (package_view x) (within ps i inside) ∙ ap (λ (p : PlainPackage). let q : Placed = (i + 1, p) in q ∷ []) (read_is ps i x read)
 
 pub left_place : (places : ℕ) (all : List Placed) (ps : List Package) (i : ℕ) → all ≡ enumerate_from 1 (map package_view ps) → i < length ps → Fits places all → IsPlace places (i + 1)
 left_place places all ps i known inside fit = place_is places (map package_view ps) i (within ps i inside) (subst (Fits places) known fit)

@@ -9,7 +9,7 @@ use Rattle.cudf_job.specs.Keys.{PlainKey, package_key}
 use Rattle.cudf_lrat.specs.declared.literal.Literal.{Literal}
 use Rattle.cudf_lrat.specs.Literals.{IsWithin}
 use Rattle.cudf_referee.proofs.ListLemmas.{filter-both, filter-map}
-use Rattle.cudf_satisfiers.specs.Answers.{places_where}
+use Rattle.cudf_index.specs.Promises.Places.{places_where}
 use Rattle.cudf_cnf.specs.Cnf.{Keyed, conjunct_clauses, is_in, is_out, one_of}
 use Rattle.cudf_cnf.specs.Working.Parts.{ArePlaces, Fits, IsPlace}
 use Rattle.cudf_cnf.proofs.TestLemmas.{and-swap}
@@ -23,10 +23,6 @@ when (Err e) p f = p
 -- the same clauses, said otherwise
 pub put_as : {E : Type 0} (r : Result (Unit {0}) E) (new old xs ys : List Keyed) → xs ≡ ys → OnOk r (new ≡ old ++ xs) → OnOk r (new ≡ old ++ ys)
 put_as r new old xs ys same h = when r h (λ e. e ∙ ap (λ zs. old ++ zs) same)
-
--- a list that was emptied before something was added
-pub emptied : {A : Type 0} (xs ys zs : List A) → ys ≡ xs ++ zs → xs ≡ [] → ys ≡ zs
-emptied xs ys zs added empty = added ∙ ap (λ ws. ws ++ zs) empty
 
 -- ---- places
 
@@ -67,14 +63,9 @@ places_added places literals more ns own fit is =
 pub none_within : (places : ℕ) (literals : List Literal) → literals ≡ [] → All (IsWithin places) literals
 none_within places literals h = subst (λ (ls : List Literal). All (IsWithin places) ls) (sym h) (All-nil (IsWithin places))
 
--- places that a search added to none
-pub found_places : (places : ℕ) (test : Placed → Bool) (all : List Placed) (old new read : List ℕ) → Fits places all → new ≡ old ++ places_where test all → old ≡ [] → read ≡ new → ArePlaces places read
-found_places places test all old new read fit added empty is =
-    subst (λ (ns : List ℕ). ArePlaces places ns) (sym (is ∙ emptied old new (places_where test all) added empty)) (all_where (IsPlace places) test all fit)
-
--- what a search added to none
-pub found : (test : Placed → Bool) (all : List Placed) (old new read : List ℕ) → new ≡ old ++ places_where test all → old ≡ [] → read ≡ new → read ≡ places_where test all
-found test all old new read added empty is = is ∙ emptied old new (places_where test all) added empty
+-- places that were found
+pub found_places : (places : ℕ) (test : Placed → Bool) (all : List Placed) (found : List ℕ) → Fits places all → found ≡ places_where test all → ArePlaces places found
+found_places places test all found fit is = subst (λ (ns : List ℕ). ArePlaces places ns) (sym is) (all_where (IsPlace places) test all fit)
 
 pub one_put : {E : Type 0} (r : Result (Unit {0}) E) (new old : List Keyed) (key key' : PlainKey) (l l' : List Literal) → key ≡ key' → l ≡ l' → OnOk r (new ≡ old ++ (key, l) ∷ []) → OnOk r (new ≡ old ++ (key', l') ∷ [])
 one_put r new old key key' l l' key_is is = put_as r new old ((key, l) ∷ []) ((key', l') ∷ []) (λ i. (key_is i, is i) ∷ [])

@@ -9,6 +9,7 @@ use Rattle.cudf_problem.specs.declared.package.Keep.{Keep}
 use Rattle.cudf_problem.specs.declared.package.Keep.TheVariants.{Version, Package, Feature, Nothing}
 use Rattle.cudf_problem.specs.Universe.{PlainPackage, PlainProblem, PlainRequest}
 use Rattle.cudf_problem.proofs.ListLemmas.{list_any-map}
+use Rattle.cudf_index.specs.Promises.Places.{is_named}
 use Rattle.cudf_index.specs.Satisfaction.{Placed, meets_alone, numbers_of, satisfies, satisfies_clause, without, meets_clause_alone}
 use Rattle.cudf_index.proofs.SatisfactionLemmas.{member_alone}
 use Rattle.cudf_index.proofs.SearchLemmas.{list_any-filter}
@@ -21,8 +22,7 @@ use Rattle.cudf_referee.specs.Proposals.{Proposal, holds_place}
 use Rattle.cudf_referee.specs.Violations.{are_lower, are_many, entry_instances, has_package, is_violated, kept_instances, of_each}
 use Rattle.cudf_referee.specs.Working.RuleInstances.{conflicts_instance, depends_instance, install_instance, keep_instance, remove_instance}
 use Rattle.cudf_referee.proofs.StatusLemmas.{holds-filter}
-use Rattle.cudf_satisfiers.specs.Answers.{differ, is_named}
-use Rattle.cudf_cnf.specs.Cnf.{Keyed, conflict_clauses, conjunct_clauses, differing_clauses, entry_clauses, for_each, install_clauses, is_in, is_out, keep_clauses, lower_clauses, one_of, removal_clauses}
+use Rattle.cudf_cnf.specs.Cnf.{Keyed, conflict_clauses, conjunct_clauses, differ, differing_clauses, entry_clauses, for_each, install_clauses, is_in, is_out, keep_clauses, lower_clauses, one_of, removal_clauses}
 use Rattle.cudf_cnf.specs.Laws.{proposed}
 use Rattle.cudf_cnf.proofs.PairLemmas.{any_once, differ-swap, lower_any, many-pair, once-pair, pair-filter}
 use Rattle.cudf_cnf.proofs.TestLemmas.{IsOneOf, and-or, and-swap, and-true, list_any-and, list_any-flat, list_any-if, list_any-or, list_any-same, or-assoc, or-false, or-true}

@@ -1,14 +1,15 @@
 -- The rules of a problem as a CNF, over the places of its packages: a place is true where its package is installed. Own.
 -- A CNF clause rules out one instance of a rule, whose key is next to it. No variable is needed beside the packages: a
 -- status satisfies a vpkg or a clause of `depends` where one of its packages alone does, `true!` apart.
-use Rattle.std.specs.Prelude.{ℕ, Bool, true, false, ◌&&◌, nat_lt, List, [], ◌∷◌, ◌++◌, map, filter, Some, None, if◌then◌else◌}
-use Rattle.std.specs.List.{flat_map, enumerate_from}
+use Rattle.std.specs.Prelude.{ℕ, Bool, true, false, not, ◌&&◌, ◌==◌, nat_lt, List, [], ◌∷◌, ◌++◌, map, filter, Some, None, if◌then◌else◌}
+use Rattle.std.specs.List.{flat_map, list_any, enumerate_from}
 use Rattle.cudf_value.specs.Formulas.{PlainAtom}
 use Rattle.cudf_value.specs.Vpkgs.{PlainVpkg}
 use Rattle.cudf_problem.specs.declared.package.Keep.{Keep}
 use Rattle.cudf_problem.specs.declared.package.Keep.TheVariants.{Version, Package, Feature, Nothing}
 use Rattle.cudf_problem.specs.Statuses.{is_initial}
 use Rattle.cudf_problem.specs.Universe.{PlainProblem}
+use Rattle.cudf_index.specs.Promises.Places.{is_named}
 use Rattle.cudf_index.specs.Satisfaction.{Placed, meets_alone, members, numbers_of, without, meets_clause_alone}
 use Rattle.cudf_job.specs.declared.key.Rule.TheVariants as rule
 use Rattle.cudf_job.specs.declared.key.Aspect.TheVariants.{Unsatisfied, Many, Lower}
@@ -16,7 +17,6 @@ use Rattle.cudf_job.specs.Keys.{PlainKey, package_key, request_key}
 use Rattle.cudf_lrat.specs.declared.literal.Literal.{Literal}
 use Rattle.cudf_referee.specs.Proposals.{holds_place}
 use Rattle.cudf_referee.specs.Violations.{are_lower}
-use Rattle.cudf_satisfiers.specs.Answers.{differ, is_named}
 
 -- ---- what a CNF is made of
 
@@ -75,6 +75,10 @@ install_clauses all number v = (request_key rule.Install number None, one_of (me
 -- remove: none that alone satisfies the entry is
 abbrev pub removal_clauses : List Placed → ℕ → PlainVpkg → List Keyed
 removal_clauses all number v = map (λ q. (request_key rule.Remove number None, is_out q.0 ∷ [])) (filter (meets_alone v) all)
+
+-- two packages, or one with itself, give two different numbers of the name
+abbrev pub differ : List ℕ → Placed → Placed → Bool
+differ name p q = list_any (λ m. list_any (λ n. not (m == n)) (numbers_of name (q ∷ []))) (numbers_of name (p ∷ []))
 
 -- upgrade: of two packages that give two different numbers of the name one isn't installed; nor is one that does so alone
 abbrev pub differing_clauses : List Placed → ℕ → List ℕ → Placed → List Keyed

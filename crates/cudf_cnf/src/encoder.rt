@@ -1,12 +1,15 @@
 //! The CNF of a problem, put out in pieces.
+ghost use Rattle.std.specs.Prelude.{◌≡◌, IfOk};
+ghost use Rattle.std.specs.List.{enumerate_from};
+
 use crate::clauses::KeyedClauses;
 use crate::numbered::Numbered;
 use crate::packages::next_package;
 use crate::put::Scratch;
 use crate::request::{next_install, next_removal};
 use crate::upgrades::Upgrades;
-use cudf_problem::Problem;
-use cudf_satisfiers::Satisfiers;
+use cudf_index::Index;
+use cudf_problem::{Problem, Status};
 use std::alloc::{AllocError, Global};
 use std::marker::Model;
 
@@ -17,7 +20,8 @@ use std::marker::Model;
 #[derive(Drop)]
 pub struct Encoder<'p, 't> {
     problem: &'p Problem<'t>,
-    satisfiers: Satisfiers<'p, 't>,
+    /// All packages, installed or not.
+    all: Index<'p, 't>,
     /// The index of the next package.
     next: usize,
     install: Numbered<'t>,
@@ -37,14 +41,14 @@ impl<'p, 't> Model for Encoder<'p, 't> {
 
     ghost view = { λ e. record {
       places = length e.problem.now.packages;
-      left = packages_left e.satisfiers e.next ++ install_left e.satisfiers e.install ++ remove_left e.satisfiers e.remove ++ upgrade_left e.satisfiers e.upgrade;
+      left = packages_left e.all e.next ++ install_left e.all e.install ++ remove_left e.all e.remove ++ upgrade_left e.all e.upgrade;
     } };
 
-    ghost invariant = { λ e. (e.satisfiers ≡ enumerate_from 1 e.problem.now.packages) × (length e.problem.now.packages < 2 ^ 32) × AreHeld e.satisfiers e.upgrade.givers.items };
+    ghost invariant = { λ e. (e.all ≡ enumerate_from 1 e.problem.now.packages) × (length e.problem.now.packages < 2 ^ 32) × AreHeld e.all e.upgrade.givers.items };
 }
 
 impl<'p, 't> Encoder<'p, 't> {
-    ghost use Rattle.std.specs.Prelude.{◌≡◌, ◌<◌, ◌≤◌, ◌^◌, ◌++◌, IfOk, OnOk, length};
+    ghost use Rattle.std.specs.Prelude.{◌<◌, ◌≤◌, ◌^◌, ◌++◌, OnOk, length};
     ghost use Rattle.cudf_cnf.specs.Cnf.{cnf};
     ghost use Rattle.cudf_cnf.specs.Encodings.{Tells};
 
@@ -57,12 +61,12 @@ impl<'p, 't> Encoder<'p, 't> {
         requires { length problem.now.packages < 2 ^ 32 }
         ensures { IfOk result (λ encoder. encoder ≡ record { places = length problem.now.packages; left = cnf problem.now }) }
     {
-        let satisfiers = Satisfiers::build(alloc, problem)?;
-        let upgrade = Upgrades::of(alloc, problem)?;
+        let all = all_of(alloc, problem)?;
+        let upgrade = Upgrades::of(alloc, problem, &all)?;
         let request = problem.request();
         Ok(Encoder {
             problem,
-            satisfiers,
+            all,
             next: 0,
             install: Numbered::of(request.install),
             remove: Numbered::of(request.remove),
@@ -85,21 +89,27 @@ impl<'p, 't> Encoder<'p, 't> {
         ensures held { clauses.new.places ≡ clauses.old.places }
     {
         let scratch = &mut self.scratch;
-        if next_package(
-            self.problem,
-            &self.satisfiers,
-            &mut self.next,
-            scratch,
-            clauses,
-        )? {
+        if next_package(self.problem, &self.all, &mut self.next, scratch, clauses)? {
             return Ok(true);
         }
-        if next_install(&self.satisfiers, &mut self.install, scratch, clauses)? {
+        if next_install(&self.all, &mut self.install, scratch, clauses)? {
             return Ok(true);
         }
-        if next_removal(&self.satisfiers, &mut self.remove, scratch, clauses)? {
+        if next_removal(&self.all, &mut self.remove, scratch, clauses)? {
             return Ok(true);
         }
-        self.upgrade.next(&self.satisfiers, scratch, clauses)
+        self.upgrade.next(&self.all, scratch, clauses)
     }
+}
+
+/// The index of all packages, installed or not.
+fn all_of<'p, 't>(alloc: Global, problem: &'p Problem<'t>) -> Result<Index<'p, 't>, AllocError>
+    ensures { IfOk result (λ all. all ≡ enumerate_from 1 problem.now.packages) }
+{
+    let mut flags = Vec::new(alloc);
+    for _member in problem.packages() {
+        flags.push(true)?;
+    }
+    let everything = Status::from_flags(flags);
+    Index::build(alloc, problem, &everything)
 }

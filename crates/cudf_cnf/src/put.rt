@@ -8,9 +8,9 @@ ghost use Rattle.cudf_cnf.specs.Cnf.{is_in, is_out, one_of};
 ghost use Rattle.cudf_cnf.specs.Working.Parts.{ArePlaces, Fits};
 
 use crate::clauses::KeyedClauses;
+use cudf_index::Index;
 use cudf_job::Key;
 use cudf_lrat::Literal;
-use cudf_satisfiers::Satisfiers;
 use cudf_value::Vpkg;
 use std::alloc::{AllocError, Global};
 
@@ -116,18 +116,17 @@ pub(crate) fn put_pairs_out(
 
 /// Puts the clause that one of the packages is installed that alone satisfy the vpkg.
 pub(crate) fn put_meeting(
-    satisfiers: &Satisfiers<'_, '_>,
+    all: &Index<'_, '_>,
     key: Key,
     vpkg: &Vpkg<'_>,
     scratch: &mut Scratch,
     clauses: &mut KeyedClauses,
 ) -> Result<(), AllocError>
-    requires { Fits clauses.old.places satisfiers.now }
-    ensures put { OnOk result (clauses.new.clauses ≡ clauses.old.clauses ++ (key_view key, one_of (meets_alone (vpkg_view vpkg.now)) satisfiers.now) ∷ []) }
+    requires { Fits clauses.old.places all.now }
+    ensures put { OnOk result (clauses.new.clauses ≡ clauses.old.clauses ++ (key_view key, one_of (meets_alone (vpkg_view vpkg.now)) all.now) ∷ []) }
     ensures places { clauses.new.places ≡ clauses.old.places }
 {
-    scratch.places.clear();
-    satisfiers.satisfying(vpkg, &mut scratch.places)?;
+    all.all_meeting(vpkg, &mut scratch.places)?;
     scratch.literals.clear();
     put_one_of(clauses, key, &mut scratch.literals, &scratch.places)
 }

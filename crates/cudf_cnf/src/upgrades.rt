@@ -7,9 +7,9 @@ use crate::clauses::KeyedClauses;
 use crate::numbered::{Entry, Numbered};
 use crate::put::{Scratch, put_meeting};
 use crate::request::key_of;
+use cudf_index::Index;
 use cudf_job::{Aspect, Rule};
 use cudf_problem::Problem;
-use cudf_satisfiers::Satisfiers;
 use differing::{gather, next_differing, put_lower};
 use knowing::known_of;
 use known::Known;
@@ -40,12 +40,17 @@ impl<'t> Upgrades<'t> {
     ghost use Rattle.cudf_cnf.specs.Working.Views.{Goes, upgrade_left};
 
     /// All entries of the problem's `upgrade`.
-    pub(crate) fn of(alloc: Global, problem: &Problem<'t>) -> Result<Self, AllocError>
+    pub(crate) fn of(
+        alloc: Global,
+        problem: &Problem<'t>,
+        all: &Index<'_, '_>,
+    ) -> Result<Self, AllocError>
+        requires { all.now ≡ enumerate_from 1 problem.now.packages }
         ensures left { IfOk result (λ u. upgrade_left (enumerate_from 1 problem.now.packages) u
             ≡ for_each (entry_clauses (enumerate_from 1 problem.now.packages) (members (is_initial problem.now) problem.now.packages)) problem.now.request.upgrade) }
         ensures givers { IfOk result (λ u. u.givers.items ≡ []) }
     {
-        let known = known_of(alloc, problem)?;
+        let known = known_of(alloc, problem, all)?;
         Ok(Upgrades {
             entries: Numbered::of(problem.request().upgrade),
             known,
@@ -69,24 +74,24 @@ impl<'t> Upgrades<'t> {
     /// Puts the clause of the next entry that it be satisfied, and begins it; whether there was one.
     fn begin(
         &mut self,
-        satisfiers: &Satisfiers<'_, '_>,
+        all: &Index<'_, '_>,
         scratch: &mut Scratch,
         clauses: &mut KeyedClauses,
     ) -> Result<bool, AllocError>
-        requires fits { Fits clauses.old.places satisfiers.now }
-        requires held { AreHeld satisfiers.now self.old.givers.items }
+        requires fits { Fits clauses.old.places all.now }
+        requires held { AreHeld all.now self.old.givers.items }
         requires none { self.old.begun ≡ None }
-        ensures goes { IfOk result (λ more. Goes more (upgrade_left satisfiers.now self.old) clauses.old (upgrade_left satisfiers.now self.new) clauses.new) }
-        ensures held { AreHeld satisfiers.now self.new.givers.items }
+        ensures goes { IfOk result (λ more. Goes more (upgrade_left all.now self.old) clauses.old (upgrade_left all.now self.new) clauses.new) }
+        ensures held { AreHeld all.now self.new.givers.items }
         ensures places { clauses.new.places ≡ clauses.old.places }
     {
         let Some(entry) = self.entries.next() else {
             return Ok(false);
         };
         let key = key_of(Rule::Upgrade, entry.number, Some(Aspect::Unsatisfied));
-        put_meeting(satisfiers, key, &entry.vpkg, scratch, clauses)?;
+        put_meeting(all, key, &entry.vpkg, scratch, clauses)?;
         let several = self.known(entry.number).several;
-        gather(satisfiers, entry.vpkg.name, several, &mut self.givers)?;
+        gather(all, entry.vpkg.name, several, &mut self.givers)?;
         self.next = 0;
         self.begun = Some(entry);
         Ok(true)
@@ -96,51 +101,44 @@ impl<'t> Upgrades<'t> {
     fn go_on(
         &mut self,
         entry: Entry<'t>,
-        satisfiers: &Satisfiers<'_, '_>,
+        all: &Index<'_, '_>,
         scratch: &mut Scratch,
         clauses: &mut KeyedClauses,
     ) -> Result<bool, AllocError>
-        requires fits { Fits clauses.old.places satisfiers.now }
-        requires held { AreHeld satisfiers.now self.old.givers.items }
+        requires fits { Fits clauses.old.places all.now }
+        requires held { AreHeld all.now self.old.givers.items }
         requires begun { self.old.begun ≡ Some entry }
-        ensures goes { IfOk result (λ more. Goes more (upgrade_left satisfiers.now self.old) clauses.old (upgrade_left satisfiers.now self.new) clauses.new) }
-        ensures held { AreHeld satisfiers.now self.new.givers.items }
+        ensures goes { IfOk result (λ more. Goes more (upgrade_left all.now self.old) clauses.old (upgrade_left all.now self.new) clauses.new) }
+        ensures held { AreHeld all.now self.new.givers.items }
         ensures places { clauses.new.places ≡ clauses.old.places }
     {
-        if next_differing(
-            satisfiers,
-            entry,
-            &self.givers,
-            &mut self.next,
-            scratch,
-            clauses,
-        )? {
+        if next_differing(all, entry, &self.givers, &mut self.next, scratch, clauses)? {
             return Ok(true);
         }
         self.begun = None;
         let floor = self.known(entry.number).floor;
-        if put_lower(satisfiers, entry, floor, scratch, clauses)? {
+        if put_lower(all, entry, floor, scratch, clauses)? {
             return Ok(true);
         }
-        self.begin(satisfiers, scratch, clauses)
+        self.begin(all, scratch, clauses)
     }
 
     /// Puts the next clauses; whether there are some.
     pub(crate) fn next(
         &mut self,
-        satisfiers: &Satisfiers<'_, '_>,
+        all: &Index<'_, '_>,
         scratch: &mut Scratch,
         clauses: &mut KeyedClauses,
     ) -> Result<bool, AllocError>
-        requires fits { Fits clauses.old.places satisfiers.now }
-        requires held { AreHeld satisfiers.now self.old.givers.items }
-        ensures goes { IfOk result (λ more. Goes more (upgrade_left satisfiers.now self.old) clauses.old (upgrade_left satisfiers.now self.new) clauses.new) }
-        ensures held { AreHeld satisfiers.now self.new.givers.items }
+        requires fits { Fits clauses.old.places all.now }
+        requires held { AreHeld all.now self.old.givers.items }
+        ensures goes { IfOk result (λ more. Goes more (upgrade_left all.now self.old) clauses.old (upgrade_left all.now self.new) clauses.new) }
+        ensures held { AreHeld all.now self.new.givers.items }
         ensures places { clauses.new.places ≡ clauses.old.places }
     {
         match self.begun {
-            Some(entry) => self.go_on(entry, satisfiers, scratch, clauses),
-            None => self.begin(satisfiers, scratch, clauses),
+            Some(entry) => self.go_on(entry, all, scratch, clauses),
+            None => self.begin(all, scratch, clauses),
         }
     }
 }

@@ -1,5 +1,5 @@
 -- Counts of what a status gives, and of what it gives without one package.
-use Rattle.std.proofs.Common.{◌≡◌, ℕ, ◌+◌, ◌<◌, ◌≤◌, zero, suc, Bool, true, false, not, cond, ◌||◌, ◌&&◌, ◌==◌, List, [], ◌∷◌, length, get_or, map, Option, Some, None, refl, sym, ap, ◌∙◌, arith, nat_lt, bytes_eq, subst, Bor}
+use Rattle.std.proofs.Common.{◌≡◌, ℕ, ◌+◌, ◌<◌, ◌≤◌, zero, suc, Bool, true, false, not, cond, ◌||◌, ◌&&◌, ◌==◌, List, [], ◌∷◌, ◌++◌, length, get_or, map, Option, Some, None, refl, sym, ap, ◌∙◌, arith, nat_lt, bytes_eq, subst, Bor}
 use Rattle.std.specs.Prelude.{filter, filter_map, find, option_map, slice_get, if◌then◌else◌}
 use Rattle.std.specs.Option.{option_map_or, is_some, IfSome}
 use Rattle.std.proofs.lemmas.Option.{slice_get_past, slice_get_read}
@@ -13,6 +13,7 @@ use Rattle.cudf_value.specs.Vpkgs.{PlainVpkg, meets}
 use Rattle.cudf_index.specs.declared.index.entries.Entries.{Entries}
 use Rattle.cudf_index.specs.Working.Kept.{Keeps, kept_numbers, kept_unversioned, is_met_by_entry, gives_all_of}
 use Rattle.cudf_problem.specs.Universe.{PlainPackage}
+use Rattle.cudf_index.specs.Promises.Places.{at}
 use Rattle.cudf_index.specs.Satisfaction.{Placed, entry_pair, members, without, gives, gives_all_versions, package_pairs, unversioned_name, numbers_of, is_met_by, is_below_one, satisfies, meets_alone}
 use Rattle.cudf_problem.specs.Ids.{Id}
 use Rattle.cudf_index.proofs.SatisfactionLemmas.{member_alone}
@@ -203,3 +204,26 @@ pairs_counted v own es =
 
 pub names_counted : (name : List ℕ) (es : List PlainVpkg) → count_by (λ given. bytes_eq given name) (filter_map unversioned_name es) ≡ count_by (gives_all_of name) es
 names_counted name es = count-filter_map (λ given. bytes_eq given name) unversioned_name es
+
+-- ---- the package at a place alone
+
+split_there : {Y : Type 0} (g : Placed → List Y) (p : Y → Bool) (place : ℕ) (status : List Placed) → count_by p (flat_map g status) ≡ count_by p (flat_map g (without place status)) + count_by p (flat_map g (at place status))
+split_there g p place [] = refl
+split_there g p place (q ∷ qs) = by (q.0 == place) (split_there g p place qs)
+  where
+    by : (b : Bool) → count_by p (flat_map g qs) ≡ count_by p (flat_map g (without place qs)) + count_by p (flat_map g (at place qs))
+        → count_by p (g q ++ flat_map g qs) ≡ count_by p (flat_map g (cond (not b) (q ∷ without place qs) (without place qs))) + count_by p (flat_map g (cond b (q ∷ at place qs) (at place qs)))
+    by true rest = omega (arith, rest, count-append p (g q) (flat_map g qs), count-append p (g q) (flat_map g (at place qs)))
+    by false rest = omega (arith, rest, count-append p (g q) (flat_map g qs), count-append p (g q) (flat_map g (without place qs)))
+
+-- how many of the entries are its own tells whether it satisfies the vpkg
+pub satisfies_own : (v : PlainVpkg) (place : ℕ) (status : List Placed) (numbers names : ℕ)
+    → count_by (meets v.bound) (numbers_of v.name status) ≡ count_by (meets v.bound) (numbers_of v.name (without place status)) + numbers
+    → count_by (λ given. bytes_eq given v.name) (gives_all_versions status) ≡ count_by (λ given. bytes_eq given v.name) (gives_all_versions (without place status)) + names
+    → satisfies (at place status) v ≡ (nat_lt 0 numbers || (nat_lt 0 names && not (is_below_one v.bound)))
+satisfies_own v place status numbers names numbers_are names_are =
+    let pairs_split = split_there (λ q. package_pairs q.1) (is_met_by v) place status in
+    let names_split = split_there (λ q. filter_map unversioned_name q.1.provides) (λ given. bytes_eq given v.name) place status in
+    let same_numbers : count_by (meets v.bound) (numbers_of v.name (at place status)) ≡ numbers = omega (arith, numbers_are, pairs_split, count-numbers v status, count-numbers v (without place status), count-numbers v (at place status)) in
+    let same_names : count_by (λ given. bytes_eq given v.name) (gives_all_versions (at place status)) ≡ names = omega (arith, names_are, names_split) in
+    satisfies-counted (at place status) v ∙ (λ i. nat_lt 0 (same_numbers i) || (nat_lt 0 (same_names i) && not (is_below_one v.bound)))

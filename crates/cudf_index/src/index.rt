@@ -8,7 +8,7 @@ ghost use Rattle.cudf_value.specs.Vpkgs.{meets};
 ghost use Rattle.cudf_index.specs.Promises.Prices.{digits, search_cost, atom_cost, atom_lookups, clause_cost, clause_lookups, own_cost};
 ghost use Rattle.cudf_index.specs.Satisfaction.{members, satisfies, satisfies_atom, satisfies_clause, without, meets_alone, first_meeting, first_named, numbers_of, gives_all_versions};
 ghost use Rattle.cudf_index.specs.Promises.Members.{IsLeast, IsGreatest, other_than};
-ghost use Rattle.cudf_index.specs.Promises.Places.{places_where, is_named, gives_number};
+ghost use Rattle.cudf_index.specs.Promises.Places.{places_where, is_named, gives_number, numbers_at};
 ghost use Rattle.cudf_index.specs.Working.Gathering.{row_of, given_of, AreFilled};
 ghost use Rattle.cudf_index.specs.Working.Kept.{Keeps};
 ghost use Rattle.cudf_index.specs.Working.Members.{member_view};
@@ -201,6 +201,21 @@ impl<'p, 't> Index<'p, 't> {
         ensures { IsGreatest (numbers_of name.now self.now) result }
     {
         self.greatest_counting(name, &mut Steps::new())
+    }
+
+    /// The least number that the package at this place gives of the name, as its version or by a versioned feature.
+    /// `None` where it gives none, or the status doesn't hold the place.
+    pub fn least_at(&self, name: &str, place: u64) -> Option<u64>
+        ensures { IsLeast (numbers_at name.now place self.now) result }
+    {
+        let _ = &self.problem;
+        if let Some(share) = self.share(place) {
+            return share.least(name);
+        }
+        match self.member(place) {
+            Some(member) => member.least(name),
+            None => None,
+        }
     }
 
     /// Whether a package of the status has this name; features don't count.

@@ -1,7 +1,5 @@
 //! How it becomes known.
 ghost use Rattle.std.specs.Prelude.{◌≡◌, IfOk};
-ghost use Rattle.std.specs.FinSet as set;
-ghost use Rattle.std.specs.List.{enumerate_from};
 ghost use Rattle.cudf_value.specs.Promises.Views.{list_view};
 ghost use Rattle.cudf_problem.specs.Statuses.{is_initial};
 ghost use Rattle.cudf_index.specs.Satisfaction.{members, numbers_of};
@@ -10,20 +8,9 @@ ghost use Rattle.cudf_cnf.specs.Working.Known.{AreKnown};
 
 use crate::upgrades::known::Known;
 use cudf_index::Index;
-use cudf_problem::{Problem, Status, initial};
+use cudf_problem::{Problem, initial};
 use cudf_value::VpkgList;
 use std::alloc::{AllocError, Global};
-
-/// The status that installs each package.
-fn everything(alloc: Global, problem: &Problem<'_>) -> Result<Status, AllocError>
-    ensures { IfOk result (λ s. members (set.contains s) problem.now.packages ≡ enumerate_from 1 problem.now.packages) }
-{
-    let mut flags = Vec::new(alloc);
-    for _member in problem.packages() {
-        flags.push(true)?;
-    }
-    Ok(Status::from_flags(flags))
-}
 
 /// Whether the status gives two different numbers of the name.
 fn has_several(all: &Index<'_, '_>, name: &str) -> bool
@@ -56,10 +43,14 @@ fn known_by(
     Ok(known)
 }
 
-/// What is known of the name of each entry of `upgrade`. Where there is no entry, no package is looked at. So that names
-/// of which nothing differs cost nothing, however many packages give them, all packages are indexed once.
-pub(super) fn known_of(alloc: Global, problem: &Problem<'_>) -> Result<Vec<Known>, AllocError>
-    ensures { IfOk result (λ known. AreKnown (members (is_initial problem.now) problem.now.packages) (enumerate_from 1 problem.now.packages) problem.now.request.upgrade known.items) }
+/// What is known of the name of each entry of `upgrade`. Where there is no entry, the status before isn't looked at. So names
+/// of which nothing differs cost nothing, however many packages give them.
+pub(super) fn known_of(
+    alloc: Global,
+    problem: &Problem<'_>,
+    all: &Index<'_, '_>,
+) -> Result<Vec<Known>, AllocError>
+    ensures { IfOk result (λ known. AreKnown (members (is_initial problem.now) problem.now.packages) all.now problem.now.request.upgrade known.items) }
 {
     let upgrade = problem.request().upgrade;
     if upgrade.len() == 0 {
@@ -67,7 +58,5 @@ pub(super) fn known_of(alloc: Global, problem: &Problem<'_>) -> Result<Vec<Known
     }
     let installed = initial(alloc, problem)?;
     let before = Index::build(alloc, problem, &installed)?;
-    let every = everything(alloc, problem)?;
-    let all = Index::build(alloc, problem, &every)?;
-    known_by(alloc, &before, &all, upgrade)
+    known_by(alloc, &before, all, upgrade)
 }

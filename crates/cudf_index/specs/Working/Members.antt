@@ -1,5 +1,5 @@
 -- How an index keeps the packages of a status (own).
-use Rattle.std.specs.Prelude.{ℕ, Bool, true, not, ◌&&◌, ◌==◌, bytes_eq, Option, Some, None}
+use Rattle.std.specs.Prelude.{ℕ, Bool, true, not, ◌&&◌, ◌==◌, List, min, bytes_eq, Option, Some, None, if◌then◌else◌}
 use Rattle.cudf_value.specs.declared.relop.Relop.{Relop}
 use Rattle.cudf_value.specs.Vpkgs.{PlainVpkg, meets}
 use Rattle.cudf_problem.specs.Promises.Views.{package_view}
@@ -23,3 +23,17 @@ entry_meets v entry = bytes_eq entry.name v.name && provision_meets v.bound entr
 abbrev pub is_other : Option ℕ → ℕ → Bool
 is_other None place = true
 is_other (Some named) place = not (place == named)
+
+-- ---- the least number of a package
+
+abbrev pub lesser : Option ℕ → ℕ → Option ℕ
+lesser None n = Some n
+lesser (Some m) n = Some (min m n)
+
+abbrev pub lesser_if : Bool → Option ℕ → Option (Relop × ℕ) → Option ℕ
+lesser_if same least None = least
+lesser_if same least (Some given) = if same then lesser least given.1 else least
+
+-- the lesser of the number, if there is one, and that which the entry gives of the name
+abbrev pub lesser_of : List ℕ → Option ℕ → PlainVpkg → Option ℕ
+lesser_of name least entry = lesser_if (bytes_eq entry.name name) least entry.bound

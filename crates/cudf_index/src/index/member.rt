@@ -1,10 +1,11 @@
 //! A package of a status.
-ghost use Rattle.std.specs.Prelude.{◌≡◌, ◌≤◌, ◌^◌, bytes_eq, filter_map};
-ghost use Rattle.std.specs.List.{count_by};
+ghost use Rattle.std.specs.Prelude.{◌≡◌, ◌≤◌, ◌^◌, [], ◌∷◌, bytes_eq, filter_map};
+ghost use Rattle.std.specs.List.{count_by, fold};
 ghost use Rattle.cudf_value.specs.Promises.Views.{vpkg_view, list_view};
-ghost use Rattle.cudf_index.specs.Satisfaction.{package_pairs, unversioned_name, is_met_by};
+ghost use Rattle.cudf_index.specs.Promises.Members.{IsLeast};
+ghost use Rattle.cudf_index.specs.Satisfaction.{package_pairs, unversioned_name, is_met_by, numbers_of};
 ghost use Rattle.cudf_index.specs.Working.Kept.{is_met_by_entry, gives_all_of};
-ghost use Rattle.cudf_index.specs.Working.Members.{member_view};
+ghost use Rattle.cudf_index.specs.Working.Members.{lesser_of, member_view};
 
 use cudf_problem::Package;
 use cudf_value::{Vpkg, VpkgList, meets};
@@ -34,6 +35,17 @@ impl Member<'_, '_> {
         ensures { result ≡ count_by (λ given. bytes_eq given name.now) (filter_map unversioned_name (member_view self.now).1.provides) }
     {
         unversioned(self.package.provides, name)
+    }
+
+    /// The least number that the package gives of the name.
+    pub(crate) fn least(&self, name: &str) -> Option<u64>
+        ensures { IsLeast (numbers_of name.now (member_view self.now ∷ [])) result }
+    {
+        let entries = self.package.provides;
+        if self.package.name == name {
+            return least_given(Some(self.package.version), entries, name);
+        }
+        least_given(None, entries, name)
     }
 
     /// Whether the package's name and version meet the vpkg.
@@ -69,6 +81,33 @@ fn unversioned(entries: VpkgList<'_>, name: &str) -> usize
         }
     }
     count
+}
+
+/// The least of this number, if there is one, and those that the entries give of the name.
+fn least_given(first: Option<u64>, entries: VpkgList<'_>, name: &str) -> Option<u64>
+    ensures { result ≡ fold (lesser_of name.now) first (list_view entries.entry) }
+{
+    let mut least = first;
+    for entry in entries.vpkgs() {
+        least = lesser_of(least, &entry, name);
+    }
+    least
+}
+
+/// The lesser of this number, if there is one, and that which the entry gives of the name.
+fn lesser_of(least: Option<u64>, entry: &Vpkg<'_>, name: &str) -> Option<u64>
+    ensures { result ≡ lesser_of name.now least (vpkg_view entry.now) }
+{
+    let Some((_, number)) = entry.bound else {
+        return least;
+    };
+    if entry.name != name {
+        return least;
+    }
+    match least {
+        Some(least) => Some(least.min(number)),
+        None => Some(number),
+    }
 }
 
 fn is_met_by_entry(entry: &Vpkg<'_>, vpkg: &Vpkg<'_>) -> bool

@@ -4,7 +4,8 @@ ghost use Rattle.std.specs.List.{count_by};
 ghost use Rattle.std.specs.FinSet as set;
 ghost use Rattle.cudf_value.specs.Promises.Views.{vpkg_view};
 ghost use Rattle.cudf_index.specs.Promises.Prices.{own_entries};
-ghost use Rattle.cudf_index.specs.Satisfaction.{members, is_met_by, package_pairs, unversioned_name};
+ghost use Rattle.cudf_index.specs.Promises.Members.{IsLeast};
+ghost use Rattle.cudf_index.specs.Satisfaction.{members, is_met_by, numbers_of, package_pairs, unversioned_name};
 ghost use Rattle.cudf_index.specs.Working.Kept.{Keeps};
 ghost use Rattle.cudf_index.specs.Working.Members.{member_view};
 ghost use Rattle.cudf_index.specs.Working.Shares.{GivesMuch, AreShares};
@@ -85,6 +86,16 @@ impl<'p, 't> Share<'p, 't> {
                 unversioned: entries.unversioned,
             },
             None => Met::none(),
+        }
+    }
+
+    /// The least number that the package gives of the name.
+    pub(crate) fn least(&self, name: &str) -> Option<u64>
+        ensures { IsLeast (numbers_of name.now (self.now ∷ [])) result }
+    {
+        match self.kept(name) {
+            Some(entries) => entries.numbers.least(&mut Steps::new()),
+            None => None,
         }
     }
 

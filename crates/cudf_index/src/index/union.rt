@@ -1,14 +1,16 @@
-//! All packages of a status that satisfy a clause.
+//! All packages of a status that alone satisfy a clause, and whether one does.
 ghost use Rattle.std.specs.Prelude.{◌≡◌, ◌++◌, map, OnOk};
 ghost use Rattle.std.specs.List.Sorted.{IsStrictlyIncreasing};
-ghost use Rattle.cudf_value.specs.Promises.Views.{atom_view, clause_view};
-ghost use Rattle.cudf_index.specs.Promises.Places.{places_where};
-ghost use Rattle.cudf_index.specs.Satisfaction.{meets_clause_alone};
+ghost use Rattle.cudf_value.specs.Promises.Views.{atom_view, clause_view, vpkg_view};
+ghost use Rattle.cudf_index.specs.Promises.Places.{at, places_where};
+ghost use Rattle.cudf_index.specs.Satisfaction.{meets_clause_alone, satisfies, satisfies_atom, satisfies_clause};
 ghost use Rattle.cudf_index.specs.Working.Places.{Adds, HoldsSame, meets_atom_alone};
 
 use crate::index::Index;
+use crate::index::entries::is_below_one;
 use crate::index::wanted::Wanted;
-use cudf_value::{Atom, Clause};
+use crate::steps::Steps;
+use cudf_value::{Atom, Clause, Vpkg};
 use std::alloc::AllocError;
 
 impl<'p, 't> Index<'p, 't> {
@@ -32,6 +34,36 @@ impl<'p, 't> Index<'p, 't> {
         }
         make_unique(places);
         Ok(())
+    }
+
+    /// Whether the package at this place alone satisfies the clause; where the status doesn't hold the place, whether one of
+    /// its atoms is `true!`.
+    pub fn satisfies_clause_at(&self, clause: &Clause<'_>, place: u64) -> bool
+        ensures { result ≡ satisfies_clause (at place self.now) (clause_view clause.now) }
+    {
+        for atom in clause.atoms() {
+            if self.satisfies_atom_at(&atom, place) {
+                return true;
+            }
+        }
+        false
+    }
+
+    fn satisfies_atom_at(&self, atom: &Atom<'_>, place: u64) -> bool
+        ensures { result ≡ satisfies_atom (at place self.now) (atom_view atom.now) }
+    {
+        match atom {
+            Atom::Yes => true,
+            Atom::No => false,
+            Atom::Is(vpkg) => self.satisfies_at(vpkg, place),
+        }
+    }
+
+    fn satisfies_at(&self, vpkg: &Vpkg<'_>, place: u64) -> bool
+        ensures { result ≡ satisfies (at place self.now) (vpkg_view vpkg.now) }
+    {
+        let own = self.own(vpkg, place, &mut Steps::new());
+        own.numbers > 0 || (own.unversioned > 0 && !is_below_one(vpkg.bound))
     }
 
     /// Puts the places of all packages that alone satisfy the atom among the others, in any order and with repeats.

@@ -13,16 +13,16 @@ pub put_package-requires-clause-place : goal.put_package-requires-clause-place
 put_package-requires-clause-place c =
     let known = c.requires.all ∙ ap (λ (ps : List PlainPackage). enumerate_from 1 ps) (sym c.packages-packages.ensures.packages) in
     subst (λ (h : PlainKeyedClauses). IsPlace h.places (c.loop-index.index + 1)) (sym c.loop-index.invariant.held)
-    (left_place c.args.clauses.now.places c.args.satisfiers.now c.packages-packages.result.now c.loop-index.index known c.loop-index-test.true c.requires.fits)
+    (left_place c.args.clauses.now.places c.args.all.now c.packages-packages.result.now c.loop-index.index known c.loop-index-test.true c.requires.fits)
 
 pub put_package-requires-clause-here : goal.put_package-requires-clause-here
 put_package-requires-clause-here c =
     let known = c.requires.all ∙ ap (λ (ps : List PlainPackage). enumerate_from 1 ps) (sym c.packages-packages.ensures.packages) in
-    left_here c.args.satisfiers.now c.packages-packages.result.now c.loop-index.index c.index-packages-index.result known c.loop-index-test.true c.index-packages-index.is
+    left_here c.args.all.now c.packages-packages.result.now c.loop-index.index c.index-packages-index.result known c.loop-index-test.true c.index-packages-index.is
 
 pub returns-then-len-before-clause-goes : goal.returns-then-len-before-clause-goes
 returns-then-len-before-clause-goes c =
-    let all = c.args.satisfiers.now in
+    let all = c.args.all.now in
     let i = c.loop-index.index in
     let x = c.index-packages-index.result in
     let known = c.requires.all ∙ ap (λ (ps : List PlainPackage). enumerate_from 1 ps) (sym c.packages-packages.ensures.packages) in
@@ -32,7 +32,7 @@ returns-then-len-before-clause-goes c =
 
 pub loop-index-preserved : goal.loop-index-preserved
 loop-index-preserved c =
-    let all = c.args.satisfiers.now in
+    let all = c.args.all.now in
     let i = c.loop-index.index in
     let x = c.index-packages-index.result in
     let known = c.requires.all ∙ ap (λ (ps : List PlainPackage). enumerate_from 1 ps) (sym c.packages-packages.ensures.packages) in
@@ -47,5 +47,5 @@ loop-index-preserved c =
 pub returns-clause-goes : goal.returns-clause-goes
 returns-clause-goes c =
     let known = c.requires.all ∙ ap (λ (ps : List PlainPackage). enumerate_from 1 ps) (sym c.packages-packages.ensures.packages) in
-    let none = left_none c.args.satisfiers.now c.packages-packages.result.now c.loop-index.index known c.loop-index-test.false in
+    let none = left_none c.args.all.now c.packages-packages.result.now c.loop-index.index known c.loop-index-test.false in
     (sym c.loop-index.invariant.left ∙ none, none, c.loop-index.invariant.held)

@@ -7,7 +7,7 @@ use Rattle.cudf_cnf.proofs.packages.put_depends.Given as goal
 
 abbrev pub invariant-loop-clause : goal.invariant-loop-clause
 invariant-loop-clause l = record {
-  put : l.clauses.clauses ++ flat_map (λ e. conjunct_clauses l.satisfiers (l.place, package_view l.«package») e.0 e.1) (enumerate_from (l.number + 1) (clauses_view l.clause-iterator)) ≡ l.initial.clauses.clauses ++ for_each (conjunct_clauses l.satisfiers (l.place, package_view l.«package»)) (package_view l.«package»).depends;
+  put : l.clauses.clauses ++ flat_map (λ e. conjunct_clauses l.all (l.place, package_view l.«package») e.0 e.1) (enumerate_from (l.number + 1) (clauses_view l.clause-iterator)) ≡ l.initial.clauses.clauses ++ for_each (conjunct_clauses l.all (l.place, package_view l.«package»)) (package_view l.«package»).depends;
   places : l.clauses.places ≡ l.initial.clauses.places;
   fits : l.number + length (clauses_view l.clause-iterator) ≤ 2 ^ 63;
 }

@@ -11,6 +11,6 @@ use Rattle.cudf_cnf.proofs.packages.put_features.Given as goal
 
 abbrev pub invariant-loop-entry : goal.invariant-loop-entry
 invariant-loop-entry l = record {
-  put : l.clauses.clauses ++ flat_map (λ e. (package_key l.place rule.Keep e.0, one_of (meets_alone e.1) l.satisfiers) ∷ []) (numbered_view l.entry-iterator) ≡ l.initial.clauses.clauses ++ keep_clauses l.satisfiers Feature (l.place, package_view l.«package»);
+  put : l.clauses.clauses ++ flat_map (λ e. (package_key l.place rule.Keep e.0, one_of (meets_alone e.1) l.all) ∷ []) (numbered_view l.entry-iterator) ≡ l.initial.clauses.clauses ++ keep_clauses l.all Feature (l.place, package_view l.«package»);
   places : l.clauses.places ≡ l.initial.clauses.places;
 }

@@ -1,18 +1,17 @@
 use Rattle.std.proofs.Common.{refl, ◌++◌, map, ◌∙◌}
 use Rattle.cudf_job.specs.KeyViews.{key_view}
-use Rattle.cudf_satisfiers.specs.Answers.{is_named}
+use Rattle.cudf_index.specs.Promises.Places.{is_named}
 use Rattle.cudf_cnf.specs.Cnf.{is_in, one_of}
-use Rattle.cudf_cnf.proofs.PlaceLemmas.{found, found_places, one_of-where, one_put}
+use Rattle.cudf_cnf.proofs.PlaceLemmas.{found_places, one_of-where, one_put}
 use Rattle.cudf_cnf.proofs.packages.put_named.Goals as goal
 
 pub put_one_of-requires-clause-places : goal.put_one_of-requires-clause-places
 put_one_of-requires-clause-places c =
-    found_places c.args.clauses.now.places (is_named c.args.name.now) c.args.satisfiers.now c.clear.new.self.items c.named.new.places.items c.deref.result.now c.requires c.in_ok-named.ensures.added c.clear.ensures.items c.deref.ensures.value
+    found_places c.args.clauses.now.places (is_named c.args.name.now) c.args.all.now c.deref.result.now c.requires (c.deref.ensures.value ∙ c.in_ok-all_named.ensures)
 
 pub returns-clause-put : goal.returns-clause-put
 returns-clause-put c =
     let test = is_named c.args.name.now in
-    let all = c.args.satisfiers.now in
-    let read = found test all c.clear.new.self.items c.named.new.places.items c.deref.result.now c.in_ok-named.ensures.added c.clear.ensures.items c.deref.ensures.value in
-    one_put c.put_one_of.result c.put_one_of.new.clauses.clauses c.args.clauses.now.clauses (key_view c.args.key) (key_view c.args.key) (c.clear-2.new.self.items ++ map is_in c.deref.result.now) (one_of test all)
-    refl ((λ i. c.clear-2.ensures.items i ++ map is_in (read i)) ∙ one_of-where test all) c.put_one_of.ensures.put
+    let all = c.args.all.now in
+    one_put c.put_one_of.result c.put_one_of.new.clauses.clauses c.args.clauses.now.clauses (key_view c.args.key) (key_view c.args.key) (c.clear.new.self.items ++ map is_in c.deref.result.now) (one_of test all)
+    refl ((λ i. c.clear.ensures.items i ++ map is_in ((c.deref.ensures.value ∙ c.in_ok-all_named.ensures) i)) ∙ one_of-where test all) c.put_one_of.ensures.put

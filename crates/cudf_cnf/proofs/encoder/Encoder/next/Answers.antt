@@ -7,31 +7,31 @@ use Rattle.cudf_cnf.proofs.encoder.Encoder.next.Goals as goal
 
 pub next_package-requires-clause-fits : goal.next_package-requires-clause-fits
 next_package-requires-clause-fits c =
-    problem_fits c.args.clauses.now.places c.self.inside.problem.now.packages c.self.inside.satisfiers c.self.invariant.0 c.self.invariant.1
+    problem_fits c.args.clauses.now.places c.self.inside.problem.now.packages c.self.inside.all c.self.invariant.0 c.self.invariant.1
     (subst (λ (e : PlainEncoder). e.places ≤ c.args.clauses.now.places) (sym c.self.view_is) c.requires)
 
 pub next_install-requires : goal.next_install-requires
 next_install-requires c =
-    subst (λ (places : ℕ). Fits places c.self.inside.satisfiers) (sym c.next_package.ensures.places)
-    (problem_fits c.args.clauses.now.places c.self.inside.problem.now.packages c.self.inside.satisfiers c.self.invariant.0 c.self.invariant.1
+    subst (λ (places : ℕ). Fits places c.self.inside.all) (sym c.next_package.ensures.places)
+    (problem_fits c.args.clauses.now.places c.self.inside.problem.now.packages c.self.inside.all c.self.invariant.0 c.self.invariant.1
     (subst (λ (e : PlainEncoder). e.places ≤ c.args.clauses.now.places) (sym c.self.view_is) c.requires))
 
 pub next_removal-requires : goal.next_removal-requires
 next_removal-requires c =
-    subst (λ (places : ℕ). Fits places c.self.inside.satisfiers) (sym (c.next_install.ensures.places ∙ c.next_package.ensures.places))
-    (problem_fits c.args.clauses.now.places c.self.inside.problem.now.packages c.self.inside.satisfiers c.self.invariant.0 c.self.invariant.1
+    subst (λ (places : ℕ). Fits places c.self.inside.all) (sym (c.next_install.ensures.places ∙ c.next_package.ensures.places))
+    (problem_fits c.args.clauses.now.places c.self.inside.problem.now.packages c.self.inside.all c.self.invariant.0 c.self.invariant.1
     (subst (λ (e : PlainEncoder). e.places ≤ c.args.clauses.now.places) (sym c.self.view_is) c.requires))
 
 pub next-requires-clause-fits : goal.next-requires-clause-fits
 next-requires-clause-fits c =
-    subst (λ (places : ℕ). Fits places c.self.inside.satisfiers) (sym (c.next_removal.ensures.places ∙ c.next_install.ensures.places ∙ c.next_package.ensures.places))
-    (problem_fits c.args.clauses.now.places c.self.inside.problem.now.packages c.self.inside.satisfiers c.self.invariant.0 c.self.invariant.1
+    subst (λ (places : ℕ). Fits places c.self.inside.all) (sym (c.next_removal.ensures.places ∙ c.next_install.ensures.places ∙ c.next_package.ensures.places))
+    (problem_fits c.args.clauses.now.places c.self.inside.problem.now.packages c.self.inside.all c.self.invariant.0 c.self.invariant.1
     (subst (λ (e : PlainEncoder). e.places ≤ c.args.clauses.now.places) (sym c.self.view_is) c.requires))
 
 pub returns-then-branch-clause-put : goal.returns-then-branch-clause-put
 returns-then-branch-clause-put c =
     let e = c.self.inside in
-    let all = e.satisfiers in
+    let all = e.all in
     let held = c.args.clauses.now in
     let put = c.next_package.new.clauses in
     let i = install_left all e.install in
@@ -45,7 +45,7 @@ returns-then-branch-clause-put c =
 pub returns-then-branch-2-clause-put : goal.returns-then-branch-2-clause-put
 returns-then-branch-2-clause-put c =
     let e = c.self.inside in
-    let all = e.satisfiers in
+    let all = e.all in
     let held = c.args.clauses.now in
     let put = c.next_install.new.clauses in
     let i = install_left all e.install in
@@ -62,7 +62,7 @@ returns-then-branch-2-clause-put c =
 pub returns-then-branch-3-clause-put : goal.returns-then-branch-3-clause-put
 returns-then-branch-3-clause-put c =
     let e = c.self.inside in
-    let all = e.satisfiers in
+    let all = e.all in
     let held = c.args.clauses.now in
     let put = c.next_removal.new.clauses in
     let i = install_left all e.install in

@@ -8,11 +8,11 @@ use Rattle.cudf_cnf.proofs.upgrades.Upgrades.go_on.Goals as goal
 
 pub next_differing-requires-clause-givers : goal.next_differing-requires-clause-givers
 next_differing-requires-clause-givers c =
-    subst (λ (ns : List ℕ). ArePlaces c.args.clauses.now.places ns) (sym c.deref.ensures.value) (held_places c.args.clauses.now.places c.args.satisfiers.now c.args.self.now.givers.items c.requires.fits c.requires.held)
+    subst (λ (ns : List ℕ). ArePlaces c.args.clauses.now.places ns) (sym c.deref.ensures.value) (held_places c.args.clauses.now.places c.args.all.now c.args.self.now.givers.items c.requires.fits c.requires.held)
 
 pub returns-then-branch-clause-goes : goal.returns-then-branch-clause-goes
 returns-then-branch-clause-goes c =
-    let all = c.args.satisfiers.now in
+    let all = c.args.all.now in
     let u = c.args.self.now in
     let entry = c.args.entry in
     let held = c.args.clauses.now in

@@ -1,7 +1,9 @@
-use Rattle.cudf_satisfiers.specs.Answers.{gives_number}
-use Rattle.cudf_cnf.proofs.EncoderLemmas.{held_or_none}
+use Rattle.std.proofs.Common.{None, sym, subst}
+use Rattle.cudf_index.specs.Promises.Places.{gives_number}
+use Rattle.cudf_cnf.specs.Working.Parts.{AreHeld}
+use Rattle.cudf_cnf.proofs.EncoderLemmas.{held_where}
 use Rattle.cudf_cnf.proofs.upgrades.differing.gather.Goals as goal
 
-pub returns-then-several-clause-held : goal.returns-then-several-clause-held
-returns-then-several-clause-held c =
-    held_or_none c.giving.result (gives_number c.args.name.now) c.args.satisfiers.now c.clear.new.self.items c.giving.new.places.items c.giving.ensures.added c.giving.ensures.unchanged c.clear.ensures.items
+pub returns-in-Ok-clause-held : goal.returns-in-Ok-clause-held
+returns-in-Ok-clause-held c =
+    subst (AreHeld c.args.all.now) (sym c.in-Ok.ensures) (held_where (gives_number c.args.name.now None) c.args.all.now)

@@ -5,7 +5,7 @@ use Rattle.cudf_cnf.proofs.upgrades.differing.next_differing.Given as goal
 abbrev pub invariant-loop-next : goal.invariant-loop-next
 invariant-loop-next l = record {
   held : l.clauses ≡ l.initial.clauses;
-  left : differing_left l.satisfiers l.fn.entry (drop l.next l.givers) ≡ differing_left l.satisfiers l.fn.entry (drop l.initial.next l.givers);
+  left : differing_left l.all l.fn.entry (drop l.next l.givers) ≡ differing_left l.all l.fn.entry (drop l.initial.next l.givers);
 }
 
 abbrev pub decreases-loop-next : goal.decreases-loop-next

@@ -1,7 +1,6 @@
 use Rattle.std.proofs.Common.{◌≡◌, ℕ, Bool, Vec, ap, ◌∙◌}
 use Rattle.std.specs.FinSet as set
 use Rattle.std.specs.Global.{Global}
-use Rattle.std.specs.List.{enumerate_from}
 use Rattle.cudf_value.specs.Promises.Views.{list_view}
 use Rattle.cudf_problem.specs.Statuses.{is_initial}
 use Rattle.cudf_problem.specs.Universe.{PlainRequest}
@@ -14,8 +13,7 @@ pub returns : goal.returns
 returns c =
     let problem = c.args.problem.now in
     let same : set.contains c.in_ok-installed.installed ≡ is_initial problem = (λ i place. c.in_ok-installed.ensures.places place i) in
-    known_as (λ (k : Vec Known Global). k.items) c.known_by.result c.in_ok-before.before (members (is_initial problem) problem.packages) c.in_ok-all.all (enumerate_from 1 problem.packages) (list_view c.request.result.now.upgrade) problem.request.upgrade
+    known_as (λ (k : Vec Known Global). k.items) c.known_by.result c.in_ok-before.before (members (is_initial problem) problem.packages) c.args.all.now (list_view c.request.result.now.upgrade) problem.request.upgrade
     (c.in_ok-before.ensures ∙ ap (λ (test : ℕ → Bool). members test problem.packages) same)
-    (c.in_ok-all.ensures ∙ c.in_ok-every.ensures)
     (ap (λ (r : PlainRequest). r.upgrade) c.request.ensures)
     c.known_by.ensures

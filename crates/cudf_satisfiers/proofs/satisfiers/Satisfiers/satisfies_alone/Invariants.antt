@@ -1,8 +1,0 @@
-use Rattle.std.proofs.Common.{◌≡◌}
-use Rattle.cudf_value.specs.Promises.Views.{clause_view, atoms_view}
-use Rattle.cudf_index.specs.Satisfaction.{meets_clause_alone}
-use Rattle.cudf_satisfiers.specs.Answers.{passes_at}
-use Rattle.cudf_satisfiers.proofs.satisfiers.Satisfiers.satisfies_alone.Given as goal
-
-abbrev pub invariant-loop-atom : goal.invariant-loop-atom
-invariant-loop-atom l = passes_at (meets_clause_alone (atoms_view l.atom-iterator)) l.place l.self ≡ passes_at (meets_clause_alone (clause_view l.clause)) l.place l.self
