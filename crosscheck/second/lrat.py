@@ -8,7 +8,7 @@ from second.documents import lines_of
 from second.values import GREATEST
 
 KINDS = dict(enumerate((
-    "not a step", "number is not new", "no such package", "RAT is not accepted", "no such clause", "hint is not unit",
+    "not a step", "number is not new", "no such variable", "RAT is not accepted", "no such clause", "hint is not unit",
     "hints without conflict", "proof ends early",
 ), 1))
 

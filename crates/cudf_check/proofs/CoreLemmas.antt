@@ -5,10 +5,10 @@ use Rattle.std.specs.List.{range_with_len}
 use Rattle.cudf_text.specs.Lines.{lines}
 use Rattle.cudf_job.specs.Keys.{never_descend}
 use Rattle.cudf_problem.specs.Universe.{PlainProblem}
-use Rattle.cudf_lrat.specs.Answers.{PlainAnswer, Taken, answer_after, checked, checked_from, core, done, fault, faulty, is_among, needs, on, refuted, taken, unless_empty}
-use Rattle.cudf_lrat.specs.Lines.{is_empty, line_of}
-use Rattle.cudf_lrat.specs.Steps.{Derived, last_number}
-use Rattle.cudf_lrat.specs.declared.literal.Literal.{Literal}
+use Rattle.cudf_lrat.specs.Answers.{PlainAnswer, Taken, answer_after, checked, checked_from, core, done, fault, faulty, is_listed, needs, on, refuted, taken, unless_empty}
+use Rattle.cudf_lrat.specs.Lines.{is_empty, proof_line}
+use Rattle.cudf_lrat.specs.Steps.{Derived, greatest_number}
+use Rattle.cudf_lrat.specs.declared.cnf.Literal.{Literal}
 use Rattle.cudf_cnf.specs.Cnf.{Keyed, clauses_of, cnf}
 use Rattle.cudf_cnf.specs.Laws.{KeysNeverDescend}
 use Rattle.cudf_cnf.proofs.OrderLemmas.{some_never_descend}
@@ -36,7 +36,7 @@ after_lines : (places : ℕ) (clauses : List (List Literal)) (numbers : List ℕ
 after_lines places clauses numbers steps before [] is = absurd (cc is)
 after_lines places clauses numbers steps before (line ∷ rest) is =
     after_line clauses numbers (before + 1) (λ more. checked_from places clauses more (before + 1) rest)
-    (λ more h. after_lines places clauses numbers more (before + 1) rest h) (taken places clauses steps (line_of line)) is
+    (λ more h. after_lines places clauses numbers more (before + 1) rest h) (taken places clauses steps (proof_line line)) is
 
 core_of : (places : ℕ) (clauses : List (List Literal)) (text numbers : List ℕ) → checked places clauses text ≡ refuted numbers → IsCoreOf clauses numbers
 unfolding checked
@@ -59,7 +59,7 @@ several : (clauses : List Keyed) (steps : List Derived) → IsTrue (never_descen
     → IsTrue (never_descend (keys_of (needed clauses (core (clauses_of clauses) steps))))
 unfolding core
 several clauses steps h =
-    let wanted : ℕ → Bool = λ n. is_among n (needs steps (last_number (clauses_of clauses) steps ∷ [])) in
+    let wanted : ℕ → Bool = λ n. is_listed n (needs steps (greatest_number (clauses_of clauses) steps ∷ [])) in
     subst (λ count. IsTrue (never_descend (keys_of (needed clauses (filter wanted (range_with_len 1 count)))))) (sym (length-map clauses (λ c. c.1)))
     (some_never_descend clauses wanted h)
 

@@ -5,7 +5,7 @@ use Rattle.std.proofs.lemmas.List.Elements.{filter_map-append}
 use Rattle.std.proofs.lemmas.Option.{slice_get_within, get_or_from_slice_get}
 use Rattle.std.specs.List.{flat_map}
 use Rattle.cudf_job.specs.Keys.{PlainKey}
-use Rattle.cudf_lrat.specs.declared.literal.Literal.{Literal}
+use Rattle.cudf_lrat.specs.declared.cnf.Literal.{Literal}
 use Rattle.cudf_cnf.specs.Cnf.{Keyed}
 use Rattle.cudf_cnf.specs.Encodings.{PlainEncoder, PlainKeyedClauses, Tells}
 use Rattle.cudf_check.specs.Report.{needed}

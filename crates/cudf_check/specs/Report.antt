@@ -38,7 +38,7 @@ use Rattle.cudf_referee.specs.Violations.{needed_instances, kept_instances, requ
 use Rattle.cudf_referee.specs.Solutions.{is_solution}
 use Rattle.cudf_lrat.specs.Answers as lrat
 use Rattle.cudf_lrat.specs.Kinds.{kind_text}
-use Rattle.cudf_lrat.specs.declared.literal.Literal.{Literal}
+use Rattle.cudf_lrat.specs.declared.cnf.Literal.{Literal}
 use Rattle.cudf_cnf.specs.Cnf.{Keyed, cnf, clauses_of}
 use Rattle.cudf_reasons.specs.Reasons.{reasons_of}
 use Rattle.cudf_reasons.specs.Views.{Told, told_as}
@@ -228,7 +228,7 @@ header_line places clauses = line (codes "p cnf " ++ decimal places ++ codes " "
 
 -- a literal and a blank
 abbrev pub literal_text : Literal → List ℕ
-literal_text l = (if l.positive then [] else codes "-") ++ decimal l.place ++ codes " "
+literal_text l = (if l.positive then [] else codes "-") ++ decimal l.variable ++ codes " "
 
 -- a clause, as `-1 2 0`
 abbrev pub clause_line : List Literal → List ℕ

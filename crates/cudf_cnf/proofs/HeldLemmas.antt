@@ -4,7 +4,7 @@ use Rattle.std.specs.Prelude.{Some, Result, Ok, Err, OnOk, is_err, option_map, s
 use Rattle.std.proofs.lemmas.List.{length-map, map-append}
 use Rattle.cudf_job.specs.KeyViews.{key_view}
 use Rattle.cudf_job.specs.declared.key.Key.{Key}
-use Rattle.cudf_lrat.specs.declared.literal.Literal.{Literal}
+use Rattle.cudf_lrat.specs.declared.cnf.Literal.{Literal}
 use Rattle.cudf_cnf.specs.Cnf.{clauses_of}
 use Rattle.cudf_cnf.specs.Encodings.{PlainKeyedClauses}
 use Rattle.cudf_cnf.proofs.ZipLemmas.{first_at, length-zip, map-zip, second_at, zip-push}

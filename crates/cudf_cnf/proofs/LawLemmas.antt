@@ -15,7 +15,7 @@ use Rattle.cudf_index.specs.Satisfaction.{Placed}
 use Rattle.cudf_index.proofs.SearchLemmas.{list_any-filter}
 use Rattle.cudf_job.specs.Keys.{PlainKey, key_cmp}
 use Rattle.cudf_job.proofs.KeyLemmas.{equal_keys}
-use Rattle.cudf_lrat.specs.declared.literal.Literal.{Literal}
+use Rattle.cudf_lrat.specs.declared.cnf.Literal.{Literal}
 use Rattle.cudf_lrat.specs.Literals.{IsCore, clause_at, is_satisfied_by}
 use Rattle.cudf_referee.specs.Instances.{PlainInstance}
 use Rattle.cudf_referee.specs.Proposals.{holds_place}

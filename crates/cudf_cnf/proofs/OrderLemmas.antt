@@ -18,7 +18,7 @@ use Rattle.cudf_index.specs.Satisfaction.{Placed, meets_alone, members, numbers_
 use Rattle.cudf_job.specs.declared.key.Aspect.TheVariants.{Many, Lower}
 use Rattle.cudf_job.specs.declared.key.Rule.TheVariants as rule
 use Rattle.cudf_job.specs.Keys.{PlainKey, key_cmp, key_ranks, package_key, request_key, never_descend}
-use Rattle.cudf_lrat.specs.declared.literal.Literal.{Literal}
+use Rattle.cudf_lrat.specs.declared.cnf.Literal.{Literal}
 use Rattle.cudf_referee.specs.Proposals.{holds_place}
 use Rattle.cudf_referee.specs.Violations.{are_lower}
 use Rattle.cudf_referee.proofs.ListLemmas.{and_left, and_right}

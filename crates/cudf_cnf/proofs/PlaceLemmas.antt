@@ -6,7 +6,7 @@ use Rattle.cudf_index.specs.Satisfaction.{Placed, without, meets_clause_alone}
 use Rattle.cudf_value.specs.Formulas.{PlainAtom}
 use Rattle.cudf_job.specs.declared.key.Rule.TheVariants as rule
 use Rattle.cudf_job.specs.Keys.{PlainKey, package_key}
-use Rattle.cudf_lrat.specs.declared.literal.Literal.{Literal}
+use Rattle.cudf_lrat.specs.declared.cnf.Literal.{Literal}
 use Rattle.cudf_lrat.specs.Literals.{IsWithin}
 use Rattle.cudf_referee.proofs.ListLemmas.{filter-both, filter-map}
 use Rattle.cudf_index.specs.Promises.Places.{places_where}

@@ -14,7 +14,7 @@ use Rattle.cudf_index.specs.Satisfaction.{Placed, meets_alone, members, numbers_
 use Rattle.cudf_job.specs.declared.key.Rule.TheVariants as rule
 use Rattle.cudf_job.specs.declared.key.Aspect.TheVariants.{Unsatisfied, Many, Lower}
 use Rattle.cudf_job.specs.Keys.{PlainKey, package_key, request_key}
-use Rattle.cudf_lrat.specs.declared.literal.Literal.{Literal}
+use Rattle.cudf_lrat.specs.declared.cnf.Literal.{Literal}
 use Rattle.cudf_referee.specs.Proposals.{holds_place}
 use Rattle.cudf_referee.specs.Violations.{are_lower}
 
@@ -26,10 +26,10 @@ Keyed = PlainKey × List Literal
 
 -- the package at the place is installed, and isn't
 abbrev pub is_in : ℕ → Literal
-is_in place = record { place = place; positive = true }
+is_in place = record { variable = place; positive = true }
 
 abbrev pub is_out : ℕ → Literal
-is_out place = record { place = place; positive = false }
+is_out place = record { variable = place; positive = false }
 
 -- one of the packages that pass the test is installed
 abbrev pub one_of : (Placed → Bool) → List Placed → List Literal

@@ -18,7 +18,7 @@ impl Model for KeyedClauses {
 
     ghost Value = { PlainKeyedClauses };
 
-    ghost view = { λ c. record { places = c.cnf.places; clauses = zip (map key_view c.keys.items) c.cnf.clauses } };
+    ghost view = { λ c. record { places = c.cnf.variables; clauses = zip (map key_view c.keys.items) c.cnf.clauses } };
 
     ghost invariant = { λ c. length c.keys.items ≡ length c.cnf.clauses };
 }
@@ -81,7 +81,7 @@ impl KeyedClauses {
 
     /// The clauses without their keys.
     pub fn cnf(&self) -> &Cnf
-        ensures places { result.now.places ≡ self.now.places }
+        ensures places { result.now.variables ≡ self.now.places }
         ensures clauses { result.now.clauses ≡ clauses_of self.now.clauses }
     {
         &self.cnf

@@ -37,7 +37,7 @@ pub(crate) fn is_out(place: u64) -> Literal
     ensures { result ≡ is_out place }
 {
     Literal {
-        place: place as u32,
+        variable: place as u32,
         positive: false,
     }
 }
@@ -48,7 +48,7 @@ pub(crate) fn is_in(place: u64) -> Literal
     ensures { result ≡ is_in place }
 {
     Literal {
-        place: place as u32,
+        variable: place as u32,
         positive: true,
     }
 }

@@ -11,27 +11,27 @@ use Rattle.cudf_lrat.specs.Lists.{lists_in}
 use Rattle.cudf_lrat.specs.Literals.{PlainCnf}
 use Rattle.cudf_lrat.specs.Steps.{clause_numbered, is_unnamed, named_clause, step_numbered, values}
 use Rattle.cudf_lrat.specs.Working.Indices.{AreIndicesOf, IsAfter, IsIndexOf, indexed, number_at, steps_in}
-use Rattle.cudf_lrat.specs.declared.literal.Literal.{Literal}
-use Rattle.cudf_lrat.specs.declared.number.Signed.{Signed}
+use Rattle.cudf_lrat.specs.declared.cnf.Literal.{Literal}
+use Rattle.cudf_lrat.specs.declared.reader.Signed.{Signed}
 use Rattle.cudf_lrat.specs.declared.steps.Steps.{Steps}
 
 not_given : (given number : ℕ) → given < number → (ltb 0 number && leb number given) ≡ false
 not_given given number above = and_right (ltb 0 number) (leb number given) (lt-leb number given above)
 
 -- a step's number
-pub index-step : (cnf : PlainCnf) (steps : Steps) (number place : ℕ) → IsAfter cnf steps → place < length steps.numbers.items → slice_index steps.numbers.items place ≡ number → IsIndexOf cnf steps number (length cnf.clauses + place)
-index-step cnf steps number place after inside is =
+pub index-step : (cnf : PlainCnf) (steps : Steps) (number position : ℕ) → IsAfter cnf steps → position < length steps.numbers.items → slice_index steps.numbers.items position ≡ number → IsIndexOf cnf steps number (length cnf.clauses + position)
+index-step cnf steps number position after inside is =
     let given : ℕ = length cnf.clauses in
-    let above : given < number = let a = after.ascending.above place inside in omega arith in
-    let found : step_numbered (steps_in cnf steps) number ≡ Some (get_or (lists_in steps.clauses) place []) =
-    numbered-at given steps.numbers.items (lists_in steps.clauses) (lists_in steps.used) number place (length steps.numbers.items) after.ascending inside (omega arith) is in
-    let named : clause_numbered cnf.clauses (steps_in cnf steps) number ≡ Some (get_or (lists_in steps.clauses) place []) = cond-false _ _ _ (not_given given number above) ∙ found in
-    let back : given + place - given ≡ place = omega arith in
+    let above : given < number = let a = after.ascending.above position inside in omega arith in
+    let found : step_numbered (steps_in cnf steps) number ≡ Some (get_or (lists_in steps.clauses) position []) =
+    numbered-at given steps.numbers.items (lists_in steps.clauses) (lists_in steps.used) number position (length steps.numbers.items) after.ascending inside (omega arith) is in
+    let named : clause_numbered cnf.clauses (steps_in cnf steps) number ≡ Some (get_or (lists_in steps.clauses) position []) = cond-false _ _ _ (not_given given number above) ∙ found in
+    let back : given + position - given ≡ position = omega arith in
     record {
       inside = omega arith;
-      number_is = cond-false (ltb (given + place) given) _ _ (le-ltb (given + place) given (omega arith)) ∙ ap (slice_index steps.numbers.items) back ∙ is;
+      number_is = cond-false (ltb (given + position) given) _ _ (le-ltb (given + position) given (omega arith)) ∙ ap (slice_index steps.numbers.items) back ∙ is;
       named = ap is_none named;
-      clause_is = get_or-append_right cnf.clauses (lists_in steps.clauses) given (given + place) [] refl (omega arith) ∙ ap (λ i. get_or (lists_in steps.clauses) i []) back ∙ sym (ap (λ o. unwrap_or o []) named);
+      clause_is = get_or-append_right cnf.clauses (lists_in steps.clauses) given (given + position) [] refl (omega arith) ∙ ap (λ i. get_or (lists_in steps.clauses) i []) back ∙ sym (ap (λ o. unwrap_or o []) named);
     }
 
 unnamed-by : (cnf : PlainCnf) (steps : Steps) (number : ℕ) → (ltb 0 number && leb number (length cnf.clauses)) ≡ false → ((k : ℕ) → k < length steps.numbers.items → slice_index steps.numbers.items k ≢ number) → is_unnamed cnf.clauses (steps_in cnf steps) number ≡ true
@@ -50,10 +50,11 @@ pub indices-push : (cnf : PlainCnf) (steps : Steps) (numbers indices : List ℕ)
 indices-push cnf steps numbers indices number index are is =
     let at : ℕ → ℕ = number_at (length cnf.clauses) steps.numbers.items in
     let named : ℕ → List Literal = named_clause cnf.clauses (steps_in cnf steps) in
+    let here : named (at index) ≡ indexed cnf steps index = ap named is.number_is ∙ sym is.clause_is in
     record {
       inside = All-push (λ i. i < length cnf.clauses + length steps.numbers.items) indices index are.inside is.inside;
       numbers_are = map_push at indices index ∙ (λ i. are.numbers_are i ++ is.number_is i ∷ []);
-      clauses_are = map_push (indexed cnf steps) indices index ∙ (λ i. are.clauses_are i ++ is.clause_is i ∷ []) ∙ sym (map_push named numbers number);
+      clauses_are = All-push (λ i. named (at i) ≡ indexed cnf steps i) indices index are.clauses_are here;
     }
 
 -- one number more that is named, and one that isn't

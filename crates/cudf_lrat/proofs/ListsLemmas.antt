@@ -3,7 +3,7 @@ use Rattle.std.proofs.Common.{◌≡◌, ℕ, ◌-◌, ◌≤◌, List, [], ◌�
 use Rattle.std.specs.Prelude.{All, slice_range}
 use Rattle.std.proofs.lemmas.List.{take-append-le, drop-append-le, drop_at, take_all, map-append}
 use Rattle.std.proofs.lemmas.List.Elements.{All-head, All-tail}
-use Rattle.cudf_lrat.specs.declared.lists.Span.{Span}
+use Rattle.cudf_lrat.specs.declared.cnf.Span.{Span}
 
 abbrev pub piece : {T : Type 0} → List T → Span → List T
 piece items span = slice_range items span.start span.end

@@ -7,10 +7,10 @@ use Rattle.std.proofs.lemmas.List.{get_or-replicate, get_or-set_other, get_or-se
 use Rattle.std.proofs.lemmas.List.Elements.{All-head, All-tail, All-weaker}
 use Rattle.std.proofs.lemmas.List.Folds.{list_any-append}
 use Rattle.cudf_lrat.proofs.RangeLemmas.{filter-agree, range_within}
-use Rattle.cudf_lrat.specs.Answers.{core, is_among, needs}
+use Rattle.cudf_lrat.specs.Answers.{core, is_listed, needs}
 use Rattle.cudf_lrat.specs.Lists.{lists_in}
 use Rattle.cudf_lrat.specs.Literals.{PlainCnf}
-use Rattle.cudf_lrat.specs.Steps.{last_number}
+use Rattle.cudf_lrat.specs.Steps.{greatest_number}
 use Rattle.cudf_lrat.specs.Working.Indices.{IsAfter, IsAscending, number_at, steps_below, steps_in}
 use Rattle.cudf_lrat.specs.Working.Needed.{AreNeeded}
 use Rattle.cudf_lrat.specs.declared.steps.Steps.{Steps}
@@ -57,7 +57,7 @@ same-number given numbers i j up ii jj =
           ne_eqb (number_at given numbers i) (number_at given numbers j) (λ e. omega arith) ∙ sym (ne_eqb i j (λ e. omega arith))
     ]
 
-among-indices : (given : ℕ) (numbers : List ℕ) (j bound : ℕ) (us : List ℕ) → IsAscending given numbers → j < given + length numbers → bound ≤ given + length numbers → All (λ i. i < bound) us → is_among (number_at given numbers j) (map (number_at given numbers) us) ≡ list_any (λ i. eqb i j) us
+among-indices : (given : ℕ) (numbers : List ℕ) (j bound : ℕ) (us : List ℕ) → IsAscending given numbers → j < given + length numbers → bound ≤ given + length numbers → All (λ i. i < bound) us → is_listed (number_at given numbers j) (map (number_at given numbers) us) ≡ list_any (λ i. eqb i j) us
 among-indices given numbers j bound [] up inside fits all = refl
 among-indices given numbers j bound (u ∷ us) up inside fits all =
     let here : u < bound = All-head (λ i. i < bound) u us all in
@@ -69,8 +69,8 @@ abbrev after_step : Bool → List ℕ → List ℕ → List ℕ
 after_step b used marked = if b then used ++ marked else marked
 
 marked-step : (b : Bool) (given : ℕ) (numbers : List ℕ) (j bound : ℕ) (us marked : List ℕ) (old new : Bool) → IsAscending given numbers → j < given + length numbers → bound ≤ given + length numbers → All (λ i. i < bound) us
-    → old ≡ is_among (number_at given numbers j) marked → new ≡ (if b then list_any (λ i. eqb i j) us || old else old)
-    → new ≡ is_among (number_at given numbers j) (after_step b (map (number_at given numbers) us) marked)
+    → old ≡ is_listed (number_at given numbers j) marked → new ≡ (if b then list_any (λ i. eqb i j) us || old else old)
+    → new ≡ is_listed (number_at given numbers j) (after_step b (map (number_at given numbers) us) marked)
 marked-step true given numbers j bound us marked old new up inside fits all was is =
     is ∙ (λ i. sym (among-indices given numbers j bound us up inside fits all) i || was i)
     ∙ sym (list_any-append (λ n. eqb n (number_at given numbers j)) (map (number_at given numbers) us) marked)
@@ -86,32 +86,32 @@ needed-back cnf steps old new marked all left k after is fits were need now =
     let numbers : List ℕ = steps.numbers.items in
     let us : List ℕ = get_or (lists_in steps.used) k [] in
     let inside : k < length numbers = omega arith in
-    let more : List ℕ = after_step (is_among (slice_index numbers k) marked) (map (number_at given numbers) us) marked in
+    let more : List ℕ = after_step (is_listed (slice_index numbers k) marked) (map (number_at given numbers) us) marked in
     let name : number_at given numbers (given + k) ≡ slice_index numbers k = number-step given numbers (given + k) k refl in
-    let test : get_or old (given + k) false ≡ is_among (slice_index numbers k) marked = were (given + k) (omega arith) ∙ ap (λ n. is_among n marked) name in
+    let test : get_or old (given + k) false ≡ is_listed (slice_index numbers k) marked = were (given + k) (omega arith) ∙ ap (λ n. is_listed n marked) name in
     let next : left ≡ suc k = omega arith in (
       more,
       (λ j lt.
-          let here : get_or new j false ≡ (if is_among (slice_index numbers k) marked then list_any (λ i. eqb i j) us || get_or old j false else get_or old j false) =
+          let here : get_or new j false ≡ (if is_listed (slice_index numbers k) marked then list_any (λ i. eqb i j) us || get_or old j false else get_or old j false) =
           now j ∙ ap (λ b. if b then list_any (λ i. eqb i j) us || get_or old j false else get_or old j false) test in
-          marked-step (is_among (slice_index numbers k) marked) given numbers j (given + k) us marked (get_or old j false) (get_or new j false) after.ascending lt (omega arith) (after.earlier k inside) (were j lt) here),
+          marked-step (is_listed (slice_index numbers k) marked) given numbers j (given + k) us marked (get_or old j false) (get_or new j false) after.ascending lt (omega arith) (after.earlier k inside) (were j lt) here),
       sym (ap (λ n. needs (steps_below given numbers (lists_in steps.clauses) (lists_in steps.used) n) marked) next) ∙ need,
     )
 
 -- ---- the core
 
-last-of : (cnf : PlainCnf) (steps : Steps) (n : ℕ) → 0 < n → last_number cnf.clauses (steps_below (length cnf.clauses) steps.numbers.items (lists_in steps.clauses) (lists_in steps.used) n) ≡ slice_index steps.numbers.items (n - 1)
+last-of : (cnf : PlainCnf) (steps : Steps) (n : ℕ) → 0 < n → greatest_number cnf.clauses (steps_below (length cnf.clauses) steps.numbers.items (lists_in steps.clauses) (lists_in steps.used) n) ≡ slice_index steps.numbers.items (n - 1)
 last-of cnf steps zero some = absurd (omega arith)
 last-of cnf steps (suc k) some = let back : k ≡ suc k - 1 = omega arith in ap (slice_index steps.numbers.items) back
 
 -- the last step is needed, and none else yet
 pub needed-last : (cnf : PlainCnf) (steps : Steps) (count last : ℕ) (needed : List Bool) → IsAfter cnf steps → 0 < length steps.numbers.items → count ≡ length cnf.clauses + length steps.numbers.items → last ≡ count - 1 → needed ≡ set (replicate count false) last true
-    → AreNeeded cnf steps needed (last_number cnf.clauses (steps_in cnf steps) ∷ [])
+    → AreNeeded cnf steps needed (greatest_number cnf.clauses (steps_in cnf steps) ∷ [])
 needed-last cnf steps count last needed after some total is marked = λ k lt.
     let given : ℕ = length cnf.clauses in
     let numbers : List ℕ = steps.numbers.items in
-    let name : last_number cnf.clauses (steps_in cnf steps) ≡ number_at given numbers last = last-of cnf steps (length numbers) some ∙ sym (number-step given numbers last (length numbers - 1) (omega arith)) in
-    let test : is_among (number_at given numbers k) (last_number cnf.clauses (steps_in cnf steps) ∷ []) ≡ (eqb last k || false) =
+    let name : greatest_number cnf.clauses (steps_in cnf steps) ≡ number_at given numbers last = last-of cnf steps (length numbers) some ∙ sym (number-step given numbers last (length numbers - 1) (omega arith)) in
+    let test : is_listed (number_at given numbers k) (greatest_number cnf.clauses (steps_in cnf steps) ∷ []) ≡ (eqb last k || false) =
     ap (λ n. eqb n (number_at given numbers k) || false) name ∙ ap (λ b. b || false) (same-number given numbers last k after.ascending (omega arith) lt) in
     let size : length (replicate count false) ≡ count = length-replicate count false in
     let value : get_or (set (replicate count false) last true) k false ≡ (eqb last k || false) = elim (cases_eq k last) [
@@ -124,20 +124,20 @@ needed-last cnf steps count last needed after some total is marked = λ k lt.
     ] in
     ap (λ xs. get_or xs k false) marked ∙ value ∙ sym test
 
-pub core-chosen : (cnf : PlainCnf) (steps : Steps) (needed front : List Bool) (found : List ℕ) → AreNeeded cnf steps needed (needs (steps_in cnf steps) (last_number cnf.clauses (steps_in cnf steps) ∷ [])) → front ≡ take (length cnf.clauses) needed → length cnf.clauses ≤ length needed → length front ≡ length cnf.clauses
+pub core-chosen : (cnf : PlainCnf) (steps : Steps) (needed front : List Bool) (found : List ℕ) → AreNeeded cnf steps needed (needs (steps_in cnf steps) (greatest_number cnf.clauses (steps_in cnf steps) ∷ [])) → front ≡ take (length cnf.clauses) needed → length cnf.clauses ≤ length needed → length front ≡ length cnf.clauses
     → found ≡ filter (λ n. get_or front (n - 1) false) (range_with_len 1 (length front)) → found ≡ core cnf.clauses (steps_in cnf steps)
 unfolding core
 core-chosen cnf steps needed front found are is fits size chosen =
     let given : ℕ = length cnf.clauses in
     let numbers : List ℕ = steps.numbers.items in
-    let all : List ℕ = needs (steps_in cnf steps) (last_number cnf.clauses (steps_in cnf steps) ∷ []) in
-    let agree : (n : ℕ) → (1 ≤ n) × (n < 1 + given) → get_or front (n - 1) false ≡ is_among n all = λ n range.
+    let all : List ℕ = needs (steps_in cnf steps) (greatest_number cnf.clauses (steps_in cnf steps) ∷ []) in
+    let agree : (n : ℕ) → (1 ≤ n) × (n < 1 + given) → get_or front (n - 1) false ≡ is_listed n all = λ n range.
     let low : 1 ≤ n = range.0 in
     let high : n < 1 + given = range.1 in
     let inside : n - 1 < given = omega arith in
     let back : n - 1 + 1 ≡ n = omega arith in
     ap (λ xs. get_or xs (n - 1) false) is ∙ get_or-take given needed (n - 1) false inside ∙ are (n - 1) (omega arith)
-    ∙ ap (λ m. is_among m all) (number-given given numbers (n - 1) inside ∙ back) in
+    ∙ ap (λ m. is_listed m all) (number-given given numbers (n - 1) inside ∙ back) in
     chosen ∙ ap (λ m. filter (λ n. get_or front (n - 1) false) (range_with_len 1 m)) size
-    ∙ filter-agree (λ n. get_or front (n - 1) false) (λ n. is_among n all) (range_with_len 1 given)
-    (All-weaker (λ n. (1 ≤ n) × (n < 1 + given)) (λ n. get_or front (n - 1) false ≡ is_among n all) agree (range_with_len 1 given) (range_within 1 given))
+    ∙ filter-agree (λ n. get_or front (n - 1) false) (λ n. is_listed n all) (range_with_len 1 given)
+    (All-weaker (λ n. (1 ≤ n) × (n < 1 + given)) (λ n. get_or front (n - 1) false ≡ is_listed n all) agree (range_with_len 1 given) (range_within 1 given))

@@ -4,14 +4,14 @@ use Rattle.std.specs.Prelude.{All, filter}
 use Rattle.std.specs.List.{range_with_len}
 use Rattle.std.proofs.lemmas.Bool.{cases_Bool, cases_eq, eq-eqb, or_left, or_right}
 use Rattle.std.proofs.lemmas.List.Elements.{All-head, All-tail, filter-append}
-use Rattle.cudf_lrat.specs.Answers.{is_among}
+use Rattle.cudf_lrat.specs.Answers.{is_listed}
 
-pub in_range : (a count n : ℕ) → a ≤ n → n < a + count → is_among n (range_with_len a count) ≡ true
+pub in_range : (a count n : ℕ) → a ≤ n → n < a + count → is_listed n (range_with_len a count) ≡ true
 in_range a zero n low high = absurd (omega arith)
 in_range a (suc count) n low high =
     elim (cases_eq a n) [
-      | inl here ↦ or_left (eqb a n) (is_among n (range_with_len (a + 1) count)) (eq-eqb a n here)
-      | inr later ↦ or_right (eqb a n) (is_among n (range_with_len (a + 1) count)) (in_range (a + 1) count n (omega arith) (omega arith))
+      | inl here ↦ or_left (eqb a n) (is_listed n (range_with_len (a + 1) count)) (eq-eqb a n here)
+      | inr later ↦ or_right (eqb a n) (is_listed n (range_with_len (a + 1) count)) (in_range (a + 1) count n (omega arith) (omega arith))
     ]
 
 range_at : (a count k d : ℕ) → k < length (range_with_len a (suc count)) → All (λ n. (a + 1 ≤ n) × (n < a + 1 + count)) (range_with_len (a + 1) count) → (a ≤ get_or (range_with_len a (suc count)) k d) × (get_or (range_with_len a (suc count)) k d < a + suc count)

@@ -1,15 +1,13 @@
--- Steps by their places, and one more step.
-use Rattle.std.proofs.Common.{◌≡◌, ◌≢◌, ℕ, zero, suc, ◌+◌, ◌-◌, ◌^◌, ◌<◌, ◌≤◌, true, false, eqb, ltb, List, [], ◌∷◌, ◌++◌, length, get_or, map, take, Some, None, refl, sym, ap, ◌∙◌, subst, inl, inr, arith}
+-- Steps by their positions, and one more step.
+use Rattle.std.proofs.Common.{◌≡◌, ◌≢◌, ℕ, zero, suc, ◌+◌, ◌-◌, ◌^◌, ◌<◌, ◌≤◌, eqb, ltb, List, [], ◌∷◌, ◌++◌, length, get_or, map, Some, None, refl, sym, ap, ◌∙◌, subst, inl, inr, arith}
 use Rattle.std.specs.Prelude.{All, slice_index}
 use Rattle.std.proofs.lemmas.Bool.{cases_eq, cases_lt, cond-true, cond-false, eq-eqb, ne_eqb, lt-ltb, le-ltb}
 use Rattle.std.proofs.lemmas.List.{get_or_append_left, get_or_push, length_push}
 use Rattle.std.proofs.lemmas.List.Elements.{All-head, All-nil, All-tail, All-push, All-weaker}
-use Rattle.cudf_lrat.specs.Answers.{done, on, with_step}
-use Rattle.cudf_lrat.specs.Lines.{is_empty}
 use Rattle.cudf_lrat.specs.Literals.{PlainCnf}
-use Rattle.cudf_lrat.specs.Steps.{Derived, Followed, conflict, last_number, step_by, step_numbered}
+use Rattle.cudf_lrat.specs.Steps.{greatest_number, step_numbered}
 use Rattle.cudf_lrat.specs.Working.Indices.{IsAscending, IsDerivation, number_at, steps_below}
-use Rattle.cudf_lrat.specs.declared.literal.Literal.{Literal}
+use Rattle.cudf_lrat.specs.declared.cnf.Literal.{Literal}
 
 -- ---- a number among the steps
 
@@ -115,7 +113,7 @@ ascending-push given numbers n up above over =
 
 -- the last number is the greatest
 last-greatest : (cnf : PlainCnf) (numbers : List ℕ) (clauses : List (List Literal)) (used : List (List ℕ)) (m : ℕ) → IsAscending (length cnf.clauses) numbers → m ≤ length numbers
-    → (length cnf.clauses ≤ last_number cnf.clauses (steps_below (length cnf.clauses) numbers clauses used m)) × ((k : ℕ) → k < m → slice_index numbers k ≤ last_number cnf.clauses (steps_below (length cnf.clauses) numbers clauses used m))
+    → (length cnf.clauses ≤ greatest_number cnf.clauses (steps_below (length cnf.clauses) numbers clauses used m)) × ((k : ℕ) → k < m → slice_index numbers k ≤ greatest_number cnf.clauses (steps_below (length cnf.clauses) numbers clauses used m))
 last-greatest cnf numbers clauses used zero up fits = (omega arith, λ k lt. absurd (omega arith))
 last-greatest cnf numbers clauses used (suc m) up fits =
     let above = up.above m (omega arith) in (
@@ -128,9 +126,9 @@ last-greatest cnf numbers clauses used (suc m) up fits =
 
 pub derivation-push : (cnf : PlainCnf) (numbers all : List ℕ) (clauses every : List (List Literal)) (used each : List (List ℕ)) (n : ℕ) (c : List Literal) (u : List ℕ)
     → all ≡ numbers ++ n ∷ [] → every ≡ clauses ++ c ∷ [] → each ≡ used ++ u ∷ [] → IsDerivation cnf numbers clauses used → All (λ index. index < length cnf.clauses + length numbers) u
-    → last_number cnf.clauses (steps_below (length cnf.clauses) numbers clauses used (length numbers)) < n → length cnf.clauses + length numbers + 1 < 2 ^ 32 → All (λ l. l.place ≤ cnf.places) c
+    → greatest_number cnf.clauses (steps_below (length cnf.clauses) numbers clauses used (length numbers)) < n → length cnf.clauses + length numbers + 1 < 2 ^ 32 → All (λ l. l.variable ≤ cnf.variables) c
     → IsDerivation cnf all every each
-derivation-push cnf numbers all clauses every used each n c u ns cs us is inside new few places =
+derivation-push cnf numbers all clauses every used each n c u ns cs us is inside new few variables =
     let greatest = last-greatest cnf numbers clauses used (length numbers) is.ascending (omega arith) in
     let up = ascending-push (length cnf.clauses) numbers n is.ascending (let g = greatest.0 in omega arith) (λ k lt. let g = greatest.1 k lt in omega arith) in
     let base : IsDerivation cnf (numbers ++ n ∷ []) (clauses ++ c ∷ []) (used ++ u ∷ []) = record {
@@ -144,7 +142,7 @@ derivation-push cnf numbers all clauses every used each n c u ns cs us is inside
             let last : length numbers ≡ k = omega (arith, length_push numbers n) in
             subst (All (λ index. index < length cnf.clauses + k)) (sym (get_or_push used u [] k (is.used_count ∙ last))) (subst (λ m. All (λ index. index < length cnf.clauses + m) u) last inside)
       ];
-      within = All-push (λ clause. All (λ (l : Literal). l.place ≤ cnf.places) clause) clauses c is.within places;
+      within = All-push (λ clause. All (λ (l : Literal). l.variable ≤ cnf.variables) clause) clauses c is.within variables;
     } in
     subst (λ ns. IsDerivation cnf ns every each) (sym ns) (subst (λ cs. IsDerivation cnf (numbers ++ n ∷ []) cs each) (sym cs) (subst (λ us. IsDerivation cnf (numbers ++ n ∷ []) (clauses ++ c ∷ []) us) (sym us) base))
 
@@ -157,22 +155,6 @@ derivation-none cnf numbers clauses used few ns cs us =
       few = omega arith;
       ascending = record { above = λ k lt. absurd (omega arith); rising = λ j k below lt. absurd (omega arith) };
       earlier = λ k lt. absurd (omega arith);
-      within = All-nil (λ clause. All (λ (l : Literal). l.place ≤ cnf.places) clause);
+      within = All-nil (λ clause. All (λ (l : Literal). l.variable ≤ cnf.variables) clause);
     } in
     subst (λ ns. IsDerivation cnf ns clauses used) (sym ns) (subst (λ cs. IsDerivation cnf [] cs used) (sym cs) (subst (λ us. IsDerivation cnf [] [] us) (sym us) base))
-
--- ---- a step that was added
-
-pub added-empty : (steps more : List Derived) (number : ℕ) (clause : List Literal) (hints used : List ℕ) (f : Followed) (n : ℕ) → conflict n ≡ f → more ≡ record { number = number; clause = clause; used = used } ∷ steps → used ≡ take n hints → is_empty clause ≡ true
-    → done more ≡ with_step steps (step_by number clause hints f)
-added-empty steps more number clause hints used f n is added same none =
-    ap done added ∙ ap (λ us. done (record { number = number; clause = clause; used = us } ∷ steps)) same
-    ∙ sym (cond-true (is_empty clause) _ _ none)
-    ∙ ap (λ f. with_step steps (step_by number clause hints f)) is
-
-pub added-more : (steps more : List Derived) (number : ℕ) (clause : List Literal) (hints used : List ℕ) (f : Followed) (n : ℕ) → conflict n ≡ f → more ≡ record { number = number; clause = clause; used = used } ∷ steps → used ≡ take n hints → is_empty clause ≡ false
-    → on more ≡ with_step steps (step_by number clause hints f)
-added-more steps more number clause hints used f n is added same some =
-    ap on added ∙ ap (λ us. on (record { number = number; clause = clause; used = us } ∷ steps)) same
-    ∙ sym (cond-false (is_empty clause) _ _ some)
-    ∙ ap (λ f. with_step steps (step_by number clause hints f)) is

@@ -4,7 +4,7 @@ use Rattle.std.specs.Prelude.{filter}
 use Rattle.std.specs.List.{position_or_len, prefix_len, slice_split}
 use Rattle.std.proofs.lemmas.Bool.{cases_Bool, ne_eqb}
 use Rattle.cudf_text.specs.Chars.{is_blank}
-use Rattle.cudf_lrat.specs.Lines.{words}
+use Rattle.cudf_lrat.specs.Lines.{words_of}
 
 -- the parts after the first one
 abbrev others : (ℕ → Bool) → List ℕ → List (List ℕ)
@@ -20,11 +20,11 @@ split-first p (x ∷ xs) =
     ]
 
 -- blanks at the front don't count
-pub words-drop : (text : List ℕ) → words (drop (prefix_len is_blank text) text) ≡ words text
-words-drop [] = refl
-words-drop (b ∷ bs) =
+pub words_drop : (text : List ℕ) → words_of (drop (prefix_len is_blank text) text) ≡ words_of text
+words_drop [] = refl
+words_drop (b ∷ bs) =
     elim (cases_Bool (is_blank b)) [
-      | inl holds ↦ rw (holds, one-add) (words-drop bs)
+      | inl holds ↦ rw (holds, one-add) (words_drop bs)
       | inr fails ↦ rw fails (rw fails refl)
     ]
 
@@ -45,19 +45,19 @@ rest-blank p (x ∷ xs) =
       | inr fails ↦ rw (fails, one-add) (rest-blank p xs)
     ]
 
-pub words-first : (text : List ℕ) (n : ℕ) → n ≡ position_or_len is_blank text → 0 < length (take n text) → words text ≡ take n text ∷ words (drop n text)
-words-first text n is some =
+pub words_first : (text : List ℕ) (n : ℕ) → n ≡ position_or_len is_blank text → 0 < length (take n text) → words_of text ≡ take n text ∷ words_of (drop n text)
+words_first text n is some =
     let split : slice_split is_blank text ≡ take n text ∷ others is_blank (drop n text) = rw is (split-first is_blank text) in
     let word : eqb (length (take n text)) 0 ≡ false = ne_eqb (length (take n text)) 0 (λ e. omega arith) in
-    let rest : filter (λ word. not (length word == 0)) (others is_blank (drop n text)) ≡ words (drop n text) = words-others is_blank (drop n text) (rw is (rest-blank is_blank text)) in
+    let rest : filter (λ word. not (length word == 0)) (others is_blank (drop n text)) ≡ words_of (drop n text) = words-others is_blank (drop n text) (rw is (rest-blank is_blank text)) in
     ap (filter (λ word. not (length word == 0))) split ∙ rw word (ap (λ ws. take n text ∷ ws) rest)
 
-pub words-none : (text : List ℕ) → position_or_len is_blank (drop (prefix_len is_blank text) text) ≡ 0 → words text ≡ []
-words-none [] none = refl
-words-none (b ∷ bs) none =
+pub words_none : (text : List ℕ) → position_or_len is_blank (drop (prefix_len is_blank text) text) ≡ 0 → words_of text ≡ []
+words_none [] none = refl
+words_none (b ∷ bs) none =
     elim (cases_Bool (is_blank b)) [
       | inl blank ↦
           let rest : position_or_len is_blank (drop (prefix_len is_blank bs) bs) ≡ 0 = rw (blank, one-add) at none in
-          rw blank (words-none bs rest)
+          rw blank (words_none bs rest)
       | inr other ↦ absurd (let bad : 1 + position_or_len is_blank bs ≡ 0 = rw (other, other) at none in omega arith)
     ]

@@ -1,13 +1,13 @@
 -- The kinds of faults: their texts (own).
 use Rattle.std.specs.Prelude.{ℕ, List, codes}
-use Rattle.cudf_lrat.specs.declared.kind.Kind.{Kind}
-use Rattle.cudf_lrat.specs.declared.kind.Kind.TheVariants.{NotAStep, NumberNotNew, NoSuchPackage, RatStep, NoSuchClause, HintNotUnit, NoConflict, EndsEarly}
+use Rattle.cudf_lrat.specs.declared.checker.Kind.{Kind}
+use Rattle.cudf_lrat.specs.declared.checker.Kind.TheVariants.{NotAStep, NumberNotNew, NoSuchVariable, RatStep, NoSuchClause, HintNotUnit, NoConflict, EndsEarly}
 
 -- a kind's name and what is wrong
 abbrev pub kind_text : Kind → List ℕ
 kind_text NotAStep = codes "L1 not a step"
 kind_text NumberNotNew = codes "L2 number is not new"
-kind_text NoSuchPackage = codes "L3 no such package"
+kind_text NoSuchVariable = codes "L3 no such variable"
 kind_text RatStep = codes "L4 RAT is not accepted"
 kind_text NoSuchClause = codes "L5 no such clause"
 kind_text HintNotUnit = codes "L6 hint is not unit"

@@ -1,26 +1,26 @@
 -- Literals, clauses, and what it means that clauses are refuted.
 use Rattle.std.specs.Prelude.{ℕ, ◌-◌, ◌<◌, ◌≤◌, Bool, not, if◌then◌else◌, List, [], map, length, slice_index_or, All, IsTrue}
 use Rattle.std.specs.List.{list_any}
-use Rattle.cudf_lrat.specs.declared.literal.Literal.{Literal}
+use Rattle.cudf_lrat.specs.declared.cnf.Literal.{Literal}
 
--- the number of places, and clauses over the places from 1 on
+-- the number of variables, and clauses over the variables from 1 on
 pub record PlainCnf : Type 0 where
-  pub places : ℕ
+  pub variables : ℕ
   pub clauses : List (List Literal)
 
--- the place is one of these
+-- the variable is one of these
 abbrev pub IsWithin : ℕ → Literal → Type 0
-IsWithin places literal = (0 < literal.place) × (literal.place ≤ places)
+IsWithin variables literal = (0 < literal.variable) × (literal.variable ≤ variables)
 
 -- ---- assignments
 
--- which places are true
+-- which variables are true
 abbrev pub Assignment : Type 0
 Assignment = ℕ → Bool
 
--- whether the literal's place is as the literal wants it
+-- whether the literal's variable is as the literal wants it
 abbrev pub is_true_in : Assignment → Literal → Bool
-is_true_in true_at literal = if literal.positive then true_at literal.place else not (true_at literal.place)
+is_true_in true_at literal = if literal.positive then true_at literal.variable else not (true_at literal.variable)
 
 -- one of the literals is true
 abbrev pub is_satisfied_by : Assignment → List Literal → Bool

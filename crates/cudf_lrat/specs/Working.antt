@@ -1,5 +1,5 @@
-pub mod Words
-pub mod Known
+pub mod Numbers
+pub mod Assignments
 pub mod Views
 pub mod Indices
 pub mod Needed

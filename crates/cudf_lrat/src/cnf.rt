@@ -1,16 +1,114 @@
-//! Clauses over places.
-ghost use Rattle.std.specs.Prelude.{◌≡◌, ◌^◌, ◌<◌, ◌≤◌, ◌++◌, ◌∷◌, [], All, IsTrue, ◌↔◌, OnOk, OnErr, length};
-ghost use Rattle.cudf_lrat.specs.Literals.{IsWithin, clause_at};
+//! Literals, and clauses of them: a formula in conjunctive normal form.
+ghost use Rattle.std.specs.Prelude.{◌≡◌, ◌<◌, ◌≤◌, ◌++◌, ◌∷◌, [], ◌^◌, ◌↔◌, All, OnOk, OnErr, length, slice_index_or, IsTrue};
 
-use crate::lists::Lists;
-use crate::literal::Literal;
 use std::alloc::{AllocError, Global};
 use std::marker::Model;
 
-/// Clauses, numbered from 1 in their order, over the places from 1 to a number.
+/// A literal.
+#[derive(Clone, Copy)]
+pub struct Literal {
+    /// The variable that it speaks of, from 1.
+    pub variable: u32,
+    /// Whether the variable is to be true.
+    pub positive: bool,
+}
+
+impl Literal {
+    ghost use Rattle.cudf_lrat.specs.Steps.{is_same, negated};
+
+    /// Its opposite, which is true exactly where this one is false.
+    pub fn negated(self) -> Literal
+        ensures { result ≡ negated self }
+    {
+        Literal {
+            variable: self.variable,
+            positive: !self.positive,
+        }
+    }
+
+    /// Whether it is this literal.
+    #[inline(always)]
+    pub(crate) fn is_same(self, other: Literal) -> bool
+        ensures { result ≡ is_same self other }
+    {
+        self.variable == other.variable && self.positive == other.positive
+    }
+}
+
+/// Where a list begins, and where it ends.
+#[derive(Clone, Copy)]
+pub struct Span {
+    start: usize,
+    end: usize,
+}
+
+/// Lists, one after the other: a list takes its elements and 16 bytes.
+#[derive(Drop)]
+pub struct Lists<T> {
+    items: Vec<T>,
+    spans: Vec<Span>,
+    ghost inside: { All (λ s. (s.start ≤ s.end) × (s.end ≤ length items.items)) spans.items },
+}
+
+impl<T: Copy> Lists<T> {
+    ghost use Rattle.cudf_lrat.specs.Lists.{lists_in};
+
+    /// No lists. Takes no memory.
+    pub fn new(alloc: Global) -> Self
+        ensures { lists_in result ≡ [] }
+    {
+        Lists {
+            items: Vec::new(alloc),
+            spans: Vec::new(alloc),
+        }
+    }
+
+    /// How many lists there are.
+    pub fn len(&self) -> usize
+        ensures { result ≡ length (lists_in self.now) }
+    {
+        self.spans.len()
+    }
+
+    /// Adds a list after the others.
+    ///
+    /// # Errors
+    ///
+    /// `AllocError` where memory is refused. Then the lists are as before.
+    pub fn push(&mut self, list: &[T]) -> Result<(), AllocError>
+        ensures ok { OnOk result (lists_in self.new ≡ lists_in self.old ++ list.now ∷ []) }
+        ensures err { OnErr result (lists_in self.new ≡ lists_in self.old) }
+    {
+        let start = self.items.len();
+        self.items.extend_from_slice(list)?;
+        let end = self.items.len();
+        self.spans.push(Span { start, end })?;
+        Ok(())
+    }
+
+    /// A list by its index from 0.
+    #[inline(always)]
+    pub fn get(&self, index: usize) -> &[T]
+        requires { index < length (lists_in self.now) }
+        ensures { result.now ≡ slice_index_or (lists_in self.now) index [] }
+    {
+        let span = self.spans[index];
+        &self.items[span.start..span.end]
+    }
+
+    /// Takes all lists out, and keeps the memory.
+    pub fn clear(&mut self)
+        ensures { lists_in self.new ≡ [] }
+    {
+        self.spans.clear();
+        self.items.clear();
+    }
+}
+
+/// Clauses, numbered from 1 in their order, over the variables from 1 to a number.
 #[derive(Drop)]
 pub struct Cnf {
-    places: u32,
+    variables: u32,
     clauses: Lists<Literal>,
 }
 
@@ -21,28 +119,30 @@ impl Model for Cnf {
 
     ghost Value = { PlainCnf };
 
-    ghost view = { λ c. record { places = c.places; clauses = lists_in c.clauses } };
+    ghost view = { λ c. record { variables = c.variables; clauses = lists_in c.clauses } };
 
-    ghost invariant = { λ c. (length (lists_in c.clauses) < 2 ^ 32) × All (λ clause. All (IsWithin c.places) clause) (lists_in c.clauses) };
+    ghost invariant = { λ c. (length (lists_in c.clauses) < 2 ^ 32) × All (λ clause. All (IsWithin c.variables) clause) (lists_in c.clauses) };
 }
 
 impl Cnf {
+    ghost use Rattle.cudf_lrat.specs.Literals.{IsWithin, clause_at};
+
     /// Without clauses. Takes no memory.
-    pub fn new(alloc: Global, places: u32) -> Self
-        ensures { result ≡ record { places = places; clauses = [] } }
+    pub fn new(alloc: Global, variables: u32) -> Self
+        ensures { result ≡ record { variables = variables; clauses = [] } }
     {
         Cnf {
-            places,
+            variables,
             clauses: Lists::new(alloc),
         }
     }
 
-    /// The number of places.
-    pub fn places(&self) -> u32
-        ensures places { result ≡ self.now.places }
+    /// The number of variables.
+    pub fn variables(&self) -> u32
+        ensures variables { result ≡ self.now.variables }
         ensures few { length self.now.clauses < 2 ^ 32 }
     {
-        self.places
+        self.variables
     }
 
     /// How many clauses there are.
@@ -59,14 +159,12 @@ impl Cnf {
         self.clauses.len() == 0
     }
 
-    /// Whether all places of the clause are there.
-    pub fn has_places_of(&self, clause: &[Literal]) -> bool
-        ensures { IsTrue result ↔ All (IsWithin self.now.places) clause.now }
+    /// Whether all variables of the clause are there.
+    pub fn has_variables_of(&self, clause: &[Literal]) -> bool
+        ensures { IsTrue result ↔ All (IsWithin self.now.variables) clause.now }
     {
-        let places = self.places;
-        clause
-            .iter()
-            .all(|literal| 0 < literal.place && literal.place <= places)
+        let variables = self.variables;
+        clause.iter().all(|literal| 0 < literal.variable && literal.variable <= variables)
     }
 
     /// Adds a clause.
@@ -76,8 +174,8 @@ impl Cnf {
     /// `AllocError` where memory is refused, or there are 2^32 - 1 clauses. Then the clauses are as
     /// before.
     pub fn push(&mut self, clause: &[Literal]) -> Result<(), AllocError>
-        requires { All (IsWithin self.old.places) clause.now }
-        ensures places { self.new.places ≡ self.old.places }
+        requires { All (IsWithin self.old.variables) clause.now }
+        ensures variables { self.new.variables ≡ self.old.variables }
         ensures ok { OnOk result (self.new.clauses ≡ self.old.clauses ++ clause.now ∷ []) }
         ensures err { OnErr result (self.new.clauses ≡ self.old.clauses) }
     {
@@ -93,14 +191,14 @@ impl Cnf {
         requires some { 0 < number }
         requires within { number ≤ length self.now.clauses }
         ensures clause { result.now ≡ clause_at self.now.clauses number }
-        ensures places { All (IsWithin self.now.places) result.now }
+        ensures variables { All (IsWithin self.now.variables) result.now }
     {
         self.clauses.get(number as usize - 1)
     }
 
     /// Takes all clauses out, and keeps the memory.
     pub fn clear(&mut self)
-        ensures { self.new ≡ record { places = self.old.places; clauses = [] } }
+        ensures { self.new ≡ record { variables = self.old.variables; clauses = [] } }
     {
         self.clauses.clear();
     }

@@ -8,7 +8,7 @@ use Rattle.std.proofs.lemmas.List.Elements.{filter-append, filter_more}
 use Rattle.cudf_job.specs.Keys.{PlainKey, unknown_key}
 use Rattle.cudf_job.specs.KeyViews.{key_view}
 use Rattle.cudf_job.specs.declared.key.Part.{Part}
-use Rattle.cudf_lrat.specs.declared.literal.Literal.{Literal}
+use Rattle.cudf_lrat.specs.declared.cnf.Literal.{Literal}
 use Rattle.cudf_reasons.specs.Laws.{keys_of}
 use Rattle.cudf_reasons.specs.Reasons.{Keyed, PlainReason, ascending, core_of, is_of, negative_places, positive_places, reason_of, same_key}
 use Rattle.cudf_reasons.specs.Views.{needed_view}
@@ -19,19 +19,19 @@ use Rattle.cudf_reasons.proofs.KeyOrderLemmas.{same_is, same_itself}
 use Rattle.cudf_reasons.proofs.TableLemmas.{reason}
 
 abbrev place_of : Literal → ℕ
-place_of l = l.place
+place_of l = l.variable
 
-mapped : (b : Bool) (l : Literal) → map place_of (cond b (l ∷ []) []) ≡ (if b then l.place ∷ [] else [])
+mapped : (b : Bool) (l : Literal) → map place_of (cond b (l ∷ []) []) ≡ (if b then l.variable ∷ [] else [])
 mapped true l = refl
 mapped false l = refl
 
-pub positive_more : (xs : List Literal) (i : ℕ) (d : Literal) → i < length xs → positive_places (take (i + 1) xs) ≡ positive_places (take i xs) ++ (if (get_or xs i d).positive then (get_or xs i d).place ∷ [] else [])
+pub positive_more : (xs : List Literal) (i : ℕ) (d : Literal) → i < length xs → positive_places (take (i + 1) xs) ≡ positive_places (take i xs) ++ (if (get_or xs i d).positive then (get_or xs i d).variable ∷ [] else [])
 positive_more xs i d within =
     ap (map place_of) (filter_more (λ l. l.positive) xs i d within)
     ∙ map-append place_of (filter (λ l. l.positive) (take i xs)) _
     ∙ ap (λ (ps : List ℕ). positive_places (take i xs) ++ ps) (mapped (get_or xs i d).positive (get_or xs i d))
 
-negative_more : (xs : List Literal) (i : ℕ) (d : Literal) → i < length xs → negative_places (take (i + 1) xs) ≡ negative_places (take i xs) ++ (if not (get_or xs i d).positive then (get_or xs i d).place ∷ [] else [])
+negative_more : (xs : List Literal) (i : ℕ) (d : Literal) → i < length xs → negative_places (take (i + 1) xs) ≡ negative_places (take i xs) ++ (if not (get_or xs i d).positive then (get_or xs i d).variable ∷ [] else [])
 negative_more xs i d within =
     ap (map place_of) (filter_more (λ l. not l.positive) xs i d within)
     ∙ map-append place_of (filter (λ l. not l.positive) (take i xs)) _
@@ -42,11 +42,11 @@ kept p true n = refl
 kept p false n = refl
 
 pub other_more : (part : Part) (xs : List Literal) (i : ℕ) (d : Literal) → i < length xs
-    → other_places part (take (i + 1) xs) ≡ other_places part (take i xs) ++ (if (get_or xs i d).positive then [] else if not (is_of (get_or xs i d).place part) then (get_or xs i d).place ∷ [] else [])
+    → other_places part (take (i + 1) xs) ≡ other_places part (take i xs) ++ (if (get_or xs i d).positive then [] else if not (is_of (get_or xs i d).variable part) then (get_or xs i d).variable ∷ [] else [])
 other_more part xs i d within =
     ap (filter (λ place. not (is_of place part))) (negative_more xs i d within)
     ∙ filter-append (λ place. not (is_of place part)) (negative_places (take i xs)) _
-    ∙ ap (λ (ps : List ℕ). other_places part (take i xs) ++ ps) (kept (λ place. not (is_of place part)) (get_or xs i d).positive (get_or xs i d).place)
+    ∙ ap (λ (ps : List ℕ). other_places part (take i xs) ++ ps) (kept (λ place. not (is_of place part)) (get_or xs i d).positive (get_or xs i d).variable)
 
 -- ---- CNF clauses of one key
 

@@ -6,7 +6,7 @@ use Rattle.std.specs.Ordering.{is_le, is_lt}
 use Rattle.std.specs.declared.cmp.Ordering.TheVariants.{Less}
 use Rattle.std.proofs.lemmas.Bool.{and_parts, and_from, cond-true, cond-false}
 use Rattle.cudf_job.specs.Keys.{PlainKey, ascend, key_cmp, precedes_all, never_descend}
-use Rattle.cudf_lrat.specs.declared.literal.Literal.{Literal}
+use Rattle.cudf_lrat.specs.declared.cnf.Literal.{Literal}
 use Rattle.cudf_reasons.specs.Laws.{keys_of}
 use Rattle.cudf_reasons.specs.Reasons.{Instance, Keyed, PlainReason, core_of, grouped, reason_of, same_key, with_clause}
 use Rattle.cudf_reasons.specs.Working.Walks.{keys_ascend}

@@ -9,7 +9,7 @@ use Rattle.cudf_job.specs.declared.key.Rule.{Rule}
 use Rattle.cudf_job.specs.declared.key.Rule.TheVariants.{Depends, Conflicts, Keep}
 use Rattle.cudf_job.specs.Keys.{PlainKey, key_cmp}
 use Rattle.cudf_lrat.specs.Lines.{is_empty}
-use Rattle.cudf_lrat.specs.declared.literal.Literal.{Literal}
+use Rattle.cudf_lrat.specs.declared.cnf.Literal.{Literal}
 
 -- ---- the instances of the needed CNF clauses
 
@@ -47,10 +47,10 @@ pub record PlainReason : Type 0 where
   pub met : List ℕ
 
 abbrev pub positive_places : List Literal → List ℕ
-positive_places clause = map (λ l. l.place) (filter (λ l. l.positive) clause)
+positive_places clause = map (λ l. l.variable) (filter (λ l. l.positive) clause)
 
 abbrev pub negative_places : List Literal → List ℕ
-negative_places clause = map (λ l. l.place) (filter (λ l. not l.positive) clause)
+negative_places clause = map (λ l. l.variable) (filter (λ l. not l.positive) clause)
 
 -- of the package at this place
 abbrev pub is_of : ℕ → Part → Bool

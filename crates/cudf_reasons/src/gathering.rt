@@ -67,9 +67,9 @@ impl Places {
     {
         for literal in literals {
             if literal.positive {
-                self.named.push(literal.place)?;
-            } else if !is_own(part, literal.place) {
-                self.met.push(literal.place)?;
+                self.named.push(literal.variable)?;
+            } else if !is_own(part, literal.variable) {
+                self.met.push(literal.variable)?;
             }
         }
         Ok(())

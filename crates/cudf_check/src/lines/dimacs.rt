@@ -55,7 +55,7 @@ fn print_literal<W: Sink>(paper: &mut Paper<'_, W>, literal: Literal)
 {
     let sign = if literal.positive { "" } else { "-" };
     paper.text(sign);
-    paper.number(u64::from(literal.place));
+    paper.number(u64::from(literal.variable));
     paper.text(" ");
 }
 

@@ -3,7 +3,7 @@ use Rattle.std.specs.Prelude.{◌≡◌, ℕ, zero, suc, false, ◌+◌, ◌-◌
 use Rattle.cudf_lrat.specs.Lists.{lists_in}
 use Rattle.cudf_lrat.specs.Literals.{PlainCnf}
 use Rattle.cudf_lrat.specs.Steps.{Derived, is_unnamed, named_clause}
-use Rattle.cudf_lrat.specs.declared.literal.Literal.{Literal}
+use Rattle.cudf_lrat.specs.declared.cnf.Literal.{Literal}
 use Rattle.cudf_lrat.specs.declared.steps.Steps.{Steps}
 
 -- the number of an index, where the CNF has so many clauses and the steps these numbers
@@ -31,7 +31,7 @@ pub record IsDerivation (cnf : PlainCnf) (numbers : List ℕ) (clauses : List (L
   pub few : length cnf.clauses + length numbers < 2 ^ 32
   pub ascending : IsAscending (length cnf.clauses) numbers
   pub earlier : (k : ℕ) → k < length numbers → All (λ index. index < length cnf.clauses + k) (slice_index_or used k [])
-  pub within : All (λ clause. All (λ l. l.place ≤ cnf.places) clause) clauses
+  pub within : All (λ clause. All (λ l. l.variable ≤ cnf.variables) clause) clauses
 
 abbrev pub IsAfter : PlainCnf → Steps → Type 0
 IsAfter cnf steps = IsDerivation cnf steps.numbers.items (lists_in steps.clauses) (lists_in steps.used)
@@ -55,4 +55,4 @@ pub record IsIndexOf (cnf : PlainCnf) (steps : Steps) (number index : ℕ) : Typ
 pub record AreIndicesOf (cnf : PlainCnf) (steps : Steps) (numbers indices : List ℕ) : Type 0 where
   pub inside : All (λ index. index < length cnf.clauses + length steps.numbers.items) indices
   pub numbers_are : map (number_at (length cnf.clauses) steps.numbers.items) indices ≡ numbers
-  pub clauses_are : map (indexed cnf steps) indices ≡ map (named_clause cnf.clauses (steps_in cnf steps)) numbers
+  pub clauses_are : All (λ index. named_clause cnf.clauses (steps_in cnf steps) (number_at (length cnf.clauses) steps.numbers.items index) ≡ indexed cnf steps index) indices

@@ -6,6 +6,6 @@ use Rattle.cudf_lrat.specs.declared.checker.Checker.{Checker}
 
 pub record IsReady (cnf : PlainCnf) (checker : Checker) : Type 0 where
   pub after : IsAfter cnf checker.steps
-  -- each place has a mark
-  pub marked : length checker.marks.items ≡ cnf.places + 1
-  pub fresh : All (λ m. m.step ≤ checker.last) checker.marks.items
+  -- there is room for each variable
+  pub sized : length checker.assignment.items ≡ cnf.variables + 1
+  pub fresh : All (λ m. m.step ≤ checker.last) checker.assignment.items

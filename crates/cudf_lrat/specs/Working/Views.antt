@@ -6,11 +6,9 @@ use Rattle.cudf_lrat.specs.Steps as steps
 use Rattle.cudf_lrat.specs.Steps.{Derived}
 use Rattle.cudf_lrat.specs.declared.checker.Taken.{Taken}
 use Rattle.cudf_lrat.specs.declared.checker.Taken.TheVariants.{On, Refuted, Fault}
-use Rattle.cudf_lrat.specs.declared.follow.Followed.{Followed}
-use Rattle.cudf_lrat.specs.declared.follow.Followed.TheVariants.{Conflict, NotUnit, NoConflict}
-use Rattle.cudf_lrat.specs.declared.marks.Reading.{Reading}
-use Rattle.cudf_lrat.specs.declared.marks.Reading.TheVariants.{Falsified, Only, Several}
-use Rattle.cudf_lrat.specs.declared.number.Signed.{Signed}
+use Rattle.cudf_lrat.specs.declared.assignment.Status.{Status}
+use Rattle.cudf_lrat.specs.declared.assignment.Status.TheVariants.{Conflict, Unit, NotUnit}
+use Rattle.cudf_lrat.specs.declared.reader.Signed.{Signed}
 use Rattle.cudf_lrat.specs.declared.reader.Line.{Line}
 use Rattle.cudf_lrat.specs.declared.reader.Line.TheVariants.{Skipped, Step, Invalid}
 
@@ -20,15 +18,10 @@ line_view Skipped literals hints = lines.skipped
 line_view (Step number) literals hints = lines.step number literals hints
 line_view Invalid literals hints = lines.invalid
 
-abbrev pub reading_view : Reading → steps.Reading
-reading_view Falsified = steps.falsified
-reading_view (Only literal) = steps.unit literal
-reading_view Several = steps.several
-
-abbrev pub followed_view : Followed → steps.Followed
-followed_view (Conflict n) = steps.conflict n
-followed_view NotUnit = steps.not_unit
-followed_view NoConflict = steps.no_conflict
+abbrev pub status_view : Status → steps.Status
+status_view Conflict = steps.conflict
+status_view (Unit literal) = steps.unit literal
+status_view NotUnit = steps.not_unit
 
 -- with the steps after it
 abbrev pub taken_view : Taken → List Derived → answers.Taken

@@ -2,7 +2,7 @@
 use Rattle.std.specs.Prelude.{ℕ, Bool, not, List, map, filter, slice_index_or}
 use Rattle.cudf_job.specs.Keys.{PlainKey, unknown_key}
 use Rattle.cudf_job.specs.declared.key.Part.{Part}
-use Rattle.cudf_lrat.specs.declared.literal.Literal.{Literal}
+use Rattle.cudf_lrat.specs.declared.cnf.Literal.{Literal}
 use Rattle.cudf_reasons.specs.Laws.{keys_of}
 use Rattle.cudf_reasons.specs.Reasons.{is_of, negative_places, same_key}
 use Rattle.cudf_reasons.specs.Views.{needed_view}

@@ -5,7 +5,7 @@ use Rattle.cudf_index.specs.Satisfaction.{Placed, meets_clause_alone, satisfies_
 use Rattle.cudf_job.specs.declared.key.Rule.TheVariants as rule
 use Rattle.cudf_job.specs.KeyViews.{key_view}
 use Rattle.cudf_job.specs.Keys.{package_key}
-use Rattle.cudf_lrat.specs.declared.literal.Literal.{Literal}
+use Rattle.cudf_lrat.specs.declared.cnf.Literal.{Literal}
 use Rattle.cudf_cnf.specs.Cnf.{conjunct_clauses, is_in, is_out, one_of}
 use Rattle.cudf_cnf.proofs.PlaceLemmas.{conjunct_put, found_places, one_of-where, one_put, put_as}
 use Rattle.cudf_cnf.proofs.packages.put_conjunct.Goals as goal

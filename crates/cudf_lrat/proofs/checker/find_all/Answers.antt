@@ -5,7 +5,7 @@ use Rattle.std.proofs.lemmas.List.{map_more}
 use Rattle.cudf_lrat.proofs.IndexLemmas.{indices-push, none-more, one-unnamed}
 use Rattle.cudf_lrat.specs.Steps.{is_unnamed, values}
 use Rattle.cudf_lrat.specs.Working.Indices.{AreIndicesOf, steps_in}
-use Rattle.cudf_lrat.specs.declared.number.Signed.{Signed}
+use Rattle.cudf_lrat.specs.declared.reader.Signed.{Signed}
 use Rattle.cudf_lrat.proofs.checker.find_all.Goals as goal
 
 pub returns-in-None-clause-named : goal.returns-in-None-clause-named

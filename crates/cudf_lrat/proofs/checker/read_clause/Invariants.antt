@@ -6,7 +6,7 @@ use Rattle.cudf_lrat.proofs.checker.read_clause.Given as goal
 abbrev pub invariant-loop-literal : goal.invariant-loop-literal
 invariant-loop-literal l =
     record {
-      within : list_any (is_beyond l.places) (take l.literal-index l.literals) ≡ false;
+      within : list_any (is_beyond l.variables) (take l.literal-index l.literals) ≡ false;
       clause : l.clause.items ≡ map literal_of (take l.literal-index l.literals);
-      places : All (λ x. x.place ≤ l.places) l.clause.items;
+      variables : All (λ x. x.variable ≤ l.variables) l.clause.items;
     }

@@ -14,7 +14,7 @@ answer_core-requires-clause-ordered g c =
     let proof = c.args.proof.now in
     let numbers = c.in-Ok-Refuted.numbers.items in
     let encoded = subst (IsEncoded problem) c.in-Ok-Some.field-0-is c.in-Ok-Some.ensures in
-    let shown = subst (λ a. answer_view a ≡ checked c.cnf.result.now.places c.cnf.result.now.clauses proof) c.in-Ok-Refuted.field-0-is c.in-Ok-Refuted.ensures in
+    let shown = subst (λ a. answer_view a ≡ checked c.cnf.result.now.variables c.cnf.result.now.clauses proof) c.in-Ok-Refuted.field-0-is c.in-Ok-Refuted.ensures in
     subst (λ ns. IsTrue (never_descend (keys_of (needed held.clauses ns)))) (sym c.deref.ensures.value)
-    (core_by_key problem c.cnf.result.now.places held.clauses proof numbers c.ordered.ensures (ap (λ k. k.clauses) encoded.1)
-    (ap (λ clauses. checked c.cnf.result.now.places clauses proof) (sym c.cnf.ensures.clauses) ∙ sym shown))
+    (core_by_key problem c.cnf.result.now.variables held.clauses proof numbers c.ordered.ensures (ap (λ k. k.clauses) encoded.1)
+    (ap (λ clauses. checked c.cnf.result.now.variables clauses proof) (sym c.cnf.ensures.clauses) ∙ sym shown))

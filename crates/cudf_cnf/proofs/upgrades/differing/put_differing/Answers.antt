@@ -4,7 +4,7 @@ use Rattle.cudf_value.specs.declared.relop.Relop.TheVariants.{Neq}
 use Rattle.cudf_index.specs.Promises.Places.{gives_number, places_where}
 use Rattle.cudf_index.specs.Working.Places.{has}
 use Rattle.cudf_job.specs.KeyViews.{key_view}
-use Rattle.cudf_lrat.specs.declared.literal.Literal.{Literal}
+use Rattle.cudf_lrat.specs.declared.cnf.Literal.{Literal}
 use Rattle.cudf_cnf.specs.Cnf.{Keyed}
 use Rattle.cudf_cnf.specs.Encodings.{PlainKeyedClauses}
 use Rattle.cudf_cnf.specs.Working.Parts.{ArePlaces, differing_at}

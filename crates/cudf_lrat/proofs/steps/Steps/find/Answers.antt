@@ -9,18 +9,18 @@ returns-in_err-before c =
     let none : 1 ≤ c.args.number → ⊥ = c.in_err-before.ensures in
     rw c.from_residual.ensures (unnamed-zero c.args.cnf.now c.args.self.now c.args.number c.requires (omega arith))
 
-pub returns-in_err-place : goal.returns-in_err-place
-returns-in_err-place c =
+pub returns-in_err-position : goal.returns-in_err-position
+returns-in_err-position c =
     let cnf = c.args.cnf.now in
     let steps = c.args.self.now in
     let before = c.in_ok-before.ensures in
     let above : length cnf.clauses < c.args.number = omega (arith, before.0, before.1, c.len-given.ensures, c.from.ensures) in
-    let none : (k : ℕ) → k < length steps.numbers.items → slice_index steps.numbers.items k ≢ c.args.number = subst (λ (xs : List ℕ). (k : ℕ) → k < length xs → slice_index xs k ≢ c.args.number) c.deref.ensures.value c.in_err-place.ensures.none in
-    rw c.from_residual-in_err-place.ensures (unnamed-above cnf steps c.args.number above none)
+    let none : (k : ℕ) → k < length steps.numbers.items → slice_index steps.numbers.items k ≢ c.args.number = subst (λ (xs : List ℕ). (k : ℕ) → k < length xs → slice_index xs k ≢ c.args.number) c.deref.ensures.value c.in_err-position.ensures.none in
+    rw c.from_residual-in_err-position.ensures (unnamed-above cnf steps c.args.number above none)
 
 pub returns : goal.returns
 returns c =
     let cnf = c.args.cnf.now in
     let steps = c.args.self.now in
-    let found = subst (λ (xs : List ℕ). (c.in_ok-place.place < length xs) × (slice_index xs c.in_ok-place.place ≡ c.args.number)) c.deref.ensures.value c.in_ok-place.ensures.found in
-    subst (λ given. IsIndexOf cnf steps c.args.number (given + c.in_ok-place.place)) (sym c.len-given.ensures) (index-step cnf steps c.args.number c.in_ok-place.place c.requires found.0 found.1)
+    let found = subst (λ (xs : List ℕ). (c.in_ok-position.position < length xs) × (slice_index xs c.in_ok-position.position ≡ c.args.number)) c.deref.ensures.value c.in_ok-position.ensures.found in
+    subst (λ given. IsIndexOf cnf steps c.args.number (given + c.in_ok-position.position)) (sym c.len-given.ensures) (index-step cnf steps c.args.number c.in_ok-position.position c.requires found.0 found.1)
