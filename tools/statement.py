@@ -11,7 +11,7 @@ rests on
 - the files that the `use` lines of these files name, and so on.
 
 The program has to call `run`. No other public function of `cudf_check` may write but `rank`, whose contract is a
-promise of its own. Only the two functions of `Steps` that set a count have a proof written by hand: with a further one
+promise of its own; what `cudf_device` has to write with, the program may not use. Only the two functions of `Steps` that set a count have a proof written by hand: with a further one
 a count could be set back. The standard library and the crates from outside are believed as they are.
 
     statement.py           prints the files in reading order, each with its lines of definitions, the same with `use`
@@ -156,14 +156,15 @@ def check_entry():
 
 
 def check_program():
-    """The program calls `run`, and no other function of cudf_check but `rank`."""
+    """The program calls `run`, no other function of cudf_check but `rank`, and nothing of cudf_device, which writes too."""
     called = False
     for path in sources("cudf_program"):
         _, items, rest = uses_in(path)
-        names = {name: item for name, item in items.items() if item.split("::")[0] == "cudf_check"}
-        names |= {item: item for item in re.findall(r"\bcudf_check(?:::\w+)+", rest)}
+        names = {name: item for name, item in items.items() if item.split("::")[0] in ("cudf_check", "cudf_device")}
+        names |= {item: item for item in re.findall(r"\bcudf_(?:check|device)(?:::\w+)+", rest)}
         for name, item in names.items():
-            if item.islower() and item not in (f"cudf_check::{ENTRY}", f"cudf_check::{RANKING}"):
+            is_type = item.startswith("cudf_check::") and not item.islower()
+            if not is_type and item not in (f"cudf_check::{ENTRY}", f"cudf_check::{RANKING}"):
                 raise Fault(1, f"the program uses `{item}`, which doesn't carry the headline")
             is_call = re.search(rf"(?<![\w.:]){name}\s*(?:::\s*<|\()", rest)
             called = called or item == f"cudf_check::{ENTRY}" and is_call is not None

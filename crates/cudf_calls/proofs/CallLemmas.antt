@@ -1,9 +1,8 @@
 -- What a call answers of a report that was made, or wasn't.
 use Rattle.std.proofs.Common.{◌≡◌, ◌⊎◌, inl, inr, ◌∙◌, ℕ, List, Result, Ok, Err, ap}
 use Rattle.std.specs.List.{All}
-use Rattle.cudf_check.specs.Readers.{OfOne}
-use Rattle.cudf_check.specs.Report.{Report}
-use Rattle.cudf_check.specs.Runs.{outcome_status}
+use Rattle.cudf_device.specs.Readers.{OfOne}
+use Rattle.cudf_device.specs.Outcomes.{Report, outcome_status}
 use Rattle.cudf_calls.specs.Calls.{Answers, IsLong, IsShort, left}
 use Rattle.cudf_calls.specs.Working.Made.{IsLeft, IsTold, IsUnmade}
 use Rattle.cudf_calls.specs.Working.Stops.{stop_status}

@@ -2,11 +2,10 @@
 use Rattle.std.proofs.Common.{◌≡◌, ◌++◌, ℕ, List, [], ◌∷◌, Option, None, Some, Result, Ok, map, length, suc, refl, sym, ap, ◌∙◌, arith, append-nil}
 use Rattle.std.proofs.lemmas.List.Elements.{All-head, All-tail}
 use Rattle.std.specs.List.{All, AllZip}
-use Rattle.cudf_check.specs.Device.{SourceState}
-use Rattle.cudf_check.specs.declared.device.Trouble.{Trouble}
-use Rattle.cudf_check.specs.ManyRuns.{LeavesBehind}
+use Rattle.cudf_device.specs.Device.{SourceState}
+use Rattle.cudf_device.specs.declared.device.Trouble.{Trouble}
+use Rattle.cudf_device.specs.Readers.{LeavesBehind, Change, change, ReadsAll, changes}
 use Rattle.cudf_check.specs.Naming.{names_of}
-use Rattle.cudf_check.specs.Readers.{Change, change, ReadsAll, changes}
 use Rattle.cudf_calls.specs.Calls.{nameless}
 use Rattle.cudf_calls.specs.Working.Documents.{IsNew, IsUnread, document_state}
 use Rattle.cudf_calls.specs.Working.Given.{given_before}

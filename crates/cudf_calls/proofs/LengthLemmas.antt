@@ -2,7 +2,7 @@
 use Rattle.std.proofs.Common.{◌<◌, inl, inr, ℕ, zero, suc, List, [], ◌∷◌, length, map, take, get_or, arith}
 use Rattle.std.proofs.lemmas.List.Elements.{All-nil, All-cons, All-head, All-tail}
 use Rattle.std.specs.List.{All}
-use Rattle.cudf_check.specs.Readers.{OfOne}
+use Rattle.cudf_device.specs.Readers.{OfOne}
 use Rattle.cudf_calls.specs.Calls.{IsLong, IsShort}
 use Rattle.cudf_calls.specs.declared.Text.{Text}
 

@@ -2,15 +2,14 @@
 use Rattle.std.proofs.Common.{◌≡◌, ◌<◌, ◌++◌, ◌∷◌, ℕ, List, [], map, length, min, Result, Ok, Err, IsErr, IsErrAnd, MatchResult, refl, sym, ap, ◌∙◌, subst, arith}
 use Rattle.std.specs.List.{All, AllZip}
 use Rattle.std.specs.Io.KnownBytes.{Appends, Keeps}
-use Rattle.cudf_check.specs.Device.{SourceState}
-use Rattle.cudf_check.specs.ManyRuns.{LeavesBehind}
+use Rattle.cudf_device.specs.Device.{SourceState}
+use Rattle.cudf_device.specs.Readers.{LeavesBehind, Change, change, changes}
 use Rattle.cudf_check.specs.Naming.{Names}
-use Rattle.cudf_check.specs.Readers.{Change, change, changes}
-use Rattle.cudf_check.specs.Report.{Report}
+use Rattle.cudf_device.specs.Outcomes.{Report}
 use Rattle.cudf_check.specs.Runs.{Runs, read_for}
-use Rattle.cudf_check.specs.declared.outcome.Outcome.{Outcome}
-use Rattle.cudf_check.specs.declared.outcome.RunError.{RunError}
-use Rattle.cudf_check.specs.declared.outcome.RunError.TheVariants as errors
+use Rattle.cudf_device.specs.declared.outcome.Outcome.{Outcome}
+use Rattle.cudf_device.specs.declared.outcome.RunError.{RunError}
+use Rattle.cudf_device.specs.declared.outcome.RunError.TheVariants as errors
 use Rattle.cudf_job.specs.declared.job.Job.{Job}
 use Rattle.cudf_job.specs.declared.job.Job.TheVariants.{Lint, Check, Score, Cnf, Refute}
 use Rattle.cudf_calls.specs.Calls.{nameless}

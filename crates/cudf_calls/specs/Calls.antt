@@ -2,9 +2,8 @@
 use Rattle.std.specs.Prelude.{◌≡◌, ◌<◌, ◌≤◌, ◌⊎◌, ◌++◌, ℕ, List, length, map, min, take, drop, Bool, None, if◌then◌else◌}
 use Rattle.std.specs.List.{All}
 use Rattle.cudf_check.specs.Naming.{Names}
-use Rattle.cudf_check.specs.Runs.{outcome_status}
-use Rattle.cudf_check.specs.Readers.{OfOne, most_bytes}
-use Rattle.cudf_check.specs.Report.{Report}
+use Rattle.cudf_device.specs.Outcomes.{outcome_status, Report}
+use Rattle.cudf_device.specs.Readers.{OfOne, most_bytes}
 use Rattle.cudf_problem.specs.declared.mode.Mode.{Mode}
 use Rattle.cudf_problem.specs.declared.mode.Mode.TheVariants.{Lenient, Strict}
 

@@ -1,7 +1,7 @@
 //! Which documents are too long: known from their lengths alone, before a byte of one is read.
 ghost use Rattle.std.specs.Prelude.{◌<◌, ◌≤◌, map, MatchBool};
 ghost use Rattle.std.specs.List.{All};
-ghost use Rattle.cudf_check.specs.Readers.{OfOne, most_bytes};
+ghost use Rattle.cudf_device.specs.Readers.{OfOne, most_bytes};
 ghost use Rattle.cudf_calls.specs.Calls.{IsLong, IsShort};
 
 use crate::Text;

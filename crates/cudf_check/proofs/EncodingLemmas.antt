@@ -9,7 +9,7 @@ use Rattle.cudf_lrat.specs.declared.cnf.Literal.{Literal}
 use Rattle.cudf_cnf.specs.Cnf.{Keyed}
 use Rattle.cudf_cnf.specs.Encodings.{PlainEncoder, PlainKeyedClauses, Tells}
 use Rattle.cudf_check.specs.Report.{needed}
-use Rattle.cudf_check.proofs.PaperLemmas.{texts-more}
+use Rattle.cudf_device.proofs.PaperLemmas.{texts-more}
 
 -- what was taken off the front makes the rest shorter
 pub shorter : {A : Type 0} (put left held all : List A) → put ++ left ≡ held ++ all → length held < length put → length left < length all

@@ -9,7 +9,8 @@ use Rattle.cudf_document.specs.declared.error.ReadError.TheVariants as read_erro
 use Rattle.cudf_problem.specs.Universe.{PlainProblem}
 use Rattle.cudf_check.specs.Naming.{name_at, own_file}
 use Rattle.cudf_check.specs.RankReport.{placed_fault, placed_faults, entrant_of, entrant_word, entrants, first_faulty_or}
-use Rattle.cudf_check.specs.Report.{Report, faulty, solution_fault}
+use Rattle.cudf_check.specs.Report.{faulty, solution_fault}
+use Rattle.cudf_device.specs.Outcomes.{Report}
 use Rattle.cudf_check.specs.Working.Judged.{IsJudged, AreJudged, IsFaultAt}
 use Rattle.cudf_check.specs.Working.Unjudged.{IsFaultOf}
 use Rattle.cudf_job.specs.Ranking.{have_own_places}

@@ -1,15 +1,10 @@
-pub mod AnswerLemmas
-pub mod CallLemmas
-pub mod CommonLemmas
 pub mod CoreLemmas
 pub mod EncodingLemmas
-pub mod InputsLemmas
+pub mod FaultLemmas
 pub mod JudgingLemmas
 pub mod NamedInstanceLemmas
-pub mod OutputLemmas
 pub mod PageLemmas
 pub mod PagePriceLemmas
-pub mod PaperLemmas
 pub mod ReadingLemmas
 pub mod RefutationLemmas
 pub mod RunLemmas

@@ -1,5 +1,5 @@
 -- The first fault of a document, by its bytes and by its text, and the report where none is left.
-use Rattle.std.proofs.Common.{◌≡◌, ℕ, Bool, true, false, List, Option, Some, None, Result, Ok, Err, IfOk, IfErr, if◌then◌else◌, refl, sym, ap, ◌∙◌, codes}
+use Rattle.std.proofs.Common.{◌≡◌, ℕ, Bool, true, false, List, Option, Some, None, Result, Ok, Err, IfOk, IfErr, if◌then◌else◌, refl, subst, sym, ap, ◌∙◌, codes, ◌⊎◌, inl, inr, Vec, Global}
 use Rattle.std.specs.Str.{IsUtf8, is_utf8}
 use Rattle.std.proofs.lemmas.Str.{IsUtf8-from_is_utf8, is_utf8-from_IsUtf8}
 use Rattle.cudf_text.specs.declared.fault.Fault.{Fault}
@@ -14,13 +14,16 @@ use Rattle.cudf_document.specs.ProblemFaults.{problem_faults}
 use Rattle.cudf_document.specs.SolutionFaults.{solution_faults}
 use Rattle.cudf_document.specs.Promises.Faults.{IsFirstFault}
 use Rattle.cudf_problem.specs.Statuses.{PlainUnknown, is_initial, is_proposed, unknown_stanzas}
-use Rattle.cudf_problem.specs.Universe.{PlainProblem, plain_problem}
-use Rattle.cudf_referee.specs.Proposals.{Proposal, proposal}
+use Rattle.cudf_problem.specs.Universe.{PlainProblem}
+use Rattle.cudf_job.specs.declared.aims.Aim.{Aim}
 use Rattle.cudf_job.specs.declared.job.Job.{Job}
-use Rattle.cudf_check.specs.declared.outcome.Outcome.TheVariants.{Fail}
-use Rattle.cudf_check.specs.Naming.{PlainOrigins}
-use Rattle.cudf_check.specs.Report.{alone, faulty_or, problem_fault, solution_fault, proposal_of, judged_report, pair_report, detail_if}
-use Rattle.cudf_check.specs.Working.Found.{found_text}
+use Rattle.cudf_job.specs.declared.job.Job.TheVariants.{Check, Score}
+use Rattle.cudf_job.specs.declared.key.Key.{Key}
+use Rattle.cudf_referee.specs.Proposals.{Proposal, proposal}
+use Rattle.cudf_device.specs.declared.outcome.Outcome.TheVariants.{Fail}
+use Rattle.cudf_check.specs.Naming.{Names, PlainOrigin}
+use Rattle.cudf_check.specs.Report.{alone, faulty_or, problem_fault, solution_fault, proposal_of, judged_report, solution_report, inputs_report, report, detail_if}
+use Rattle.cudf_check.specs.Working.Found.{explains, found_text}
 use Rattle.cudf_check.specs.Working.Unjudged.{IsFaultOf}
 
 -- ---- what a result says
@@ -82,12 +85,21 @@ pub put_forward : (problem : PlainProblem) (text : PlainText) (contains : ℕ �
     → proposal problem (is_initial problem) contains unknown ≡ proposal_of problem text
 put_forward problem text contains unknown status others = λ k. proposal problem (is_initial problem) (λ place. status place k) (others k)
 
--- neither document has a fault, and the solution doesn't say FAIL
-pub pair_judged : (explain : Bool) (mode : Mode) (job : Job) (origins : PlainOrigins) (problem solution : List ℕ) (judged : PlainProblem) (s : Proposal)
-    → problem_fault mode problem ≡ None → solution_fault mode solution ≡ None → is_fail solution ≡ false
-    → judged ≡ plain_problem (plain_text problem) → s ≡ proposal_of judged (plain_text solution)
-    → judged_report (found_text job origins) s ≡ pair_report explain mode (found_text job) origins problem solution
-pair_judged explain mode job origins problem solution judged s none sound goes_on read is =
-    ap (judged_report (found_text job origins)) (is ∙ ap (λ p. proposal_of p (plain_text solution)) read)
-    ∙ (λ k. faulty_or origins.problem (codes "problem") (detail_if explain problem) (sym none k) (faulty_or origins.solution (codes "solution") (detail_if explain solution) (sym sound k)
-    (if sym goes_on k then alone (codes "solution FAIL") Fail else judged_report (found_text job origins) (proposal_of (plain_problem (plain_text problem)) (plain_text solution)))))
+-- the solution has no fault, and doesn't say FAIL
+pub solution_judged : (explain : Bool) (mode : Mode) (found : Proposal → List ℕ) (origin : Option PlainOrigin) (problem : PlainProblem) (solution : List ℕ) (s : Proposal)
+    → solution_fault mode solution ≡ None → is_fail solution ≡ false → s ≡ proposal_of problem (plain_text solution)
+    → judged_report found s ≡ solution_report explain mode found origin problem solution
+solution_judged explain mode found origin problem solution s sound goes_on is =
+    ap (judged_report found) is
+    ∙ (λ k. faulty_or origin (codes "solution") (detail_if explain solution) (sym sound k)
+    (if sym goes_on k then alone (codes "solution FAIL") Fail else judged_report found (proposal_of problem (plain_text solution))))
+
+-- a job that judges a solution has the report of its inputs
+pub pair_of : (job : Job) (mode : Mode) (names : Names) (input : List ℕ) (solution : Option (List ℕ))
+    → ((after : Option Key) × (limit : Option ℕ) × (explain : Bool) × (job ≡ Check after limit explain)) ⊎ ((aims : Option (Vec Aim Global)) × (job ≡ Score aims))
+    → inputs_report (explains job) mode (found_text job) names input solution ≡ report job mode names input solution
+unfolding report
+pair_of job mode names input solution (inl check) =
+    subst (λ j. inputs_report (explains j) mode (found_text j) names input solution ≡ report j mode names input solution) (sym check.3) refl
+pair_of job mode names input solution (inr score) =
+    subst (λ j. inputs_report (explains j) mode (found_text j) names input solution ≡ report j mode names input solution) (sym score.1) refl

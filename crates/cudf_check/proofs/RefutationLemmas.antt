@@ -21,15 +21,16 @@ use Rattle.cudf_reasons.specs.Reasons.{Instance, PlainReason, core_of, grouped, 
 use Rattle.cudf_reasons.specs.Views.{Told, told_as}
 use Rattle.cudf_reasons.proofs.KeyOrderLemmas.{same_is, same_itself}
 use Rattle.cudf_reasons.proofs.LawLemmas.{each_told_once}
-use Rattle.cudf_check.specs.Device.{SinkState, SourceState}
-use Rattle.cudf_check.specs.Readers.{Change, ReadsAll}
+use Rattle.cudf_device.specs.Device.{SinkState, SourceState}
+use Rattle.cudf_device.specs.Readers.{Change, ReadsAll}
 use Rattle.cudf_check.specs.Refutations.{HasRefutedIfYes, Refutes, ViolatesOneOf}
 use Rattle.cudf_check.specs.Naming.{Names}
-use Rattle.cudf_check.specs.Report.{Report, faulty_or, instance_of, is_too_large, needed, problem_fault, problem_report, proof_report, refute_answer, report, detail_if}
-use Rattle.cudf_check.specs.Working.Answering.{Answers}
-use Rattle.cudf_check.specs.declared.outcome.Outcome.{Outcome}
-use Rattle.cudf_check.specs.declared.outcome.Outcome.TheVariants.{Yes, No, Faulty, Fail, TooLarge}
-use Rattle.cudf_check.specs.declared.outcome.RunError.{RunError}
+use Rattle.cudf_check.specs.Report.{faulty_or, instance_of, is_too_large, needed, problem_fault, problem_report, proof_report, refute_answer, report, detail_if}
+use Rattle.cudf_device.specs.Outcomes.{Report}
+use Rattle.cudf_device.specs.Promises.Answering.{Answers}
+use Rattle.cudf_device.specs.declared.outcome.Outcome.{Outcome}
+use Rattle.cudf_device.specs.declared.outcome.Outcome.TheVariants.{Yes, No, Faulty, Fail, TooLarge}
+use Rattle.cudf_device.specs.declared.outcome.RunError.{RunError}
 use Rattle.cudf_check.proofs.CoreLemmas.{core_by_key}
 use Rattle.cudf_check.proofs.NamedInstanceLemmas.{known_instances, known_is_listed, listed_is_known, named_by_key}
 

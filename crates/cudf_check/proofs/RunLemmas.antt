@@ -6,18 +6,18 @@ use Rattle.cudf_job.specs.declared.aims.Aim.{Aim}
 use Rattle.cudf_job.specs.declared.key.Key.{Key}
 use Rattle.cudf_job.specs.declared.job.Job.{Job}
 use Rattle.cudf_job.specs.declared.job.Job.TheVariants.{Lint, Check, Score, Cnf, Refute}
-use Rattle.cudf_check.specs.declared.outcome.Outcome.{Outcome}
-use Rattle.cudf_check.specs.declared.outcome.RunError.{RunError}
-use Rattle.cudf_check.specs.declared.outcome.RunError.TheVariants.{Read, TooLong, Write, Memory}
-use Rattle.cudf_check.specs.Device.{SourceState, SinkState, failed_writes}
-use Rattle.cudf_check.specs.Readers.{Change, ReadsAll, IsUnfinished, IsTooLong, StopsInTime, OfOne}
+use Rattle.cudf_device.specs.declared.outcome.Outcome.{Outcome}
+use Rattle.cudf_device.specs.declared.outcome.RunError.{RunError}
+use Rattle.cudf_device.specs.declared.outcome.RunError.TheVariants.{Read, TooLong, Write, Memory}
+use Rattle.cudf_device.specs.Device.{SourceState, SinkState, failed_writes}
+use Rattle.cudf_device.specs.Readers.{Change, ReadsAll, IsUnfinished, IsTooLong, StopsInTime, OfOne}
 use Rattle.cudf_check.specs.Naming.{Names, names_of}
-use Rattle.cudf_check.specs.Report.{Report}
+use Rattle.cudf_device.specs.Outcomes.{Report}
 use Rattle.cudf_check.specs.Runs.{HoldsOfReport, Runs, read_for}
-use Rattle.cudf_check.specs.Working.Answering.{Answers}
-use Rattle.cudf_check.proofs.CallLemmas.{none_more}
-use Rattle.cudf_check.proofs.CommonLemmas.{none_below, same_error}
-use Rattle.cudf_check.proofs.InputsLemmas.{WasRead}
+use Rattle.cudf_device.specs.Promises.Answering.{Answers}
+use Rattle.cudf_device.proofs.CallLemmas.{none_more}
+use Rattle.cudf_device.proofs.CommonLemmas.{none_below, same_error}
+use Rattle.cudf_device.proofs.InputsLemmas.{WasRead}
 
 -- nothing was written
 abbrev still : SinkState → Change SinkState

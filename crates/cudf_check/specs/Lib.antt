@@ -1,10 +1,7 @@
-pub mod Device
 pub mod Explanations
-pub mod ManyRuns
 pub mod Naming
 pub mod Promises
 pub mod RankReport
-pub mod Readers
 pub mod Refutations
 pub mod Report
 pub mod Runs

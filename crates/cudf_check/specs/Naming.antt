@@ -4,8 +4,8 @@ use Rattle.cudf_text.specs.Lines.{is_lf}
 use Rattle.cudf_job.specs.declared.key.Part.{Part}
 use Rattle.cudf_job.specs.declared.key.Part.TheVariants as part
 use Rattle.cudf_referee.specs.Criteria.{at_most_max}
-use Rattle.cudf_check.specs.Readers.{Change}
-use Rattle.cudf_check.specs.Device.{SourceState}
+use Rattle.cudf_device.specs.Readers.{Change}
+use Rattle.cudf_device.specs.Device.{SourceState}
 use Rattle.cudf_check.specs.Shown.{shown}
 
 -- ---- the readers

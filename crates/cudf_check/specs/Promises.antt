@@ -1,3 +1,1 @@
-pub mod DeviceInside
 pub mod Laws
-pub mod NamedInside

@@ -15,9 +15,10 @@ use Rattle.cudf_job.specs.declared.criteria.Criteria.{Criteria}
 use Rattle.cudf_job.specs.Ranking.{class, have_own_places, ranking}
 use Rattle.cudf_check.specs.Naming.{Names, name_at, own_file}
 use Rattle.cudf_check.specs.Shown.{shown}
-use Rattle.cudf_check.specs.Report.{Report, line, faulty, faulty_or, problem_fault, solution_fault, proposal_of}
-use Rattle.cudf_check.specs.declared.outcome.Outcome.{Outcome}
-use Rattle.cudf_check.specs.declared.outcome.Outcome.TheVariants.{Yes, No, Fail}
+use Rattle.cudf_check.specs.Report.{line, faulty, faulty_or, problem_fault, solution_fault, proposal_of}
+use Rattle.cudf_device.specs.Outcomes.{Report}
+use Rattle.cudf_device.specs.declared.outcome.Outcome.{Outcome}
+use Rattle.cudf_device.specs.declared.outcome.Outcome.TheVariants.{Yes, No, Fail}
 use Rattle.cudf_job.specs.declared.ranking.Judgement.{Judgement}
 use Rattle.cudf_job.specs.declared.ranking.Judgement.TheVariants.{Solution, NoSolution, SaysFail}
 use Rattle.cudf_job.specs.declared.ranking.Entrant.{Entrant}
@@ -106,11 +107,15 @@ abbrev pub first_faulty_or : List (Option (List ℕ)) → List (ℕ × Fault) �
 first_faulty_or names [] report = report
 first_faulty_or names ((place, f) ∷ others) report = let name = name_at names place in faulty (own_file name) (entrant_word name place) f None
 
--- a problem and solutions: the problem's fault, or else that of the first faulty solution, or else the ranking
+-- solutions of a problem that has no fault: the fault of the first faulty one, or else the ranking
+abbrev pub solutions_report : List Aim → Mode → List (Option (List ℕ)) → PlainProblem → List (List ℕ) → Report
+solutions_report aims mode names problem solutions = first_faulty_or names (placed_faults mode solutions) (ranked_report aims names (entrants problem solutions))
+
+-- a problem and solutions: the problem's fault, or else the solutions' report
 unfoldable pub rank_report : List Aim → Mode → Names → List ℕ → List (List ℕ) → Report
 rank_report aims mode names problem solutions =
     faulty_or (own_file names.first) (codes "problem") (λ f. None) (problem_fault mode problem)
-    (first_faulty_or names.others (placed_faults mode solutions) (ranked_report aims names.others (entrants (plain_problem (plain_text problem)) solutions)))
+    (solutions_report aims mode names.others (plain_problem (plain_text problem)) solutions)
 
 -- ---- what makes the laws over rankings hold of it
 

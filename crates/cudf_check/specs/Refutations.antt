@@ -13,11 +13,11 @@ use Rattle.cudf_referee.specs.Solutions.{is_solution}
 use Rattle.cudf_referee.specs.Violations.{listing}
 use Rattle.cudf_cnf.specs.Laws.{proposed}
 use Rattle.cudf_reasons.specs.Views.{Told}
-use Rattle.cudf_check.specs.Device.{SinkState, SourceState}
-use Rattle.cudf_check.specs.Readers.{Change, ReadsAll}
+use Rattle.cudf_device.specs.Device.{SinkState, SourceState}
+use Rattle.cudf_device.specs.Readers.{Change, ReadsAll}
 use Rattle.cudf_check.specs.Report.{instance_of, line, reason_line}
-use Rattle.cudf_check.specs.declared.outcome.Outcome.{Outcome}
-use Rattle.cudf_check.specs.declared.outcome.Outcome.TheVariants.{Yes}
+use Rattle.cudf_device.specs.declared.outcome.Outcome.{Outcome}
+use Rattle.cudf_device.specs.declared.outcome.Outcome.TheVariants.{Yes}
 
 -- an instance that the status violates, and the reason whose key names it
 pub record ViolatesOneOf (reasons : List Told) (s : Proposal) : Type 0 where

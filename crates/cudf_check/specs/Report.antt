@@ -46,13 +46,9 @@ use Rattle.cudf_check.specs.Explanations.{instance_added, reason_added, detail_a
 use Rattle.cudf_check.specs.Naming.{Names, PlainOrigin, PlainOrigins, named_before, numbered, one_file, origin_of, own_file, own_files}
 use Rattle.cudf_job.specs.declared.job.Job.{Job}
 use Rattle.cudf_job.specs.declared.job.Job.TheVariants.{Lint, Check, Score, Cnf, Refute}
-use Rattle.cudf_check.specs.declared.outcome.Outcome.{Outcome}
-use Rattle.cudf_check.specs.declared.outcome.Outcome.TheVariants.{Yes, No, Faulty, Fail, TooLarge}
-
--- what is written, and how it ends
-pub record Report : Type 0 where
-  pub text : List ℕ
-  pub outcome : Outcome
+use Rattle.cudf_device.specs.Outcomes.{Report}
+use Rattle.cudf_device.specs.declared.outcome.Outcome.{Outcome}
+use Rattle.cudf_device.specs.declared.outcome.Outcome.TheVariants.{Yes, No, Faulty, Fail, TooLarge}
 
 -- a line with its end
 abbrev pub line : List ℕ → List ℕ
@@ -196,13 +192,17 @@ proposal_of problem text = proposal problem (is_initial problem) (is_proposed pr
 
 -- ---- documents
 
--- a problem and a solution: the problem's fault, or else the solution's, or else FAIL, or else what is found of the proposed status
+-- a solution of a problem that has no fault: the solution's fault, or else FAIL, or else what is found of the proposed status
+abbrev pub solution_report : Bool → Mode → (Proposal → List ℕ) → Option PlainOrigin → PlainProblem → List ℕ → Report
+solution_report explain mode found origin problem solution =
+    faulty_or origin (codes "solution") (detail_if explain solution) (solution_fault mode solution)
+    (if is_fail solution then alone (codes "solution FAIL") Fail else judged_report found (proposal_of problem (plain_text solution)))
+
+-- a problem and a solution: the problem's fault, or else the solution's report
 abbrev pub pair_report : Bool → Mode → (PlainOrigins → Proposal → List ℕ) → PlainOrigins → List ℕ → List ℕ → Report
 pair_report explain mode found origins problem solution =
     faulty_or origins.problem (codes "problem") (detail_if explain problem) (problem_fault mode problem)
-    (faulty_or origins.solution (codes "solution") (detail_if explain solution) (solution_fault mode solution)
-    (if is_fail solution then alone (codes "solution FAIL") Fail
-    else judged_report (found origins) (proposal_of (plain_problem (plain_text problem)) (plain_text solution))))
+    (solution_report explain mode (found origins) origins.solution (plain_problem (plain_text problem)) solution)
 
 -- ---- CNFs
 

@@ -1,33 +1,23 @@
 -- A run: what it does to its readers and its writer, and what it answers.
-use Rattle.std.specs.Prelude.{◌≡◌, ◌≢◌, ◌<◌, ◌⊎◌, ◌↔◌, ℕ, List, [], ◌∷◌, ◌++◌, slice_get, Option, Some, None, Result, IfOk, IfErr, IsErrOf}
+use Rattle.std.specs.Prelude.{◌≡◌, ◌≢◌, ◌<◌, ◌⊎◌, ◌↔◌, ℕ, List, [], ◌∷◌, slice_get, Option, Some, None, Result, IfOk, IfErr, IsErrOf}
 use Rattle.std.specs.List.{AllZip}
 use Rattle.std.proofs.Common.{inl, inr}
 use Rattle.std.specs.Borrow.{MutBor}
 use Rattle.std.specs.Io.KnownBytes.{Appends, Keeps}
 use Rattle.cudf_problem.specs.declared.mode.Mode.{Mode}
-use Rattle.cudf_check.specs.Device.{SourceState, SinkState, failed_writes}
-use Rattle.cudf_check.specs.Readers.{Change, ReadsAll, IsUnfinished, IsTooLong, IsStopped, IsLast, OfOne}
+use Rattle.cudf_device.specs.Device.{SourceState, SinkState}
+use Rattle.cudf_device.specs.Readers.{Change, ReadsAll, IsUnfinished, IsTooLong, IsStopped, OfOne}
+use Rattle.cudf_device.specs.Writers.{AppendsPrefix, StopsWriting}
+use Rattle.cudf_device.specs.Outcomes.{Report}
 use Rattle.cudf_check.specs.Naming.{Names, names_of}
-use Rattle.cudf_check.specs.Report.{Report, report}
+use Rattle.cudf_check.specs.Report.{report}
 use Rattle.cudf_job.specs.declared.job.Job.{Job}
 use Rattle.cudf_job.specs.declared.job.Job.TheVariants.{Lint, Cnf}
-use Rattle.cudf_check.specs.declared.outcome.Outcome.{Outcome}
-use Rattle.cudf_check.specs.declared.outcome.Outcome.TheVariants.{Yes, No, Faulty, Fail, TooLarge}
-use Rattle.cudf_check.specs.declared.outcome.RunError.{RunError}
-use Rattle.cudf_check.specs.declared.outcome.RunError.TheVariants.{Read, TooLong, Write, Memory}
+use Rattle.cudf_device.specs.declared.outcome.Outcome.{Outcome}
+use Rattle.cudf_device.specs.declared.outcome.RunError.{RunError}
+use Rattle.cudf_device.specs.declared.outcome.RunError.TheVariants.{Read, TooLong, Write}
 
 -- ---- the run
-
--- the known bytes grew by a prefix of the text, which may be none or all of it
-pub record AppendsPrefix (old new : Option (List ℕ)) (text : List ℕ) : Type 0 where
-  pub taken : List ℕ
-  pub left : List ℕ
-  pub whole : taken ++ left ≡ text
-  pub appended : Appends old new taken
-
--- no write came after one that failed
-abbrev pub StopsWriting : Change SinkState → Type 0
-StopsWriting out = IsLast failed_writes out.before.failures out.after.failures out.after.last
 
 -- the first input and the others were read whole, and this holds of the report of their names and texts
 pub record HoldsOfReport (report_of : Names → List ℕ → List (List ℕ) → Report) (first : Change SourceState) (others : List (Change SourceState)) (P : Report → Type 0) : Type 0 where
@@ -80,18 +70,3 @@ lent (Some r) = r.now ∷ []
 abbrev pub returned : {D : Type 0} → Unit {0} ⊎ ((MutBor D × Unit {0}) ⊎ ⊥) → List D
 returned (inr (inl r)) = r.0.now ∷ []
 returned _ = []
-
--- ---- exit statuses
-
--- a report's status
-abbrev pub outcome_status : Outcome → ℕ
-outcome_status Yes = 0
-outcome_status No = 1
-outcome_status Faulty = 2
-outcome_status Fail = 3
-outcome_status TooLarge = 5
-
--- the status where there is no whole report
-abbrev pub error_status : RunError → ℕ
-error_status Memory = 6
-error_status _ = 5

@@ -1,12 +1,8 @@
-pub mod Answering
 pub mod Encoded
 pub mod Found
-pub mod InTurn
 pub mod Instances
 pub mod Judged
 pub mod Named
 pub mod Pages
-pub mod Paper
 pub mod Scribes
 pub mod Unjudged
-pub mod Writing

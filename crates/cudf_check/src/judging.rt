@@ -8,9 +8,9 @@ ghost use Rattle.cudf_check.specs.Report.{solution_fault};
 ghost use Rattle.cudf_check.specs.Working.Judged.{IsJudged, AreJudged, IsUnranked};
 ghost use Rattle.cudf_check.specs.Working.Unjudged.{IsFaultOf, IsUnjudged};
 
-use crate::outcome::Outcome;
 use crate::readings::{Unjudged, proposed_in};
 use crate::setting::Setting;
+use cudf_device::Outcome;
 use cudf_document::{Problem, ReadError, solution_of};
 use cudf_job::{Entrant, Judgement};
 use cudf_referee::Referee;

@@ -4,42 +4,30 @@
 
 ghost use Rattle.std.specs.Prelude.{◌≡◌, IfOk, option_map};
 ghost use Rattle.std.specs.List.{All};
-ghost use Rattle.cudf_check.specs.ManyRuns.{LeavesBehind};
+ghost use Rattle.cudf_device.specs.Readers.{LeavesBehind, change, IsStopped, StopsInTime, changes};
 ghost use Rattle.cudf_check.specs.RankReport.{rank_report};
-ghost use Rattle.cudf_check.specs.Readers.{change, IsStopped, StopsInTime, changes};
 ghost use Rattle.cudf_check.specs.Refutations.{HasRefutedIfYes};
 ghost use Rattle.cudf_check.specs.Runs.{job_report, lent, read_for, returned, Runs, SkipsSolution};
 
-mod buffer;
-mod device;
 mod encoding;
-mod input;
-mod inputs;
 mod instances;
 mod job;
 mod judging;
 pub mod laws;
 mod lines;
-mod named;
 mod naming;
-mod outcome;
-mod output;
-mod paper;
 mod rank_report;
 mod readings;
 mod report;
 mod setting;
 
+pub use cudf_device::{Device, Named, Outcome, RunError, Sink, Source, Trouble};
+use cudf_device::{read_all, read_each};
 pub use cudf_document::Mode;
 pub use cudf_job::Job;
 use cudf_lrat::laws::refuted;
 pub use cudf_referee::{Aim, Count, Criteria, Key, Sign, compare, read_criterion};
-pub use device::{Device, Sink, Source, Trouble};
-use input::read_all;
-use inputs::read_each;
-pub use named::Named;
 use naming::Given;
-pub use outcome::{Outcome, RunError};
 use rank_report::{Ranked, answer_ranking};
 use report::answer_job;
 use setting::Setting;

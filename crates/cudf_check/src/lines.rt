@@ -1,4 +1,4 @@
-//! Prints the lines of reports. All memory is taken before the first byte is written.
+//! Prints the lines of reports. All memory is taken before the first line is printed.
 mod aims;
 mod alone;
 mod detail;
@@ -14,9 +14,9 @@ mod score;
 mod scribe;
 mod shown;
 
-pub(crate) use alone::{answer, answer_fault};
-pub(crate) use dimacs::answer_cnf;
+pub(crate) use alone::print_faulty;
+pub(crate) use dimacs::print_cnf;
 pub(crate) use instance::package_at;
-pub(crate) use judged::answer_judged;
-pub(crate) use ranks::{answer_faulty_solution, answer_ranked};
-pub(crate) use reasons::answer_proof;
+pub(crate) use judged::print_solution;
+pub(crate) use ranks::{print_faulty_solution, print_ranking};
+pub(crate) use reasons::print_proof;

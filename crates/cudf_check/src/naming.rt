@@ -1,9 +1,10 @@
 //! Which file a document is in, for the lines that name it.
 ghost use Rattle.std.specs.Prelude.{◌≡◌, option_map};
 ghost use Rattle.cudf_check.specs.Naming.{ended_lines, line_in, name_at, origin_of, own_file};
-ghost use Rattle.cudf_check.specs.Working.Named.{names_in, origin_view, origins_view};
+ghost use Rattle.cudf_check.specs.Working.Named.{origin_view, origins_view};
+ghost use Rattle.cudf_device.specs.Readers.{names_in};
 
-use crate::device::Source;
+use cudf_device::Source;
 use cudf_job::Part;
 
 /// The bytes of an input, and its name, where lines name it.

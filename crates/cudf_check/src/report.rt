@@ -5,22 +5,23 @@ ghost use Rattle.cudf_text.specs.declared.fault.Fault.{Fault};
 ghost use Rattle.cudf_problem.specs.declared.mode.Mode.{Mode};
 ghost use Rattle.cudf_document.specs.Promises.Views.{detail_view};
 ghost use Rattle.cudf_referee.specs.Proposals.{Proposal};
-ghost use Rattle.cudf_check.specs.declared.outcome.Outcome.TheVariants.{Fail, Yes};
+ghost use Rattle.cudf_device.specs.declared.outcome.Outcome.TheVariants.{Fail, Yes};
 ghost use Rattle.cudf_check.specs.Naming.{PlainOrigins, one_file, own_file};
-ghost use Rattle.cudf_check.specs.Report.{Report, alone, faulty_or, cnf_answer, problem_fault, problem_report, refute_answer, solution_fault, pair_report, inputs_report, report, detail_if};
-ghost use Rattle.cudf_check.specs.Working.Answering.{Answers};
+ghost use Rattle.cudf_check.specs.Report.{alone, faulty_or, cnf_answer, problem_fault, problem_report, refute_answer, solution_fault, solution_report, pair_report, inputs_report, report, detail_if};
+ghost use Rattle.cudf_device.specs.Outcomes.{Report};
+ghost use Rattle.cudf_device.specs.Promises.Answering.{Answers};
+ghost use Rattle.cudf_device.specs.Promises.PaperInside.{Prints};
 ghost use Rattle.cudf_check.specs.Working.Found.{explains, found_text};
 ghost use Rattle.cudf_check.specs.Working.Named.{given_names, origin_view, origins_view};
 ghost use Rattle.cudf_check.specs.Working.Unjudged.{IsFaultOf, IsUnjudged};
 
-use crate::device::Sink;
 use crate::job::explains;
-use crate::lines::{answer, answer_cnf, answer_fault, answer_judged, answer_proof};
+use crate::lines::{print_cnf, print_faulty, print_proof, print_solution};
 use crate::naming::{Given, Origin, Origins, file_behind, own_file};
-use crate::outcome::{Outcome, RunError};
 use crate::readings::{Unjudged, problem_in, proposed_in, sound_in};
 use crate::setting::Setting;
-use cudf_document::{Detail, NameRoom, ReadError, detail, solution_of};
+use cudf_device::{Outcome, Paper, ReportBuffer, RunError, Sink};
+use cudf_document::{Detail, NameRoom, Problem, ReadError, detail, solution_of};
 use cudf_job::Job;
 use cudf_text::{Fault, Room, cut_joined};
 use std::alloc::{AllocError, Global};
@@ -52,154 +53,175 @@ fn told<'t>(
     detail(alloc, document.bytes, room, fault)
 }
 
-/// Answers a document that isn't judged.
-pub(crate) fn answer_unread<W: Sink>(
+/// Prints which fault a document has that isn't judged.
+fn print_unread<W: Sink>(
+    paper: &mut Paper<'_, W>,
     alloc: Global,
-    out: &mut W,
     document: Document<'_, '_>,
     error: ReadError,
-) -> Result<Outcome, RunError>
+) -> Result<Outcome, AllocError>
     ensures { (fault : Option Fault) → (report : Report) → IsFaultOf fault error
-        → Answers (W.state out.old) (W.state out.new) (faulty_or (option_map origin_view document.entry.origin) document.entry.whose.now (detail_if document.entry.explain document.entry.bytes.now) fault report) result }
+        → Prints W.state paper.old paper.new (faulty_or (option_map origin_view document.entry.origin) document.entry.whose.now (detail_if document.entry.explain document.entry.bytes.now) fault report) result }
 {
     match error {
         ReadError::Fault(fault) => {
             let mut room = Room::new(alloc);
             match told(alloc, document, &mut room, fault) {
-                Ok(detail) => answer_fault(alloc, out, document, fault, detail),
-                Err(_) => Err(RunError::Memory),
+                Ok(detail) => {
+                    print_faulty(paper, document, fault, detail);
+                    Ok(Outcome::Faulty)
+                }
+                Err(error) => Err(error),
             }
         }
-        ReadError::Memory(_) => Err(RunError::Memory),
+        ReadError::Memory(error) => Err(error),
     }
 }
 
-/// Answers a solution that isn't judged.
-fn answer_unjudged<W: Sink>(
+/// Prints which fault a problem has.
+pub(crate) fn print_unsound<W: Sink>(
+    paper: &mut Paper<'_, W>,
     setting: Setting,
-    out: &mut W,
+    origin: Option<Origin<'_>>,
+    bytes: &[u8],
+    explain: bool,
+    error: ReadError,
+) -> Result<Outcome, AllocError>
+    requires { IsFaultOf (problem_fault setting.mode bytes.now) error }
+    ensures { (report : Report) → Prints W.state paper.old paper.new (faulty_or (option_map origin_view origin.entry) (codes "problem") (detail_if explain bytes.now)
+        (problem_fault setting.mode bytes.now) report) result }
+{
+    let problem = Document {
+        whose: "problem",
+        origin,
+        bytes,
+        explain,
+    };
+    print_unread(paper, setting.alloc, problem, error)
+}
+
+/// Prints why a solution isn't judged.
+fn print_unjudged<W: Sink>(
+    paper: &mut Paper<'_, W>,
+    setting: Setting,
     solution: Document<'_, '_>,
     reason: Unjudged,
-) -> Result<Outcome, RunError>
+) -> Result<Outcome, AllocError>
     ensures { (report : Report) → IsUnjudged setting.mode solution.entry.bytes.now reason
-        → Answers (W.state out.old) (W.state out.new) (faulty_or (option_map origin_view solution.entry.origin) solution.entry.whose.now (detail_if solution.entry.explain solution.entry.bytes.now) (solution_fault setting.mode solution.entry.bytes.now)
+        → Prints W.state paper.old paper.new (faulty_or (option_map origin_view solution.entry.origin) solution.entry.whose.now (detail_if solution.entry.explain solution.entry.bytes.now) (solution_fault setting.mode solution.entry.bytes.now)
         (if is_fail solution.entry.bytes.now then alone (codes "solution FAIL") Fail else report)) result }
 {
     match reason {
-        Unjudged::SaysFail => answer(setting.alloc, out, "solution FAIL", Outcome::Fail),
-        Unjudged::Unread(error) => answer_unread(setting.alloc, out, solution, error),
+        Unjudged::SaysFail => {
+            paper.text("solution FAIL\n");
+            Ok(Outcome::Fail)
+        }
+        Unjudged::Unread(error) => print_unread(paper, setting.alloc, solution, error),
     }
 }
 
 /// Judges a solution of a problem.
-fn check<W: Sink>(
+fn print_pair<W: Sink>(
+    paper: &mut Paper<'_, W>,
     setting: Setting,
-    out: &mut W,
     job: &Job,
     inputs: Inputs<'_>,
-) -> Result<Outcome, RunError>
-    ensures { Answers (W.state out.old) (W.state out.new)
+) -> Result<Outcome, AllocError>
+    ensures { Prints W.state paper.old paper.new
         (pair_report (explains job.now) setting.mode (found_text job.now) (origins_view inputs.entry.origins) inputs.entry.problem.now inputs.entry.solution.now) result }
 {
+    let mut room = Room::new(setting.alloc);
+    let mut names = NameRoom::new(setting.alloc);
+    match problem_in(setting, inputs.problem, &mut room, &mut names) {
+        Ok(problem) => print_proposed(paper, setting, job, inputs, &problem),
+        Err(error) => {
+            let origin = inputs.origins.problem;
+            print_unsound(paper, setting, origin, inputs.problem, explains(job), error)
+        }
+    }
+}
+
+/// The same, where this is the problem, and it has no fault.
+fn print_proposed<W: Sink>(
+    paper: &mut Paper<'_, W>,
+    setting: Setting,
+    job: &Job,
+    inputs: Inputs<'_>,
+    problem: &Problem<'_>,
+) -> Result<Outcome, AllocError>
+    ensures { Prints W.state paper.old paper.new
+        (solution_report (explains job.now) setting.mode (found_text job.now (origins_view inputs.entry.origins)) (option_map origin_view inputs.entry.origins.solution) problem.now inputs.entry.solution.now) result }
+{
     let alloc = setting.alloc;
-    let explain = explains(job);
-    let origins = inputs.origins;
-    let problem = Document {
-        whose: "problem",
-        origin: origins.problem,
-        bytes: inputs.problem,
-        explain,
-    };
-    let solution = Document {
+    let document = Document {
         whose: "solution",
-        origin: origins.solution,
+        origin: inputs.origins.solution,
         bytes: inputs.solution,
-        explain,
+        explain: explains(job),
     };
-    let mut problem_room = Room::new(alloc);
-    let mut names = NameRoom::new(alloc);
-    let mut solution_room = Room::new(alloc);
-    let judged = match problem_in(setting, problem.bytes, &mut problem_room, &mut names) {
-        Ok(judged) => judged,
-        Err(error) => return answer_unread(alloc, out, problem, error),
-    };
-    let proposed = match proposed_in(setting, solution.bytes, &mut solution_room) {
-        Ok(proposed) => proposed,
-        Err(reason) => return answer_unjudged(setting, out, solution, reason),
-    };
-    match solution_of(alloc, proposed, &judged) {
-        Ok(placed) => answer_judged(alloc, out, job, origins, &judged, &placed),
-        Err(_) => Err(RunError::Memory),
+    let mut room = Room::new(alloc);
+    match proposed_in(setting, document.bytes, &mut room) {
+        Ok(proposed) => {
+            let solution = solution_of(alloc, proposed, problem)?;
+            print_solution(paper, alloc, job, inputs.origins, problem, &solution)
+        }
+        Err(reason) => print_unjudged(paper, setting, document, reason),
     }
 }
 
 /// Says that a problem has no fault, or which one is its first.
-fn lint<W: Sink>(
+fn print_sound<W: Sink>(
+    paper: &mut Paper<'_, W>,
     setting: Setting,
-    out: &mut W,
-    problem: Document<'_, '_>,
-) -> Result<Outcome, RunError>
-    ensures { Answers (W.state out.old) (W.state out.new) (faulty_or (option_map origin_view problem.entry.origin) problem.entry.whose.now (detail_if problem.entry.explain problem.entry.bytes.now)
+    problem: Given<'_, '_>,
+    explain: bool,
+) -> Result<Outcome, AllocError>
+    ensures { Prints W.state paper.old paper.new (faulty_or (own_file (option_map (λ n. n.now) problem.entry.name)) (codes "problem") (detail_if explain problem.entry.bytes.now)
         (problem_fault setting.mode problem.entry.bytes.now) (alone (codes "problem ok") Yes)) result }
 {
     match sound_in(setting, problem.bytes) {
-        Ok(()) => answer(setting.alloc, out, "problem ok", Outcome::Yes),
-        Err(error) => answer_unread(setting.alloc, out, problem, error),
+        Ok(()) => {
+            paper.text("problem ok\n");
+            Ok(Outcome::Yes)
+        }
+        Err(error) => {
+            let origin = own_file(problem.name);
+            print_unsound(paper, setting, origin, problem.bytes, explain, error)
+        }
     }
 }
 
-/// Writes the CNF of a problem, or says which fault of it is the first.
-fn print_cnf<W: Sink>(setting: Setting, out: &mut W, bytes: &[u8]) -> Result<Outcome, RunError>
-    ensures { Answers (W.state out.old) (W.state out.new) (problem_report false setting.mode bytes.now cnf_answer) result }
+/// Prints the CNF of a problem, or says which fault of it is the first.
+fn print_encoded<W: Sink>(
+    paper: &mut Paper<'_, W>,
+    setting: Setting,
+    bytes: &[u8],
+) -> Result<Outcome, AllocError>
+    ensures { Prints W.state paper.old paper.new (problem_report false setting.mode bytes.now cnf_answer) result }
 {
-    let alloc = setting.alloc;
-    let mut room = Room::new(alloc);
-    let mut names = NameRoom::new(alloc);
+    let mut room = Room::new(setting.alloc);
+    let mut names = NameRoom::new(setting.alloc);
     match problem_in(setting, bytes, &mut room, &mut names) {
-        Ok(problem) => answer_cnf(alloc, out, &problem),
-        Err(error) => answer_unread(alloc, out, problem_document(unnamed(bytes), false), error),
+        Ok(problem) => print_cnf(paper, setting.alloc, &problem),
+        Err(error) => print_unsound(paper, setting, None, bytes, false, error),
     }
 }
 
 /// Checks a proof that a problem has no solution, or says which fault of the problem is the first.
-fn refute<W: Sink>(
+fn print_refuted<W: Sink>(
+    paper: &mut Paper<'_, W>,
     setting: Setting,
-    out: &mut W,
     bytes: &[u8],
     proof: &[u8],
     explain: bool,
-) -> Result<Outcome, RunError>
-    ensures { Answers (W.state out.old) (W.state out.new) (problem_report explain setting.mode bytes.now (refute_answer explain proof.now)) result }
+) -> Result<Outcome, AllocError>
+    ensures { Prints W.state paper.old paper.new (problem_report explain setting.mode bytes.now (refute_answer explain proof.now)) result }
 {
-    let alloc = setting.alloc;
-    let mut room = Room::new(alloc);
-    let mut names = NameRoom::new(alloc);
+    let mut room = Room::new(setting.alloc);
+    let mut names = NameRoom::new(setting.alloc);
     match problem_in(setting, bytes, &mut room, &mut names) {
-        Ok(problem) => answer_proof(alloc, out, &problem, proof, explain),
-        Err(error) => answer_unread(alloc, out, problem_document(unnamed(bytes), explain), error),
-    }
-}
-
-/// An input whose lines name no file.
-fn unnamed<'t>(bytes: &'t [u8]) -> Given<'t, 't>
-    ensures bytes { result.bytes.now ≡ bytes.entry.now }
-    ensures name { result.name ≡ None }
-{
-    Given { bytes, name: None }
-}
-
-/// The problem, as a document whose faults are reported.
-fn problem_document<'t, 'n>(problem: Given<'t, 'n>, explain: bool) -> Document<'t, 'n>
-    ensures whose { result.whose.now ≡ codes "problem" }
-    ensures origin { option_map origin_view result.origin ≡ own_file (option_map (λ n. n.now) problem.entry.name) }
-    ensures bytes { result.bytes.now ≡ problem.entry.bytes.now }
-    ensures explain { result.explain ≡ explain }
-{
-    Document {
-        whose: "problem",
-        origin: own_file(problem.name),
-        bytes: problem.bytes,
-        explain,
+        Ok(problem) => print_proof(paper, setting.alloc, &problem, proof, explain),
+        Err(error) => print_unsound(paper, setting, None, bytes, explain, error),
     }
 }
 
@@ -247,8 +269,31 @@ fn cut<'t>(input: Given<'t, 't>) -> Inputs<'t>
     }
 }
 
-/// Answers a job on its inputs.
+/// Prints the report of a job on its inputs.
 #[tactic(auto, unfolding(crate::specs::Report::report))]
+fn print_report<W: Sink>(
+    paper: &mut Paper<'_, W>,
+    setting: Setting,
+    job: &Job,
+    first: Given<'_, '_>,
+    second: Option<Given<'_, '_>>,
+) -> Result<Outcome, AllocError>
+    ensures { Prints W.state paper.old paper.new
+        (report job.now setting.mode (given_names first.entry second.entry) first.entry.bytes.now (option_map (λ g. g.bytes.now) second.entry)) result }
+{
+    match job {
+        Job::Lint { explain } => print_sound(paper, setting, first, *explain),
+        Job::Check { .. } | Job::Score { .. } => {
+            print_pair(paper, setting, job, parted(first, second))
+        }
+        Job::Cnf => print_encoded(paper, setting, first.bytes),
+        Job::Refute { explain } => {
+            print_refuted(paper, setting, first.bytes, proof_of(second), *explain)
+        }
+    }
+}
+
+/// Answers a job on its inputs. All memory is taken before the first byte is written.
 pub(crate) fn answer_job<W: Sink>(
     setting: Setting,
     job: &Job,
@@ -259,12 +304,10 @@ pub(crate) fn answer_job<W: Sink>(
     ensures { Answers (W.state out.old) (W.state out.new)
         (report job.now setting.mode (given_names first.entry second.entry) first.entry.bytes.now (option_map (λ g. g.bytes.now) second.entry)) result }
 {
-    match job {
-        Job::Lint { explain } => lint(setting, out, problem_document(first, *explain)),
-        Job::Check { .. } | Job::Score { .. } => { check(setting, out, job, parted(first, second)) }
-        Job::Cnf => print_cnf(setting, out, first.bytes),
-        Job::Refute { explain } => { refute(setting, out, first.bytes, proof_of(second), *explain) }
-    }
+    let mut waiting = ReportBuffer::new(setting.alloc)?;
+    let mut paper = Paper::new(out, &mut waiting);
+    let answer = print_report(&mut paper, setting, job, first, second);
+    paper.finish(answer)
 }
 
 /// The bytes of a proof, which are none where there is no second input.

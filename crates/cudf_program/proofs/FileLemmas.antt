@@ -6,18 +6,20 @@ use Rattle.std.proofs.lemmas.List.Sums.{sum_by-cons, sum_by-drop_more}
 use Rattle.std.specs.List.{AllZip}
 use Rattle.std.specs.Option.{option_to_list}
 use Rattle.std.specs.Result.{IsErrAnd}
-use Rattle.cudf_check.specs.Readers.{Change, IsTooLong, OfOne, ReadsAll, change, changes, most_bytes}
-use Rattle.cudf_check.specs.Runs.{AppendsPrefix, HoldsOfReport as Whole, Runs, job_report, read_for}
+use Rattle.cudf_device.specs.Readers.{Change, IsTooLong, OfOne, ReadsAll, change, changes, most_bytes}
+use Rattle.cudf_check.specs.Runs.{HoldsOfReport as Whole, Runs, job_report, read_for}
+use Rattle.cudf_device.specs.Writers.{AppendsPrefix}
 use Rattle.cudf_check.specs.RankReport.{rank_report}
-use Rattle.cudf_check.specs.Report.{Report, report}
+use Rattle.cudf_check.specs.Report.{report}
+use Rattle.cudf_device.specs.Outcomes.{Report}
 use Rattle.cudf_job.specs.declared.job.Job.{Job}
 use Rattle.cudf_job.specs.declared.job.Job.TheVariants.{Lint, Check, Score, Cnf, Refute}
 use Rattle.std.specs.Io.KnownBytes.{Appends, Consumes, Keeps}
-use Rattle.cudf_check.specs.Device.{SinkState, SourceState}
+use Rattle.cudf_device.specs.Device.{SinkState, SourceState}
 use Rattle.cudf_check.specs.Naming.{Names, names_of}
-use Rattle.cudf_check.specs.declared.outcome.Outcome.{Outcome}
-use Rattle.cudf_check.specs.declared.outcome.RunError.{RunError}
-use Rattle.cudf_check.specs.declared.outcome.RunError.TheVariants.{TooLong, Write}
+use Rattle.cudf_device.specs.declared.outcome.Outcome.{Outcome}
+use Rattle.cudf_device.specs.declared.outcome.RunError.{RunError}
+use Rattle.cudf_device.specs.declared.outcome.RunError.TheVariants.{TooLong, Write}
 use Rattle.cudf_problem.specs.declared.mode.Mode.{Mode}
 use Rattle.cudf_job.specs.declared.aims.Aim.{Aim}
 use Rattle.cudf_program.specs.Failure.{IsStatusOf, Prints, failure_status}

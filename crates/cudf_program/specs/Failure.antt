@@ -4,10 +4,11 @@ use Rattle.std.specs.Io.KnownBytes.{Appends}
 use Rattle.std.specs.declared.io.Error.{Error}
 use Rattle.std.specs.declared.io.ErrorKind.{ErrorKind}
 use Rattle.std.specs.declared.io.ErrorKind.TheVariants.{OutOfMemory}
-use Rattle.cudf_check.specs.Device.{SinkState}
-use Rattle.cudf_check.specs.Runs.{AppendsPrefix, error_status, outcome_status}
-use Rattle.cudf_check.specs.declared.outcome.Outcome.{Outcome}
-use Rattle.cudf_check.specs.declared.outcome.RunError.{RunError}
+use Rattle.cudf_device.specs.Device.{SinkState}
+use Rattle.cudf_device.specs.Writers.{AppendsPrefix}
+use Rattle.cudf_device.specs.Outcomes.{error_status, outcome_status}
+use Rattle.cudf_device.specs.declared.outcome.Outcome.{Outcome}
+use Rattle.cudf_device.specs.declared.outcome.RunError.{RunError}
 use Rattle.cudf_command_line.specs.Usage.{usage_status}
 use Rattle.cudf_command_line.specs.declared.command.FileName.{FileName}
 use Rattle.cudf_program.specs.declared.failure.Failure.{Failure}

@@ -3,10 +3,10 @@ use Rattle.std.specs.Prelude.{◌≡◌, ◌⊎◌, ℕ, Bool, List, [], ◌∷�
 use Rattle.std.specs.Io.KnownBytes.{Keeps}
 use Rattle.std.specs.IoError.{error_kind}
 use Rattle.std.specs.declared.io.Error.{Error}
-use Rattle.cudf_check.specs.Promises.DeviceInside.{device_inner}
-use Rattle.cudf_check.specs.Promises.NamedInside.{named_source}
-use Rattle.cudf_check.specs.declared.device.Device.{Device}
-use Rattle.cudf_check.specs.declared.named.Named.{Named}
+use Rattle.cudf_device.specs.Promises.DeviceInside.{device_inner}
+use Rattle.cudf_device.specs.Promises.NamedInside.{named_source}
+use Rattle.cudf_device.specs.declared.device.Device.{Device}
+use Rattle.cudf_device.specs.declared.named.Named.{Named}
 use Rattle.cudf_command_line.specs.Command.{file_label, takes_standard, takes_standard_twice}
 use Rattle.cudf_command_line.specs.declared.command.FileName.{FileName}
 use Rattle.cudf_command_line.specs.declared.command.FileName.TheVariants.{Path, Standard}

@@ -6,16 +6,17 @@ use Rattle.std.specs.IoError.{error_kind}
 use Rattle.std.specs.declared.io.Error.{Error}
 use Rattle.std.specs.declared.io.ErrorKind.TheVariants.{OutOfMemory}
 use Rattle.cudf_problem.specs.declared.mode.Mode.{Mode}
-use Rattle.cudf_check.specs.Device.{SinkState, SourceState}
-use Rattle.cudf_check.specs.Promises.NamedInside.{name_of}
+use Rattle.cudf_device.specs.Device.{SinkState, SourceState}
+use Rattle.cudf_device.specs.Promises.NamedInside.{name_of}
 use Rattle.cudf_check.specs.Naming.{Names}
-use Rattle.cudf_check.specs.Readers.{Change, most_bytes}
-use Rattle.cudf_check.specs.Runs.{AppendsPrefix, job_report, read_for}
+use Rattle.cudf_device.specs.Readers.{Change, most_bytes}
+use Rattle.cudf_check.specs.Runs.{job_report, read_for}
+use Rattle.cudf_device.specs.Writers.{AppendsPrefix}
 use Rattle.cudf_check.specs.RankReport.{rank_report}
-use Rattle.cudf_check.specs.Report.{Report}
-use Rattle.cudf_check.specs.declared.outcome.Outcome.{Outcome}
-use Rattle.cudf_check.specs.declared.outcome.RunError.{RunError}
-use Rattle.cudf_check.specs.declared.outcome.RunError.TheVariants.{Write}
+use Rattle.cudf_device.specs.Outcomes.{Report}
+use Rattle.cudf_device.specs.declared.outcome.Outcome.{Outcome}
+use Rattle.cudf_device.specs.declared.outcome.RunError.{RunError}
+use Rattle.cudf_device.specs.declared.outcome.RunError.TheVariants.{Write}
 use Rattle.cudf_program.specs.Failure.{IsStatusOf, Prints, answer_status, failure_status, words_failure}
 use Rattle.cudf_program.specs.Inputs.{IsHeldBy, IsOfFiles, Opens, ReaderOf, label}
 use Rattle.cudf_job.specs.declared.job.Job.TheVariants.{Lint, Cnf}

@@ -1,7 +1,7 @@
 //! Writes help and the version, in as many calls as it takes.
 ghost use Rattle.std.specs.Prelude.{◌≡◌, ◌<◌, IfErr, OnOk};
 ghost use Rattle.std.specs.Io.KnownBytes.{Appends};
-ghost use Rattle.cudf_check.specs.Runs.{AppendsPrefix};
+ghost use Rattle.cudf_device.specs.Writers.{AppendsPrefix};
 
 use cudf_check::{Sink, Trouble};
 

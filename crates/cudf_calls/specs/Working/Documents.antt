@@ -1,6 +1,6 @@
 -- A document in memory as a run sees it, for proofs.
 use Rattle.std.specs.Prelude.{◌≡◌, ℕ, List, None, Some, Ok}
-use Rattle.cudf_check.specs.Device.{SourceState}
+use Rattle.cudf_device.specs.Device.{SourceState}
 use Rattle.cudf_calls.specs.Working.Given.{given_before}
 use Rattle.cudf_calls.specs.declared.document.Document.{Document}
 

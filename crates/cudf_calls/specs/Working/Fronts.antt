@@ -1,8 +1,8 @@
 -- A front as a run sees it, for proofs.
 use Rattle.std.specs.Prelude.{◌≡◌, ◌∷◌, ◌++◌, Some, Ok, length, min}
-use Rattle.cudf_check.specs.Device.{SinkState}
-use Rattle.cudf_check.specs.Report.{Report}
-use Rattle.cudf_check.specs.declared.outcome.Outcome.{Outcome}
+use Rattle.cudf_device.specs.Device.{SinkState}
+use Rattle.cudf_device.specs.Outcomes.{Report}
+use Rattle.cudf_device.specs.declared.outcome.Outcome.{Outcome}
 use Rattle.cudf_calls.specs.Working.Rooms.{over}
 use Rattle.cudf_calls.specs.declared.front.Front.{Front}
 use Rattle.cudf_calls.specs.declared.stop.Stop.{Stop}

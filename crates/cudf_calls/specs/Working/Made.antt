@@ -1,9 +1,8 @@
 -- A report that was made, and jobs that judge, for proofs.
 use Rattle.std.specs.Prelude.{◌≡◌, ◌⊎◌, ℕ, List, length, min, MatchResult, Result, Ok, Err}
 use Rattle.std.specs.List.{All}
-use Rattle.cudf_check.specs.Readers.{OfOne}
-use Rattle.cudf_check.specs.Report.{Report}
-use Rattle.cudf_check.specs.Runs.{outcome_status}
+use Rattle.cudf_device.specs.Readers.{OfOne}
+use Rattle.cudf_device.specs.Outcomes.{Report, outcome_status}
 use Rattle.cudf_job.specs.declared.job.Job.{Job}
 use Rattle.cudf_job.specs.declared.job.Job.TheVariants.{Lint, Check, Score, Cnf, Refute}
 use Rattle.cudf_calls.specs.Calls.{IsLong, IsShort}

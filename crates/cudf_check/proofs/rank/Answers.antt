@@ -1,8 +1,8 @@
 use Rattle.std.proofs.Common.{◌∙◌, map, subst, sym}
 use Rattle.cudf_check.specs.RankReport.{rank_report}
-use Rattle.cudf_check.specs.Readers.{ReadsAll, change, changes}
-use Rattle.cudf_check.specs.Working.Answering.{Answers}
-use Rattle.cudf_check.proofs.InputsLemmas.{behind_still, each_still, names-before, none_still, too_long_fails, unfinished_fails}
+use Rattle.cudf_device.specs.Readers.{ReadsAll, change, changes}
+use Rattle.cudf_device.specs.Promises.Answering.{Answers}
+use Rattle.cudf_device.proofs.InputsLemmas.{behind_still, each_still, names-before, none_still, too_long_fails, unfinished_fails}
 use Rattle.cudf_check.proofs.RunLemmas.{all_answered, first_stopped, was_read}
 use Rattle.cudf_check.proofs.rank.Goals as goal
 

@@ -1,10 +1,10 @@
 use Rattle.std.proofs.Common.{[], ◌∷◌, Some, None, refl, subst, sym, ◌∙◌}
-use Rattle.cudf_check.specs.Readers.{IsTooLong, IsUnfinished, StopsInTime, change}
+use Rattle.cudf_device.specs.Readers.{IsTooLong, IsUnfinished, StopsInTime, change}
 use Rattle.cudf_check.specs.Report.{report}
 use Rattle.cudf_check.specs.Runs.{Runs, job_report}
-use Rattle.cudf_check.specs.Working.Answering.{Answers}
+use Rattle.cudf_device.specs.Promises.Answering.{Answers}
 use Rattle.cudf_check.specs.Working.Named.{given_names}
-use Rattle.cudf_check.proofs.InputsLemmas.{each_still, none_still, too_long_fails, unfinished_fails}
+use Rattle.cudf_device.proofs.InputsLemmas.{each_still, none_still, too_long_fails, unfinished_fails}
 use Rattle.cudf_check.proofs.RefutationLemmas.{job_refutes}
 use Rattle.cudf_check.proofs.RunLemmas.{all_answered, first_stopped, none_for, of_one, one_behind, reads_it, reads_none, second_stopped, was_read}
 use Rattle.cudf_check.proofs.run.Goals as goal

@@ -1,6 +1,5 @@
 -- Contracts' view of the files that lines name.
-use Rattle.std.specs.Prelude.{ℕ, List, [], ◌∷◌, Option, None, Some, map, option_map}
-use Rattle.cudf_check.specs.Device.{SourceState}
+use Rattle.std.specs.Prelude.{ℕ, List, [], ◌∷◌, Option, None, Some, option_map}
 use Rattle.cudf_check.specs.Naming.{Names, PlainOrigin, PlainOrigins}
 use Rattle.cudf_check.specs.declared.naming.Given.{Given}
 use Rattle.cudf_check.specs.declared.naming.Origin.{Origin}
@@ -20,7 +19,3 @@ other_names (Some given) = option_map (λ n. n.now) given.name ∷ []
 
 abbrev pub given_names : Given → Option Given → Names
 given_names first second = record { first = option_map (λ n. n.now) first.name; others = other_names second }
-
--- the names of sources
-abbrev pub names_in : {D : Type 0} → (D → SourceState) → List D → List (Option (List ℕ))
-names_in state sources = map (λ s. (state s).name) sources

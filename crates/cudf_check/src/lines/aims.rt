@@ -1,11 +1,10 @@
 //! Prints the counts that a list of aims names.
 ghost use Rattle.std.specs.List.{flat_map};
 ghost use Rattle.cudf_check.specs.Report.{aim_line};
-ghost use Rattle.cudf_check.specs.Working.Paper.{Says};
+ghost use Rattle.cudf_device.specs.Promises.PaperInside.{Says};
 
-use crate::device::Sink;
 use crate::lines::score::print_count;
-use crate::paper::Paper;
+use cudf_device::{Paper, Sink};
 use cudf_referee::{Aim, Criteria};
 
 /// Prints the line of an aim.

@@ -6,12 +6,11 @@ ghost use Rattle.cudf_document.specs.Promises.Views.{detail_view};
 ghost use Rattle.cudf_check.specs.Explanations.{entry_added, format_text, value_added, unparted_added, misplaced_text, detail_added, detail_text};
 ghost use Rattle.cudf_check.specs.Naming.{line_in};
 ghost use Rattle.cudf_check.specs.Working.Named.{origin_view};
-ghost use Rattle.cudf_check.specs.Working.Paper.{Says};
+ghost use Rattle.cudf_device.specs.Promises.PaperInside.{Says};
 
-use crate::device::Sink;
 use crate::lines::shown::{print_byte, print_clipped};
 use crate::naming::{Origin, line_in};
-use crate::paper::Paper;
+use cudf_device::{Paper, Sink};
 use cudf_document::{Detail, Format};
 
 /// Prints two texts.

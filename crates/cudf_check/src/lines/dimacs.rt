@@ -1,20 +1,16 @@
 //! Prints a CNF in DIMACS.
-ghost use Rattle.std.specs.Prelude.{◌<◌, ◌<◌, length, map};
+ghost use Rattle.std.specs.Prelude.{map};
 ghost use Rattle.std.specs.List.{flat_map, enumerate_from};
 ghost use Rattle.cudf_problem.specs.Promises.Views.{package_view};
 ghost use Rattle.cudf_check.specs.Report.{clause_line, cnf_answer, header_line, literal_text, package_comment};
-ghost use Rattle.cudf_check.specs.Working.Answering.{Answers};
-ghost use Rattle.cudf_check.specs.Working.Paper.{Says};
+ghost use Rattle.cudf_device.specs.Promises.PaperInside.{Prints, Says};
 
-use crate::buffer::ReportBuffer;
-use crate::device::Sink;
 use crate::encoding::encoded;
-use crate::outcome::{Outcome, RunError};
-use crate::paper::Paper;
 use cudf_cnf::KeyedClauses;
+use cudf_device::{Outcome, Paper, Sink};
 use cudf_document::{Package, Problem};
 use cudf_lrat::Literal;
-use std::alloc::Global;
+use std::alloc::{AllocError, Global};
 
 /// Prints the comment for a package at a place.
 fn print_package<W: Sink>(paper: &mut Paper<'_, W>, place: u64, package: &Package<'_>)
@@ -85,24 +81,23 @@ fn print_clauses<W: Sink>(paper: &mut Paper<'_, W>, clauses: &KeyedClauses)
     }
 }
 
-/// Writes the CNF of a problem, unless it is too large.
-pub(crate) fn answer_cnf<W: Sink>(
+/// Prints the CNF of a problem, unless it is too large.
+pub(crate) fn print_cnf<W: Sink>(
+    paper: &mut Paper<'_, W>,
     alloc: Global,
-    out: &mut W,
     problem: &Problem<'_>,
-) -> Result<Outcome, RunError>
-    ensures { Answers (W.state out.old) (W.state out.new) (cnf_answer problem.now) result }
+) -> Result<Outcome, AllocError>
+    ensures { Prints W.state paper.old paper.new (cnf_answer problem.now) result }
 {
-    let clauses = match encoded(alloc, problem) {
-        Ok(Some(clauses)) => clauses,
-        Ok(None) => return Ok(Outcome::TooLarge),
-        Err(_) => return Err(RunError::Memory),
-    };
-    let mut waiting = ReportBuffer::new(alloc)?;
-    let mut paper = Paper::new(out, &mut waiting);
-    let packages = problem.packages();
-    print_packages(&mut paper, packages);
-    print_header(&mut paper, packages.len() as u64, clauses.len() as u64);
-    print_clauses(&mut paper, &clauses);
-    paper.finish(Outcome::Yes)
+    match encoded(alloc, problem) {
+        Ok(Some(clauses)) => {
+            let packages = problem.packages();
+            print_packages(paper, packages);
+            print_header(paper, packages.len() as u64, clauses.len() as u64);
+            print_clauses(paper, &clauses);
+            Ok(Outcome::Yes)
+        }
+        Ok(None) => Ok(Outcome::TooLarge),
+        Err(error) => Err(error),
+    }
 }

@@ -9,12 +9,11 @@ ghost use Rattle.cudf_job.specs.KeyViews.{key_view};
 ghost use Rattle.cudf_referee.specs.Promises.Views.{instance_view, what_view};
 ghost use Rattle.cudf_check.specs.Report.{meeting_text, met_text, upgrade_text, what_text, subject_text};
 ghost use Rattle.cudf_check.specs.Working.Named.{origin_view};
-ghost use Rattle.cudf_check.specs.Working.Paper.{Says};
+ghost use Rattle.cudf_device.specs.Promises.PaperInside.{Says};
 
-use crate::device::Sink;
 use crate::lines::naming::{print_before, print_numbered};
 use crate::naming::Origin;
-use crate::paper::Paper;
+use cudf_device::{Paper, Sink};
 use cudf_document::Package;
 use cudf_referee::{Aspect, Instance, Key, Part, What};
 use cudf_value::{Atom, Clause, Vpkg};

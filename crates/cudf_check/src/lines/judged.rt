@@ -6,27 +6,23 @@ ghost use Rattle.cudf_problem.specs.Promises.Views.{unknown_view};
 ghost use Rattle.cudf_referee.specs.Proposals.{proposal};
 ghost use Rattle.cudf_referee.specs.Solutions.{is_solution};
 ghost use Rattle.cudf_check.specs.Report.{verdict, judged_report, scored_text};
-ghost use Rattle.cudf_check.specs.Working.Answering.{Answers};
 ghost use Rattle.cudf_check.specs.Working.Found.{explains, found_text};
 ghost use Rattle.cudf_check.specs.Working.Named.{origins_view};
 ghost use Rattle.cudf_check.specs.Working.Pages.{Ascends};
-ghost use Rattle.cudf_check.specs.Working.Paper.{Says};
+ghost use Rattle.cudf_device.specs.Promises.PaperInside.{Prints, Says};
 
-use crate::buffer::ReportBuffer;
-use crate::device::Sink;
 use crate::job::explains;
 use crate::lines::aims::print_aim_lines;
 use crate::lines::page::print_page;
 use crate::lines::score::print_score;
 use crate::lines::scribe::Scribe;
 use crate::naming::Origins;
-use crate::outcome::{Outcome, RunError};
-use crate::paper::Paper;
+use cudf_device::{Outcome, Paper, Sink};
 use cudf_document::{Problem, Solution};
 use cudf_job::Job;
 use cudf_referee::laws::ascending;
 use cudf_referee::{Aim, Referee};
-use std::alloc::Global;
+use std::alloc::{AllocError, Global};
 
 /// Prints the verdict, and answers its outcome.
 fn print_verdict<W: Sink>(paper: &mut Paper<'_, W>, is_solution: bool) -> Outcome
@@ -89,54 +85,37 @@ fn print_judged<W: Sink>(
     print_verdict(paper, scribe.referee().is_solution())
 }
 
-/// Judges what a solution proposes, and writes the report: what is found for the job, and the verdict.
-pub(crate) fn answer_judged<W: Sink>(
+/// Judges what a solution proposes, and prints the report: what is found for the job, and the verdict.
+pub(crate) fn print_solution<W: Sink>(
+    paper: &mut Paper<'_, W>,
     alloc: Global,
-    out: &mut W,
     job: &Job,
     origins: Origins<'_>,
     problem: &Problem<'_>,
     solution: &Solution<'_>,
-) -> Result<Outcome, RunError>
+) -> Result<Outcome, AllocError>
     requires { IsTrue (ascend_above 0 (map unknown_view solution.now.unknown.items)) }
-    ensures { Answers (W.state out.old) (W.state out.new) (judged_report (found_text job.now (origins_view origins.entry)) (proposal problem.now (is_initial problem.now) (set.contains solution.now.status)
+    ensures { Prints W.state paper.old paper.new (judged_report (found_text job.now (origins_view origins.entry)) (proposal problem.now (is_initial problem.now) (set.contains solution.now.status)
         (map unknown_view solution.now.unknown.items))) result }
 {
     ascending();
     let referee = Referee::new(alloc, problem, solution)?;
-    answer_by(alloc, out, job, origins, &referee)
+    print_by(paper, alloc, job, origins, &referee)
 }
 
 /// The same, by the referee.
-fn answer_by<W: Sink>(
+fn print_by<W: Sink>(
+    paper: &mut Paper<'_, W>,
     alloc: Global,
-    out: &mut W,
     job: &Job,
     origins: Origins<'_>,
     referee: &Referee<'_, '_>,
-) -> Result<Outcome, RunError>
+) -> Result<Outcome, AllocError>
     requires { Ascends referee.now }
-    ensures { Answers (W.state out.old) (W.state out.new) (judged_report (found_text job.now (origins_view origins.entry)) referee.entry.now) result }
+    ensures { Prints W.state paper.old paper.new (judged_report (found_text job.now (origins_view origins.entry)) referee.entry.now) result }
 {
     // Where the status is a solution, there is no line to explain.
     let explain = explains(job) && !referee.is_solution();
     let scribe = Scribe::new(alloc, referee, explain, origins)?;
-    answer_found(alloc, out, job, &scribe)
-}
-
-/// Writes what is found for the job, and the verdict.
-fn answer_found<W: Sink>(
-    alloc: Global,
-    out: &mut W,
-    job: &Job,
-    scribe: &Scribe<'_, '_, '_>,
-) -> Result<Outcome, RunError>
-    requires ascending { Ascends scribe.now.judged }
-    requires explained { is_solution scribe.now.judged ≡ false → scribe.now.explain ≡ explains job.now }
-    ensures { Answers (W.state out.old) (W.state out.new) (judged_report (found_text job.now scribe.entry.now.origins) scribe.entry.now.judged) result }
-{
-    let mut waiting = ReportBuffer::new(alloc)?;
-    let mut paper = Paper::new(out, &mut waiting);
-    let outcome = print_judged(&mut paper, scribe, job);
-    paper.finish(outcome)
+    Ok(print_judged(paper, &scribe, job))
 }

@@ -2,12 +2,11 @@
 ghost use Rattle.std.specs.Prelude.{option_map};
 ghost use Rattle.cudf_check.specs.Naming.{named_before, numbered};
 ghost use Rattle.cudf_check.specs.Working.Named.{origin_view};
-ghost use Rattle.cudf_check.specs.Working.Paper.{Says};
+ghost use Rattle.cudf_device.specs.Promises.PaperInside.{Says};
 
-use crate::device::Sink;
 use crate::lines::shown::print_shown;
 use crate::naming::{Origin, line_in};
-use crate::paper::Paper;
+use cudf_device::{Paper, Sink};
 
 /// Prints the file and the number of a line, where the file is named, before all else.
 pub(crate) fn print_before<W: Sink>(paper: &mut Paper<'_, W>, origin: Option<Origin<'_>>, line: u64)

@@ -9,12 +9,11 @@ ghost use Rattle.cudf_referee.specs.Promises.Stops.{cost_between};
 ghost use Rattle.cudf_referee.specs.Promises.Walks.{left};
 ghost use Rattle.cudf_check.specs.Report.{line, instance_line, listed, check_text};
 ghost use Rattle.cudf_check.specs.Working.Pages.{Ascends, IsEnded, IsSpent, more_behind, page_size};
-ghost use Rattle.cudf_check.specs.Working.Paper.{Says};
+ghost use Rattle.cudf_device.specs.Promises.PaperInside.{Says, has_failed};
 
-use crate::device::Sink;
 use crate::lines::instance::print_key;
 use crate::lines::scribe::Scribe;
-use crate::paper::Paper;
+use cudf_device::{Paper, Sink};
 use cudf_referee::{Instances, Key};
 
 /// The walk over the violated instances with greater keys than `after`, over all of them where it isn't given.
@@ -57,7 +56,7 @@ fn print_first<W: Sink>(
     limit: u64,
 ) -> Option<Key>
     ensures printed { Says W.state paper.old paper.new (flat_map (instance_line scribe.entry.now.explain scribe.entry.now.origins scribe.entry.now.judged) (take limit (left instances.old))) }
-    ensures end { IsEnded limit (left instances.old) (left instances.new) result paper.new.has_failed }
+    ensures end { IsEnded limit (left instances.old) (left instances.new) result (has_failed paper.new) }
     ensures spent { IsSpent limit instances.old instances.new result }
     ensures price { instances.new.steps ≤ instances.old.steps
         + cost_along instances.old.judged instances.old.position (calls (left instances.old) limit) }

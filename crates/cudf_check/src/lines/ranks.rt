@@ -4,22 +4,17 @@ ghost use Rattle.std.specs.List.{flat_map};
 ghost use Rattle.cudf_check.specs.Naming.{own_file};
 ghost use Rattle.cudf_check.specs.RankReport.{aim_count, entrant_name, entrant_word, judgement_text, rank_line, ranking_text};
 ghost use Rattle.cudf_check.specs.Report.{faulty};
-ghost use Rattle.cudf_check.specs.Working.Answering.{Answers};
-ghost use Rattle.cudf_check.specs.Working.Named.{names_in};
-ghost use Rattle.cudf_check.specs.Working.Paper.{Says};
+ghost use Rattle.cudf_device.specs.Readers.{names_in};
+ghost use Rattle.cudf_device.specs.Promises.PaperInside.{Says};
 
-use crate::buffer::ReportBuffer;
-use crate::device::{Sink, Source};
 use crate::lines::alone::print_fault;
 use crate::lines::naming::print_before;
 use crate::lines::shown::print_shown;
 use crate::naming::{name_at, own_file};
-use crate::outcome::{Outcome, RunError};
-use crate::paper::Paper;
+use cudf_device::{Paper, Sink, Source};
 use cudf_job::{Entrant, Judgement};
 use cudf_referee::{Aim, Criteria};
 use cudf_text::Fault;
-use std::alloc::Global;
 
 /// Prints an aim with its count, after a blank.
 fn print_aim<W: Sink>(paper: &mut Paper<'_, W>, criteria: &Criteria, aim: Aim)
@@ -91,7 +86,7 @@ fn print_entrant<S: Source, W: Sink>(
 }
 
 /// Prints the lines of the ranked solutions.
-fn print_ranking<S: Source, W: Sink>(
+pub(crate) fn print_ranking<S: Source, W: Sink>(
     paper: &mut Paper<'_, W>,
     aims: &[Aim],
     sources: &[S],
@@ -102,23 +97,6 @@ fn print_ranking<S: Source, W: Sink>(
     for (index, entrant) in ranked.iter().enumerate() {
         print_entrant(paper, aims, sources, index as u64 + 1, entrant);
     }
-}
-
-/// Writes the report of the ranked solutions.
-pub(crate) fn answer_ranked<S: Source, W: Sink>(
-    alloc: Global,
-    out: &mut W,
-    aims: &[Aim],
-    sources: &[S],
-    ranked: &[Entrant],
-    outcome: Outcome,
-) -> Result<Outcome, RunError>
-    ensures { Answers (W.state out.old) (W.state out.new) (record { text = ranking_text aims.now (names_in S.state sources.now) ranked.now; outcome = outcome }) result }
-{
-    let mut waiting = ReportBuffer::new(alloc)?;
-    let mut paper = Paper::new(out, &mut waiting);
-    print_ranking(&mut paper, aims, sources, ranked);
-    paper.finish(outcome)
 }
 
 /// Prints whose a fault of a solution is: with its place, where no file is named.
@@ -134,23 +112,19 @@ fn print_whose<W: Sink>(paper: &mut Paper<'_, W>, name: Option<&str>, place: u64
     }
 }
 
-/// Writes the report of a faulty solution, the one at this place.
-pub(crate) fn answer_faulty_solution<W: Sink>(
-    alloc: Global,
-    out: &mut W,
+/// Prints the line of a faulty solution, the one at this place.
+pub(crate) fn print_faulty_solution<W: Sink>(
+    paper: &mut Paper<'_, W>,
     name: Option<&str>,
     place: u64,
     fault: Fault,
-) -> Result<Outcome, RunError>
+)
     ensures { let plain = option_map (λ n. n.now) name.entry in
-        Answers (W.state out.old) (W.state out.new) (faulty (own_file plain) (entrant_word plain place) fault None) result }
+        Says W.state paper.old paper.new (faulty (own_file plain) (entrant_word plain place) fault None).text }
 {
-    let mut waiting = ReportBuffer::new(alloc)?;
-    let mut paper = Paper::new(out, &mut waiting);
     let origin = own_file(name);
-    print_before(&mut paper, origin, fault.line);
-    print_whose(&mut paper, name, place);
-    print_fault(&mut paper, origin, fault, None);
+    print_before(paper, origin, fault.line);
+    print_whose(paper, name, place);
+    print_fault(paper, origin, fault, None);
     paper.text("\n");
-    paper.finish(Outcome::Faulty)
 }

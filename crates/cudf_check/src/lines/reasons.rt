@@ -1,5 +1,5 @@
 //! Prints what comes of a proof: the line of its first fault, or the instances of which no status keeps all.
-ghost use Rattle.std.specs.Prelude.{◌≡◌, ◌≤◌, ◌<◌, ◌++◌, All, IfOk, IsTrue, codes, decimal, length, map, option_map};
+ghost use Rattle.std.specs.Prelude.{◌≡◌, ◌≤◌, ◌<◌, ◌++◌, All, IfOk, IsTrue, Some, codes, decimal, length, map, option_map};
 ghost use Rattle.std.specs.List.{flat_map};
 ghost use Rattle.cudf_problem.specs.Promises.Views.{package_view};
 ghost use Rattle.cudf_problem.specs.Universe.{package_at};
@@ -9,21 +9,18 @@ ghost use Rattle.cudf_job.specs.Keys.{never_descend};
 ghost use Rattle.cudf_reasons.specs.Laws.{keys_of};
 ghost use Rattle.cudf_reasons.specs.Reasons.{reasons_of};
 ghost use Rattle.cudf_reasons.specs.Views.{needed_view, told_as};
-ghost use Rattle.cudf_check.specs.declared.outcome.Outcome.TheVariants.{No, Yes};
-ghost use Rattle.cudf_check.specs.Report.{alone, also_text, core_text, line, met_texts, needed, reason_line, refute_answer};
-ghost use Rattle.cudf_check.specs.Working.Answering.{Answers};
-ghost use Rattle.cudf_check.specs.Working.Paper.{Says};
+ghost use Rattle.cudf_device.specs.declared.outcome.Outcome.TheVariants.{Yes};
+ghost use Rattle.cudf_check.specs.Report.{also_text, core_text, line, met_texts, needed, reason_line, refute_answer};
+ghost use Rattle.cudf_device.specs.Promises.PaperInside.{Prints, Says};
+ghost use Rattle.cudf_check.specs.Working.Encoded.{IsEncoded};
 
-use crate::buffer::ReportBuffer;
-use crate::device::Sink;
 use crate::encoding::encoded;
 use crate::instances::instance_of;
 use crate::lines::explanation::print_help;
 use crate::lines::instance::{package_at, print_instance, print_meeting};
-use crate::outcome::{Outcome, RunError};
-use crate::paper::Paper;
 use cudf_cnf::KeyedClauses;
 use cudf_cnf::laws::ordered;
+use cudf_device::{Outcome, Paper, Sink};
 use cudf_document::{Package, Problem};
 use cudf_lrat::laws::refuted;
 use cudf_lrat::{Answer, Kind, check};
@@ -93,7 +90,7 @@ impl<'p, 't> ReasonScribe<'p, 't> {
     ghost use Rattle.cudf_referee.specs.Promises.Views.{instance_view};
     ghost use Rattle.cudf_check.specs.Explanations.{reason_added};
     ghost use Rattle.cudf_check.specs.Report.{line, met_text, met_texts, reason_line};
-    ghost use Rattle.cudf_check.specs.Working.Paper.{Says};
+    ghost use Rattle.cudf_device.specs.Promises.PaperInside.{Says};
 
     /// The scribe of a problem. Memory for what is added to lines is taken here.
     fn new(alloc: Global, problem: &'p Problem<'t>, explain: bool) -> Result<Self, AllocError>
@@ -190,94 +187,89 @@ fn reasons_of(alloc: Global, clauses: &KeyedClauses, numbers: &[u32]) -> Result<
     reasons(alloc, &needed)
 }
 
-/// Writes the instances whose clauses have these numbers, of which no status keeps all.
-fn answer_core<W: Sink>(
+/// Prints the instances whose clauses have these numbers, of which no status keeps all.
+fn print_core<W: Sink>(
+    paper: &mut Paper<'_, W>,
     alloc: Global,
-    out: &mut W,
     problem: &Problem<'_>,
     clauses: &KeyedClauses,
     numbers: &[u32],
     explain: bool,
-) -> Result<Outcome, RunError>
+) -> Result<Outcome, AllocError>
     requires clauses { clauses.now.clauses ≡ cnf problem.now }
     requires within { All (λ n. (0 < n) × (n ≤ length clauses.now.clauses)) numbers.now }
     requires ordered { IsTrue (never_descend (keys_of (needed clauses.now.clauses numbers.now))) }
-    ensures { Answers (W.state out.old) (W.state out.new) (record { text = core_text explain problem.now numbers.now; outcome = Yes }) result }
+    ensures { Prints W.state paper.old paper.new (record { text = core_text explain problem.now numbers.now; outcome = Yes }) result }
 {
     let reasons = reasons_of(alloc, clauses, numbers)?;
-    answer_reasons(alloc, out, problem, &reasons, explain)
+    print_reasons(paper, alloc, problem, &reasons, explain)
 }
 
-/// Writes these instances, of which no status keeps all.
-fn answer_reasons<W: Sink>(
+/// Prints these instances, of which no status keeps all.
+fn print_reasons<W: Sink>(
+    paper: &mut Paper<'_, W>,
     alloc: Global,
-    out: &mut W,
     problem: &Problem<'_>,
     reasons: &Reasons,
     explain: bool,
-) -> Result<Outcome, RunError>
-    ensures { Answers (W.state out.old) (W.state out.new) (record { text = flat_map (reason_line explain problem.now) reasons.now ++ line (codes "no solution exists"); outcome = Yes }) result }
+) -> Result<Outcome, AllocError>
+    ensures { Prints W.state paper.old paper.new (record { text = flat_map (reason_line explain problem.now) reasons.now ++ line (codes "no solution exists"); outcome = Yes }) result }
 {
     let scribe = ReasonScribe::new(alloc, problem, explain)?;
-    answer_by(alloc, out, &scribe, reasons)
+    scribe.print_core(paper, reasons);
+    Ok(Outcome::Yes)
 }
 
-/// The same, by a scribe.
-fn answer_by<W: Sink>(
-    alloc: Global,
-    out: &mut W,
-    scribe: &ReasonScribe<'_, '_>,
-    reasons: &Reasons,
-) -> Result<Outcome, RunError>
-    ensures { Answers (W.state out.old) (W.state out.new) (record { text = flat_map (reason_line scribe.now.explain scribe.now.problem) reasons.now ++ line (codes "no solution exists"); outcome = Yes }) result }
+/// Prints the line of a proof's first fault.
+fn print_step_fault<W: Sink>(paper: &mut Paper<'_, W>, number: u64, kind: Kind)
+    ensures { Says W.state paper.old paper.new (line (codes "proof line " ++ decimal number ++ codes ": " ++ kind_text kind)) }
 {
-    let mut waiting = ReportBuffer::new(alloc)?;
-    let mut paper = Paper::new(out, &mut waiting);
-    scribe.print_core(&mut paper, reasons);
-    paper.finish(Outcome::Yes)
-}
-
-/// Writes the line of a proof's first fault.
-fn answer_step_fault<W: Sink>(
-    alloc: Global,
-    out: &mut W,
-    line: u64,
-    kind: Kind,
-) -> Result<Outcome, RunError>
-    ensures { Answers (W.state out.old) (W.state out.new) (alone (codes "proof line " ++ decimal line ++ codes ": " ++ kind_text kind) No) result }
-{
-    let mut waiting = ReportBuffer::new(alloc)?;
-    let mut paper = Paper::new(out, &mut waiting);
     paper.text("proof line ");
-    paper.number(line);
+    paper.number(number);
     paper.text(": ");
     paper.text(kind.text());
     paper.text("\n");
-    paper.finish(Outcome::No)
 }
 
-/// Checks a proof that a problem has no solution, and writes what comes of it.
-pub(crate) fn answer_proof<W: Sink>(
+/// Checks a proof that a problem has no solution, and prints what comes of it.
+pub(crate) fn print_proof<W: Sink>(
+    paper: &mut Paper<'_, W>,
     alloc: Global,
-    out: &mut W,
     problem: &Problem<'_>,
     proof: &[u8],
     explain: bool,
-) -> Result<Outcome, RunError>
-    ensures { Answers (W.state out.old) (W.state out.new) (refute_answer explain proof.now problem.now) result }
+) -> Result<Outcome, AllocError>
+    ensures { Prints W.state paper.old paper.new (refute_answer explain proof.now problem.now) result }
+{
+    match encoded(alloc, problem) {
+        Ok(Some(clauses)) => print_checked(paper, alloc, problem, &clauses, proof, explain),
+        Ok(None) => Ok(Outcome::TooLarge),
+        Err(error) => Err(error),
+    }
+}
+
+/// The same, where these are the clauses of the problem's CNF.
+fn print_checked<W: Sink>(
+    paper: &mut Paper<'_, W>,
+    alloc: Global,
+    problem: &Problem<'_>,
+    clauses: &KeyedClauses,
+    proof: &[u8],
+    explain: bool,
+) -> Result<Outcome, AllocError>
+    requires { IsEncoded problem.now (Some clauses.now) }
+    ensures { Prints W.state paper.old paper.new (refute_answer explain proof.now problem.now) result }
 {
     refuted();
     ordered();
-    let clauses = match encoded(alloc, problem) {
-        Ok(Some(clauses)) => clauses,
-        Ok(None) => return Ok(Outcome::TooLarge),
-        Err(_) => return Err(RunError::Memory),
-    };
     match check(alloc, clauses.cnf(), proof) {
-        Ok(Answer::Faulty { line, kind }) => answer_step_fault(alloc, out, line, kind),
-        Ok(Answer::Refuted(numbers)) => answer_core(
-            alloc, out, problem, &clauses, &numbers, explain,
+        Ok(Answer::Faulty { line, kind }) => {
+            print_step_fault(paper, line, kind);
+            Ok(Outcome::No)
+        }
+        Ok(Answer::Refuted(numbers)) => print_core(
+            paper, alloc, problem, clauses, &numbers, explain,
         ),
-        Err(_) => Err(RunError::Memory),
+        Err(error) => Err(error),
     }
 }

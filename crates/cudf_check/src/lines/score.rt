@@ -2,10 +2,9 @@
 ghost use Rattle.std.specs.List.{flat_map};
 ghost use Rattle.cudf_job.specs.Aims.{count_of, count_text};
 ghost use Rattle.cudf_check.specs.Report.{criteria_text, count_line, vector_line};
-ghost use Rattle.cudf_check.specs.Working.Paper.{Says};
+ghost use Rattle.cudf_device.specs.Promises.PaperInside.{Says};
 
-use crate::device::Sink;
-use crate::paper::Paper;
+use cudf_device::{Paper, Sink};
 use cudf_referee::{Count, Criteria};
 
 /// Prints the line of a count.

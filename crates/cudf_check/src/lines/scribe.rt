@@ -1,9 +1,8 @@
 //! Prints the lines of violated instances, each with what is added to it, where lines are explained.
-use crate::device::Sink;
 use crate::lines::explanation::print_explained;
 use crate::lines::instance::{package_at, print_instance};
 use crate::naming::Origins;
-use crate::paper::Paper;
+use cudf_device::{Paper, Sink};
 use cudf_referee::{Explainer, Instance, Referee};
 use std::alloc::{AllocError, Global};
 use std::marker::Model;
@@ -34,7 +33,7 @@ impl<'r, 'p, 't> Scribe<'r, 'p, 't> {
     ghost use Rattle.cudf_check.specs.Explanations.{met_added};
     ghost use Rattle.cudf_check.specs.Report.{instance_line};
     ghost use Rattle.cudf_check.specs.Working.Named.{origins_view};
-    ghost use Rattle.cudf_check.specs.Working.Paper.{Says};
+    ghost use Rattle.cudf_device.specs.Promises.PaperInside.{Says};
 
     /// The scribe of a referee. Memory for what is added to lines is taken here.
     ///

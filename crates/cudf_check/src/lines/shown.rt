@@ -2,10 +2,9 @@
 ghost use Rattle.std.specs.Prelude.{◌≡◌, ◌<◌, [], ◌∷◌, ◌++◌, length, nat_lt, take, IfSome, MatchOption};
 ghost use Rattle.std.specs.Str.{chars};
 ghost use Rattle.cudf_check.specs.Shown.{byte_digits, clipped, escaped, hexadecimal, hexadecimal_digit, shown};
-ghost use Rattle.cudf_check.specs.Working.Paper.{Says};
+ghost use Rattle.cudf_device.specs.Promises.PaperInside.{Says};
 
-use crate::device::Sink;
-use crate::paper::Paper;
+use cudf_device::{Paper, Sink};
 
 /// How many characters are shown of a value.
 const MOST_SHOWN: usize = 60;

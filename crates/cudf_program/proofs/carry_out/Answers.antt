@@ -1,5 +1,5 @@
 use Rattle.std.proofs.Common.{inl, inr, option_map}
-use Rattle.cudf_check.specs.Readers.{change}
+use Rattle.cudf_device.specs.Readers.{change}
 use Rattle.cudf_program.specs.Inputs.{IsOfFiles, left_of}
 use Rattle.cudf_program.proofs.FileLemmas.{done, told}
 use Rattle.cudf_program.proofs.carry_out.Goals as goal

@@ -1,7 +1,7 @@
 use Rattle.std.proofs.Common.{◌∙◌, ap, map, subst, sym}
-use Rattle.cudf_check.specs.Promises.DeviceInside.{source_state}
-use Rattle.cudf_check.specs.Promises.NamedInside.{name_of, named_state}
-use Rattle.cudf_check.specs.Readers.{change}
+use Rattle.cudf_device.specs.Promises.DeviceInside.{source_state}
+use Rattle.cudf_device.specs.Promises.NamedInside.{name_of, named_state}
+use Rattle.cudf_device.specs.Readers.{change}
 use Rattle.cudf_program.specs.Failure.{answer_status}
 use Rattle.cudf_program.specs.Inputs.{bytes_left, left_of}
 use Rattle.cudf_program.specs.Program.{Did}

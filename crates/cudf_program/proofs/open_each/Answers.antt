@@ -2,7 +2,7 @@ use Rattle.std.proofs.Common.{◌≡◌, ◌≤◌, ◌⊎◌, ◌+◌, ◌<◌,
 use Rattle.std.proofs.lemmas.Grind.{common_steps}
 use Rattle.std.proofs.lemmas.List.{map-append}
 use Rattle.std.specs.List.{AllZip}
-use Rattle.cudf_check.specs.Promises.NamedInside.{name_of}
+use Rattle.cudf_device.specs.Promises.NamedInside.{name_of}
 use Rattle.std.specs.Option.{option_to_list}
 use Rattle.cudf_command_line.specs.Command.{is_standard}
 use Rattle.cudf_command_line.specs.declared.command.FileName.{FileName}

@@ -2,7 +2,7 @@
 use Rattle.std.proofs.Common.{◌≡◌, ◌≤◌, Some, IfSome, count_by, drop, length, map, option_map, take}
 use Rattle.std.specs.List.{AllZip}
 use Rattle.std.specs.Option.{option_to_list}
-use Rattle.cudf_check.specs.Promises.NamedInside.{name_of}
+use Rattle.cudf_device.specs.Promises.NamedInside.{name_of}
 use Rattle.cudf_command_line.specs.Command.{is_standard}
 use Rattle.cudf_program.specs.Inputs.{IsOpenedAs, label, left_of}
 use Rattle.cudf_program.proofs.open_each.Given as goal

@@ -1,5 +1,5 @@
 use Rattle.std.proofs.Common.{◌≡◌, map, option_map, subst}
-use Rattle.cudf_check.specs.Promises.NamedInside.{name_of}
+use Rattle.cudf_device.specs.Promises.NamedInside.{name_of}
 use Rattle.std.specs.List.{AllZip}
 use Rattle.cudf_program.specs.Inputs.{IsHeldBy, IsOpenedAs, label, left_of}
 use Rattle.cudf_program.proofs.FileLemmas.{each_weaker, held_before, held_behind}

@@ -1,5 +1,5 @@
 use Rattle.std.proofs.Common.{arith}
-use Rattle.cudf_check.proofs.OutputLemmas.{Moved-on, failed_writes-Ok}
+use Rattle.cudf_device.proofs.OutputLemmas.{Moved-on, failed_writes-Ok}
 use Rattle.cudf_program.proofs.output.write_all.Goals as goal
 
 pub loop-rest-preserved : goal.loop-rest-preserved

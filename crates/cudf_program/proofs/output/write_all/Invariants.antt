@@ -1,6 +1,6 @@
 -- The sink took what is gone from the front, and no write failed.
 use Rattle.std.proofs.Common.{◌≡◌, length}
-use Rattle.cudf_check.proofs.OutputLemmas.{Moved}
+use Rattle.cudf_device.proofs.OutputLemmas.{Moved}
 use Rattle.cudf_program.proofs.output.write_all.Given as goal
 
 abbrev pub invariant-loop-rest : goal.invariant-loop-rest

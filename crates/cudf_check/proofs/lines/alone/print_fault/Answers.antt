@@ -1,4 +1,4 @@
-use Rattle.cudf_check.proofs.PaperLemmas.{Says-as, ◌▸◌}
+use Rattle.cudf_device.proofs.PaperLemmas.{Says-as, ◌▸◌}
 use Rattle.cudf_check.proofs.lines.alone.print_fault.Goals as goal
 
 pub returns : goal.returns

@@ -1,5 +1,5 @@
 use Rattle.std.proofs.Common.{◌++◌, ap, codes, decimal}
-use Rattle.cudf_check.proofs.PaperLemmas.{Says-as}
+use Rattle.cudf_device.proofs.PaperLemmas.{Says-as}
 use Rattle.cudf_check.proofs.lines.detail.print_detail.Goals as goal
 
 pub returns-in-BeginsWith : goal.returns-in-BeginsWith

@@ -1,5 +1,5 @@
 use Rattle.std.proofs.Common.{[], if◌then◌else◌, codes, sym, ap, ◌∙◌}
-use Rattle.cudf_check.proofs.PaperLemmas.{Says-as}
+use Rattle.cudf_device.proofs.PaperLemmas.{Says-as}
 use Rattle.cudf_check.proofs.lines.detail.print_unparted.Goals as goal
 
 pub returns-then-is_postmark : goal.returns-then-is_postmark

@@ -1,7 +1,7 @@
 use Rattle.std.proofs.Common.{[], ◌∷◌, sym, append_assoc, codes}
 use Rattle.std.specs.List.{flat_map}
 use Rattle.cudf_check.specs.Report.{literal_text}
-use Rattle.cudf_check.proofs.PaperLemmas.{Says-as, ◌▸◌}
+use Rattle.cudf_device.proofs.PaperLemmas.{Says-as, ◌▸◌}
 use Rattle.cudf_check.proofs.lines.dimacs.print_clause.Goals as goal
 
 pub returns : goal.returns

@@ -1,6 +1,6 @@
 use Rattle.cudf_check.specs.Report.{clause_line}
 use Rattle.cudf_check.proofs.EncodingLemmas.{next_text}
-use Rattle.cudf_check.proofs.PaperLemmas.{Says-as, ◌▸◌}
+use Rattle.cudf_device.proofs.PaperLemmas.{Says-as, ◌▸◌}
 use Rattle.cudf_check.proofs.lines.dimacs.print_clauses.Goals as goal
 
 pub loop-index-preserved : goal.loop-index-preserved

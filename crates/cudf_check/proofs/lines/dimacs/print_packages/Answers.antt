@@ -4,7 +4,7 @@ use Rattle.std.proofs.lemmas.List.{length-map}
 use Rattle.std.specs.List.{flat_map, enumerate_from}
 use Rattle.cudf_problem.specs.Promises.Views.{package_view}
 use Rattle.cudf_check.specs.Report.{package_comment}
-use Rattle.cudf_check.proofs.PaperLemmas.{Says-as, ◌▸◌, numbered-more, numbered-end}
+use Rattle.cudf_device.proofs.PaperLemmas.{Says-as, ◌▸◌, numbered-more, numbered-end}
 use Rattle.cudf_check.proofs.lines.dimacs.print_packages.Goals as goal
 
 pub loop-index-preserved : goal.loop-index-preserved

@@ -3,7 +3,7 @@ use Rattle.std.proofs.Common.{map, take}
 use Rattle.std.specs.List.{flat_map, enumerate_from}
 use Rattle.cudf_problem.specs.Promises.Views.{package_view}
 use Rattle.cudf_check.specs.Report.{package_comment}
-use Rattle.cudf_check.specs.Working.Paper.{Says}
+use Rattle.cudf_device.specs.Promises.PaperInside.{Says}
 use Rattle.cudf_check.proofs.lines.dimacs.print_packages.Given as goal
 
 abbrev pub invariant-loop-index : goal.invariant-loop-index

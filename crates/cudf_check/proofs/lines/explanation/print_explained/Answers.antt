@@ -1,7 +1,7 @@
 use Rattle.std.proofs.Common.{ap}
 use Rattle.cudf_referee.specs.Promises.Views.{instance_view}
 use Rattle.cudf_check.specs.Explanations.{explained, help_of}
-use Rattle.cudf_check.proofs.PaperLemmas.{Says-as, ◌▸◌}
+use Rattle.cudf_device.proofs.PaperLemmas.{Says-as, ◌▸◌}
 use Rattle.cudf_check.proofs.lines.explanation.print_explained.Goals as goal
 
 pub returns : goal.returns

@@ -2,7 +2,7 @@ use Rattle.std.proofs.Common.{option_and_then, option_map, ap, ◌∙◌}
 use Rattle.cudf_problem.specs.Promises.Views.{package_view}
 use Rattle.cudf_problem.specs.Universe.{package_at}
 use Rattle.cudf_check.specs.Explanations.{needed_text}
-use Rattle.cudf_check.proofs.PaperLemmas.{Says-as}
+use Rattle.cudf_device.proofs.PaperLemmas.{Says-as}
 use Rattle.cudf_check.proofs.lines.explanation.print_met.Goals as goal
 
 pub returns : goal.returns

@@ -2,7 +2,7 @@ use Rattle.std.proofs.Common.{◌≡◌, ◌∷◌, map, arith}
 use Rattle.std.proofs.lemmas.List.{append-nil}
 use Rattle.cudf_value.specs.Promises.Views.{atom_view, clause_view}
 use Rattle.cudf_value.proofs.PrintingLemmas.{clause_text_whole}
-use Rattle.cudf_check.proofs.PaperLemmas.{Says-as, ◌▸◌}
+use Rattle.cudf_device.proofs.PaperLemmas.{Says-as, ◌▸◌}
 use Rattle.cudf_check.proofs.lines.instance.print_clause.Goals as goal
 
 pub returns-in-None : goal.returns-in-None

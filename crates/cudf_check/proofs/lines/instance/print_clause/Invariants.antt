@@ -3,7 +3,7 @@ use Rattle.std.proofs.Common.{◌≡◌, ◌++◌, map, codes}
 use Rattle.std.specs.List.{flat_map}
 use Rattle.cudf_value.specs.Promises.Views.{atom_view, atoms_view}
 use Rattle.cudf_value.specs.Printing.{atom_text}
-use Rattle.cudf_check.specs.Working.Paper.{Says}
+use Rattle.cudf_device.specs.Promises.PaperInside.{Says}
 use Rattle.cudf_check.proofs.lines.instance.print_clause.Given as goal
 
 abbrev pub invariant-loop-atom : goal.invariant-loop-atom

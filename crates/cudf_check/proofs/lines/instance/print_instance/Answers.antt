@@ -2,7 +2,7 @@ use Rattle.std.proofs.Common.{ap, option_map}
 use Rattle.cudf_problem.specs.Promises.Views.{package_view}
 use Rattle.cudf_referee.specs.Promises.Views.{instance_view}
 use Rattle.cudf_check.specs.Report.{what_text}
-use Rattle.cudf_check.proofs.PaperLemmas.{Says-as, ◌▸◌}
+use Rattle.cudf_device.proofs.PaperLemmas.{Says-as, ◌▸◌}
 use Rattle.cudf_check.proofs.lines.instance.print_instance.Goals as goal
 
 pub returns : goal.returns

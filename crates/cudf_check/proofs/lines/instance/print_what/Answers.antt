@@ -1,4 +1,4 @@
-use Rattle.cudf_check.proofs.PaperLemmas.{◌▸◌}
+use Rattle.cudf_device.proofs.PaperLemmas.{◌▸◌}
 use Rattle.cudf_check.proofs.lines.instance.print_what.Goals as goal
 
 pub returns-in-ConflictsWith : goal.returns-in-ConflictsWith

@@ -3,7 +3,7 @@ use Rattle.cudf_problem.specs.Documents.{is_empty}
 use Rattle.cudf_job.specs.KeyViews.{key_view}
 use Rattle.cudf_referee.specs.Violations.{listing}
 use Rattle.cudf_check.proofs.PageLemmas.{no-page}
-use Rattle.cudf_check.proofs.PaperLemmas.{Says-as, Says-none}
+use Rattle.cudf_device.proofs.PaperLemmas.{Says-as, Says-none}
 use Rattle.cudf_check.proofs.lines.judged.print_found.Goals as goal
 
 pub returns-in-Check : goal.returns-in-Check

@@ -5,7 +5,8 @@ use Rattle.cudf_referee.specs.Promises.Walks.{left}
 use Rattle.cudf_check.specs.Working.Pages.{HasSpent, end_key}
 use Rattle.cudf_check.specs.Report.{instance_line}
 use Rattle.cudf_check.proofs.PageLemmas.{step, last_of_more, take-further, drop-further, ended}
-use Rattle.cudf_check.proofs.PaperLemmas.{Says-as, ◌▸◌, Says-front, texts-step}
+use Rattle.cudf_device.specs.Promises.PaperInside.{has_failed}
+use Rattle.cudf_device.proofs.PaperLemmas.{Says-as, ◌▸◌, Says-front, texts-step}
 use Rattle.cudf_check.proofs.PagePriceLemmas.{spent-more, price-within, price-ended}
 use Rattle.cudf_check.proofs.lines.page.print_first.Goals as goal
 
@@ -52,7 +53,7 @@ returns-in-None-clause-printed g c =
 pub returns-in-None-clause-end : goal.returns-in-None-clause-end
 returns-in-None-clause-end g c =
     let is = left c.args.instances.now in
-    ended c.args.limit is (left c.next.new.self) c.loop-turn.paper.has_failed (drop-further c.loop-turn.turn c.args.limit is (omega arith) (sym c.loop-turn.invariant.left_is ∙ c.in-None.ensures.steps.gives.0))
+    ended c.args.limit is (left c.next.new.self) (has_failed c.loop-turn.paper) (drop-further c.loop-turn.turn c.args.limit is (omega arith) (sym c.loop-turn.invariant.left_is ∙ c.in-None.ensures.steps.gives.0))
 
 pub returns-in-None-clause-price : goal.returns-in-None-clause-price
 returns-in-None-clause-price g c =

@@ -5,7 +5,7 @@ use Rattle.cudf_job.specs.KeyViews.{key_view}
 use Rattle.cudf_referee.specs.Promises.Walks.{left}
 use Rattle.cudf_check.specs.Report.{instance_line}
 use Rattle.cudf_check.specs.Working.Pages.{HasSpent, end_key}
-use Rattle.cudf_check.specs.Working.Paper.{Says}
+use Rattle.cudf_device.specs.Promises.PaperInside.{Says}
 use Rattle.cudf_check.proofs.lines.page.print_first.Given as goal
 
 abbrev pub invariant-loop-turn : goal.invariant-loop-turn

@@ -5,7 +5,8 @@ use Rattle.cudf_referee.specs.Promises.Walks.{left}
 use Rattle.cudf_check.specs.Report.{instance_line, listed, more_text, check_text}
 use Rattle.cudf_check.specs.Working.Pages.{IsPageEnd, IsEnded, more_behind}
 use Rattle.cudf_check.proofs.PageLemmas.{left_listed, more-none, more-line, more-key, more-no-key}
-use Rattle.cudf_check.proofs.PaperLemmas.{Says-as, ◌▸◌, Says-end}
+use Rattle.cudf_device.specs.Promises.PaperInside.{has_failed}
+use Rattle.cudf_device.proofs.PaperLemmas.{Says-as, ◌▸◌, Says-end}
 use Rattle.cudf_check.proofs.PagePriceLemmas.{price-page, price-whole}
 use Rattle.cudf_check.proofs.lines.page.print_page.Goals as goal
 
@@ -61,7 +62,7 @@ returns-in-None-clause-printed g c =
     let limit = c.in-Some.limit in
     let new = left c.print_first.new.instances in
     let page = take limit (listed after s) in
-    rw c.in-Some.is (Says-end _ _ _ (flat_map (instance_line explain origins s) page) (more_text s (last_or None page)) c.print_first.new.paper.has_failed refl
+    rw c.in-Some.is (Says-end _ _ _ (flat_map (instance_line explain origins s) page) (more_text s (last_or None page)) (has_failed c.print_first.new.paper) refl
     (λ calm. more-line s after limit new None c.requires.ascending
     (subst (λ xs. IsPageEnd limit xs new None) is (subst (IsEnded limit (left walk.result) new None) calm c.in-None.ensures.end)) ∙ more-no-key new)
     (Says-as _ _ _ _ _ (ap (λ xs. flat_map (instance_line explain origins s) (take limit xs)) is) c.print_first.ensures.printed))

@@ -6,7 +6,7 @@ use Rattle.cudf_referee.specs.Promises.Views.{instance_view}
 use Rattle.cudf_referee.specs.Promises.Walks.{Walking, left, Moves}
 use Rattle.cudf_check.specs.Report.{instance_line}
 use Rattle.cudf_check.proofs.PageLemmas.{step, take-further}
-use Rattle.cudf_check.proofs.PaperLemmas.{Says-none, Says-as, ◌▸◌, Says-front, texts-step}
+use Rattle.cudf_device.proofs.PaperLemmas.{Says-none, Says-as, ◌▸◌, Says-front, texts-step}
 use Rattle.cudf_check.proofs.PagePriceLemmas.{taken-start, taken-more, price-taken, price-all}
 use Rattle.cudf_check.proofs.lines.page.print_rest.Goals as goal
 

@@ -3,7 +3,7 @@ use Rattle.std.proofs.Common.{take, length}
 use Rattle.std.specs.List.{flat_map}
 use Rattle.cudf_referee.specs.Promises.Walks.{left}
 use Rattle.cudf_check.specs.Report.{instance_line}
-use Rattle.cudf_check.specs.Working.Paper.{Says}
+use Rattle.cudf_device.specs.Promises.PaperInside.{Says}
 use Rattle.cudf_check.proofs.PagePriceLemmas.{HasTaken}
 use Rattle.cudf_check.proofs.lines.page.print_rest.Given as goal
 

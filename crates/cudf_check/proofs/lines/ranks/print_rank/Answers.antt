@@ -1,4 +1,4 @@
-use Rattle.cudf_check.proofs.PaperLemmas.{◌▸◌}
+use Rattle.cudf_device.proofs.PaperLemmas.{◌▸◌}
 use Rattle.cudf_check.proofs.lines.ranks.print_rank.Goals as goal
 
 pub returns : goal.returns

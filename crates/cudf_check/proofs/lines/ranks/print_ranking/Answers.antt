@@ -1,7 +1,7 @@
 use Rattle.std.proofs.Common.{◌<◌, ◌≤◌, length, arith}
 use Rattle.cudf_check.specs.RankReport.{rank_line}
-use Rattle.cudf_check.specs.Working.Named.{names_in}
-use Rattle.cudf_check.proofs.PaperLemmas.{Says-as, ◌▸◌, numbered-more, numbered-end}
+use Rattle.cudf_device.specs.Readers.{names_in}
+use Rattle.cudf_device.proofs.PaperLemmas.{Says-as, ◌▸◌, numbered-more, numbered-end}
 use Rattle.cudf_check.proofs.lines.ranks.print_ranking.Goals as goal
 
 pub loop-index-preserved : goal.loop-index-preserved

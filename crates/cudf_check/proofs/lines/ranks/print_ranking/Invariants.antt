@@ -2,8 +2,8 @@
 use Rattle.std.proofs.Common.{take}
 use Rattle.std.specs.List.{flat_map, enumerate_from}
 use Rattle.cudf_check.specs.RankReport.{rank_line}
-use Rattle.cudf_check.specs.Working.Named.{names_in}
-use Rattle.cudf_check.specs.Working.Paper.{Says}
+use Rattle.cudf_device.specs.Readers.{names_in}
+use Rattle.cudf_device.specs.Promises.PaperInside.{Says}
 use Rattle.cudf_check.proofs.lines.ranks.print_ranking.Given as goal
 
 abbrev pub invariant-loop-index : goal.invariant-loop-index

@@ -3,7 +3,7 @@ use Rattle.std.proofs.Common.{take}
 use Rattle.std.specs.List.{flat_map}
 use Rattle.cudf_job.specs.Aims.{count_of, count_text}
 use Rattle.cudf_check.specs.Report.{count_line}
-use Rattle.cudf_check.specs.Working.Paper.{Says}
+use Rattle.cudf_device.specs.Promises.PaperInside.{Says}
 use Rattle.cudf_check.proofs.lines.score.print_counts.Given as goal
 
 abbrev pub invariant-loop-count : goal.invariant-loop-count

@@ -1,7 +1,7 @@
 -- The name and the counts so far are printed.
 use Rattle.std.proofs.Common.{take, ◌++◌, codes, decimal}
 use Rattle.std.specs.List.{flat_map}
-use Rattle.cudf_check.specs.Working.Paper.{Says}
+use Rattle.cudf_device.specs.Promises.PaperInside.{Says}
 use Rattle.cudf_check.proofs.lines.score.print_vector.Given as goal
 
 abbrev pub invariant-loop-count : goal.invariant-loop-count

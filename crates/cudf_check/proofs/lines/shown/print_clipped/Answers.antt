@@ -1,6 +1,6 @@
 use Rattle.std.proofs.Common.{true, false, sym, ◌∙◌, append-nil}
 use Rattle.cudf_check.specs.Shown.{shown}
-use Rattle.cudf_check.proofs.PaperLemmas.{Says-as, ◌▸◌}
+use Rattle.cudf_device.proofs.PaperLemmas.{Says-as, ◌▸◌}
 use Rattle.cudf_check.proofs.ShownLemmas.{clipped-is}
 use Rattle.cudf_check.proofs.lines.shown.print_clipped.Goals as goal
 

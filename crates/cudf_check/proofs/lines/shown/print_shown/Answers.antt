@@ -1,6 +1,6 @@
 use Rattle.std.proofs.Common.{rules, ◌++◌}
 use Rattle.cudf_check.specs.Shown.{escaped, shown}
-use Rattle.cudf_check.proofs.PaperLemmas.{◌▸◌}
+use Rattle.cudf_device.proofs.PaperLemmas.{◌▸◌}
 use Rattle.cudf_check.proofs.ShownLemmas.{shown-next}
 use Rattle.cudf_check.proofs.lines.shown.print_shown.Goals as goal
 

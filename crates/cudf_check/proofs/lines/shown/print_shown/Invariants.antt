@@ -3,7 +3,7 @@ use Rattle.std.proofs.Common.{◌≡◌, ℕ, List, ◌++◌, length}
 use denote.Text.{Utf8}
 use denote.Shadow.{shadow}
 use Rattle.cudf_check.specs.Shown.{shown}
-use Rattle.cudf_check.specs.Working.Paper.{Says}
+use Rattle.cudf_device.specs.Promises.PaperInside.{Says}
 use Rattle.cudf_check.proofs.lines.shown.print_shown.Given as goal
 
 abbrev pub invariant-loop-before : goal.invariant-loop-before

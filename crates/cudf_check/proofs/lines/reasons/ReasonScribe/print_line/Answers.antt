@@ -2,7 +2,7 @@ use Rattle.std.proofs.Common.{◌++◌, None, ap}
 use Rattle.cudf_referee.specs.Promises.Views.{instance_view}
 use Rattle.cudf_check.specs.Explanations.{reason_added}
 use Rattle.cudf_check.specs.Report.{line, met_text, met_texts}
-use Rattle.cudf_check.proofs.PaperLemmas.{Says-as, ◌▸◌}
+use Rattle.cudf_device.proofs.PaperLemmas.{Says-as, ◌▸◌}
 use Rattle.cudf_check.proofs.lines.reasons.ReasonScribe.print_line.Goals as goal
 
 pub returns : goal.returns

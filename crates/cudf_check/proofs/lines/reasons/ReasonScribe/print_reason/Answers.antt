@@ -4,7 +4,7 @@ use Rattle.cudf_job.specs.KeyViews.{key_view}
 use Rattle.cudf_referee.specs.Instances.{PlainInstance}
 use Rattle.cudf_check.specs.Explanations.{reason_added}
 use Rattle.cudf_check.specs.Report.{instance_of, line, met_text, met_texts}
-use Rattle.cudf_check.proofs.PaperLemmas.{Says-as, Says-none}
+use Rattle.cudf_device.proofs.PaperLemmas.{Says-as, Says-none}
 use Rattle.cudf_check.proofs.lines.reasons.ReasonScribe.print_reason.Goals as goal
 
 pub returns-in-Some : goal.returns-in-Some

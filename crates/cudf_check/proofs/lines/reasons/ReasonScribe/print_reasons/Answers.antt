@@ -3,7 +3,7 @@ use Rattle.std.specs.List.{flat_map}
 use Rattle.cudf_job.specs.KeyViews.{key_view}
 use Rattle.cudf_reasons.specs.Views.{Told}
 use Rattle.cudf_check.specs.Report.{reason_line}
-use Rattle.cudf_check.proofs.PaperLemmas.{Says-as, ◌▸◌, texts-more}
+use Rattle.cudf_device.proofs.PaperLemmas.{Says-as, ◌▸◌, texts-more}
 use Rattle.cudf_check.proofs.lines.reasons.ReasonScribe.print_reasons.Goals as goal
 
 pub loop-index-preserved : goal.loop-index-preserved

@@ -6,7 +6,7 @@ use Rattle.cudf_check.specs.Explanations.{met_added}
 use Rattle.cudf_check.specs.Naming.{origin_of}
 use Rattle.cudf_check.specs.Report.{met_text}
 use Rattle.cudf_check.specs.Working.Named.{origins_view}
-use Rattle.cudf_check.proofs.PaperLemmas.{Says-as, ◌▸◌}
+use Rattle.cudf_device.proofs.PaperLemmas.{Says-as, ◌▸◌}
 use Rattle.cudf_check.proofs.lines.scribe.Scribe.print_line.Goals as goal
 
 pub returns : goal.returns

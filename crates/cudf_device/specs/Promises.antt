@@ -1,0 +1,5 @@
+pub mod Answering
+pub mod DeviceInside
+pub mod InTurn
+pub mod NamedInside
+pub mod PaperInside
