@@ -14,8 +14,12 @@ The program has to call `run`. No other public function of `cudf_check` may writ
 promise of its own; what `cudf_device` has to write with, the program may not use. Only the two functions of `Steps` that set a count have a proof written by hand: with a further one
 a count could be set back. The standard library and the crates from outside are believed as they are.
 
-    statement.py           prints the files in reading order, each with its lines of definitions, the same with `use`
-                           lines, and all its lines; compares them with docs/PROOFS.md
+Of these files a command needs the definitions that the contracts name, and those that these name: of equations by the
+job, those of its own.
+
+    statement.py           prints the files in reading order, and for each command the lines of definitions that it needs,
+                           with and without what `--explain` adds; compares these with docs/PROOFS.md
+    statement.py COMMAND   prints the definitions that the command needs
     statement.py --write   writes the table of docs/PROOFS.md anew
 
 Status 1: the table isn't what was computed, the headline rests on a file that is for proofs alone, the program calls
@@ -58,6 +62,14 @@ GHOST = r"\bghost (?!use\b|invariant\b)\w+\s*[:=]"
 TYPE = r"^ *(?:pub(?:\([^)]*\))? +)?(trait|struct|enum|union|type) +%s\b"
 VIEW = r"^ *impl(?:<[^{]*?>)? (?:[\w:]+::)?Model for (?:[\w:]+::)?%s\b[^{]*\{"
 OWN = r"^impl(?:<[^{]*?>)? %s\b[^{]*\{"
+# the head of a definition, a constructor, and the words of a definition
+HEAD = re.compile(r"(?:(?:pub|abbrev|unfoldable|opaque|data|record)\s+)+([^\s:(){}]+)")
+CONSTRUCTOR = re.compile(r"  (\S+) :")
+WORD = re.compile(r"[^\s(){}\[\];,]+")
+# the job of each command
+JOBS = "cudf_job.specs.declared.job.Job.TheVariants"
+COMMANDS = {"lint": {"Lint"}, "check": {"Check"}, "score": {"Score"}, "cnf": {"Cnf"}, "refute": {"Refute"}}
+COMMANDS["all"] = set().union(*COMMANDS.values())
 # names that every file has without a `use`
 PRELUDE = set("Self Option Some None Result Ok Err Vec Box String Copy Clone Drop Fn FnMut FnOnce Sized Send Sync "
               "Iterator PartialEq Eq PartialOrd Ord Default From Into".split())
@@ -90,7 +102,8 @@ def block_from(text, start):
 
 @functools.cache
 def uses_in(path):
-    """The modules of definitions that a file uses, each with names; its items, by their names; and its other text."""
+    """The modules of definitions that a file uses, each with its names and what they stand for there; its items, by their
+    names; and its other text."""
     modules, items, text = [], {}, code_of(path)
     for line in USE.findall(text):
         found = DEFINITIONS.fullmatch(line) or ITEMS.fullmatch(line)
@@ -102,7 +115,7 @@ def uses_in(path):
         last = re.split(r"\.|::", above)[-1]
         named = {other or (last if name == "self" else name): name for name, other in pairs}
         if found.re is DEFINITIONS:
-            modules.append((above, list(named)))
+            modules.append((above, named))
         else:
             items |= {name: above if item == "self" else f"{above}::{item}" for name, item in named.items()}
     rest = USE.sub("", text)
@@ -111,11 +124,11 @@ def uses_in(path):
     return modules, items, rest
 
 
-def modules_of(path, within=None):
-    """The modules that a file uses; with `within`, those of which that text has a name, or a name has holes."""
+def uses_of(path, within=None):
+    """The definitions that a file uses, each with its module, "self" for all; with `within`, those that this text names."""
     def is_named(name):
-        return "◌" in name or re.search(rf"(?<![\w'-]){re.escape(name)}(?![\w'-])", within)
-    return [module for module, names in uses_in(path)[0] if within is None or any(map(is_named, names))]
+        return within is None or "◌" in name or re.search(rf"(?<![\w'-]){re.escape(name)}(?![\w'-])", within)
+    return [(module, item) for module, names in uses_in(path)[0] for name, item in names.items() if is_named(name)]
 
 
 @functools.cache
@@ -232,23 +245,23 @@ def place_of(crate, path, name):
 
 
 def shown_by(place, seen):
-    """The modules on which what a type shows rests: ghost fields, views, and the same of the types of its fields."""
+    """The definitions on which what a type shows rests: ghost fields, views, and the same of the types of its fields."""
     if place is None or place in seen:
         return []
     seen.add(place)
     crate, path, name = place
     kind, declared = declaration_of(path, name)
-    found = modules_of(path, "\n".join(blocks(declared, GHOST)))
+    found = uses_of(path, "\n".join(blocks(declared, GHOST)))
     for file in sources(crate):
         for view in blocks(code_of(file), VIEW % name):
-            found += modules_of(file, "\n".join(blocks(view, GHOST)))
+            found += uses_of(file, "\n".join(blocks(view, GHOST)))
     for field in types_in_fields(name, kind, declared) if kind != "trait" else ():
         found += shown_by(place_of(crate, path, field), seen)
     return found
 
 
 def signature_uses(crate, path, contract):
-    """The modules on which the traits and types that a signature names rest."""
+    """The definitions on which the traits and types that a signature names rest."""
     head = re.split(r"\b(?:requires|ensures)\b", contract)[0]
     parameters = re.findall(r"[<,]\s*([A-Z]\w*)\s*:", head)
     found, seen = [], set()
@@ -259,12 +272,13 @@ def signature_uses(crate, path, contract):
             texts = [declaration_of(file, name)[1]]
             for own in blocks(code_of(file), OWN % name):
                 texts += [contract_at(own, begin.start()) for begin in re.finditer(r"^ *pub fn ", own, re.M)]
-            found += modules_of(file, USE.sub("", "\n".join(texts))) + shown_by(place, seen)
+            found += uses_of(file, USE.sub("", "\n".join(texts))) + shown_by(place, seen)
     return found
 
 
+@functools.cache
 def declared_uses(module):
-    """The modules on which a type of src/ rests, by its module in `specs.declared`."""
+    """The definitions on which a type of src/ rests, by its module in `specs.declared`."""
     crate, _, _, *path = module.removesuffix(".TheVariants").split(".")
     if not (CRATES / crate).is_dir():
         return []
@@ -274,44 +288,116 @@ def declared_uses(module):
     return shown_by((crate, source, path[-1]), set())
 
 
-def below(modules):
-    """The files of our crates that these modules are, or on which their declared types rest."""
-    files = []
-    for module in modules:
+def below(uses):
+    """The definitions of our crates that these are, or on which declared types rest: each a file and a name."""
+    found = []
+    for module, name in uses:
         is_declared = module.split(".")[1:3] == ["specs", "declared"]
-        for further in declared_uses(module) if is_declared else [module]:
+        for further, item in declared_uses(module) if is_declared else [(module, name)]:
             crate, *parts = further.split(".")
             if (CRATES / crate).is_dir() and parts[:2] != ["specs", "declared"]:
-                files.append((CRATES / crate).joinpath(*parts).with_suffix(".antt"))
-    if missing := [path for path in files if not path.is_file()]:
+                found.append(((CRATES / crate).joinpath(*parts).with_suffix(".antt"), item))
+    if missing := [path for path, _ in found if not path.is_file()]:
         raise Fault(2, f"{missing[0].relative_to(ROOT)} isn't there")
-    return list(dict.fromkeys(files))
+    return list(dict.fromkeys(found))
 
 
-def statement():
-    """The files on which the headline rests: the highest crate first, and each file before those that it uses."""
+def roots(laws):
+    """The definitions that the contract of `run`, and those of these laws, name."""
+    contracts = [("cudf_check", *contract_of("cudf_check", ENTRY))]
+    contracts += [("cudf_referee", *contract_of("cudf_referee", name)) for name in laws]
+    return below(use for crate, path, contract in contracts
+                 for use in uses_of(path, contract) + signature_uses(crate, path, contract))
+
+
+def files_below(uses):
+    """The files on which definitions rest: the highest crate first, and each file before those that it uses."""
     files, seen = [], set()
 
     def visit(path):
         if path not in seen:
             seen.add(path)
-            for further in reversed(below(modules_of(path))):
+            for further, _ in reversed(below(uses_of(path))):
                 visit(further)
             files.append(path)
 
-    entry, laws = contract_of("cudf_check", ENTRY), [contract_of("cudf_referee", name) for name in LAWS]
-    roots = modules_of(*entry) + signature_uses("cudf_check", *entry)
-    roots += [module for law in laws for module in signature_uses("cudf_referee", *law)]
-    for path in below(module for law in laws for module in modules_of(*law)) + below(roots)[::-1]:
+    for path, _ in reversed(uses):
         visit(path)
     return sorted(reversed(files), key=lambda path: -ORDER.index(path.relative_to(CRATES).parts[0]))
 
 
-def lines_of(path):
-    """The number of lines of definitions alone, of these with `use` lines, and of all with comments and blank lines."""
-    lines = path.read_text().splitlines()
-    said = [line for line in lines if line.strip() and not line.lstrip().startswith("--")]
-    return sum(1 for line in said if not line.startswith("use ")), len(said), len(lines)
+@functools.cache
+def definitions_in(path):
+    """The definitions of a file, each with its lines and the comment above it, and the definition of each constructor."""
+    lines, made, name, above = {}, {}, None, []
+    for line in USE.sub("", path.read_text()).splitlines():
+        if not line or line.startswith("--"):
+            above = [*above, line] if line else []
+            continue
+        head, constructor = HEAD.match(line), CONSTRUCTOR.match(line)
+        if head:
+            name, is_data = head[1], " data " in f" {line}"
+        elif name is None:
+            raise Fault(2, f"{path.relative_to(ROOT)}: can't read `{line.strip()}`")
+        elif constructor and is_data:
+            made[constructor[1]] = name
+        lines.setdefault(name, []).extend([*above, line])
+        above = []
+    return lines, made
+
+
+def is_code(line):
+    return not line.lstrip().startswith("--")
+
+
+def said_of(path, name, jobs):
+    """The lines of a definition without the equations of other jobs."""
+    variants = {word: item for module, names in uses_in(path)[0] if module == JOBS for word, item in names.items()}
+    found, is_said = [], True
+    for line in definitions_in(path)[0][name]:
+        if not line[0].isspace() and is_code(line):
+            named = {variants[word] for word in WORD.findall(line.partition(" = ")[0]) if word in variants}
+            is_said = not named or " = " not in line or not named.isdisjoint(jobs)
+        if is_said:
+            found.append(line)
+    return tuple(found)
+
+
+@functools.cache
+def used_by(path, lines):
+    """The definitions that these lines name."""
+    (own, made), found = definitions_in(path), []
+    code = COMMENTS[".antt"].sub("", "\n".join(lines))
+    for first, *rest in (word.split(".") for word in WORD.findall(code)):
+        if first in own or first in made:
+            found.append((path, made.get(first, first)))
+        uses = [(module, names[first]) for module, names in uses_in(path)[0] if first in names]
+        found += below((module, item if item != "self" else (rest or ["self"])[0]) for module, item in uses)
+    return found
+
+
+def needed(command, leaves_out=()):
+    """What a reader of the headline needs for a command: the lines of each definition, by files."""
+    jobs, left, found = COMMANDS[command], roots(LAWS if command == "check" else ()), {}
+    while left:
+        path, name = left.pop()
+        lines, made = definitions_in(path)
+        if name == "self":
+            left += [(path, every) for every in lines]
+            continue
+        name = made.get(name, name)
+        if name not in lines:
+            raise Fault(2, f"can't find `{name}` in {path.relative_to(ROOT)}")
+        if str(path.relative_to(CRATES)) not in leaves_out and name not in found.setdefault(path, {}):
+            found[path][name] = said_of(path, name, jobs)
+            left += used_by(path, found[path][name])
+    return {path: {name: found[path][name] for name in definitions_in(path)[0] if name in found[path]}
+            for path in files_below(list(dict.fromkeys((path, "") for path in found))) if found.get(path)}
+
+
+def lines_in(definitions):
+    """How many lines of code these are."""
+    return sum(sum(map(is_code, lines)) for names in definitions.values() for lines in names.values())
 
 
 def differences(given, computed):
@@ -322,27 +408,32 @@ def differences(given, computed):
 
 
 def main(arguments):
-    if arguments not in ([], ["--write"]):
-        raise Fault(2, "usage: statement.py [--write]")
-    files = statement()
+    command = arguments[0] if arguments and arguments[0] in COMMANDS else None
+    if arguments not in ([], ["--write"], [command]):
+        raise Fault(2, f"usage: statement.py [--write | {' | '.join(COMMANDS)}]")
+    files = files_below(roots(LAWS))
     check_entry()
     check_program()
     check_proofs_by_hand()
-    faults = [f"the headline rests on {path.relative_to(ROOT)}, which is for proofs alone"
-              for path in files if {"Working", "proofs"} & set(path.relative_to(CRATES).parts)]
-    rows = [(*lines_of(path), str(path.relative_to(ROOT))) for path in files]
-    plain = [path for path in files if str(path.relative_to(CRATES)) not in EXPLAINED]
-    for some, what in ((files, ""), (plain, " without what --explain adds")):
-        rows.append((*map(sum, zip(*map(lines_of, some))), f"in {len(some)} files{what}"))
-    computed = ["```", *(f"{lines:5}  {what.removeprefix('crates/')}" for lines, _, _, what in rows), "```"]
+    working = [path for path in files if {"Working", "proofs"} & set(path.relative_to(CRATES).parts)]
+    if working:
+        raise Fault(1, f"the headline rests on {', '.join(str(path.relative_to(ROOT)) for path in working)}: for proofs alone")
+    faults = []
+    if command:
+        definitions = needed(command)
+        for path, names in definitions.items():
+            print(f"-- {path.relative_to(ROOT)}\n", *("\n".join(lines) + "\n" for lines in names.values()), sep="\n")
+        print(f"-- {lines_in(definitions)} lines")
+    rows = [f"{lines_in(needed(one)):5} {lines_in(needed(one, EXPLAINED)):5}  {one}" for one in COMMANDS]
+    computed = ["```", *rows, "```"]
     page = PROOFS.read_text()
     if len(TABLE.findall(page)) != 1:
         raise Fault(2, "docs/PROOFS.md needs the lines around its table once")
-    if arguments:
+    if arguments == ["--write"]:
         PROOFS.write_text(TABLE.sub(lambda _: "".join(line + "\n" for line in computed), page))
-    else:
+    elif not command:
         faults += differences(TABLE.search(page)[0].splitlines(), computed)
-        print(*("%5d %5d %5d  %s" % row for row in rows), sep="\n")
+        print(*(path.relative_to(ROOT) for path in files), *rows, sep="\n")
     for fault in faults:
         print(f"statement: {fault}", file=sys.stderr)
     return 1 if faults else 0
