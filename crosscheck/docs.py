@@ -157,7 +157,9 @@ LINKS = {"UNREADABLE": "/proc/self/mem", "BROKEN_LINK": "/nowhere"}
 SIZES = {"LONG": 300_000_000, "WIDE": 200_000_000}
 SOLVERS = ("ash", "ash-2", "ash.1", "mccs", "mccs-lpsolve", "the_solver_whose_name_has_41_letters_in_i")
 PROBLEMS = [line.split(" | ") for line in section(TABLES, "problems").splitlines() if line]
-TABLE = [("problem", *SOLVERS), *([name, *cells.split()] for name, _, _, cells in PROBLEMS)]
+PARANOID = "-removed,-changed"
+TRENDY = "-removed,-notuptodate,-unsat_recommends,-new"
+TABLE = [(PARANOID, *SOLVERS), *([name, *cells.split()] for name, _, _, cells in PROBLEMS)]
 TOTALS, ODD_TABLE, ODD_TOTALS = (rows(title) for title in ("totals", "a table with odd names", "its totals"))
 # The stanza on line 1 has no version.
 LINTED = "problems/faulty.cudf: problem line 1: E12 no version\n"
@@ -210,17 +212,42 @@ def odd_answers(trial):
             trial.expect("sh totals.sh none", folder, shell, 5, "", "none can't be read")
             # a list that reads a greater count as the better one: BOTH changes two names
             trial.expect("sh table.sh +changed | grep cars | xargs", folder, shell, 0, "cars.cudf 1 5 3 3 FAIL 1\n")
+            for name, by in (("paranoid", PARANOID), ("trendy", TRENDY)):
+                trial.expect(f"sh table.sh {name} > t; sh table.sh {by} | cmp t -", folder, shell, 0, "")
+                trial.same(f"list of {name}", read(folder, "t").split()[0], by)
             trial.expect("sh table.sh changed", folder, shell, 4, "", None)
             trial.expect("sh table.sh", folder, shell, 4, "", None, PATH="/usr/bin:/bin")
         lines = r"s/^cudf_check [0-9]\S*$/version/; s/^[0-9a-f]{64}  -$/sum/"
         trial.expect(f"sh judge.sh | sed -E '{lines}'", folder, "sh", 0, "version\nsum\n")
 
 
+def judged(trial):
+    """What fails.sh leaves, in cells, points, totals and on the page, and as it was without it."""
+    cases = [line.split(" | ") for line in section(TABLES, "judged").splitlines() if line]
+    solvers, files = SOLVERS[:4], {}
+    for name, problem, report, left, _, _ in cases:
+        files |= {f"problems/{name}": DOCUMENTS[problem], f"judged/{name}": DOCUMENTS.get(report, report)}
+        files |= {f"answers/{s}/{name}": DOCUMENTS.get(word, word) for s, word in zip(solvers, left.split())}
+    with competition(files) as folder:
+        for shell, (plain, column) in ((shell, case) for shell in SHELLS for case in (("", 4), ("yes", 5))):
+            cells = table([(PARANOID, *solvers), *([case[0], *case[column].split()] for case in cases)])
+            trial.expect("sh table.sh | tee table", folder, shell, 0, cells, plain=plain)
+            totals = rows("plain totals" if plain else "judged totals")
+            trial.expect("sh totals.sh", folder, shell, 0, table(totals))
+            if not plain:
+                trial.expect("sh points.sh", folder, shell, 0, table(rows("points")))
+            counts = [1, 1] if plain else [3, 3]
+            # one more of each is in the legend
+            page = trial.script("sh page.sh T D", folder, shell, gnuplot="/nowhere")[1]
+            given = [page.count(f"class=is-{word}>") for word in ("right", "wrong")]
+            trial.same(f"judged on the page, {shell}, {plain}", given, counts)
+
+
 def little_memory(trial):
     """An answer and a problem with a line for which there is no memory."""
     lacking = "there is not enough memory"
     for problem, answer, cell, errors in ((QUIET, "WIDE", "unread", ""), ("WIDE", OLD, "unranked", lacking)):
-        cells = table([("problem", "ash"), ("p", cell)])
+        cells = table([(PARANOID, "ash"), ("p", cell)])
         with competition({"problems/p": problem, "answers/ash/p": answer}) as folder:
             for shell in SHELLS:
                 trial.expect("ulimit -v 100000; sh table.sh", folder, shell, 0, cells, errors)
@@ -254,7 +281,7 @@ def of_run(line, begun):
 def pending(trial, folder, shell, jobs, cells):
     """What pending.sh prints and table.sh shows."""
     trial.expect("sh pending.sh", folder, shell, 0, "".join(job + "\n" for job in jobs))
-    trial.expect("sh table.sh", folder, shell, 0, table([("problem", *cells), ("cars.cudf", *cells.values())]))
+    trial.expect("sh table.sh", folder, shell, 0, table([(PARANOID, *cells), ("cars.cudf", *cells.values())]))
 
 
 def many_runs(trial):
@@ -281,6 +308,9 @@ def solved(trial, folder, runs, shell):
     pending(trial, folder, shell, [], {solver: RUNS[solver][2] for solver in names})
     wanted = {**dict.fromkeys(("deaf", "slow", "crashes", "prints"), OLD), "at-last": NEW}
     trial.same(f"{name}: kept", {solver: read(folder, f"raw/{solver}/cars.cudf") for solver in wanted}, wanted)
+    conditions = set(read(folder, "conditions").splitlines())
+    form = r"TERM after 2 s, KILL 1 s later, ulimit -v \w+; \w+ \w+, \d+ processors, .*"
+    trial.same(f"{name}: conditions", [bool(re.fullmatch(form, line)) for line in conditions], [True])
     printed = sorted(read(folder, "raw/prints/cars.cudf.err").splitlines())
     trial.same(f"{name}: printed", printed, ["on its errors", "on its output"])
 
@@ -373,12 +403,12 @@ def html_pages(trial):
             trial.expect(script, folder, shell, 0, "times are unknown\n", None, gnuplot="sh")
     # both axes have two numbers at least, also if all times lie between two powers of ten
     ended = "".join(f"{run} - - -\n" for run in ("ash p 0 1 0.2", "ash q 0 1 0.2", "elm p 0 1 0.4", "elm q 0 1 0.4"))
-    with competition({"table": "problem ash elm\np 1 1\nq 1 2\n", "ended": ended}) as folder:
+    with competition({"table": "-new ash elm\np 1 1\nq 1 2\n", "ended": ended}) as folder:
         for shell in SHELLS * len(plotters):
             output = trial.script("sh page.sh T D", folder, shell)[1].partition("<title>scatter<")[2]
             trial.same(f"axes, {shell}", re.findall(r"<text> *([\d.]+)<", output), ["0.1", "1"] * 2)
 
 
 if __name__ == "__main__":
-    of_pages, of_scripts = (links, shown, by_pages, differences), (odd_answers, little_memory, bad_names)
+    of_pages, of_scripts = (links, shown, by_pages, differences), (odd_answers, judged, little_memory, bad_names)
     common.start(__doc__, *of_pages, *of_scripts, many_runs, other_runs, html_pages, make=Trial)

@@ -16,7 +16,7 @@ import shutil
 import tempfile
 
 from common import read, run, start
-from docs import CARS, OLD, SCRIPTS, SHELLS, Trial, competition, leave
+from docs import CARS, OLD, PARANOID, SCRIPTS, SHELLS, Trial, competition, leave, table
 from refutations import A, SHOP, SHOP_CORE, SHOP_PROOF
 from second.cnf import Rules
 from second.universe import installing
@@ -40,6 +40,12 @@ KNOWN = (
     (SHOP, "proof", SHOP_PROOF), (TWO, "model", "s SATISFIABLE\nv 1 2 0\n"), (LACKING, "proof", ""),
     (NOTHING, "model", "s SATISFIABLE\nv 0\n"), (SERVER, "model", "s SATISFIABLE\nv -1 -2 -3 -4 5 0\n"),
 )
+# what table.sh shows of the folder of answers: one FAIL is right, one wrong, one undecided; and with `plain=yes`
+CELLS = [
+    (PARANOID, "ash", "elm"), ("faulty", "unranked", "unranked"), ("open", "FAIL", "FAIL"), ("quiet", "1", "missing"),
+    ("shop", "right", "right"), ("two", "wrong", "1"),
+]
+PLAIN = [tuple("FAIL" if cell in ("right", "wrong") else cell for cell in row) for row in CELLS]
 WITNESS = installing(("a", 1), ("b", 2)) + "\n"
 YES, UNKNOWN = "solution yes\n", "not decided\n"
 # of cadical before 1.7, which ends with 1, and of one that crashes or is killed
@@ -130,6 +136,8 @@ class Setting:
             # the stand-in doesn't know `open`, and FAIL to a malformed problem isn't status 3
             self.judge_all(folder, 5, "shop right\ntwo wrong\n", f"open: {BROKEN}", ENDS="1")
             self.judge_all(folder, 0, "open not decided\nshop right\ntwo wrong\n")
+            self.trial.expect("sh table.sh", folder, self.shell, 0, table(CELLS))
+            self.trial.expect("sh table.sh", folder, self.shell, 0, table(PLAIN), plain="yes")
             self.judge_all(folder, 127, "", "cudf_check", PATH="/nowhere")
             self.trial.same(f"a report, {self.shell}", read(folder, "judged/shop"), SHOP_CORE)
             self.trial.same(f"a witness, {self.shell}", read(folder, "judged/two.witness"), WITNESS)

@@ -4,17 +4,15 @@
 #   not decided          3   cadical had no answer within $seconds (300), or one that cudf_check rejects
 # Any other status is an error: 2 the problem is malformed, 4 wrong arguments, 5 cadical failed, 5 and 6 as of cudf_check,
 # 127 cadical isn't installed
-case $# in
-  1 | 2) ;;
-  *) echo "usage: fail.sh PROBLEM [WITNESS]" >&2; exit 4 ;;
-esac
+[ $# -eq 1 ] || [ $# -eq 2 ] || { echo "usage: fail.sh PROBLEM [WITNESS]" >&2; exit 4; }
 command -v cadical > /dev/null || { echo "fail.sh: cadical isn't installed" >&2; exit 127; }
 folder=$(mktemp -d) || exit 5
 trap 'rm -rf "$folder"' EXIT
 trap 'exit 129' HUP INT TERM
 
 cudf_check cnf -- "$1" > "$folder/cnf" || { status=$?; cat "$folder/cnf"; exit $status; }
-cadical -q -t "${seconds:-300}" --lrat --no-binary "$folder/cnf" "$folder/proof" > "$folder/model"
+# with these phases a model has few packages
+cadical -q -t "${seconds:-300}" --lucky=0 --phase=0 --lrat --no-binary "$folder/cnf" "$folder/proof" > "$folder/model"
 case $? in
   20) cudf_check refute -- "$1" "$folder/proof" && exit 0 ;;
   10)

@@ -1,7 +1,6 @@
 # lint.sh: names each malformed problem with its error; the status is 1 if there is one
 status=0
 for problem in problems/*; do
-  [ -e "$problem" ] || continue
-  told=$(cudf_check lint "$problem" 2>&1) || { echo "$problem: $told"; status=1; }
+  told=$(cudf_check lint "$problem" --explain 2>&1) || { echo "$problem: $told"; status=1; }
 done
 exit $status

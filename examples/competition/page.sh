@@ -1,9 +1,6 @@
 # page.sh TITLE DATE [TABLE] > index.html: totals, TABLE (table) and plots in one file, without scripts
 export LC_ALL=C
-case $# in
-  2 | 3) ;;
-  *) echo "usage: page.sh TITLE DATE [TABLE] > index.html" >&2; exit 4 ;;
-esac
+[ $# -eq 2 ] || [ $# -eq 3 ] || { echo "usage: page.sh TITLE DATE [TABLE] > index.html" >&2; exit 4; }
 table=${3:-table}
 folder=$(mktemp -d) || exit 5
 trap 'rm -rf "$folder"' EXIT
@@ -12,20 +9,14 @@ sh totals.sh "$table" > "$folder/totals" || exit
 # text as HTML
 html() { sed 's/&/\&amp;/g; s/</\&lt;/g; s/>/\&gt;/g; s/"/\&quot;/g'; }
 
-# the columns of the file $1 as HTML; each word gets a class where $2 is given
+# the columns of the file $1 as HTML, each cell with its word as a class
 columns() {
-  html < "$1" | awk -v classes="$2" '
-    function class(word) {
-      if (!classes) return ""
-      if (word == 1) return " class=best"
-      if (word ~ /^([0-9]+|pending|unranked)$/) return ""
-      return word == "FAIL" ? " class=fail" : word ~ /^(stopped|missing)$/ ? " class=stopped" : " class=wrong"
-    }
+  html < "$1" | awk '
     NR == 1 { print "<table><thead>" }
     { printf "<tr>"
       for (i = 1; i <= NF; i++)
         if (NR == 1 || i == 1) printf "<th scope=%s>%s</th>", NR == 1 ? "col" : "row", $i
-        else printf "<td%s>%s</td>", class($i), $i
+        else printf "<td class=is-%s>%s</td>", $i, $i
       print "</tr>" }
     NR == 1 { print "</thead><tbody>" }
     END { print "</tbody></table>" }'
@@ -46,7 +37,7 @@ runs() {
     kind == "totals" { if (FNR > 1) place[$1] = FNR - 1; next }
     FNR == 1 { for (i = 2; i <= NF; i++) solver[i] = $i; next }
     { for (i = 2; i <= NF; i++) if ((solver[i], $1) in seconds)
-        print place[solver[i]], solver[i], $1, seconds[solver[i], $1], $i ~ /^[0-9]+$/ ? 1 : 0 }
+        print place[solver[i]], solver[i], $1, seconds[solver[i], $1], $i ~ /^([0-9]+|right)$/ ? 1 : 0 }
   ' kind=ended ended kind=totals "$folder/totals" kind=table "$table" | tr -cd 'A-Za-z0-9._+ \n-'
 }
 
@@ -93,16 +84,16 @@ cat << END
 <title>$(printf '%s' "$1" | html)</title>
 <style>
 body { font: 16px/1.5 sans-serif; margin: 2em auto; max-width: 60em; padding: 0 1em; color: #222; background: #fff }
-div { overflow-x: auto }
+div, pre { overflow-x: auto }
 table { border-collapse: collapse; margin: 1em 0; font-variant-numeric: tabular-nums }
 th, td { padding: .2em .7em; text-align: right; border-bottom: 1px solid #ddd; white-space: nowrap }
 thead th { border-bottom: 2px solid #888 }
 tbody th { font-weight: normal }
 th:first-child { text-align: left }
-.best { background: #c9ecc9; font-weight: bold }
-.fail { background: #fbe7b2 }
-.stopped { background: #e2e2e2 }
-.wrong { background: #f6c6c6 }
+.cells .is-1, .is-right { background: #c9ecc9; font-weight: bold }
+.is-FAIL { background: #fbe7b2 }
+.is-stopped, .is-missing { background: #e2e2e2 }
+.is-wrong, .is-no, .is-faulty, .is-folder, .is-long, .is-unread { background: #f6c6c6 }
 figure { margin: 1em 0 }
 svg { max-width: 45em; width: 100%; height: auto }
 </style>
@@ -116,8 +107,13 @@ svg { max-width: 45em; width: 100%; height: auto }
 $(columns "$folder/totals")
 </div>
 <h2>Problems</h2>
-<div>
-$(columns "$table" yes)
+<div class=cells>
+$(columns "$table")
+<p>The corner has the list of criteria, a number is a solution's place by it: <b class=is-1>1</b> is the best, ties share one.
+<b class=is-right>right</b>: FAIL, and a checked proof says that there is no solution; <b class=is-wrong>wrong</b>: FAIL,
+but there is one; <b class=is-FAIL>FAIL</b>: not decided. <b class=is-no>no</b>: not a solution; <b class=is-faulty>faulty</b>:
+malformed; <b class=is-stopped>stopped</b>: out of time, or crashed; <b class=is-missing>missing</b>: no answer; pending: not
+run; unranked: the problem is malformed. Points: $(sed -n '2s/^# //p' points.sh | html). Seconds are elapsed ones, of all runs.</p>
 </div>
 <h2>Times</h2>
 $(plots)

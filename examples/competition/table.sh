@@ -1,6 +1,10 @@
-# table.sh [LIST]: how each solver did on each problem, by LIST (-removed,-changed)
+# table.sh [LIST]: how each solver did on each problem, by LIST, which may be paranoid (as without one) or trendy
 export LC_ALL=C
-list=${1:--removed,-changed}
+list=${1:-paranoid}
+case $list in
+  paranoid) list=-removed,-changed ;;
+  trendy) list=-removed,-notuptodate,-unsat_recommends,-new ;;
+esac
 # of an empty problem the status is 2, unless the list is wrong or there is no cudf_check
 cudf_check score --criteria="$list" - < /dev/null > /dev/null
 [ $? -eq 2 ] || exit 4
@@ -42,14 +46,16 @@ places() {
     fi
     echo "$solver $word"
   done
-  [ $# -eq 0 ] || cudf_check rank --criteria="$list" "problems/$problem" "$@" | awk -v files="$*" '
+  # what fails.sh has shown
+  fail=$([ "$plain" ] || sed -n '$s/^no solution exists$/right/p; $s/^solution yes$/wrong/p' "judged/$problem" 2> /dev/null)
+  [ $# -eq 0 ] || cudf_check rank --criteria="$list" "problems/$problem" "$@" | awk -v files="$*" -v fail="${fail:-FAIL}" '
     { split(files, file); split(file[$3], part, "/"); told = substr($0, index($0, $4))
       if (told != before) place = $1
-      before = told; print part[2], $4 == "yes" ? place : $4 }'
+      before = told; print part[2], $4 == "yes" ? place : $4 == "FAIL" ? fail : $4 }'
 }
 
 {
-  echo problem $solvers
+  echo "$list" $solvers
   for problem in $(ls problems); do
     rows=$(cudf_check lint "problems/$problem" > /dev/null && places "$problem")
     printf '%s\n' "$rows" | awk -v problem="$problem" -v solvers="$solvers" '

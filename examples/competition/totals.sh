@@ -18,11 +18,11 @@ ended=$(ls ended 2> /dev/null)
         if ($i == "pending") { pending++; continue }
         if ($i == "unranked") continue
         time[i] += seconds[solver[i], $1]
-        if ($i == 1) best[i]++
-        if ($i ~ /^[0-9]+$/) solved[i]++
+        if ($i ~ /^(1|right)$/) best[i]++
+        if ($i ~ /^([0-9]+|right)$/) solved[i]++
         else if ($i == "FAIL") fail[i]++
         else if ($i == "stopped" || $i == "missing") stopped[i]++
-        else if ($i == "no") no[i]++
+        else if ($i ~ /^(no|wrong)$/) no[i]++
         else faulty[i]++
       } }
     END {
