@@ -139,6 +139,9 @@ class Setting:
             self.trial.expect("sh table.sh", folder, self.shell, 0, table(CELLS))
             self.trial.expect("sh table.sh", folder, self.shell, 0, table(PLAIN), plain="yes")
             self.judge_all(folder, 127, "", "cudf_check", PATH="/nowhere")
+            leave(f"{folder}/problems/a b", SHOP)
+            self.judge_all(folder, 1, "", "problems/a b: a name has")
+            os.remove(f"{folder}/problems/a b")
             self.trial.same(f"a report, {self.shell}", read(folder, "judged/shop"), SHOP_CORE)
             self.trial.same(f"a witness, {self.shell}", read(folder, "judged/two.witness"), WITNESS)
         # on the page oak answers FAIL to `server.cudf`
