@@ -11,6 +11,7 @@ use crate::grammar::{
     SOLUTION, SOLUTIONS, STRICT, WITH_FILENAME, program,
 };
 use crate::refusal::Refusal;
+use crate::shown::Shown;
 use crate::topic::Topic;
 use crate::usage::{Usage, unparsed};
 use clap::ArgMatches;
@@ -58,7 +59,11 @@ impl<'w> FileName<'w> {
 impl fmt::Display for FileName<'_> {
     fn fmt<W: fmt::Write>(&self, f: &mut fmt::Formatter<W>) -> fmt::Result {
         match self {
-            FileName::Path(path) => write!(f, "{path}"),
+            FileName::Path("") => write!(f, "''"),
+            FileName::Path(path) => {
+                let path = Shown(path);
+                write!(f, "{path}")
+            }
             FileName::Standard => write!(f, "standard input"),
         }
     }

@@ -41,65 +41,95 @@ pub(crate) const EXPLAIN: &str = "explain";
 
 pub(crate) const WITH_FILENAME: &str = "with-filename";
 
-const ABOUT_SCORE: &str =
-    "Counts what a solution changes and lacks, by the criteria of the MISC competition";
+const ABOUT_SCORE: &str = "Counts what an answer changes, by the criteria of the MISC competition";
 
 const ABOUT_SCORE_LINES: &str =
-    "Counts what a solution changes and lacks, by the criteria of the MISC competition.
+    "Counts what an answer changes, by the criteria of the MISC competition.
 
-It prints these lines, and then whether the answer is a solution. They are counted whether or not it is one.
-  removed           counts the names with a package installed before and none after.
-  new               counts the names with a package installed after and none before.
-  changed           counts the names whose set of installed versions differs.
-  notuptodate       counts the names with a package installed after, but not their greatest version in the problem.
-  unsat_recommends  counts the recommended clauses of packages installed after that the answer doesn't satisfy.
-  paranoid          is what the paranoid track minimises: removed, then changed.
-  trendy            is what the trendy track minimises: removed, then notuptodate, unsat_recommends and new.";
+  cudf_check score problem.cudf answer.cudf
 
-const ABOUT_RANK: &str = "Ranks several solutions of a problem by a list of criteria";
+prints these lines, and then whether the answer is a solution:
+  removed           names installed before and not after
+  new               names installed after and not before
+  changed           names whose installed versions differ
+  notuptodate       names installed after, but not in the greatest version
+  unsat_recommends  unsatisfied clauses in recommends of installed packages
+  paranoid          removed, changed: what the paranoid track minimises
+  trendy            removed, notuptodate, unsat_recommends, new: what the
+                    trendy track minimises";
 
-const ABOUT_RANK_LINES: &str = "Ranks several solutions of a problem by a list of criteria.
+const ABOUT_RANK: &str = "Ranks several answers to a problem by a list of criteria";
 
-It prints a line for each solution, the best first: its rank, its place among the files of solutions, and yes with its
-counts, or no where it is none, or FAIL. The list is one aim or more with a comma between each two, without blanks. An
-aim is - for the lesser count or + for the greater one, and then removed, new, changed, notuptodate, unsat_recommends
-or touched. Solutions are compared by the first aim whose counts differ. Ties are printed in the order of the files.
-  touched  counts the packages that are installed before or after, and not both.";
+const ABOUT_RANK_LINES: &str = "Ranks several answers to a problem by a list of criteria.
+
+  cudf_check rank --criteria=-removed,-changed problem.cudf *.answer.cudf
+
+prints a line for each answer, the best first: its rank, its place among the
+answers, and yes with its counts, or no, or FAIL. The list is one aim or more,
+separated by commas, without blanks. An aim is - (minimise) or + (maximise),
+and then removed, new, changed, notuptodate, unsat_recommends or touched
+(packages installed before or after but not both). Solutions are compared by
+the first aim whose counts differ. Ties keep the order of the files.";
 
 const ABOUT_CNF: &str = "Prints the rules of a problem as a CNF, for a SAT solver";
 
 const ABOUT_CNF_LINES: &str = "Prints the rules of a problem as a CNF, for a SAT solver.
 
-It is in DIMACS: a comment for each package, as c p1 car 1, with its number, name and version, and a clause for each
-instance of a rule. A model installs the packages of its positive numbers, and is a solution. This program solves
-nothing: it is for a SAT solver to find a model, or a proof that there is none, which refute checks.";
+  cudf_check cnf problem.cudf > cnf
+
+It is in DIMACS: a comment for each package, such as c p1 car 1, with its
+number, name and version, and clauses. A model installs the packages of its
+positive numbers, and is a solution. refute checks a proof that there is none.";
 
 const ABOUT_REFUTE: &str = "Checks a proof that a problem has no solution";
 
 const ABOUT_REFUTE_LINES: &str = "Checks a proof that a problem has no solution.
 
-The proof is in the text form of LRAT, as cadical --lrat --no-binary writes it for what cnf prints. It is checked against
-the rules of the problem itself. If it holds, this prints rules that no answer satisfies together, and then no solution
-exists. If not, it prints the first error of the proof, which says nothing about the problem.";
+  cudf_check cnf problem.cudf > cnf
+  cadical --lrat --no-binary cnf proof
+  cudf_check refute problem.cudf proof --explain
+
+The proof is in LRAT's text form. If it holds, this prints rules of which every
+answer violates one, and then no solution exists. Otherwise it prints the
+proof's first error, which says nothing about the problem.";
+
+const ABOUT_LINT: &str = "Checks that a file is a well-formed problem";
+
+const ABOUT_LINT_LINES: &str = "Checks that a file is a well-formed problem.
+
+  cudf_check lint problem.cudf --strict --explain
+
+prints problem ok, or the problem's first error.";
+
+const ABOUT_CHECK: &str = "Checks an answer, and prints every rule that it violates";
+
+const ABOUT_CHECK_LINES: &str = "Checks an answer, and prints every rule that it violates.
+
+  cudf_check check problem.cudf answer.cudf --strict --explain
+
+prints a line for each violation, sorted by key, and then solution yes or
+solution no. A key such as p1.depends.2 is the second clause in depends of the
+problem's first package.";
 
 const STATUSES: &str = "Exit status:
-  0  the answer is a solution, or the problem is valid; rank: one of the answers is a solution; refute: the proof holds
-  1  the answer is no solution; rank: none is, and one doesn't say FAIL; refute: the proof is wrong
-  2  a document is invalid
+  0  the answer is a solution; lint: the problem is well-formed;
+     rank: one of the answers is a solution; refute: the proof holds
+  1  the answer isn't a solution; rank: none is, and not all say FAIL;
+     refute: the proof has an error
+  2  a document is malformed
   3  the answer says FAIL; rank: all do
-  4  the arguments are wrong
-  5  a file can't be opened, a read or a write failed, an input is longer than 268435456 bytes, or a CNF has more than 4294967295 clauses
-  6  there isn't enough memory
+  4  invalid arguments
+  5  a file can't be read or written, or is too large, or a CNF is
+  6  out of memory
 
-FAIL alone in the file of an answer says that its solver found no solution; cnf and refute tell whether there is one.
-A line of a report begins with a key, such as p1.depends.2: the second clause of depends of the first package of the problem.";
+man cudf_check has more.";
 
 /// The program with its commands.
 pub(crate) fn program<'w>(alloc: Global) -> Result<Command<'w>, AllocError>
     ensures { IfOk result (IsOf grammar) }
 {
     Command::new(alloc, "cudf_check")
-        .about("Checks solutions of CUDF 2.0 problems")
+        .about("Checks answers of package solvers to CUDF 2.0 problems")
         .after_help(STATUSES)
         .version(VERSION)
         .subcommand_required(true)
@@ -115,11 +145,12 @@ fn lint_command<'w>(alloc: Global) -> Result<Command<'w>, AllocError>
     ensures { IfOk result (IsOf lint_grammar) }
 {
     Command::new(alloc, LINT)
-        .about("Checks that a file is a valid problem")
+        .about(ABOUT_LINT)
+        .long_about(ABOUT_LINT_LINES)
         .after_help(STATUSES)
         .arg(problem(alloc))?
-        .arg(strict_problem(alloc))?
-        .arg(explain_fault(alloc))?
+        .arg(strict(alloc))?
+        .arg(explain(alloc))?
         .arg(with_filename(alloc))
 }
 
@@ -127,7 +158,8 @@ fn check_command<'w>(alloc: Global) -> Result<Command<'w>, AllocError>
     ensures { IfOk result (IsOf check_grammar) }
 {
     Command::new(alloc, CHECK)
-        .about("Checks a solution, and prints each rule that it violates")
+        .about(ABOUT_CHECK)
+        .long_about(ABOUT_CHECK_LINES)
         .after_help(STATUSES)
         .arg(problem(alloc))?
         .arg(solution(alloc))?
@@ -174,7 +206,7 @@ fn cnf_command<'w>(alloc: Global) -> Result<Command<'w>, AllocError>
         .long_about(ABOUT_CNF_LINES)
         .after_help(STATUSES)
         .arg(problem(alloc))?
-        .arg(strict_problem(alloc))
+        .arg(strict(alloc))
 }
 
 fn refute_command<'w>(alloc: Global) -> Result<Command<'w>, AllocError>
@@ -186,7 +218,7 @@ fn refute_command<'w>(alloc: Global) -> Result<Command<'w>, AllocError>
         .after_help(STATUSES)
         .arg(problem(alloc))?
         .arg(proof(alloc))?
-        .arg(strict_problem(alloc))?
+        .arg(strict(alloc))?
         .arg(explain(alloc))
 }
 
@@ -196,7 +228,7 @@ fn problem<'w>(alloc: Global) -> Arg<'w>
 {
     Arg::new(alloc, PROBLEM)
         .value_name("P")
-        .help("The file of the problem; - is standard input")
+        .help("The problem; - is standard input")
         .required(true)
 }
 
@@ -205,7 +237,7 @@ fn solution<'w>(alloc: Global) -> Arg<'w>
     ensures local { result.global ≡ false }
 {
     Arg::new(alloc, SOLUTION).value_name("S").help(
-        "The file of the solution; without it, the solution follows the problem in P",
+        "The answer; without it, the answer follows the problem in P",
     )
 }
 
@@ -215,7 +247,7 @@ fn solutions<'w>(alloc: Global) -> Arg<'w>
 {
     let files = Arg::new(alloc, SOLUTIONS)
         .value_name("S")
-        .help("The files of the solutions");
+        .help("The answers");
     files.num_args(1..).required(true)
 }
 
@@ -225,7 +257,7 @@ fn proof<'w>(alloc: Global) -> Arg<'w>
 {
     Arg::new(alloc, PROOF)
         .value_name("PROOF")
-        .help("The file of the proof, in the text form of LRAT; - is standard input")
+        .help("The proof, in LRAT's text form; - is standard input")
         .required(true)
 }
 
@@ -236,16 +268,17 @@ fn after<'w>(alloc: Global) -> Arg<'w>
     Arg::new(alloc, AFTER)
         .long(AFTER)
         .value_name("KEY")
-        .help("Prints only the violated rules whose keys come after KEY")
+        .help("Prints only violations with greater keys")
 }
 
 fn limit<'w>(alloc: Global) -> Arg<'w>
     ensures rule { rule_of result ≡ limit_option }
     ensures local { result.global ≡ false }
 {
-    Arg::new(alloc, LIMIT).long(LIMIT).value_name("N").help(
-        "Prints at most N violated rules, and the key to continue after",
-    )
+    Arg::new(alloc, LIMIT)
+        .long(LIMIT)
+        .value_name("N")
+        .help("Prints at most N violations")
 }
 
 fn criteria<'w>(alloc: Global) -> Arg<'w>
@@ -255,16 +288,14 @@ fn criteria<'w>(alloc: Global) -> Arg<'w>
     Arg::new(alloc, CRITERIA)
         .long(CRITERIA)
         .value_name("LIST")
-        .help("The counts to print, as -removed,+new; the list is written after =")
+        .help("The counts to print, as in --criteria=-removed,+new")
 }
 
 fn needed_criteria<'w>(alloc: Global) -> Arg<'w>
     ensures rule { rule_of result ≡ needed_criteria }
     ensures local { result.global ≡ false }
 {
-    let list = criteria(alloc).help(
-        "The counts to compare by, as -removed,+new; the list is written after =",
-    );
+    let list = criteria(alloc).help("The counts to compare, as in --criteria=-removed,+new");
     list.required(true)
 }
 
@@ -272,40 +303,20 @@ fn strict<'w>(alloc: Global) -> Arg<'w>
     ensures rule { rule_of result ≡ strict_flag }
     ensures local { result.global ≡ false }
 {
-    strict_problem(alloc).help(
-        "Rejects a package that lacks a property which the preamble declares without a default, a pair of name and version that a solution gives twice, and a property that has no meaning in its preamble or request",
-    )
-}
-
-fn strict_problem<'w>(alloc: Global) -> Arg<'w>
-    ensures rule { rule_of result ≡ strict_flag }
-    ensures local { result.global ≡ false }
-{
     Arg::new(alloc, STRICT)
         .long(STRICT)
         .action(ArgAction::SetTrue)
-        .help(
-            "Rejects a package that lacks a property which the preamble declares without a default, and a property that has no meaning in its preamble or request",
-        )
+        .help("Also rejects what the standard forbids")
 }
 
 fn explain<'w>(alloc: Global) -> Arg<'w>
     ensures rule { rule_of result ≡ explain_flag }
     ensures local { result.global ≡ false }
 {
-    explain_fault(alloc).help(
-        "Adds the cause to each line, as the package that would satisfy a rule",
-    )
-}
-
-fn explain_fault<'w>(alloc: Global) -> Arg<'w>
-    ensures rule { rule_of result ≡ explain_flag }
-    ensures local { result.global ≡ false }
-{
     Arg::new(alloc, EXPLAIN)
         .long(EXPLAIN)
         .action(ArgAction::SetTrue)
-        .help("Adds the cause to the line of an error, such as the name that isn't declared")
+        .help("Adds the cause to each line")
 }
 
 fn with_filename<'w>(alloc: Global) -> Arg<'w>
@@ -316,7 +327,5 @@ fn with_filename<'w>(alloc: Global) -> Arg<'w>
         .short('H')
         .long(WITH_FILENAME)
         .action(ArgAction::SetTrue)
-        .help(
-            "Begins each line about a line of a file with FILE:LINE:, as editors and CI read it; rank names files in place of their numbers",
-        )
+        .help("Begins lines with FILE:LINE:, for editors and CI")
 }

@@ -4,6 +4,7 @@
 pub mod command;
 mod grammar;
 mod refusal;
+mod shown;
 mod topic;
 mod usage;
 

@@ -1,4 +1,5 @@
 //! Why what the words of a command ask for is refused.
+use crate::shown::Shown;
 use std::fmt;
 
 /// Why the words of a command ask for no run.
@@ -45,18 +46,27 @@ impl fmt::Display for Refusal<'_> {
         match self {
             Refusal::Missing => write!(f, "a word is missing"),
             Refusal::Twice => write!(f, "- can stand for one file only"),
-            Refusal::NoKey(word) => write!(
-                f,
-                "invalid value '{word}' for '--after <KEY>': a key is written as in a report, such as p1.depends.2"
-            ),
-            Refusal::NoNumber(word) => write!(
-                f,
-                "invalid value '{word}' for '--limit <N>': not a number from 1 to 18446744073709551615"
-            ),
-            Refusal::NoList(word) => write!(
-                f,
-                "invalid value '{word}' for '--criteria=<LIST>': a list is written without blanks, as -removed,+new, of removed, new, changed, notuptodate, unsat_recommends and touched, each after - or +"
-            ),
+            Refusal::NoKey(word) => {
+                let word = Shown(word);
+                write!(
+                    f,
+                    "invalid value '{word}' for '--after <KEY>': a key is written as in a report, such as p1.depends.2"
+                )
+            }
+            Refusal::NoNumber(word) => {
+                let word = Shown(word);
+                write!(
+                    f,
+                    "invalid value '{word}' for '--limit <N>': not a number from 1 to 18446744073709551615"
+                )
+            }
+            Refusal::NoList(word) => {
+                let word = Shown(word);
+                write!(
+                    f,
+                    "invalid value '{word}' for '--criteria=<LIST>': a list is written without blanks, as -removed,+new, of removed, new, changed, notuptodate, unsat_recommends and touched, each after - or +"
+                )
+            }
             Refusal::Apart => write!(
                 f,
                 "equal sign is needed when assigning values to '--criteria=<LIST>': the list is written after it, as --criteria=-removed"

@@ -48,7 +48,7 @@ impl Topic {
             Topic::Lint => "cudf_check lint [OPTIONS] <P>",
             Topic::Check => "cudf_check check [OPTIONS] <P> [S]",
             Topic::Score => "cudf_check score [OPTIONS] <P> [S]",
-            Topic::Rank => "cudf_check rank [OPTIONS] --criteria <LIST> <P> <S>...",
+            Topic::Rank => "cudf_check rank [OPTIONS] --criteria=<LIST> <P> <S>...",
             Topic::Cnf => "cudf_check cnf [OPTIONS] <P>",
             Topic::Refute => "cudf_check refute [OPTIONS] <P> <PROOF>",
         }

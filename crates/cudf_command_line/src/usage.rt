@@ -5,7 +5,9 @@ ghost use Rattle.cudf_command_line.specs.Orders.{IsUnparsed, TellsApart};
 ghost use Rattle.cudf_command_line.specs.Usage.{usage_status};
 
 use crate::command::{arguments, takes_list_apart};
+use crate::grammar::program;
 use crate::refusal::Refusal;
+use crate::shown::shown_words;
 use crate::topic::Topic;
 use clap::error::ErrorKind;
 use std::alloc::{AllocError, Global};
@@ -79,17 +81,18 @@ pub(crate) fn unparsed<'w>(
 {
     match error.kind() {
         ErrorKind::DisplayHelp | ErrorKind::DisplayVersion => {
-            Ok(Usage::Told(format!(in alloc; "{error}")?))
+            Ok(Usage::Told(written(alloc, &error)?))
         }
         ErrorKind::OutOfMemory => Ok(Usage::Memory),
-        _ => fault(alloc, arguments(words), &error),
+        _ => fault(alloc, words, arguments(words), &error),
     }
 }
 
-/// What is reported of a fault that the parse found in these arguments. Where their command takes a list that is separate,
-/// this is reported: the parse speaks of the list as of an unknown option, or as of a file too many.
+/// What is reported of a fault that the parse found in these words, of which all but the first are arguments. Where their
+/// command takes a list that is separate, this is reported: the parse speaks of the list as of an unknown option, or as of a file too many.
 fn fault<'w>(
     alloc: Global,
+    words: &[String],
     arguments: &[String],
     error: &clap::Error,
 ) -> Result<Usage<'w>, AllocError>
@@ -100,19 +103,69 @@ fn fault<'w>(
     if takes_list_apart(arguments) {
         return Ok(Usage::Refused(topic, Refusal::Apart));
     }
-    Ok(Usage::Mistake(topic, fault_text(alloc, error)?))
+    Ok(Usage::Mistake(topic, fault_text(alloc, words, error)?))
 }
 
 /// The text of a fault, up to its usage. A first word that is no command may be a file that was to be checked.
-fn fault_text(alloc: Global, error: &clap::Error) -> Result<String, AllocError> {
-    let whole = format!(in alloc; "{error}")?;
+fn fault_text(alloc: Global, words: &[String], error: &clap::Error) -> Result<String, AllocError> {
+    let whole = whole_text(alloc, words, error)?;
     let text = before(before(&whole, "\n\nUsage: "), "\n\nFor more information");
     match error.kind() {
         ErrorKind::InvalidSubcommand => {
             let usage = Topic::Check.usage();
             format!(in alloc; "{text}\n\n  tip: a command comes first, as in '{usage}'")
         }
+        ErrorKind::UnknownArgument => unexpected_text(alloc, text),
         _ => String::from_str(alloc, text),
+    }
+}
+
+/// What the parse says of the words as they are shown.
+fn whole_text(alloc: Global, words: &[String], error: &clap::Error) -> Result<String, AllocError> {
+    let shown = shown_words(alloc, words)?;
+    let mut program = program(alloc)?;
+    match program.try_get_matches_from_mut(&shown) {
+        Ok(_) => written(alloc, error),
+        Err(fault) => written(alloc, &fault),
+    }
+}
+
+/// The text of the parse, with the list of `--criteria` behind `=`, where alone it is accepted.
+fn written(alloc: Global, error: &clap::Error) -> Result<String, AllocError> {
+    let text = format!(in alloc; "{error}")?;
+    text.replace(alloc, "--criteria <LIST>", "--criteria=<LIST>")
+}
+
+/// The text of a fault at an argument that no command expects there, with the commands whose option it is. The tip of the
+/// parse to write `--` before an argument is left out.
+fn unexpected_text(alloc: Global, text: &str) -> Result<String, AllocError> {
+    let first = before(text, "\n\n  tip: ");
+    let option = before(after(first, "unexpected argument '"), "' found");
+    match owners(option) {
+        Some(owners) => {
+            format!(in alloc; "{first}\n\n  tip: '{option}' is an option of {owners}")
+        }
+        None => String::from_str(alloc, before(text, "\n\n  tip: to pass ")),
+    }
+}
+
+/// The commands that have this option.
+fn owners(option: &str) -> Option<&'static str> {
+    match option {
+        "--after" | "--limit" => Some("check"),
+        "--criteria" => Some("score and rank"),
+        "--explain" => Some("lint, check and refute"),
+        "--strict" => Some("each command"),
+        "--with-filename" | "-H" => Some("lint, check, score and rank"),
+        _ => None,
+    }
+}
+
+/// The text behind a mark, where it has one.
+fn after<'t>(text: &'t str, mark: &str) -> &'t str {
+    match text.split_once(mark) {
+        Some((_, rest)) => rest,
+        None => text,
     }
 }
 

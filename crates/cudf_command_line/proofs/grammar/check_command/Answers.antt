@@ -2,7 +2,7 @@ use Rattle.std.proofs.Common.{codes}
 use Rattle.std.proofs.lemmas.Result.{IfOk-weaker}
 use Rattle.clap.specs.Simple.{App, new_app, with_rule}
 use Rattle.cudf_command_line.specs.Grammar.{IsOf, filename_flag, after_option, explain_flag, limit_option, problem_word, solution_word, strict_flag}
-use Rattle.cudf_command_line.proofs.GrammarLemmas.{described, followed, with_word}
+use Rattle.cudf_command_line.proofs.GrammarLemmas.{described, followed, long_described, with_word}
 use Rattle.cudf_command_line.proofs.grammar.check_command.Goals as goal
 
 abbrev one : App
@@ -27,8 +27,10 @@ pub returns : goal.returns
 returns c =
     let short : IsOf (new_app (codes "check")) c.about.result =
     described (new_app (codes "check")) c.new.result c.about.result _ c.about.ensures (c.new.ensures.app, c.new.ensures.local) in
+    let long : IsOf (new_app (codes "check")) c.long_about.result =
+    long_described (new_app (codes "check")) c.about.result c.long_about.result _ c.long_about.ensures short in
     let plain : IsOf (new_app (codes "check")) c.after_help.result =
-    followed (new_app (codes "check")) c.about.result c.after_help.result _ c.after_help.ensures short in
+    followed (new_app (codes "check")) c.long_about.result c.after_help.result _ c.after_help.ensures long in
     let of_one : IsOf one c.in_ok-arg.field-0 =
     with_word (new_app (codes "check")) problem_word c.after_help.result c.problem.result plain c.problem.ensures.rule c.problem.ensures.local c.in_ok-arg.field-0 c.in_ok-arg.ensures in
     let of_two : IsOf two c.in_ok-arg-2.field-0 =

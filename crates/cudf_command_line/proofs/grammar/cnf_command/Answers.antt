@@ -18,4 +18,4 @@ returns c =
     followed (new_app (codes "cnf")) c.long_about.result c.after_help.result _ c.after_help.ensures long in
     let of_one : IsOf one c.in_ok-arg.field-0 =
     with_word (new_app (codes "cnf")) problem_word c.after_help.result c.problem.result plain c.problem.ensures.rule c.problem.ensures.local c.in_ok-arg.field-0 c.in_ok-arg.ensures in
-    IfOk-weaker c.arg-2.result _ _ (with_word one strict_flag c.in_ok-arg.field-0 c.strict_problem.result of_one c.strict_problem.ensures.rule c.strict_problem.ensures.local) c.arg-2.ensures
+    IfOk-weaker c.arg-2.result _ _ (with_word one strict_flag c.in_ok-arg.field-0 c.strict.result of_one c.strict.ensures.rule c.strict.ensures.local) c.arg-2.ensures

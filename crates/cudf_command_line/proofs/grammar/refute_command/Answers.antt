@@ -27,5 +27,5 @@ returns c =
     let of_two : IsOf two c.in_ok-arg-2.field-0 =
     with_word one proof_word c.in_ok-arg.field-0 c.proof.result of_one c.proof.ensures.rule c.proof.ensures.local c.in_ok-arg-2.field-0 c.in_ok-arg-2.ensures in
     let of_three : IsOf three c.in_ok-arg-3.field-0 =
-    with_word two strict_flag c.in_ok-arg-2.field-0 c.strict_problem.result of_two c.strict_problem.ensures.rule c.strict_problem.ensures.local c.in_ok-arg-3.field-0 c.in_ok-arg-3.ensures in
+    with_word two strict_flag c.in_ok-arg-2.field-0 c.strict.result of_two c.strict.ensures.rule c.strict.ensures.local c.in_ok-arg-3.field-0 c.in_ok-arg-3.ensures in
     IfOk-weaker c.arg-4.result _ _ (with_word three explain_flag c.in_ok-arg-3.field-0 c.explain.result of_three c.explain.ensures.rule c.explain.ensures.local) c.arg-4.ensures
