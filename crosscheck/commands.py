@@ -238,7 +238,7 @@ def closed_pipe(trial):
     """A report that nobody reads any more, as after head."""
     reader, writer = os.pipe()
     os.close(reader)
-    trial.expect(Row("check p bad", 5, "{unwritten}"), stdout=writer)
+    trial.expect(Row("check p bad", 5, "{left}"), stdout=writer)
     os.close(writer)
 
 

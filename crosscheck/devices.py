@@ -34,7 +34,7 @@ BOTH = FILES["both"] = PROBLEM.replace("2\n\nrequest:", "2\ninstalled: true\n\nr
 WISH = FILES["wish"] = PROBLEM + "install: car\n"
 PROOF = FILES["proof"] = "3 0 2 1 0\n"
 NEED = "p1.depends.1 car 1 line 1: needs wheel > 2"
-OK, YES, UNMET, UNWRITTEN = map(TABLE.said, ("problem ok", "solution yes", "{unmet}", "{unwritten}"))
+OK, YES, UNMET = map(TABLE.said, ("problem ok", "solution yes", "{unmet}"))
 # arguments, the status and the report
 REPORTS = list(map(TABLE.report, (
     "lint p", "check p bad", "rank --criteria=-removed p bad good fail", "score p bad --criteria=-new", "lint faulty",
@@ -53,9 +53,19 @@ WRITE_ERRORS = (errno.EINTR, errno.ENOSPC, errno.EPIPE, 0)
 READ_ERRORS = (errno.EIO, errno.EAGAIN, errno.ENOMEM, errno.ECONNRESET)
 OPEN_ERRORS = (errno.ENOENT, errno.EACCES, errno.EMFILE, errno.ELOOP)
 # the messages, and what follows the text of an error
-HINTS = {errno.ENOENT: "; check the name, and run again"}
+HINTS = {
+    errno.ENOENT: "; check the name, and run again",
+    errno.EPIPE: "; what reads it ended, as head does: check --limit gives a shorter report",
+}
 UNOPENED = "cudf_check: {} can't be opened: {}\n"
 UNREAD = "cudf_check: {} could not be read to its end: {}; check that it is a file that can be read, and run again\n"
+UNWRITTEN = "cudf_check: the output could not be written to its end: {}\n"
+
+
+def told(message, error):
+    """The message with the system's words for an error. A write that takes no byte is no error of the system."""
+    words = f"{os.strerror(error)} (os error {error}){HINTS.get(error, '')}"
+    return message.format(words) if error else message.replace(": {}", "")
 
 
 class Trial(shim.Trial):
@@ -90,8 +100,7 @@ def each_fails(trial, words, kind, message, errors, few=(), report="", data="", 
     for number, error in itertools.product(range(first, len(places) + 1), errors):
         ran, calls = trial.calls(words, rule(*kind, -error, number, number), *few, data=data)
         before, failed = usual[:places[number - 1]], usual[places[number - 1]]._replace(answer=-error)
-        text = f"{os.strerror(error)} (os error {error}){HINTS.get(error, '')}"
-        wanted = (5, report[: sum(answers(before, "write", "1"))], message.format(text))
+        wanted = (5, report[: sum(answers(before, "write", "1"))], told(message, error))
         calls = [it for it in calls if it.name != "2"]
         trial.same(f"{words}: {kind} {number} fails, {error}", (ran, calls), (wanted, [*before, failed]))
 
@@ -99,7 +108,7 @@ def each_fails(trial, words, kind, message, errors, few=(), report="", data="", 
 def writes(trial):
     """The whole report comes in parts, or up to the write that fails. The texts of help are tried by another script."""
     rows = [(*row, UNWRITTEN, BYTES_A_WRITE) for row in REPORTS]
-    rows += [(words, 0, trial.run(words).output, "", BYTES_OF_HELP_A_WRITE) for words in HELP]
+    rows += [(words, 0, trial.run(words).output, UNWRITTEN, BYTES_OF_HELP_A_WRITE) for words in HELP]
     for words, status, report, message, most in rows:
         few = [rule("write", "1", most)]
         ran, calls = trial.calls(words, *few)
@@ -252,17 +261,17 @@ def unwritable_outputs(trial):
             status, _, errors = trial.run(job.words, stdout=reader.stdin, restore_signals=restores)
             reader.communicate()
             file.seek(0)
-            ended = (-signal.SIGPIPE, "") if restores and status != 5 else (5, UNWRITTEN)
+            ended = (-signal.SIGPIPE, "") if restores and status != 5 else (5, told(UNWRITTEN, errno.EPIPE))
             given, wanted = (status, errors, file.read().decode()), (*ended, job.wanted.output[:taken])
             trial.same(f"{job.words}: a pipe that is left, signals restored: {restores}", given, wanted)
     for words in (long.words, explained.words, "check both", ["lint", long.words[1]], "--help"):
         with open("/dev/full", "wb") as full:
             ran = trial.run(words, stdout=full)
-        trial.same(f"{words}: a full device", ran, (5, "", UNWRITTEN if words != "--help" else ""))
+        trial.same(f"{words}: a full device", ran, (5, "", told(UNWRITTEN, errno.ENOSPC)))
     with open("filled", "w+b") as file:
         ran = trial.run(long.words, stdout=file, before=limit(resource.RLIMIT_FSIZE, SMALL_FILE), restore_signals=False)
         file.seek(0)
-        wanted = ((5, "", UNWRITTEN), long.wanted.output[:SMALL_FILE])
+        wanted = ((5, "", told(UNWRITTEN, errno.EFBIG)), long.wanted.output[:SMALL_FILE])
         trial.same("a file that can't grow", (ran, file.read().decode()), wanted)
 
 

@@ -26,7 +26,7 @@ use cudf_check::{Device, Job, Mode, Named, Outcome, RunError, Sink, Source, rank
 use cudf_command_line::{FileName, Order, Usage, Work, command};
 use failure::Failure;
 use file::{Input, open};
-use output::write_all;
+use output::{Output, write_all};
 use std::alloc::{AllocError, Global};
 use std::env;
 use std::fs::File;
@@ -35,10 +35,12 @@ use std::process::ExitCode;
 use stop::{Stop, tell_outcome};
 use system::System;
 
-// No clause can be stated on `main`: what it hands to `respond`, and what it does with the answer, is read.
+// No clause can be stated on `main`: what it hands to `respond`, and what it does with the answer, is read. Of a write that
+// failed it says why, which only the output knows.
 fn main(rt: HostRuntime) -> ExitCode {
-    let (mut out, mut errors) = (Device::new(rt.stdout()), rt.stderr());
+    let (mut out, mut errors) = (Device::new(Output::new(rt.stdout())), rt.stderr());
     let status = respond(&rt, &mut rt.stdin(), &mut out, &mut errors);
+    let _told = out.into_inner().tell(&mut errors);
     ExitCode::from(status)
 }
 
