@@ -1,28 +1,26 @@
 -- The stops of the walk ascend, and so do the keys of the listing.
-use Rattle.std.proofs.Common.{◌≡◌, ℕ, ◌+◌, ◌<◌, Bool, true, false, ◌&&◌, nat_lt, List, [], ◌∷◌, ◌++◌, map, filter, cond, arith, refl, ap, sym, ◌∙◌, subst, Some, None}
+use Rattle.std.proofs.Common.{◌≡◌, ℕ, ◌+◌, ◌<◌, Bool, true, false, ◌&&◌, nat_lt, List, [], ◌∷◌, ◌++◌, map, filter, cond, arith, refl, ap, sym, ◌∙◌, subst}
 use Rattle.std.proofs.lemmas.Bool.{ltb-true}
 use Rattle.std.proofs.lemmas.Cmp.{nat_cmp_total, nat_list_cmp_total, tied_itself}
 use Rattle.std.specs.Cmp.{nat_cmp_is}
 use Rattle.std.specs.Cmp.Lexicographic.{slice_cmp}
-use Rattle.std.specs.List.{flat_map, enumerate_from, cons_option}
+use Rattle.std.specs.List.{flat_map, enumerate_from}
 use Rattle.std.specs.Ordering.{nat_cmp, ordering_then, is_lt}
 use Rattle.std.specs.declared.cmp.Ordering.TheVariants.{Less}
 use Rattle.cudf_value.specs.Vpkgs.{PlainVpkg}
 use Rattle.cudf_problem.specs.declared.package.Keep.{Keep}
 use Rattle.cudf_problem.specs.declared.package.Keep.TheVariants.{Feature, Nothing}
-use Rattle.cudf_problem.specs.Universe.{PlainPackage, PlainRequest}
+use Rattle.cudf_problem.specs.Universe.{PlainPackage, PlainProblem, PlainRequest}
 use Rattle.cudf_problem.specs.Statuses.{PlainUnknown, ascend_above}
 use Rattle.cudf_index.specs.Satisfaction.{Placed}
 use Rattle.cudf_referee.specs.Instances.{keep_feature, PlainInstance}
 use Rattle.cudf_job.specs.Keys.{PlainKey, key_ranks, precedes_all, ascend}
-use Rattle.cudf_referee.specs.Proposals.{Proposal, holds_place}
-use Rattle.cudf_referee.specs.Violations.{unknown_instance, needed_instances, kept_instances, package_instances, entry_instances, request_instances, is_violated, listing}
+use Rattle.cudf_referee.specs.Proposals.{Proposal, everything, holds_place}
+use Rattle.cudf_referee.specs.Violations.{unknown_instance, needed_instances, kept_instances, package_instances, entry_instances, request_instances, instances, problem_instances, is_violated, listing}
 use Rattle.cudf_referee.specs.Working.RuleInstances.{depends_instance, conflicts_instance, keep_instance, install_instance, remove_instance}
-use Rattle.cudf_referee.specs.Promises.Stops.{Stop, stop_at, package_end, package_stops, walk}
-use Rattle.cudf_referee.specs.Working.Judged.{all_given}
+use Rattle.cudf_referee.specs.Promises.Stops.{stop_at, package_end, package_stops, walk}
 use Rattle.cudf_referee.proofs.ListLemmas.{and_left, and_right}
 use Rattle.cudf_referee.proofs.PositionLemmas.{stop_ranks}
-use Rattle.cudf_referee.proofs.StopLemmas.{listing-walk}
 
 -- ---- ranks
 
@@ -198,6 +196,9 @@ unknown_climbs n (u ∷ unknown) h = (
   unknown_climbs u.stanza unknown (and_right (nat_lt n u.stanza) (ascend_above u.stanza unknown) h),
 )
 
+unknowns_climb : (unknown : List PlainUnknown) → ascend_above 0 unknown ≡ true → Climbs instance_ranks (3 ∷ []) (map unknown_instance unknown) (4 ∷ [])
+unknowns_climb unknown h = from_lower instance_ranks (3 ∷ []) (3 ∷ 0 ∷ 7 ∷ 0 ∷ 0 ∷ []) (4 ∷ []) (map unknown_instance unknown) refl (unknown_climbs 0 unknown h)
+
 -- ---- the walk
 
 -- the stops ascend, where the numbers of the unknown stanzas do
@@ -208,8 +209,7 @@ walk-climbs s h =
     (climbs-append stop_ranks (1 ∷ 1 ∷ []) (2 ∷ []) (4 ∷ []) (flat_map (package_stops s) packages) (map stop_at others)
     (packages_climb s 1 s.problem.packages)
     (climbs-map stop_ranks stop_at (2 ∷ []) others (4 ∷ [])
-    (climbs-append instance_ranks (2 ∷ []) (3 ∷ []) (4 ∷ []) (request_instances s.problem.request) (map unknown_instance s.unknown) (request_climbs s.problem.request)
-    (from_lower instance_ranks (3 ∷ []) (3 ∷ 0 ∷ 7 ∷ 0 ∷ 0 ∷ []) (4 ∷ []) (map unknown_instance s.unknown) refl (unknown_climbs 0 s.unknown h)))))
+    (climbs-append instance_ranks (2 ∷ []) (3 ∷ []) (4 ∷ []) (request_instances s.problem.request) (map unknown_instance s.unknown) (request_climbs s.problem.request) (unknowns_climb s.unknown h))))
   where
     packages : List Placed
     packages = enumerate_from 1 s.problem.packages
@@ -217,28 +217,40 @@ walk-climbs s h =
     others : List PlainInstance
     others = request_instances s.problem.request ++ map unknown_instance s.unknown
 
+-- ---- all instances
+
+pub own_climb : (s : Proposal) (n : ℕ) (packages : List PlainPackage) → Climbs instance_ranks (1 ∷ n ∷ []) (flat_map (package_instances s) (enumerate_from n packages)) (2 ∷ [])
+own_climb s n packages =
+    climbs-flat_map instance_ranks (package_instances s) (λ m. 1 ∷ m ∷ []) (2 ∷ [])
+    (λ p. to_higher instance_ranks (1 ∷ p.0 ∷ []) (1 ∷ p.0 ∷ 4 ∷ []) (1 ∷ (p.0 + 1) ∷ []) (package_instances s p) (instances_climb s p) (next_first p.0 (4 ∷ []) []))
+    (λ m. refl) n packages
+
+-- they ascend, where the numbers of the unknown stanzas do
+pub all_climb : (s : Proposal) → ascend_above 0 s.unknown ≡ true → Climbs instance_ranks [] (instances s) (4 ∷ [])
+all_climb s h =
+    from_lower instance_ranks [] (1 ∷ 1 ∷ []) (4 ∷ []) (instances s) refl
+    (climbs-append instance_ranks (1 ∷ 1 ∷ []) (3 ∷ []) (4 ∷ []) (own ++ request_instances s.problem.request) (map unknown_instance s.unknown)
+    (climbs-append instance_ranks (1 ∷ 1 ∷ []) (2 ∷ []) (3 ∷ []) own (request_instances s.problem.request) (own_climb s 1 s.problem.packages) (request_climbs s.problem.request))
+    (unknowns_climb s.unknown h))
+  where
+    own : List PlainInstance
+    own = flat_map (package_instances s) (enumerate_from 1 s.problem.packages)
+
+-- those of a problem ascend
+pub problem_ascends : (problem : PlainProblem) → Climbs instance_ranks [] (problem_instances problem) (4 ∷ [])
+problem_ascends problem = all_climb (everything problem) refl
+
 -- ---- the listing
-
-given_one : (low high : List ℕ) (violated : Bool) (i : PlainInstance) (is : List PlainInstance) → Below low (instance_ranks i)
-    → Climbs instance_ranks (instance_ranks i) is high → Climbs instance_ranks low (cons_option (cond violated (Some i) None) is) high
-given_one low high true i is h k = (h, k)
-given_one low high false i is h k = from_lower instance_ranks low (instance_ranks i) high is h k
-
--- what stops that climb give does
-given_climbs : (s : Proposal) (low : List ℕ) (xs : List Stop) (high : List ℕ) → Climbs stop_ranks low xs high → Climbs instance_ranks low (all_given s xs) high
-given_climbs s low [] high h = h
-given_climbs s low (stop_at i ∷ xs) high h = given_one low high (is_violated s i) i (all_given s xs) h.0 (given_climbs s (stop_ranks (stop_at i)) xs high h.1)
-given_climbs s low (package_end n ∷ xs) high h = from_lower instance_ranks low (stop_ranks (package_end n)) high (all_given s xs) h.0
-    (given_climbs s (stop_ranks (package_end n)) xs high h.1)
 
 before : (k : PlainKey) (is : List PlainInstance) (high : List ℕ) → Climbs instance_ranks (key_ranks k) is high → precedes_all k (map (λ i. i.key) is) ≡ true
 before k [] high h = refl
 before k (i ∷ is) high h = let later = before k is high (from_lower instance_ranks (key_ranks k) (key_ranks i.key) high is h.0 h.1) in
     λ j. is_lt (h.0 j) && later j
 
-climbing_ascends : (low : List ℕ) (is : List PlainInstance) (high : List ℕ) → Climbs instance_ranks low is high → ascend (map (λ i. i.key) is) ≡ true
+pub climbing_ascends : (low : List ℕ) (is : List PlainInstance) (high : List ℕ) → Climbs instance_ranks low is high → ascend (map (λ i. i.key) is) ≡ true
 climbing_ascends low [] high h = refl
 climbing_ascends low (i ∷ is) high h = λ j. before i.key is high h.1 j && climbing_ascends (key_ranks i.key) is high h.1 j
 
 pub listing_ascends : (s : Proposal) → ascend_above 0 s.unknown ≡ true → ascend (map (λ i. i.key) (listing s)) ≡ true
-listing_ascends s h = ap (λ is. ascend (map (λ i. i.key) is)) (listing-walk s) ∙ climbing_ascends [] (all_given s (walk s)) (4 ∷ []) (given_climbs s [] (walk s) (4 ∷ []) (walk-climbs s h))
+unfolding listing
+listing_ascends s h = climbing_ascends [] (listing s) (4 ∷ []) (climbs-filter instance_ranks (is_violated s) [] (instances s) (4 ∷ []) (all_climb s h))

@@ -1,9 +1,8 @@
 -- The greatest number of a name, as it is gathered.
-use Rattle.std.proofs.Common.{◌≡◌, ℕ, ◌+◌, ◌<◌, ◌≤◌, Bool, true, false, cond, List, [], ◌∷◌, ◌++◌, length, get_or, take, map, Option, Some, None, refl, sym, ap, ◌∙◌, subst, arith, nat_lt, bytes_eq, max, append_assoc, length-append}
+use Rattle.std.proofs.Common.{◌≡◌, ℕ, zero, suc, ◌+◌, ◌<◌, ◌≤◌, Bool, true, false, cond, List, [], ◌∷◌, ◌++◌, length, get_or, take, map, Option, Some, None, refl, sym, ap, ◌∙◌, subst, arith, nat_lt, bytes_eq, max, append_assoc, length-append}
 use Rattle.std.proofs.Math.Nat.{max-eq_left, max-eq_right}
-use Rattle.std.specs.Prelude.{filter, filter_map, option_map, slice_get, Contains}
+use Rattle.std.specs.Prelude.{filter, filter_map, slice_get, Contains}
 use Rattle.std.specs.List.{cons_option}
-use Rattle.std.proofs.lemmas.Option.{slice_get-map}
 use Rattle.std.proofs.lemmas.Bool.{true≢false, ltb-true, ltb-false}
 use Rattle.std.proofs.lemmas.List.{append-nil, flat_map_more}
 use Rattle.std.proofs.lemmas.List.Elements.{All-push, Contains-push, Contains-append_left}
@@ -12,6 +11,7 @@ use Rattle.cudf_problem.specs.Universe.{PlainPackage}
 use Rattle.cudf_problem.specs.Ids.{Id}
 use Rattle.cudf_index.specs.Satisfaction.{Placed, entry_pair, members, gives, numbers_of, package_pairs}
 use Rattle.cudf_index.specs.Promises.Members.{IsGreatest}
+use Rattle.cudf_referee.specs.Promises.Before.{AreGreatest}
 use Rattle.cudf_referee.specs.Working.Before.{with_number, with_pairs, with_entries, greatest_before}
 use Rattle.cudf_index.proofs.MemberLemmas.{members_kept, members_left_out}
 
@@ -94,10 +94,20 @@ module _ {A : Type 0} (view : A → PlainPackage) (f : List ℕ) (holds : ℕ �
       → old ≡ with_pairs f (gives (members holds (map view (take (i + 1) xs)))) None
   greatest_left_out old e before = before ∙ ap (λ ms. with_pairs f (gives ms) None) (sym (members_left_out view holds xs i d inside e))
 
+-- what is gathered of each entry is the greatest of its name
+pub all-greatest : (status : List Placed) (upgrade : List PlainVpkg) (before : List (Option ℕ)) → before ≡ map (greatest_before status) upgrade → AreGreatest status upgrade before
+all-greatest status upgrade before same = subst (AreGreatest status upgrade) (sym same) (each upgrade)
+  where
+    each : (vs : List PlainVpkg) → AreGreatest status vs (map (greatest_before status) vs)
+    each [] = tt
+    each (v ∷ vs) = (greatest_of_status v.name status, each vs)
+
 -- what is kept of an entry of `upgrade` is the greatest of its name
-pub greatest-at : (status : List Placed) (upgrade : List PlainVpkg) (before : List (Option ℕ)) (i : ℕ) (v : PlainVpkg) (greatest : Option ℕ) → before ≡ map (greatest_before status) upgrade
+pub greatest-at : (status : List Placed) (upgrade : List PlainVpkg) (before : List (Option ℕ)) (i : ℕ) (v : PlainVpkg) (greatest : Option ℕ) → AreGreatest status upgrade before
     → slice_get upgrade i ≡ Some v → ((kept : Option ℕ) → slice_get before i ≡ Some kept → greatest ≡ kept) → IsGreatest (numbers_of v.name status) greatest
-greatest-at status upgrade before i v greatest same is kept =
-    subst (IsGreatest (numbers_of v.name status))
-    (sym (kept (greatest_before status v) (ap (λ xs. slice_get xs i) same ∙ slice_get-map (greatest_before status) upgrade i ∙ ap (option_map (greatest_before status)) is)))
-    (greatest_of_status v.name status)
+greatest-at status [] before i v greatest are is kept = absurd (cc is)
+greatest-at status (w ∷ ws) [] i v greatest are is kept = absurd are
+greatest-at status (w ∷ ws) (g ∷ gs) zero v greatest are is kept =
+    let same : w ≡ v = cc in
+    subst (λ (u : PlainVpkg). IsGreatest (numbers_of u.name status) greatest) same (subst (IsGreatest (numbers_of w.name status)) (sym (kept g refl)) are.0)
+greatest-at status (w ∷ ws) (g ∷ gs) (suc i) v greatest are is kept = greatest-at status ws gs i v greatest are.1 is kept

@@ -1,17 +1,35 @@
 -- What is known of the package at an index of the universe.
-use Rattle.std.proofs.Common.{◌≡◌, ℕ, ◌+◌, ◌-◌, ◌<◌, Bool, false, ◌&&◌, List, length, cond, Some, None, ap, sym, ◌∙◌, subst, arith, ne_eqb}
+use Rattle.std.proofs.Common.{◌≡◌, ℕ, ◌+◌, ◌-◌, ◌<◌, Bool, false, ◌&&◌, List, ◌∷◌, length, drop, cond, Some, None, ap, sym, ◌∙◌, subst, arith, ne_eqb}
 use Rattle.std.specs.Prelude.{slice_get}
 use Rattle.std.specs.List.{enumerate_from}
 use Rattle.std.specs.Option.{option_map_or}
 use Rattle.cudf_problem.specs.Statuses.{is_initial}
 use Rattle.cudf_problem.specs.Universe.{PlainPackage, PlainProblem, package_at}
-use Rattle.cudf_index.specs.Satisfaction.{members}
+use Rattle.std.proofs.lemmas.Option.{slice_get_within, get_or_from_slice_get}
+use Rattle.std.proofs.lemmas.List.{at_drop_more}
+use Rattle.std.proofs.lemmas.List.FromFn.{length-enumerate_from, get_or-enumerate_from}
+use Rattle.cudf_index.specs.Satisfaction.{Placed, members}
 use Rattle.cudf_referee.specs.declared.left.candidate.Candidate.{Candidate}
 use Rattle.cudf_referee.specs.Promises.Walks.{Walking}
 use Rattle.cudf_referee.specs.Proposals.{holds_place}
 use Rattle.cudf_referee.specs.Working.PackageLeft.{Fits}
 use Rattle.cudf_referee.proofs.ListLemmas.{and_true}
 use Rattle.cudf_referee.proofs.StatusLemmas.{holds-filter, holds-enumerate}
+
+-- the packages from it on
+pub packages-from : (packages : List PlainPackage) (i : ℕ) (p : PlainPackage) → slice_get packages i ≡ Some p → drop i (enumerate_from 1 packages) ≡ (i + 1, p) ∷ drop (i + 1) (enumerate_from 1 packages)
+packages-from packages i p is =
+    at_drop_more (λ (ps : List Placed). ps) all i (0, p) (omega (arith, below, length-enumerate_from 1 packages))
+    ∙ ap (λ (q : Placed). q ∷ drop (i + 1) all) (get_or-enumerate_from 1 packages i (0, p) below ∙ (λ j. (number j, get_or_from_slice_get packages i p p is j)))
+  where
+    all : List Placed
+    all = enumerate_from 1 packages
+
+    below : i < length packages
+    below = slice_get_within packages i p is
+
+    number : 1 + i ≡ i + 1
+    number = omega arith
 
 -- the status of a test holds the place where it passes the test
 pub held-at : (t : ℕ → Bool) (xs : List PlainPackage) (i : ℕ) → i < length xs → holds_place (members t xs) (i + 1) ≡ t (i + 1)

@@ -1,21 +1,15 @@
 -- The instances of a package that are left, gone through.
-use Rattle.std.proofs.Common.{◌≡◌, ℕ, Bool, true, false, List, [], ◌∷◌, ◌++◌, cond, refl, ap, sym, ◌∙◌, subst, append-nil}
-use Rattle.std.specs.Prelude.{filter}
+use Rattle.std.proofs.Common.{◌≡◌, Bool, true, false, List, [], ◌++◌, cond, refl, ap, sym, ◌∙◌, append-nil}
 use Rattle.cudf_value.specs.Formulas.{PlainAtom}
 use Rattle.cudf_value.specs.Vpkgs.{PlainVpkg}
 use Rattle.cudf_problem.specs.declared.package.Keep.{Keep}
 use Rattle.cudf_problem.specs.declared.package.Keep.TheVariants.{Feature}
 use Rattle.cudf_index.specs.Satisfaction.{Placed}
-use Rattle.cudf_job.specs.Keys.{PlainKey, key_ranks}
 use Rattle.cudf_referee.specs.declared.left.candidate.Candidate.{Candidate}
 use Rattle.cudf_referee.specs.Proposals.{Proposal}
-use Rattle.cudf_referee.specs.Promises.Stops.{precedes}
 use Rattle.cudf_referee.specs.Violations.{kept_instances, package_instances}
 use Rattle.cudf_referee.specs.Working.RuleInstances.{depends_instance, conflicts_instance}
 use Rattle.cudf_referee.specs.Working.PackageLeft.{placed_view, Fits, depends_of, conflicts_of, features_of, kept_features, numbered, kept_one, kept_feature}
-use Rattle.cudf_referee.proofs.AheadLemmas.{kept_above}
-use Rattle.cudf_referee.proofs.AscentLemmas.{Climbs, instance_ranks}
-use Rattle.cudf_referee.proofs.PositionLemmas.{lt_less}
 use Rattle.cudf_referee.specs.Instances.{PlainInstance}
 
 -- ---- a package
@@ -44,34 +38,3 @@ whole-left s c fits xs ys zs h h' h'' =
   where
     p : Placed
     p = placed_view c
-
--- ---- those after a key
-
--- of all those come after the key that do of the rest, and the rest climbs
-pub record IsBehind (key : PlainKey) (high : List ℕ) (all rest : List PlainInstance) : Type 0 where
-  pub low : List ℕ
-  pub climbs : Climbs instance_ranks low rest high
-  pub same : filter (λ x. precedes key x.key) all ≡ filter (λ x. precedes key x.key) rest
-
-unfoldable pub behind-start : (key : PlainKey) (low high : List ℕ) (all : List PlainInstance) → Climbs instance_ranks low all high → IsBehind key high all all
-behind-start key low high all climbs = record { low = low; climbs = climbs; same = refl }
-
-unfoldable pub behind-same : (key : PlainKey) (high : List ℕ) (all xs ys : List PlainInstance) → xs ≡ ys → IsBehind key high all xs → IsBehind key high all ys
-behind-same key high all xs ys same is = subst (IsBehind key high all) same is
-
--- one that doesn't come after the key is gone by
-unfoldable pub behind-on : (key : PlainKey) (high : List ℕ) (all : List PlainInstance) (x : PlainInstance) (xs : List PlainInstance) → IsBehind key high all (x ∷ xs) → precedes key x.key ≡ false → IsBehind key high all xs
-behind-on key high all x xs is not_after = record {
-  low = instance_ranks x;
-  climbs = is.climbs.1;
-  same = is.same ∙ ap (λ b. cond b (x ∷ filter (λ y. precedes key y.key) xs) (filter (λ y. precedes key y.key) xs)) not_after;
-}
-
--- from one that does on, all do
-pub behind-here : (key : PlainKey) (high : List ℕ) (all : List PlainInstance) (x : PlainInstance) (xs : List PlainInstance) → IsBehind key high all (x ∷ xs) → precedes key x.key ≡ true
-    → filter (λ y. precedes key y.key) all ≡ x ∷ xs
-behind-here key high all x xs is after =
-    is.same ∙ kept_above instance_ranks (key_ranks key) (x ∷ xs) high (lt_less _ after, is.climbs.1)
-
-pub behind-end : (key : PlainKey) (high : List ℕ) (all : List PlainInstance) → IsBehind key high all [] → filter (λ y. precedes key y.key) all ≡ []
-behind-end key high all is = is.same

@@ -7,8 +7,11 @@ pub mod EachLemmas
 pub mod EntryLemmas
 mod Examples
 pub mod ExplanationLemmas
+pub mod FinderLemmas
+pub mod FoundLemmas
 pub mod GroundLemmas
 pub mod KeyTellLemmas
+pub mod KeyedLemmas
 pub mod ListLemmas
 pub mod ListingLemmas
 pub mod LocatedLemmas
@@ -22,14 +25,17 @@ pub mod PartnerLemmas
 pub mod PlaceLemmas
 pub mod PositionLemmas
 pub mod PriceExamples
+pub mod ProblemLemmas
 pub mod RecommendLemmas
 pub mod RemedyLemmas
 pub mod SearchLemmas
 pub mod LeftLemmas
 pub mod SolutionLemmas
+pub mod SoughtLemmas
 pub mod StandingLemmas
 pub mod StatusLemmas
 pub mod StopLemmas
 pub mod TouchedLemmas
 pub mod UnknownLemmas
+pub mod WhereLemmas
 pub mod WritableLemmas

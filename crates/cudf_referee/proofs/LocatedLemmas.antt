@@ -34,17 +34,18 @@ all-located s = all-stops (IsLocated s) s each
 
 -- ---- the stops that are left
 
-module _ (P : Stop → Type 0) where
-  pub all-left : (xs ys : List Stop) → All P (xs ++ ys) → All P xs
+module _ {A : Type 0} (P : A → Type 0) where
+  pub all-left : (xs ys : List A) → All P (xs ++ ys) → All P xs
   all-left [] ys all = All-nil P
   all-left (x ∷ xs) ys all = All-cons P x xs (All-head P x (xs ++ ys) all) (all-left xs ys (All-tail P x (xs ++ ys) all))
 
-  pub all-right : (xs ys : List Stop) → All P (xs ++ ys) → All P ys
+  pub all-right : (xs ys : List A) → All P (xs ++ ys) → All P ys
   all-right [] ys all = all
   all-right (x ∷ xs) ys all = all-right xs ys (All-tail P x (xs ++ ys) all)
 
+module _ (P : Stop → Type 0) where
   pub tail-located : (all rest : List Stop) → IsTail all rest → All P all → All P rest
-  tail-located all rest tail located = all-right tail.before rest (subst (All P) tail.is located)
+  tail-located all rest tail located = all-right P tail.before rest (subst (All P) tail.is located)
 
   pub next-located : (all rest : List Stop) (x : Stop) (more : List Stop) → rest ≡ x ∷ more → IsTail all rest → All P all → P x
   next-located all rest x more same tail located = All-head P x more (subst (All P) same (tail-located all rest tail located))

@@ -23,7 +23,7 @@ keys_of is = map (λ i. i.key) is
 -- ---- what is left after an instance
 
 -- all of these come after the key
-behind_all : (key : PlainKey) (is : List PlainInstance) → precedes_all key (keys_of is) ≡ true → filter (λ i. precedes key i.key) is ≡ is
+pub behind_all : (key : PlainKey) (is : List PlainInstance) → precedes_all key (keys_of is) ≡ true → filter (λ i. precedes key i.key) is ≡ is
 behind_all key [] h = refl
 behind_all key (i ∷ is) h =
     ap (λ b. cond b (i ∷ kept) kept) (and_left (precedes key i.key) (precedes_all key (keys_of is)) h)

@@ -27,6 +27,9 @@ lt_less Greater h = absurd (cc h)
 ranks_chained : (a b c : List ℕ) → is_lt (slice_cmp nat_cmp a b) ≡ true → is_lt (slice_cmp nat_cmp b c) ≡ true → is_lt (slice_cmp nat_cmp a c) ≡ true
 ranks_chained a b c h k = ap is_lt (nat_list_cmp_total.trans a b c (lt_less (slice_cmp nat_cmp a b) h) (lt_less (slice_cmp nat_cmp b c) k))
 
+pub precedes-chained : (a b c : PlainKey) → precedes a b ≡ true → precedes b c ≡ true → precedes a c ≡ true
+precedes-chained a b c h k = ranks_chained (key_ranks a) (key_ranks b) (key_ranks c) h k
+
 -- no key comes before itself
 pub precedes-itself : (k : PlainKey) → precedes k k ≡ false
 precedes-itself k = ap is_lt (tied_itself nat_list_cmp_total (key_ranks k))

@@ -7,7 +7,7 @@ use Rattle.std.specs.Iterator.{YieldsFirstBy}
 use Rattle.std.proofs.lemmas.Bool.{ltb-true}
 use Rattle.std.proofs.lemmas.Option.{slice_get-map, slice_get-get_or, slice_get_within, get_or_from_slice_get}
 use Rattle.std.proofs.lemmas.List.{append-nil, at_drop_more, at_drop_all}
-use Rattle.std.proofs.lemmas.List.FromFn.{length-enumerate_from, get_or-enumerate_from}
+use Rattle.std.proofs.lemmas.List.FromFn.{length-enumerate_from}
 use Rattle.cudf_problem.specs.declared.package.Package.{Package}
 use Rattle.cudf_problem.specs.Promises.Views.{package_view}
 use Rattle.cudf_problem.specs.Universe.{PlainPackage}
@@ -21,6 +21,7 @@ use Rattle.cudf_referee.specs.Promises.Walks.{Walking}
 use Rattle.cudf_referee.specs.Violations.{is_violated, unknown_instance}
 use Rattle.cudf_referee.specs.Working.Judged.{given_at}
 use Rattle.cudf_referee.specs.Working.Searches.{Searches, Goes, first_given, sum_to_first, cost_to_first, least_to_first, or_later, unless_found, package_rest, packages_rest, unknown_rest}
+use Rattle.cudf_referee.proofs.GroundLemmas.{packages-from}
 
 -- ---- several stops
 
@@ -159,19 +160,8 @@ rest-whole s (p ∷ ps) = refl
 pub packages-next : (s : Proposal) (k : Option Left) (i : ℕ) (p : PlainPackage) → slice_get s.problem.packages i ≡ Some p
     → packages_rest s k (drop i (enumerate_from 1 s.problem.packages)) ≡ package_rest s k (i + 1, p) ++ packages_rest s None (drop (i + 1) (enumerate_from 1 s.problem.packages))
 packages-next s k i p is =
-    at_drop_more (packages_rest s k) all i (0, p) (omega (arith, below, length-enumerate_from 1 s.problem.packages))
-    ∙ ap (λ q. packages_rest s k (q ∷ drop (i + 1) all)) (get_or-enumerate_from 1 s.problem.packages i (0, p) below
-    ∙ (λ j. (number j, get_or_from_slice_get s.problem.packages i p p is j)))
-    ∙ ap (λ xs. package_rest s k (i + 1, p) ++ xs) (sym (rest-whole s (drop (i + 1) all)))
-  where
-    all : List Placed
-    all = enumerate_from 1 s.problem.packages
-
-    below : i < length s.problem.packages
-    below = slice_get_within s.problem.packages i p is
-
-    number : 1 + i ≡ i + 1
-    number = omega arith
+    ap (packages_rest s k) (packages-from s.problem.packages i p is)
+    ∙ ap (λ xs. package_rest s k (i + 1, p) ++ xs) (sym (rest-whole s (drop (i + 1) (enumerate_from 1 s.problem.packages))))
 
 pub packages-on : (old now new : Walking) (all : List Stop) (k : Option Left) (i : ℕ) (p : PlainPackage) (found : Option PlainInstance) → slice_get now.judged.problem.packages i ≡ Some p
     → Goes old all None (packages_rest old.judged k (drop i (enumerate_from 1 old.judged.problem.packages))) now

@@ -1,6 +1,9 @@
+pub mod Before
 pub mod Laws
 pub mod Pages
 pub mod PositionViews
+pub mod ProblemInstances
 pub mod Stops
 pub mod Views
 pub mod Walks
+pub mod Where

@@ -1,10 +1,10 @@
 -- What is judged: a problem, the initial and the proposed status, and what is proposed beyond the universe.
-use Rattle.std.specs.Prelude.{ℕ, Bool, ◌==◌, List, [], unwrap_or}
+use Rattle.std.specs.Prelude.{ℕ, Bool, true, ◌==◌, List, [], unwrap_or}
 use Rattle.std.specs.List.{list_any}
 use Rattle.std.specs.Option.{option_or}
 use Rattle.cudf_value.specs.Formulas.{PlainAtom}
 use Rattle.cudf_problem.specs.Universe.{PlainProblem}
-use Rattle.cudf_problem.specs.Statuses.{PlainUnknown}
+use Rattle.cudf_problem.specs.Statuses.{PlainUnknown, is_initial}
 use Rattle.cudf_index.specs.Satisfaction.{Placed, members}
 
 pub record Proposal : Type 0 where
@@ -27,6 +27,10 @@ proposal problem was_installed is_installed unknown = record {
   proposed = members is_installed problem.packages;
   unknown = unknown;
 }
+
+-- all packages of the problem are to be installed, and nothing beyond them
+abbrev pub everything : PlainProblem → Proposal
+everything problem = proposal problem (is_initial problem) (λ place. true) []
 
 -- what a package recommends: its own conjuncts, else those of the declared default, else none
 abbrev pub recommended : Proposal → Placed → List (List PlainAtom)

@@ -1,15 +1,15 @@
 -- The instances of each rule, and those that a proposal violates, in key order.
 -- CUDF 2.0: consistent installations (depends, conflicts, keep), semantics of requests. Own: keep of features, numbers
 -- of features in upgrade, unknown stanzas.
-use Rattle.std.specs.Prelude.{ℕ, Bool, true, false, not, ◌==◌, nat_lt, List, [], ◌∷◌, ◌++◌, map, filter, bytes_eq, Option, Some, None, if◌then◌else◌}
+use Rattle.std.specs.Prelude.{ℕ, Bool, true, false, not, ◌==◌, nat_lt, List, [], ◌∷◌, ◌++◌, map, filter, find, bytes_eq, Option, Some, None, if◌then◌else◌}
 use Rattle.std.specs.List.{list_any, flat_map, enumerate_from}
 use Rattle.std.specs.Option.{option_map_or}
-use Rattle.std.specs.Ordering.{is_lt}
+use Rattle.std.specs.Ordering.{is_eq, is_lt}
 use Rattle.cudf_value.specs.Vpkgs.{PlainVpkg}
 use Rattle.cudf_problem.specs.declared.package.Keep.{Keep}
 use Rattle.cudf_problem.specs.declared.package.Keep.TheVariants.{Version, Package, Feature, Nothing}
 use Rattle.cudf_problem.specs.Ids.{Id}
-use Rattle.cudf_problem.specs.Universe.{PlainRequest}
+use Rattle.cudf_problem.specs.Universe.{PlainProblem, PlainRequest}
 use Rattle.cudf_problem.specs.Statuses.{PlainUnknown}
 use Rattle.cudf_index.specs.Satisfaction.{Placed, without, numbers_of, satisfies, satisfies_clause, first_meeting}
 use Rattle.cudf_job.specs.declared.key.Part.{Part}
@@ -20,7 +20,7 @@ use Rattle.cudf_job.specs.declared.key.Aspect.{Aspect}
 use Rattle.cudf_job.specs.declared.key.Aspect.TheVariants.{Unsatisfied, Many, Lower}
 use Rattle.cudf_job.specs.Keys.{PlainKey, part_place, package_key, request_key, unknown_key, key_cmp}
 use Rattle.cudf_referee.specs.Instances.{PlainWhat, needs, conflicts_with, keep_version, keep_package, keep_feature, install, remove, upgrade, unknown, PlainInstance}
-use Rattle.cudf_referee.specs.Proposals.{holds_place, Proposal}
+use Rattle.cudf_referee.specs.Proposals.{everything, holds_place, Proposal}
 
 -- ---- the instances of each rule
 
@@ -79,6 +79,14 @@ instances s =
     flat_map (package_instances s) (enumerate_from 1 s.problem.packages)
     ++ request_instances s.problem.request
     ++ map unknown_instance s.unknown
+
+-- those of a problem, whatever is proposed
+abbrev pub problem_instances : PlainProblem → List PlainInstance
+problem_instances problem = instances (everything problem)
+
+-- the one of a key
+abbrev pub instance_of : PlainProblem → PlainKey → Option PlainInstance
+instance_of problem key = find (λ i. is_eq (key_cmp i.key key)) (problem_instances problem)
 
 -- ---- which of them are violated
 

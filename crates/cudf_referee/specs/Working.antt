@@ -1,4 +1,5 @@
 pub mod Before
+pub mod Finders
 pub mod Firsts
 pub mod Judged
 pub mod Located
@@ -6,9 +7,11 @@ pub mod Named
 pub mod Needers
 pub mod Numbered
 pub mod Places
+pub mod ProblemLeft
 pub mod RequestLeft
 pub mod RuleInstances
 pub mod Searches
 pub mod PackageLeft
+pub mod Sought
 pub mod Standings
 pub mod Walkers

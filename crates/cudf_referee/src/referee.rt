@@ -19,7 +19,7 @@ mod remedies;
 
 use crate::counting::{count_changes, count_unsatisfied};
 use crate::instance::{Instance, What};
-use before::greatest_before;
+pub use before::greatest_before;
 use cudf_index::Index;
 use cudf_job::{Criteria, Key, Part};
 use cudf_problem::{Keep, Package, Problem, Solution, Status, initial};
@@ -147,7 +147,7 @@ impl<'p, 't> Referee<'p, 't> {
     {
         keys_can_be_written(problem, solution);
         let was_installed = initial(alloc, problem)?;
-        let before = greatest_before(alloc, problem, &was_installed)?;
+        let before = greatest_before(alloc, problem)?;
         // The lists that this needs are dropped before the index is built.
         let changes = count_changes(alloc, problem, &was_installed, &solution.status)?;
         let now = Index::build(alloc, problem, &solution.status)?;

@@ -1,5 +1,5 @@
 //! Whether an instance is violated: one arm a rule.
-ghost use Rattle.std.specs.Prelude.{◌≡◌, ◌≤◌, ◌<◌, ◌+◌, ◌-◌, ℕ, Bool, List, Option, Some, map, slice_get};
+ghost use Rattle.std.specs.Prelude.{◌≡◌, ◌≤◌, ◌<◌, ◌+◌, ◌-◌, ℕ, Bool, List, Option, Some, slice_get};
 ghost use Rattle.std.specs.FinSet as set;
 ghost use Rattle.cudf_value.specs.Promises.Views.{vpkg_view};
 ghost use Rattle.cudf_problem.specs.Statuses.{PlainUnknown};
@@ -9,10 +9,10 @@ ghost use Rattle.cudf_index.specs.Satisfaction.{numbers_of};
 ghost use Rattle.cudf_job.specs.Keys.{part_place};
 ghost use Rattle.cudf_job.specs.KeyViews.{key_view};
 ghost use Rattle.cudf_referee.specs.Proposals.{Proposal};
+ghost use Rattle.cudf_referee.specs.Promises.Before.{AreGreatest};
 ghost use Rattle.cudf_referee.specs.Promises.Stops.{cost, aspect_cost, look_ups, aspect_look_ups};
 ghost use Rattle.cudf_referee.specs.Promises.Views.{instance_view};
 ghost use Rattle.cudf_referee.specs.Violations.{are_many, are_lower, is_aspect_violated, is_violated};
-ghost use Rattle.cudf_referee.specs.Working.Before.{greatest_before};
 ghost use Rattle.cudf_referee.specs.Working.Located.{IsLocated};
 ghost use Rattle.cudf_referee.specs.Working.Walkers.{put_forward, Agrees};
 
@@ -90,7 +90,7 @@ fn is_aspect_violated(
     vpkg: &Vpkg<'_>,
     steps: &mut Steps,
 ) -> bool
-    ensures answer { (s : Proposal) → s.proposed ≡ now.old.status → before.now ≡ map (greatest_before s.initial) s.problem.request.upgrade
+    ensures answer { (s : Proposal) → s.proposed ≡ now.old.status → AreGreatest s.initial s.problem.request.upgrade before.now
         → slice_get s.problem.request.upgrade ((key_view key).place - 1) ≡ Some (vpkg_view vpkg.now)
         → result ≡ is_aspect_violated s (vpkg_view vpkg.now) (key_view key).aspect }
     ensures status { now.new.status ≡ now.old.status }

@@ -4,7 +4,7 @@ use Rattle.cudf_problem.specs.Statuses.{PlainUnknown, is_initial, ascend_above}
 use Rattle.cudf_problem.specs.Universe.{PlainProblem}
 use Rattle.cudf_index.specs.Satisfaction.{Placed, members}
 use Rattle.cudf_referee.specs.Proposals.{Proposal}
-use Rattle.cudf_referee.specs.Working.Before.{greatest_before}
+use Rattle.cudf_referee.specs.Promises.Before.{AreGreatest}
 use Rattle.cudf_referee.specs.Working.Named.{has_kept_name}
 
 -- the packages that were installed
@@ -14,7 +14,7 @@ installed_before problem = members (is_initial problem) problem.packages
 -- the status is what is proposed; of each entry of `upgrade` the greatest number before is kept, and each package's flag says
 -- whether its name is to be kept and is there
 pub record Agrees (problem : PlainProblem) (is_installed : ℕ → Bool) (before : List (Option ℕ)) (now : List Placed) (named : List Bool) (unknown : List PlainUnknown) : Type 0 where
-  pub numbers : before ≡ map (greatest_before (installed_before problem)) problem.request.upgrade
+  pub numbers : AreGreatest (installed_before problem) problem.request.upgrade before
   pub is : now ≡ members is_installed problem.packages
   pub flags : named ≡ map (has_kept_name now) problem.packages
   pub ascends : IsTrue (ascend_above 0 unknown)

@@ -35,17 +35,19 @@ pub(crate) struct Left<'t> {
 }
 
 impl<'p, 't> Candidate<'p, 't> {
-    ghost use Rattle.std.specs.Prelude.{◌≡◌, ◌<◌, IsTrue, None, Option, [], filter, if◌then◌else◌};
+    ghost use Rattle.std.specs.Prelude.{◌≡◌, ◌<◌, IsTrue, List, None, Option, [], filter, option_map, if◌then◌else◌};
     ghost use Rattle.std.specs.Iterator.{YieldsFirstBy};
     ghost use Rattle.cudf_value.specs.Promises.Views.{formula_view, list_view};
     ghost use Rattle.cudf_job.specs.declared.key.Part.TheVariants as part;
     ghost use Rattle.cudf_job.specs.KeyViews.{key_view};
     ghost use Rattle.cudf_job.specs.Keys.{fits};
+    ghost use Rattle.cudf_referee.specs.Instances.{PlainInstance};
     ghost use Rattle.cudf_referee.specs.Proposals.{Proposal};
     ghost use Rattle.cudf_referee.specs.Promises.Stops.{precedes};
     ghost use Rattle.cudf_referee.specs.Promises.Views.{instance_view, what_view};
     ghost use Rattle.cudf_referee.specs.Violations.{at_package, package_instances};
     ghost use Rattle.cudf_referee.specs.Working.PackageLeft.{placed_view, Fits, depends_of, conflicts_of, features_of, left_view, left_in};
+    ghost use Rattle.cudf_referee.specs.Working.Sought.{IsRest, Seeks};
 
     /// What is judged of what it needs: nothing, where it isn't to be installed.
     fn depends(self) -> Formula<'t>
@@ -116,14 +118,26 @@ impl<'p, 't> Candidate<'p, 't> {
             → filter (λ x. precedes (key_view key) x.key) (package_instances s (placed_view self.entry)) ≡ left_view (placed_view self.entry) result }
     {
         let mut left = self.all();
-        let mut later = left;
+        let _found = self.seek(&mut left, key);
+        left
+    }
+
+    /// Goes by those of its instances that are left up to a key, and gives the one that has it.
+    pub(crate) fn seek(self, left: &mut Left<'t>, key: Key) -> Option<Instance<'t>>
+        ensures { (all : List PlainInstance) → IsRest (key_view key) all (left_view (placed_view self.entry) left.old)
+            → Seeks (key_view key) all (option_map instance_view result) (left_view (placed_view self.entry) left.new) }
+    {
+        let mut later = *left;
         while let Some(instance) = self.next(&mut later) {
             if key.precedes(instance.key) {
-                return left;
+                return None;
             }
-            left = later;
+            *left = later;
+            if !instance.key.precedes(key) {
+                return Some(instance);
+            }
         }
-        left
+        None
     }
 
     /// The next of its instances that are left.

@@ -26,15 +26,17 @@ pub(crate) struct RequestLeft<'t> {
 }
 
 impl<'t> RequestLeft<'t> {
-    ghost use Rattle.std.specs.Prelude.{◌≡◌, ◌<◌, IfSome, [], filter};
+    ghost use Rattle.std.specs.Prelude.{◌≡◌, ◌<◌, IfSome, List, [], filter, option_map};
     ghost use Rattle.std.specs.Iterator.{YieldsFirstBy};
     ghost use Rattle.cudf_problem.specs.Universe.{PlainRequest};
     ghost use Rattle.cudf_problem.specs.Promises.Views.{request_view};
     ghost use Rattle.cudf_job.specs.KeyViews.{key_view};
+    ghost use Rattle.cudf_referee.specs.Instances.{PlainInstance};
     ghost use Rattle.cudf_referee.specs.Promises.Stops.{precedes};
     ghost use Rattle.cudf_referee.specs.Violations.{request_instances};
     ghost use Rattle.cudf_referee.specs.Working.RequestLeft.{later, request_left_view, upgrades_view};
     ghost use Rattle.cudf_referee.specs.Working.RuleInstances.{upgrade_instance};
+    ghost use Rattle.cudf_referee.specs.Working.Sought.{IsRest, Seeks};
     ghost use Rattle.cudf_referee.specs.Promises.Views.{instance_view};
     ghost use Rattle.cudf_value.specs.Promises.Views.{vpkg_view};
 
@@ -74,14 +76,26 @@ impl<'t> RequestLeft<'t> {
         ensures { filter (λ x. precedes (key_view key) x.key) (request_instances (request_view request.now)) ≡ request_left_view (request_view request.now) result }
     {
         let mut left = Self::of(request);
-        let mut later = left;
+        let _found = left.seek(request, key);
+        left
+    }
+
+    /// Goes by the instances that are left up to a key, and gives the one that has it.
+    pub(crate) fn seek(&mut self, request: &Request<'t>, key: Key) -> Option<Instance<'t>>
+        ensures { (all : List PlainInstance) → IsRest (key_view key) all (request_left_view (request_view request.now) self.old)
+            → Seeks (key_view key) all (option_map instance_view result) (request_left_view (request_view request.now) self.new) }
+    {
+        let mut later = *self;
         while let Some(instance) = later.next(request) {
             if key.precedes(instance.key) {
-                return left;
+                return None;
             }
-            left = later;
+            *self = later;
+            if !instance.key.precedes(key) {
+                return Some(instance);
+            }
         }
-        left
+        None
     }
 
     /// The next instance.

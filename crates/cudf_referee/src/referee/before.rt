@@ -1,12 +1,13 @@
 //! The numbers that the initial status gives.
-ghost use Rattle.std.specs.Prelude.{◌≡◌, List, ℕ, None, map, bytes_eq, IfOk, OnOk, if◌then◌else◌};
-ghost use Rattle.std.specs.FinSet as set;
+ghost use Rattle.std.specs.Prelude.{◌≡◌, List, ℕ, None, bytes_eq, IfOk, OnOk, if◌then◌else◌};
 ghost use Rattle.cudf_value.specs.Promises.Views.{list_view};
 ghost use Rattle.cudf_problem.specs.Promises.Views.{package_view};
+ghost use Rattle.cudf_problem.specs.Statuses.{is_initial};
 ghost use Rattle.cudf_index.specs.Satisfaction.{members, gives, package_pairs};
-ghost use Rattle.cudf_referee.specs.Working.Before.{kept_greatest, with_number, with_pairs, with_entries, greatest_before};
+ghost use Rattle.cudf_referee.specs.Promises.Before.{AreGreatest};
+ghost use Rattle.cudf_referee.specs.Working.Before.{kept_greatest, with_number, with_pairs, with_entries};
 
-use cudf_problem::{Package, Problem, Status};
+use cudf_problem::{Package, Problem};
 use cudf_value::VpkgList;
 use indexmap::IndexMap;
 use std::alloc::{AllocError, Global};
@@ -14,7 +15,7 @@ use std::alloc::{AllocError, Global};
 /// Names with the greatest number of each, as a version or by a versioned feature; features without
 /// a number don't count (own).
 #[derive(Drop)]
-pub(super) struct NumberedNames<'t> {
+struct NumberedNames<'t> {
     greatest: IndexMap<&'t str, u64>,
 }
 
@@ -58,38 +59,34 @@ impl<'t> NumberedNames<'t> {
     }
 
     /// The greatest number of the name.
-    pub(super) fn find(&self, name: &str) -> Option<u64>
+    fn find(&self, name: &str) -> Option<u64>
         ensures { result ≡ kept_greatest name.now self.now }
     {
         self.greatest.get(name).copied()
     }
 }
 
-/// The numbers of all names that the status gives.
-pub(super) fn numbered<'t>(
-    alloc: Global,
-    problem: &Problem<'t>,
-    status: &Status,
-) -> Result<NumberedNames<'t>, AllocError>
-    ensures { IfOk result (λ kept. (f : List ℕ) → kept_greatest f kept ≡ with_pairs f (gives (members (set.contains status.now) problem.now.packages)) None) }
+/// The numbers of all names that the initial status gives.
+fn numbered<'t>(alloc: Global, problem: &Problem<'t>) -> Result<NumberedNames<'t>, AllocError>
+    ensures { IfOk result (λ kept. (f : List ℕ) → kept_greatest f kept ≡ with_pairs f (gives (members (is_initial problem.now) problem.now.packages)) None) }
 {
     let mut kept = NumberedNames::new(alloc);
-    for (before, package) in problem.packages().iter().enumerate() {
-        if status.holds(before as u64 + 1) {
+    for package in problem.packages() {
+        if package.installed {
             kept.add_package(package)?;
         }
     }
     Ok(kept)
 }
 
-/// For each entry of `upgrade`, the greatest number that the status gives of its name. `None` where
-/// it gives none.
-pub(super) fn greatest_before(
-    alloc: Global,
-    problem: &Problem<'_>,
-    status: &Status,
-) -> Result<Vec<Option<u64>>, AllocError>
-    ensures { IfOk result (λ before. before.items ≡ map (greatest_before (members (set.contains status.now) problem.now.packages)) problem.now.request.upgrade) }
+/// For each entry of `upgrade`, the greatest number of its name that the initial status gives, as a version or by a
+/// versioned feature. `None` where it gives none. Where there is no entry, no package is looked at. Own.
+///
+/// # Errors
+///
+/// `AllocError` where memory for the numbers is refused.
+pub fn greatest_before(alloc: Global, problem: &Problem<'_>) -> Result<Vec<Option<u64>>, AllocError>
+    ensures { IfOk result (λ before. AreGreatest (members (is_initial problem.now) problem.now.packages) problem.now.request.upgrade before.items) }
 {
     let upgrade = problem.request().upgrade;
     let count = upgrade.len();
@@ -97,7 +94,7 @@ pub(super) fn greatest_before(
     if count == 0 {
         return Ok(before);
     }
-    let names = numbered(alloc, problem, status)?;
+    let names = numbered(alloc, problem)?;
     for entry in upgrade.vpkgs() {
         before.push(names.find(entry.name))?;
     }

@@ -4,7 +4,6 @@ use Rattle.std.specs.FinSet as set
 use Rattle.cudf_job.specs.declared.criteria.Criteria.{Criteria}
 use Rattle.cudf_problem.specs.Statuses.{is_initial}
 use Rattle.cudf_problem.specs.Promises.Views.{unknown_view}
-use Rattle.cudf_index.specs.Satisfaction.{members}
 use Rattle.cudf_referee.specs.Criteria.{criteria}
 use Rattle.cudf_problem.specs.Documents.{is_empty}
 use Rattle.cudf_referee.specs.Proposals.{proposal}
@@ -12,7 +11,6 @@ use Rattle.cudf_referee.specs.Working.Walkers.{put_forward}
 use Rattle.cudf_referee.specs.Solutions.{is_solution}
 use Rattle.cudf_referee.specs.Violations.{listing}
 use Rattle.cudf_referee.specs.Promises.Walks.{Walking, left}
-use Rattle.cudf_referee.specs.Working.Before.{greatest_before}
 use Rattle.cudf_referee.specs.Working.Named.{has_kept_name}
 use Rattle.cudf_referee.specs.Working.Standings.{without_recommends}
 use Rattle.cudf_referee.proofs.ListingLemmas.{criteria_known}
@@ -35,7 +33,7 @@ invariant_of-result c =
     let named = c.in_ok-named.named in
     let same = ap (λ now. put_forward problem now unknown) c.in_ok-now.ensures in (
       record {
-        numbers = c.in_ok-before.ensures ∙ ap (λ t. map (greatest_before (members t problem.packages)) problem.request.upgrade) was_is;
+        numbers = c.in_ok-before.ensures;
         is = c.in_ok-now.ensures;
         flags = c.in_ok-named.ensures;
         ascends = c.requires;
