@@ -1,8 +1,8 @@
 -- The places of the packages that satisfy one of a clause's atoms, atom by atom.
 use Rattle.std.proofs.Common.{◌≡◌, ℕ, ◌+◌, ◌-◌, ◌<◌, Bool, true, false, cond, ◌||◌, ◌&&◌, ◌==◌, List, [], ◌∷◌, ◌++◌, length, map, take, get_or, Option, Some, None, refl, sym, ap, ◌∙◌, append_assoc}
-use Rattle.std.specs.Prelude.{slice_get}
+use Rattle.std.specs.Prelude.{filter, find, slice_get}
 use Rattle.std.specs.List.{list_any}
-use Rattle.std.specs.Option.{option_map_or}
+use Rattle.std.specs.Option.{option_map_or, is_some}
 use Rattle.std.proofs.Math.Bool.{or_assoc}
 use Rattle.std.proofs.lemmas.Bool.{true≢false, eqb-true}
 use Rattle.std.proofs.lemmas.List.{map-append}
@@ -12,13 +12,18 @@ use Rattle.std.proofs.lemmas.Option.{slice_get_within, get_or_from_slice_get}
 use Rattle.cudf_value.specs.Formulas.{PlainAtom}
 use Rattle.cudf_value.specs.Vpkgs.{PlainVpkg}
 use Rattle.cudf_problem.specs.Universe.{PlainPackage}
-use Rattle.cudf_index.specs.Satisfaction.{Placed, members, meets_alone, meets_clause_alone}
+use Rattle.cudf_problem.proofs.ListLemmas.{is_some-find}
+use Rattle.cudf_index.specs.Promises.Places.{at}
+use Rattle.cudf_index.specs.Satisfaction.{Placed, members, meets_alone, meets_clause_alone, satisfies}
 use Rattle.cudf_index.specs.Working.Gathering.{given_by, given_of}
-use Rattle.cudf_index.specs.Working.Places.{has, passes_at, Adds, meets_atom_alone}
+use Rattle.cudf_index.specs.Working.Places.{has, passes_at, Adds, PassesOrAdds, meets_atom_alone}
 use Rattle.cudf_index.specs.Working.Wanted.{ends_in, with_new, with_passing, with_all}
 use Rattle.cudf_index.specs.declared.index.gathered_names.Provision.{Provision}
 use Rattle.cudf_index.specs.declared.index.wanted.Wanted.TheVariants.{Meeting}
 use Rattle.cudf_index.proofs.MemberLemmas.{members_kept, members_left_out}
+use Rattle.cudf_index.proofs.PlaceLemmas.{has_where}
+use Rattle.cudf_index.proofs.SatisfactionLemmas.{member_alone}
+use Rattle.cudf_index.proofs.SearchLemmas.{list_any-filter}
 use Rattle.cudf_index.proofs.WantedLemmas.{one_wanted, package_places, meeting_tells}
 
 -- ---- tests of lists
@@ -157,3 +162,42 @@ module _ {A : Type 0} (view : A → PlainPackage) (holds : ℕ → Bool) (xs : L
 
   pub member_left_out : (done : List ℕ) → holds (i + 1) ≡ false → done ≡ old ++ before_it → done ≡ old ++ map (λ q. q.0) (members holds (map view (take (i + 1) xs)))
   member_left_out done e before = before ∙ ap (λ ps. old ++ map (λ (q : Placed). q.0) ps) (sym (members_left_out view holds xs i d inside e))
+
+-- ---- unless a package passes
+
+pub adds_else : (is : Bool) (test : Placed → Bool) (own : ℕ) (status : List Placed) (old new : List ℕ) → is ≡ false → PassesOrAdds is test own status old new → Adds test status old new
+adds_else true test own status old new e put = absurd (true≢false e)
+adds_else false test own status old new e put = put
+
+pub passes_then : (is : Bool) (test : Placed → Bool) (own : ℕ) (status : List Placed) (old new : List ℕ) → is ≡ true → PassesOrAdds is test own status old new → passes_at test own status ≡ true
+passes_then true test own status old new e put = put
+passes_then false test own status old new e put = absurd (true≢false (sym e))
+
+-- a package that alone satisfies one of the atoms
+pub atom_passes : (p : ℕ) (status : List Placed) (old : List ℕ) (all rest : List PlainAtom) (a : PlainAtom) (target : Bool) → passes_at (meets_atom_alone a) p status ≡ true → all ≡ a ∷ rest
+    → (has old p || passes_at (meets_clause_alone all) p status) ≡ target → true ≡ target
+atom_passes p status old all rest a target passes is told =
+    sym (always (has old p)) ∙ ap (λ b. has old p || (b || passes_at (meets_clause_alone rest) p status)) (sym passes)
+    ∙ ap (λ b. has old p || b) (sym (passes_first p status a rest)) ∙ ap (λ as'. has old p || passes_at (meets_clause_alone as') p status) (sym is) ∙ told
+  where
+    always : (b : Bool) → (b || true) ≡ true
+    always true = refl
+    always false = refl
+
+pub places_own : (p : ℕ) (xs : List Placed) → has (map (λ q. q.0) xs) p ≡ list_any (λ (q : Placed). q.0 == p) xs
+places_own p [] = refl
+places_own p (x ∷ xs) = ap (λ b. (x.0 == p) || b) (places_own p xs)
+
+pub own_found : (test : Placed → Bool) (p : ℕ) (status : List Placed) → passes_at test p status ≡ list_any (λ (q : Placed). q.0 == p) (filter test status)
+own_found test p status = sym (has_where test p status) ∙ places_own p (filter test status)
+
+pub alone_passes : (v : PlainVpkg) (p : ℕ) (status : List Placed) → satisfies (at p status) v ≡ passes_at (meets_alone v) p status
+alone_passes v p status = member_alone (at p status) v ∙ list_any-filter (meets_alone v) (λ (q : Placed). q.0 == p) status
+
+always_and : (b : Bool) → b ≡ (b && true)
+always_and true = refl
+always_and false = refl
+
+pub here_passes : (p : ℕ) (status : List Placed) → is_some (find (λ q. q.0 == p) status) ≡ passes_at (λ q. true) p status
+here_passes p status =
+    is_some-find (λ (q : Placed). q.0 == p) status ∙ any_agree (λ (q : Placed). q.0 == p) (λ q. (q.0 == p) && true) (λ q. always_and (q.0 == p)) status

@@ -44,7 +44,7 @@ impl<'t> NamedTrees<'t> {
     }
 
     /// The tree of the name with this number, if it has one.
-    fn tree(&self, number: usize) -> Option<&ProvisionTree>
+    pub(crate) fn tree(&self, number: usize) -> Option<&ProvisionTree>
         ensures { IfSome result (λ tree. Some tree.now ≡ slice_get self.now.gathered.rows.items number) }
     {
         let near = self.trees.partition_point(|tree| tree.number < number);

@@ -1,64 +1,90 @@
-//! All packages of a status that alone satisfy a clause, and whether one does.
-ghost use Rattle.std.specs.Prelude.{◌≡◌, ◌++◌, map, OnOk};
+//! All packages of a status that alone satisfy a clause, unless a certain one does.
+ghost use Rattle.std.specs.Prelude.{◌≡◌, ◌++◌, ◌==◌, true, false, map, filter, IfOk, OnOk};
+ghost use Rattle.std.specs.List.{list_any};
 ghost use Rattle.std.specs.List.Sorted.{IsStrictlyIncreasing};
 ghost use Rattle.cudf_value.specs.Promises.Views.{atom_view, clause_view, vpkg_view};
 ghost use Rattle.cudf_index.specs.Promises.Places.{at, places_where};
-ghost use Rattle.cudf_index.specs.Satisfaction.{meets_clause_alone, satisfies, satisfies_atom, satisfies_clause};
-ghost use Rattle.cudf_index.specs.Working.Places.{Adds, HoldsSame, meets_atom_alone};
+ghost use Rattle.cudf_index.specs.Satisfaction.{meets_alone, meets_clause_alone, satisfies};
+ghost use Rattle.cudf_index.specs.Working.Places.{HoldsSame, PassesOrAdds, meets_atom_alone};
 
 use crate::index::Index;
 use crate::index::entries::is_below_one;
-use crate::index::wanted::Wanted;
+use crate::index::wanted::{Wanted, put_each};
 use crate::steps::Steps;
 use cudf_value::{Atom, Clause, Vpkg};
 use std::alloc::AllocError;
 
 impl<'p, 't> Index<'p, 't> {
     /// Puts the places, from 1, of all packages of the status that alone satisfy the clause into the list, ascending, in
-    /// place of what was there: all of them where one of its atoms is `true!`.
+    /// place of what was there: all of them where one of its atoms is `true!`. Where the package at `own` is one of them it
+    /// answers `true`, and the list isn't of use.
     ///
     /// # Errors
     ///
     /// `AllocError` where memory for them is refused.
-    pub fn all_satisfying(
+    pub fn all_satisfying_unless_at(
         &self,
         clause: &Clause<'_>,
+        own: u64,
         places: &mut Vec<u64>,
-    ) -> Result<(), AllocError>
-        ensures { OnOk result (places.new.items ≡ places_where (meets_clause_alone (clause_view clause.now)) self.now) }
+    ) -> Result<bool, AllocError>
+        ensures own { IfOk result (λ is. is ≡ list_any (λ q. q.0 == own) (filter (meets_clause_alone (clause_view clause.now)) self.now)) }
+        ensures all { IfOk result (λ is. is ≡ false → places.new.items ≡ places_where (meets_clause_alone (clause_view clause.now)) self.now) }
     {
         places.clear();
         for atom in clause.atoms() {
-            self.put_atom(&atom, places)?;
+            if self.put_atom_unless_at(&atom, own, places)? {
+                return Ok(true);
+            }
             make_unique_if_long(places, self.problem.packages().len());
         }
         make_unique(places);
-        Ok(())
+        Ok(places.contains(&own))
     }
 
-    /// Whether the package at this place alone satisfies the clause; where the status doesn't hold the place, whether one of
-    /// its atoms is `true!`.
-    pub fn satisfies_clause_at(&self, clause: &Clause<'_>, place: u64) -> bool
-        ensures { result ≡ satisfies_clause (at place self.now) (clause_view clause.now) }
-    {
-        for atom in clause.atoms() {
-            if self.satisfies_atom_at(&atom, place) {
-                return true;
-            }
-        }
-        false
-    }
-
-    fn satisfies_atom_at(&self, atom: &Atom<'_>, place: u64) -> bool
-        ensures { result ≡ satisfies_atom (at place self.now) (atom_view atom.now) }
+    /// Puts the places of all packages that alone satisfy the atom among the others, in any order and with repeats. It may
+    /// answer `true` instead where the package at `own` is one of them.
+    fn put_atom_unless_at(
+        &self,
+        atom: &Atom<'_>,
+        own: u64,
+        places: &mut Vec<u64>,
+    ) -> Result<bool, AllocError>
+        ensures { IfOk result (λ is. PassesOrAdds is (meets_atom_alone (atom_view atom.now)) own self.now places.old.items places.new.items) }
     {
         match atom {
-            Atom::Yes => true,
-            Atom::No => false,
-            Atom::Is(vpkg) => self.satisfies_at(vpkg, place),
+            Atom::Yes => self.put_members_unless_at(own, places),
+            Atom::No => Ok(false),
+            Atom::Is(vpkg) => self.put_meeting_unless_at(vpkg, own, places),
         }
     }
 
+    /// The same of a vpkg. Where its name has many provisions the package at `own` is asked first, so that many packages
+    /// that provide and need one name stay linear.
+    fn put_meeting_unless_at(
+        &self,
+        vpkg: &Vpkg<'_>,
+        own: u64,
+        places: &mut Vec<u64>,
+    ) -> Result<bool, AllocError>
+        ensures { IfOk result (λ is. PassesOrAdds is (meets_alone (vpkg_view vpkg.now)) own self.now places.old.items places.new.items) }
+    {
+        let Some(number) = self.given.gathered.names.get_index_of(&vpkg.name) else {
+            return Ok(false);
+        };
+        let wanted = Wanted::Meeting(vpkg.bound);
+        let Some(tree) = self.given.tree(number) else {
+            put_each(self.given.gathered.row(number), wanted, places)?;
+            return Ok(false);
+        };
+        if self.satisfies_at(vpkg, own) {
+            return Ok(true);
+        }
+        tree.all(wanted, places)?;
+        Ok(false)
+    }
+
+    /// Whether the package at this place alone satisfies the vpkg.
     fn satisfies_at(&self, vpkg: &Vpkg<'_>, place: u64) -> bool
         ensures { result ≡ satisfies (at place self.now) (vpkg_view vpkg.now) }
     {
@@ -66,17 +92,15 @@ impl<'p, 't> Index<'p, 't> {
         own.numbers > 0 || (own.unversioned > 0 && !is_below_one(vpkg.bound))
     }
 
-    /// Puts the places of all packages that alone satisfy the atom among the others, in any order and with repeats.
-    fn put_atom(&self, atom: &Atom<'_>, places: &mut Vec<u64>) -> Result<(), AllocError>
-        ensures { OnOk result (Adds (meets_atom_alone (atom_view atom.now)) self.now places.old.items places.new.items) }
+    /// Puts all places of the status after the others, or answers that `own` is one of them.
+    fn put_members_unless_at(&self, own: u64, places: &mut Vec<u64>) -> Result<bool, AllocError>
+        ensures { IfOk result (λ is. PassesOrAdds is (λ q. true) own self.now places.old.items places.new.items) }
     {
-        match atom {
-            Atom::Yes => self.put_members(places),
-            Atom::No => Ok(()),
-            Atom::Is(vpkg) => self
-                .given
-                .all(vpkg.name, Wanted::Meeting(vpkg.bound), places),
+        if self.member(own).is_some() {
+            return Ok(true);
         }
+        self.put_members(places)?;
+        Ok(false)
     }
 
     /// Puts all places of the status after the others.
