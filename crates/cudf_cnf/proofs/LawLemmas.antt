@@ -1,163 +1,194 @@
--- The clauses of a problem's CNF that a status doesn't satisfy are those of the instances that it violates, key by key.
-use Rattle.std.proofs.Common.{◌≡◌, ◌↔◌, ℕ, ◌-◌, ◌<◌, ◌≤◌, Bool, true, false, not, ◌&&◌, ◌||◌, List, [], ◌∷◌, ◌++◌, length, map, filter, refl, sym, subst, ap, ◌∙◌, arith, if◌then◌else◌}
+-- The violated instances of a proposal are those of the problem whose clauses it doesn't all satisfy; and its unknown stanzas.
+use Rattle.std.proofs.Common.{◌≡◌, ℕ, ◌-◌, ◌<◌, ◌≤◌, Bool, true, false, not, ◌&&◌, ◌||◌, get_or, List, [], ◌∷◌, ◌++◌, length, map, filter, cond, refl, sym, subst, ap, ◌∙◌, arith}
 use Rattle.std.specs.Prelude.{Contains, IsTrue}
-use Rattle.std.specs.List.{list_all, list_any, flat_map, enumerate_from}
-use Rattle.std.specs.Ordering.{is_eq}
+use Rattle.std.specs.List.{list_all, flat_map, enumerate_from}
+use Rattle.std.proofs.Math.Bool.{and-true, and_comm, not-not, or-false}
+use Rattle.std.proofs.Math.ListN.{get_or-map}
 use Rattle.std.proofs.lemmas.List.{append-nil, length-map}
-use Rattle.std.proofs.lemmas.List.Elements.{All-map, All-contains, Contains-append_left, filter-append}
-use Rattle.std.proofs.lemmas.List.Folds.{list_all-map, list_all_at, list_any-append}
+use Rattle.std.proofs.lemmas.List.Elements.{All-contains, All-map, Contains-append_left, Contains-get_or, filter-append, filter_agree}
+use Rattle.std.proofs.lemmas.List.Folds.{list_all-map, list_all_at}
 use Rattle.std.proofs.lemmas.List.Sums.{AllPass-from_list_all}
+use Rattle.std.proofs.lemmas.Option.{slice_get-get_or}
+use Rattle.cudf_problem.specs.declared.package.Keep.{Keep}
+use Rattle.cudf_problem.specs.declared.package.Keep.TheVariants.{Version, Package, Feature, Nothing}
 use Rattle.cudf_problem.specs.Documents.{is_empty}
 use Rattle.cudf_problem.specs.Statuses.{PlainUnknown, is_initial}
-use Rattle.cudf_problem.specs.Universe.{PlainProblem}
-use Rattle.cudf_problem.proofs.ListLemmas.{list_any-map}
-use Rattle.cudf_index.specs.Satisfaction.{Placed}
-use Rattle.cudf_index.proofs.SearchLemmas.{list_any-filter}
-use Rattle.cudf_job.specs.Keys.{PlainKey, key_cmp}
-use Rattle.cudf_job.proofs.KeyLemmas.{equal_keys}
+use Rattle.cudf_problem.specs.Universe.{PlainProblem, PlainRequest}
+use Rattle.cudf_value.specs.Vpkgs.{PlainVpkg}
+use Rattle.cudf_index.specs.Promises.Places.{is_named}
+use Rattle.cudf_index.specs.Satisfaction.{Placed, numbers_of}
+use Rattle.cudf_job.specs.declared.key.Aspect.{Aspect}
+use Rattle.cudf_job.specs.declared.key.Aspect.TheVariants.{Unsatisfied, Many, Lower}
+use Rattle.cudf_job.specs.Keys.{unknown_key}
 use Rattle.cudf_lrat.specs.declared.cnf.Literal.{Literal}
 use Rattle.cudf_lrat.specs.Literals.{IsCore, clause_at, is_satisfied_by}
-use Rattle.cudf_referee.specs.Instances.{PlainInstance}
-use Rattle.cudf_referee.specs.Proposals.{holds_place}
-use Rattle.cudf_referee.specs.Violations.{entry_instances, is_violated, kept_instances, listing, needed_instances, of_each, package_instances, request_instances, unknown_instance}
-use Rattle.cudf_referee.specs.Working.RuleInstances.{conflicts_instance, depends_instance, install_instance, remove_instance}
-use Rattle.cudf_referee.proofs.ListLemmas.{is_empty-append, is_empty-map, list_all-same, list_any-none}
+use Rattle.cudf_referee.specs.Instances.{PlainInstance, keep_feature}
+use Rattle.cudf_referee.specs.Proposals.{Proposal, everything, holds_place}
+use Rattle.cudf_referee.specs.Violations.{entry_instances, is_violated, kept_instances, listing, needed_instances, of_each, package_instances, problem_instances, request_instances, unknown_instance}
+use Rattle.cudf_referee.specs.Working.RuleInstances.{conflicts_instance, depends_instance, install_instance, keep_instance, remove_instance, upgrade_instance}
+use Rattle.cudf_referee.proofs.ListLemmas.{filter-map, is_empty-append, is_empty-filter, is_empty-map, list_all-flat_map, list_all-same, none_kept}
 use Rattle.cudf_referee.proofs.SolutionLemmas.{solution_is_empty}
-use Rattle.cudf_cnf.specs.Cnf.{Keyed, clauses_of, cnf, conflict_clauses, conjunct_clauses, entry_clauses, for_each, install_clauses, keep_clauses, package_clauses, removal_clauses}
-use Rattle.cudf_cnf.specs.Laws.{FalsifiedIsViolated, RefutedAreViolated, RefutedHasNone, SolutionSatisfies, falsified, proposed}
-use Rattle.cudf_cnf.proofs.RuleLemmas.{breaks, conflicts_any, depends_any, fails, holds_own, install_any, keep_any, remove_any, upgrade_any}
-use Rattle.cudf_cnf.proofs.TestLemmas.{IsOneOf, and-false, and-or, and-swap, contains-any, element, element-any, element-map, list_any-flat, list_any-if, list_any-same, list_any-where, not-not, passing}
+use Rattle.cudf_referee.proofs.StatusLemmas.{holds-own}
+use Rattle.cudf_cnf.specs.Cnf.{Keyed, clauses_of, cnf, instance_clauses, keyed_clauses}
+use Rattle.cudf_cnf.specs.Laws.{FalsifiedIsViolated, RefutedAreViolated, RefutedHasNone, SolutionSatisfies, proposed}
+use Rattle.cudf_cnf.proofs.RuleLemmas.{conflict_fails, fails, holds_own, lower_fails, many_fails, meets_fails, needs_fails, one_fails, removal_fails}
+use Rattle.cudf_cnf.proofs.TestLemmas.{Contains-filter, flat_map-where, from_one, not_all, passing}
 
--- ---- all rules
+-- ---- tests that keep the same
 
-package_any : (problem : PlainProblem) (is : ℕ → Bool) (t : PlainKey → Bool) (p : Placed)
-    → let all = enumerate_from 1 problem.packages in
-    let s = proposed problem is [] in
-    IsOneOf all p → list_any (fails is t) (package_clauses all s.initial p) ≡ list_any (breaks s t) (package_instances s p)
-package_any problem is t p of =
-    let all = enumerate_from 1 problem.packages in
-    let s = proposed problem is [] in
-    let kept = holds_place s.initial p.0 in
-    let d = for_each (conjunct_clauses all p) p.1.depends in
-    let c = for_each (conflict_clauses all p.0) p.1.conflicts in
-    let vd = of_each (depends_instance p) p.1.depends in
-    let vc = of_each (conflicts_instance p) p.1.conflicts in
-    list_any-append (fails is t) (d ++ c) (if kept then keep_clauses all p.1.keep p else [])
-    ∙ (λ i. (list_any-append (fails is t) d c
-    ∙ (λ j. depends_any problem is t p of j || conflicts_any problem is t p j)
-    ∙ sym (and-or (is p.0) (list_any (breaks s t) vd) (list_any (breaks s t) vc))
-    ∙ (λ j. sym (holds_own is all p of) j && sym (list_any-append (breaks s t) vd vc) j)
-    ∙ sym (list_any-if (breaks s t) (holds_place s.proposed p.0) (needed_instances p))) i
-    || (list_any-if (fails is t) kept (keep_clauses all p.1.keep p) ∙ ap (λ b. kept && b) (keep_any problem is t p.1.keep p of) ∙ sym (list_any-if (breaks s t) kept (kept_instances p.1.keep p))) i)
-    ∙ sym (list_any-append (breaks s t) (if holds_place s.proposed p.0 then needed_instances p else []) (if kept then kept_instances p.1.keep p else []))
+filter-flat : {A B : Type 0} (p : B → Bool) (f : A → List B) (xs : List A) → filter p (flat_map f xs) ≡ flat_map (λ x. filter p (f x)) xs
+filter-flat p f [] = refl
+filter-flat p f (x ∷ xs) = filter-append p (f x) (flat_map f xs) ∙ ap (λ ys. filter p (f x) ++ ys) (filter-flat p f xs)
 
--- a clause whose key passes isn't satisfied exactly where an instance whose key passes is violated
-pub agrees : (problem : PlainProblem) (is : ℕ → Bool) (t : PlainKey → Bool) → list_any (fails is t) (cnf problem) ≡ list_any (λ i. t i.key) (listing (proposed problem is []))
-unfolding cnf listing
-agrees problem is t =
-    let all = enumerate_from 1 problem.packages in
-    let r = problem.request in
-    let s = proposed problem is [] in
-    let f = fails is t in
-    let g = breaks s t in
-    let p = flat_map (package_clauses all s.initial) all in
-    let i = for_each (install_clauses all) r.install in
-    let m = for_each (removal_clauses all) r.remove in
-    let u = for_each (entry_clauses all s.initial) r.upgrade in
-    let vp = flat_map (package_instances s) all in
-    let vi = of_each (install_instance r) r.install in
-    let vm = of_each (remove_instance r) r.remove in
-    let vu = flat_map (entry_instances r) (enumerate_from 1 r.upgrade) in
-    let packages : list_any f p ≡ list_any g vp =
-    list_any-flat f (package_clauses all s.initial) all
-    ∙ list_any-where (λ x. list_any f (package_clauses all s.initial x)) (λ x. list_any g (package_instances s x)) all (package_any problem is t)
-    ∙ sym (list_any-flat g (package_instances s) all) in
-    list_any-append f (p ++ i ++ m) u
-    ∙ ap (λ b. b || list_any f u) (list_any-append f (p ++ i) m ∙ ap (λ b. b || list_any f m) (list_any-append f p i))
-    ∙ (λ j. ((packages j || install_any problem is t j) || remove_any problem is t j) || upgrade_any problem is t j)
-    ∙ regroup (list_any g vp) (list_any g vi) (list_any g vm) (list_any g vu)
-    ∙ ap (λ b. list_any g vp || b) (ap (λ b. b || list_any g vu) (sym (list_any-append g vi vm)) ∙ sym (list_any-append g (vi ++ vm) vu))
-    ∙ sym (list_any-append g vp (vi ++ vm ++ vu))
-    ∙ ap (list_any g) (sym (append-nil (vp ++ (vi ++ vm ++ vu))))
-    ∙ sym (list_any-filter (λ (i : PlainInstance). t i.key) (is_violated s) (vp ++ (vi ++ vm ++ vu) ++ []))
-  where
-    regroup : (a b c d : Bool) → (((a || b) || c) || d) ≡ (a || ((b || c) || d))
-    regroup true b c d = refl
-    regroup false b c d = refl
+filter-if : {A : Type 0} (b : Bool) (p : A → Bool) (xs : List A) → filter p (cond b xs []) ≡ filter (λ x. b && p x) xs
+filter-if true p xs = refl
+filter-if false p xs = sym (none_kept (λ x. false) (λ x. refl) xs)
 
--- ---- key by key
+module _ (p q : PlainInstance → Bool) where
+  same-append : (xs ys : List PlainInstance) → filter p xs ≡ filter q xs → filter p ys ≡ filter q ys → filter p (xs ++ ys) ≡ filter q (xs ++ ys)
+  same-append xs ys h k = filter-append p xs ys ∙ (λ i. h i ++ k i) ∙ sym (filter-append q xs ys)
 
--- keys are equal where this says so
-abbrev same_key : PlainKey → PlainKey → Bool
-same_key a b = is_eq (key_cmp a b)
+  same-cons : (x : PlainInstance) (xs : List PlainInstance) → p x ≡ q x → filter p xs ≡ filter q xs → filter p (x ∷ xs) ≡ filter q (x ∷ xs)
+  same-cons x xs h k = λ i. cond (h i) (x ∷ k i) (k i)
 
-tells : (a b : PlainKey) → (same_key a b ≡ true) ↔ (a ≡ b)
-tells a b = equal_keys a b (same_key a b) refl
+  same-each : {A : Type 0} (make : ℕ → A → PlainInstance) → ((n : ℕ) (x : A) → p (make n x) ≡ q (make n x)) → (xs : List A) → filter p (of_each make xs) ≡ filter q (of_each make xs)
+  same-each {A} make same xs =
+      let entries = enumerate_from 1 xs in
+      filter-map p (λ (e : ℕ × A). make e.0 e.1) entries
+      ∙ ap (map (λ (e : ℕ × A). make e.0 e.1)) (filter_agree (λ (e : ℕ × A). p (make e.0 e.1)) (λ e. q (make e.0 e.1)) (λ e. same e.0 e.1) entries)
+      ∙ sym (filter-map q (λ (e : ℕ × A). make e.0 e.1) entries)
+
+-- ---- instance by instance
+
+module _ (problem : PlainProblem) (is : ℕ → Bool) where
+  abbrev all : List Placed
+  all = enumerate_from 1 problem.packages
+
+  abbrev s : Proposal
+  s = proposed problem is []
+
+  -- the status doesn't satisfy all clauses of the instance
+  abbrev pub falls : PlainInstance → Bool
+  falls i = fails is (instance_clauses problem i)
+
+  needed_fall : (p : Placed) → holds_place all p.0 ≡ true → filter (λ i. is p.0 && is_violated s i) (needed_instances p) ≡ filter falls (needed_instances p)
+  needed_fall p there =
+      let violated = λ (i : PlainInstance). is p.0 && is_violated s i in
+      same-append violated falls (of_each (depends_instance p) p.1.depends) (of_each (conflicts_instance p) p.1.conflicts)
+      (same-each violated falls (depends_instance p) (λ n clause. sym (needs_fails is all p.0 there clause)) p.1.depends)
+      (same-each violated falls (conflicts_instance p) (λ n v. sym (conflict_fails is all p.0 v)) p.1.conflicts)
+
+  kept_fall : (k : Keep) (p : Placed) → holds_place all p.0 ≡ true → filter (is_violated s) (kept_instances k p) ≡ filter falls (kept_instances k p)
+  kept_fall Version p there = ap (λ b. cond (not b) (kept_instances Version p) []) (holds_own is all p.0 there ∙ sym (and-true (is p.0 || false) ∙ or-false (is p.0)))
+  kept_fall Package p there = ap (λ b. cond b (kept_instances Package p) []) (sym (one_fails is (is_named p.1.name) all))
+  kept_fall Feature p there = same-each (is_violated s) falls (λ n v. keep_instance p n (keep_feature v)) (λ n v. sym (meets_fails is v all)) p.1.provides
+  kept_fall Nothing p there = refl
+
+  package_falls : (p : Placed) → holds_place all p.0 ≡ true → filter (is_violated s) (package_instances s p) ≡ filter falls (package_instances (everything problem) p)
+  package_falls p there =
+      let kept = cond (holds_place s.initial p.0) (kept_instances p.1.keep p) [] in
+      filter-append (is_violated s) (cond (holds_place s.proposed p.0) (needed_instances p) []) kept
+      ∙ (λ i. (ap (λ b. filter (is_violated s) (cond b (needed_instances p) [])) (holds_own is all p.0 there)
+      ∙ filter-if (is p.0) (is_violated s) (needed_instances p)
+      ∙ needed_fall p there
+      ∙ ap (λ b. filter falls (cond b (needed_instances p) [])) (sym (holds_own (λ place. true) all p.0 there))) i
+      ++ kept_if (holds_place s.initial p.0) i)
+      ∙ sym (filter-append falls (cond (holds_place (everything problem).proposed p.0) (needed_instances p) []) kept)
+    where
+      kept_if : (b : Bool) → filter (is_violated s) (cond b (kept_instances p.1.keep p) []) ≡ filter falls (cond b (kept_instances p.1.keep p) [])
+      kept_if true = kept_fall p.1.keep p there
+      kept_if false = refl
+
+  abbrev r : PlainRequest
+  r = problem.request
+
+  entry_falls : (e : ℕ × PlainVpkg) → filter (is_violated s) (entry_instances r e) ≡ filter falls (entry_instances r e)
+  entry_falls e =
+      let v = e.1 in
+      let one = λ (aspect : Aspect). upgrade_instance r aspect e.0 v in
+      same-cons (is_violated s) falls (one Unsatisfied) (one Many ∷ one Lower ∷ []) (sym (meets_fails is v all))
+      (same-cons (is_violated s) falls (one Many) (one Lower ∷ []) (sym (many_fails is problem.packages v.name))
+      (same-cons (is_violated s) falls (one Lower) [] (sym (lower_fails is all (numbers_of v.name s.initial) v.name)) refl))
+
+  request_falls : filter (is_violated s) (request_instances r) ≡ filter falls (request_instances r)
+  request_falls =
+      let wanted = of_each (install_instance r) r.install in
+      let unwanted = of_each (remove_instance r) r.remove in
+      let entries = enumerate_from 1 r.upgrade in
+      same-append (is_violated s) falls (wanted ++ unwanted) (flat_map (entry_instances r) entries)
+      (same-append (is_violated s) falls wanted unwanted
+      (same-each (is_violated s) falls (install_instance r) (λ n v. sym (meets_fails is v all)) r.install)
+      (same-each (is_violated s) falls (remove_instance r) (λ n v. sym (removal_fails is all v)) r.remove))
+      (filter-flat (is_violated s) (entry_instances r) entries ∙ (λ i. flat_map (λ e. entry_falls e i) entries) ∙ sym (filter-flat falls (entry_instances r) entries))
+
+  -- what is violated is what isn't satisfied
+  pub listing_falls : (unknown : List PlainUnknown) → listing (proposed problem is unknown) ≡ filter falls (problem_instances problem) ++ map unknown_instance unknown
+  unfolding listing
+  listing_falls unknown =
+      let e = everything problem in
+      let own = flat_map (package_instances s) all in
+      let each = flat_map (package_instances e) all in
+      let asked = request_instances r in
+      let packages : filter (is_violated s) own ≡ filter falls each =
+      filter-flat (is_violated s) (package_instances s) all
+      ∙ flat_map-where (λ p. holds_place all p.0) (λ p. filter (is_violated s) (package_instances s p)) (λ p. filter falls (package_instances e p)) package_falls all (holds-own all)
+      ∙ sym (filter-flat falls (package_instances e) all) in
+      filter-append (is_violated s) (own ++ asked) (map unknown_instance unknown)
+      ∙ (λ i. (filter-append (is_violated s) own asked ∙ (λ j. packages j ++ request_falls j) ∙ sym (filter-append falls each asked) ∙ ap (filter falls) (sym (append-nil (each ++ asked)))) i ++ always unknown i)
+    where
+      always : (us : List PlainUnknown) → filter (is_violated s) (map unknown_instance us) ≡ map unknown_instance us
+      always [] = refl
+      always (u ∷ us) = ap (λ is. unknown_instance u ∷ is) (always us)
 
 pub falsified_is_violated : FalsifiedIsViolated
-falsified_is_violated problem is key =
-    let test = λ (k : PlainKey). same_key k key in
-    let listed = listing (proposed problem is []) in
-    let fallen : list_any test (falsified is (cnf problem)) ≡ list_any (fails is test) (cnf problem) =
-    list_any-map (λ (c : Keyed). c.0) test (filter (λ c. not (is_satisfied_by is c.1)) (cnf problem))
-    ∙ list_any-filter (λ (c : Keyed). test c.0) (λ c. not (is_satisfied_by is c.1)) (cnf problem)
-    ∙ list_any-same (λ (c : Keyed). not (is_satisfied_by is c.1) && test c.0) (fails is test) (λ c. and-swap (not (is_satisfied_by is c.1)) (test c.0)) (cnf problem) in
-    let same : list_any test (falsified is (cnf problem)) ≡ list_any test (map (λ (i : PlainInstance). i.key) listed) =
-    fallen ∙ agrees problem is test ∙ sym (list_any-map (λ (i : PlainInstance). i.key) test listed) in
-    let one = contains-any same_key tells (falsified is (cnf problem)) key in
-    let other = contains-any same_key tells (map (λ (i : PlainInstance). i.key) listed) key in
-    (λ c. other.1 (sym same ∙ one.0 c), λ c. one.1 (same ∙ other.0 c))
+falsified_is_violated problem is = listing_falls problem is [] ∙ append-nil (filter (falls problem is) (problem_instances problem))
 
 -- ---- solutions
 
-empty_none : {A : Type 0} (xs : List A) → is_empty xs ≡ not (list_any (λ x. true) xs)
-empty_none [] = refl
-empty_none (x ∷ xs) = refl
-
-all_satisfied : (is : ℕ → Bool) (clauses : List Keyed) → list_all (is_satisfied_by is) (clauses_of clauses) ≡ not (list_any (fails is (λ k. true)) clauses)
-all_satisfied is clauses =
-    list_all-map (is_satisfied_by is) (λ (c : Keyed). c.1) clauses
-    ∙ list_all-same (λ (c : Keyed). is_satisfied_by is c.1) (λ c. not (not (is_satisfied_by is c.1))) (λ c. sym (not-not (is_satisfied_by is c.1))) clauses
-    ∙ sym (list_any-none (λ (c : Keyed). not (is_satisfied_by is c.1)) clauses)
-
--- the listing is that without unknown stanzas, and these
-known_first : (problem : PlainProblem) (is : ℕ → Bool) (unknown : List PlainUnknown) → listing (proposed problem is unknown) ≡ listing (proposed problem is []) ++ map unknown_instance unknown
-unfolding listing
-known_first problem is unknown =
-    let s = proposed problem is [] in
-    let known = flat_map (package_instances s) (enumerate_from 1 problem.packages) ++ request_instances problem.request in
-    filter-append (is_violated s) known (map unknown_instance unknown)
-    ∙ (λ i. filter (is_violated s) (sym (append-nil known) i) ++ always unknown i)
-  where
-    always : (us : List PlainUnknown) → filter (is_violated (proposed problem is unknown)) (map unknown_instance us) ≡ map unknown_instance us
-    always [] = refl
-    always (u ∷ us) = ap (λ is. unknown_instance u ∷ is) (always us)
+all_satisfied : (problem : PlainProblem) (is : ℕ → Bool) → list_all (is_satisfied_by is) (clauses_of (cnf problem)) ≡ list_all (λ i. list_all (is_satisfied_by is) (instance_clauses problem i)) (problem_instances problem)
+unfolding cnf
+all_satisfied problem is =
+    let known = problem_instances problem in
+    let holds = λ (c : Keyed). is_satisfied_by is c.1 in
+    list_all-map (is_satisfied_by is) (λ (c : Keyed). c.1) (flat_map (keyed_clauses problem) known)
+    ∙ list_all-flat_map holds (keyed_clauses problem) known
+    ∙ list_all-same (λ i. list_all holds (keyed_clauses problem i)) (λ i. list_all (is_satisfied_by is) (instance_clauses problem i))
+    (λ i. list_all-map holds (λ (clause : List Literal). (i.key, clause)) (instance_clauses problem i)) known
 
 pub solution_satisfies : SolutionSatisfies
 solution_satisfies problem is unknown =
-    let known = listing (proposed problem is []) in
+    let known = problem_instances problem in
+    let holds = λ (i : PlainInstance). list_all (is_satisfied_by is) (instance_clauses problem i) in
     solution_is_empty problem (is_initial problem) is unknown
-    ∙ ap is_empty (known_first problem is unknown)
-    ∙ is_empty-append known (map unknown_instance unknown)
-    ∙ (λ i. (empty_none known ∙ ap not (sym (agrees problem is (λ k. true))) ∙ sym (all_satisfied is (cnf problem))) i && is_empty-map unknown_instance unknown i)
-    ∙ and-swap (list_all (is_satisfied_by is) (clauses_of (cnf problem))) (is_empty unknown)
+    ∙ ap is_empty (listing_falls problem is unknown)
+    ∙ is_empty-append (filter (falls problem is) known) (map unknown_instance unknown)
+    ∙ (λ i. (is_empty-filter (falls problem is) known ∙ list_all-same (λ j. not (falls problem is j)) holds (λ j. not-not (holds j)) known ∙ sym (all_satisfied problem is)) i && is_empty-map unknown_instance unknown i)
+    ∙ and_comm (list_all (is_satisfied_by is) (clauses_of (cnf problem))) (is_empty unknown)
 
 -- ---- what is refuted
 
 -- of clauses that no assignment satisfies all, one isn't satisfied
-abbrev fallen : List (List Literal) → (ℕ → Bool) → ℕ → Bool
-fallen clauses is n = not (is_satisfied_by is (clause_at clauses n))
-
 unsatisfied : (clauses : List (List Literal)) (core : List ℕ) → IsCore clauses core → (is : ℕ → Bool) → (n : ℕ) × Contains core n × (is_satisfied_by is (clause_at clauses n) ≡ false)
-unsatisfied clauses core refuted is = by (list_any (fallen clauses is) core) refl
+unsatisfied clauses core refuted is = by (list_all holds core) refl
   where
-    by : (b : Bool) → list_any (fallen clauses is) core ≡ b → (n : ℕ) × Contains core n × (is_satisfied_by is (clause_at clauses n) ≡ false)
-    by true h = let found = passing (fallen clauses is) core h in (found.0, found.1, sym (not-not (is_satisfied_by is (clause_at clauses found.0))) ∙ ap not found.2)
-    by false h =
-        let P : List Literal → Type 0 = λ clause. IsTrue (is_satisfied_by is clause) in
-        let each : list_all (λ n. is_satisfied_by is (clause_at clauses n)) core ≡ true =
-        list_all-same (λ n. is_satisfied_by is (clause_at clauses n)) (λ n. not (fallen clauses is n)) (λ n. sym (not-not (is_satisfied_by is (clause_at clauses n)))) core ∙ sym (list_any-none (fallen clauses is) core) ∙ ap not h in
-        absurd (refuted.1 is (All-map P (clause_at clauses) core (AllPass-from_list_all (λ n. is_satisfied_by is (clause_at clauses n)) core each)))
+    holds : ℕ → Bool
+    holds n = is_satisfied_by is (clause_at clauses n)
+
+    by : (b : Bool) → list_all holds core ≡ b → (n : ℕ) × Contains core n × (holds n ≡ false)
+    by true h = absurd (refuted.1 is (All-map (λ (clause : List Literal). IsTrue (is_satisfied_by is clause)) (clause_at clauses) core (AllPass-from_list_all holds core h)))
+    by false h = let found = passing (λ n. not (holds n)) core (sym (not_all holds core) ∙ ap not h) in (found.0, found.1, sym (not-not (holds found.0)) ∙ ap not found.2)
+
+-- the instance of a clause that isn't satisfied
+falls_by : (problem : PlainProblem) (is : ℕ → Bool) (c : Keyed) → Contains (cnf problem) c → is_satisfied_by is c.1 ≡ false
+    → (i : PlainInstance) × Contains (problem_instances problem) i × (falls problem is i ≡ true) × (i.key ≡ c.0)
+unfolding cnf
+falls_by problem is c among unsatisfied =
+    let found = from_one (keyed_clauses problem) (problem_instances problem) c among in
+    let i : PlainInstance = found.0 in
+    let clauses = instance_clauses problem i in
+    let Own : Keyed → Type 0 = λ d. (i.key ≡ d.0) × Contains clauses d.1 in
+    let own = All-contains Own (keyed_clauses problem i) c (All-map Own (λ (clause : List Literal). (i.key, clause)) clauses (λ k d within. (refl, Contains-get_or clauses k d within))) found.2 in
+    (i, found.1, ap not (list_all_at (is_satisfied_by is) clauses own.1.0 c.1 own.1.1 (ap (is_satisfied_by is) own.1.2 ∙ unsatisfied)), own.0)
 
 pub refuted_are_violated : RefutedAreViolated
 refuted_are_violated problem core refuted is unknown =
@@ -165,27 +196,26 @@ refuted_are_violated problem core refuted is unknown =
     let n = found.0 in
     let within = All-contains (λ (n : ℕ). (0 < n) × (n ≤ length (clauses_of (cnf problem)))) core n refuted.0 found.1 in
     let inside : n - 1 < length (cnf problem) = omega (arith, within.0, within.1, length-map (cnf problem) (λ (c : Keyed). c.1)) in
-    let at = element (cnf problem) (n - 1) inside in
-    let c : Keyed = at.0 in
-    let test = λ (k : PlainKey). same_key k c.0 in
-    let unsatisfied_at : is_satisfied_by is c.1 ≡ false = ap (is_satisfied_by is) (sym (element-map (λ (c : Keyed). c.1) (cnf problem) (n - 1) c [] at.1)) ∙ found.2 in
-    let failing : fails is test c ≡ true = (λ i. (tells c.0 c.0).1 refl i && not (unsatisfied_at i)) in
-    let violated = passing (λ (i : PlainInstance). test i.key) (listing (proposed problem is [])) (sym (agrees problem is test) ∙ element-any (fails is test) (cnf problem) (n - 1) c at.1 failing) in
+    let none : Keyed = (unknown_key 0, []) in
+    let c : Keyed = get_or (cnf problem) (n - 1) none in
+    let violated = falls_by problem is c (Contains-get_or (cnf problem) (n - 1) none inside) (ap (is_satisfied_by is) (sym (get_or-map (λ (c : Keyed). c.1) (cnf problem) (n - 1) none)) ∙ found.2) in
+    let fallen = filter (falls problem is) (problem_instances problem) in
     record {
       number = n;
       clause = c;
       instance = violated.0;
       named = found.1;
-      stands = at.1;
-      violated = subst (λ (is : List PlainInstance). Contains is violated.0) (sym (known_first problem is unknown)) (Contains-append_left (listing (proposed problem is [])) (map unknown_instance unknown) violated.0 violated.1);
-      key = (tells violated.0.key c.0).0 violated.2;
+      stands = slice_get-get_or (cnf problem) (n - 1) none inside;
+      violated = subst (λ (is : List PlainInstance). Contains is violated.0) (sym (listing_falls problem is unknown))
+          (Contains-append_left fallen (map unknown_instance unknown) violated.0 (Contains-filter (falls problem is) (problem_instances problem) violated.0 violated.1 violated.2));
+      key = violated.3;
     }
+
+not_empty : {A : Type 0} (xs : List A) (x : A) → Contains xs x → is_empty xs ≡ false
+not_empty [] x c = absurd (omega (arith, c.1))
+not_empty (y ∷ xs) x c = refl
 
 pub refuted_has_none : RefutedHasNone
 refuted_has_none problem core refuted is unknown =
-    let found = unsatisfied (clauses_of (cnf problem)) core refuted is in
-    let within = All-contains (λ (n : ℕ). (0 < n) × (n ≤ length (clauses_of (cnf problem)))) core found.0 refuted.0 found.1 in
-    let inside : found.0 - 1 < length (clauses_of (cnf problem)) = omega (arith, within.0, within.1) in
-    solution_satisfies problem is unknown
-    ∙ ap (λ b. is_empty unknown && b) (list_all_at (is_satisfied_by is) (clauses_of (cnf problem)) (found.0 - 1) [] inside found.2)
-    ∙ and-false (is_empty unknown)
+    let one = refuted_are_violated problem core refuted is unknown in
+    solution_is_empty problem (is_initial problem) is unknown ∙ not_empty (listing (proposed problem is unknown)) one.instance one.violated

@@ -13,14 +13,14 @@ use Rattle.cudf_index.specs.Satisfaction.{Placed, numbers_of}
 use Rattle.cudf_index.specs.Working.Places.{has}
 use Rattle.cudf_index.proofs.PlaceLemmas.{has_where}
 use Rattle.cudf_index.proofs.SearchLemmas.{list_any-filter}
-use Rattle.cudf_job.specs.declared.key.Rule.TheVariants as rule
-use Rattle.cudf_job.specs.declared.key.Aspect.TheVariants.{Many}
-use Rattle.cudf_job.specs.Keys.{PlainKey, request_key}
+use Rattle.cudf_job.specs.Keys.{PlainKey}
+use Rattle.cudf_lrat.specs.declared.cnf.Literal.{Literal}
 use Rattle.cudf_referee.specs.Violations.{are_many}
 use Rattle.cudf_referee.proofs.ListLemmas.{filter-both, filter-map, none_kept}
-use Rattle.cudf_cnf.specs.Working.Parts.{differing_at, differs_from}
+use Rattle.cudf_cnf.specs.Cnf.{Keyed, is_out}
+use Rattle.cudf_cnf.specs.Working.Parts.{differing_at, differs_from, keyed}
 use Rattle.cudf_cnf.proofs.PairLemmas.{number_any}
-use Rattle.cudf_cnf.proofs.PlaceLemmas.{pair, unit}
+use Rattle.cudf_cnf.proofs.PlaceLemmas.{map-map, pair, unit}
 use Rattle.cudf_cnf.proofs.TestLemmas.{and-false, and-swap, list_any-same, or_left, passing}
 
 -- ---- lists of numbers
@@ -99,35 +99,40 @@ later_where place t u same all =
     (sym (filter-both t (λ (q : Placed). nat_lt place q.0) all)
     ∙ filter_agree (λ (q : Placed). t q && nat_lt place q.0) (λ q. nat_lt place q.0 && u q) (λ q. and-swap (t q) (nat_lt place q.0) ∙ ap (λ b. nat_lt place q.0 && b) (same q)) all)
 
-module _ (all : List Placed) (number : ℕ) (name : List ℕ) (place : ℕ) where
+module _ (all : List Placed) (name : List ℕ) (place : ℕ) (key : PlainKey) where
   abbrev own : List ℕ
   own = numbers_at name place all
 
-  differing_by : (key : PlainKey) (b : Bool) (t : Placed → Bool) (found : List ℕ) → key ≡ request_key rule.Upgrade number (Some Many) → are_many own ≡ b → ((q : Placed) → t q ≡ differs_from name own q) → found ≡ places_where t all
-      → (if b then unit key place ∷ [] else []) ++ map (pair key place) (filter (λ m. nat_lt place m) found) ≡ differing_at all number name place
-  differing_by key b t found key_is many same is =
+  differing_by : (b : Bool) (t : Placed → Bool) (found : List ℕ) → are_many own ≡ b → ((q : Placed) → t q ≡ differs_from name own q) → found ≡ places_where t all
+      → (if b then unit key place ∷ [] else []) ++ map (pair key place) (filter (λ m. nat_lt place m) found) ≡ keyed key (differing_at all name place)
+  differing_by b t found many same is =
       let later : filter (λ m. nat_lt place m) found ≡ places_where (λ q. nat_lt place q.0 && differs_from name own q) all = ap (filter (λ (m : ℕ). nat_lt place m)) is ∙ later_where place t (differs_from name own) same all in
-      (λ i. (if sym many i then unit (key_is i) place ∷ [] else []) ++ map (pair (key_is i) place) (later i))
+      (λ i. (if b then unit key place ∷ [] else []) ++ map (pair key place) (later i))
+      ∙ by b (places_where (λ q. nat_lt place q.0 && differs_from name own q) all)
+      ∙ (λ i. keyed key ((if sym many i then (is_out place ∷ []) ∷ [] else []) ++ map (λ n. is_out place ∷ is_out n ∷ []) (places_where (λ q. nat_lt place q.0 && differs_from name own q) all)))
+    where
+      by : (b : Bool) (ns : List ℕ) → (if b then unit key place ∷ [] else []) ++ map (pair key place) ns ≡ keyed key ((if b then (is_out place ∷ []) ∷ [] else []) ++ map (λ n. is_out place ∷ is_out n ∷ []) ns)
+      by true ns = ap (λ (ks : List Keyed). unit key place ∷ ks) (sym (map-map (λ (clause : List Literal). (key, clause)) (λ n. is_out place ∷ is_out n ∷ []) ns))
+      by false ns = sym (map-map (λ (clause : List Literal). (key, clause)) (λ n. is_out place ∷ is_out n ∷ []) ns)
 
-  module _ (key : PlainKey) (key_is : key ≡ request_key rule.Upgrade number (Some Many)) (n : ℕ) (among : Contains own n) (found : List ℕ) where
+  module _ (n : ℕ) (among : Contains own n) (found : List ℕ) where
     -- the package gives several numbers
     pub several_at : has (places_where (gives_number name (Some (Neq, n))) all) place ≡ true → found ≡ places_where (gives_number name None) all
-        → unit key place ∷ map (pair key place) (filter (λ m. nat_lt place m) found) ≡ differing_at all number name place
+        → unit key place ∷ map (pair key place) (filter (λ m. nat_lt place m) found) ≡ keyed key (differing_at all name place)
     several_at there is =
         let more = sym (other_found name place n all) ∙ there in
-        differing_by key true (gives_number name None) found key_is (many_by n own among ∙ more) (several_differ n own among more name) is
+        differing_by true (gives_number name None) found (many_by n own among ∙ more) (several_differ n own among more name) is
 
     -- it gives one
     pub single_at : has (places_where (gives_number name (Some (Neq, n))) all) place ≡ false → found ≡ places_where (gives_number name (Some (Neq, n))) all
-        → map (pair key place) (filter (λ m. nat_lt place m) found) ≡ differing_at all number name place
+        → map (pair key place) (filter (λ m. nat_lt place m) found) ≡ keyed key (differing_at all name place)
     single_at absent is =
         let none = sym (other_found name place n all) ∙ absent in
-        differing_by key false (gives_number name (Some (Neq, n))) found key_is (many_by n own among ∙ none) (one_differs n own among none name) is
+        differing_by false (gives_number name (Some (Neq, n))) found (many_by n own among ∙ none) (one_differs n own among none name) is
 
   -- it gives none
-  pub silent_at : own ≡ [] → [] ≡ differing_at all number name place
+  pub silent_at : own ≡ [] → [] ≡ keyed key (differing_at all name place)
   silent_at empty =
-      let key = request_key rule.Upgrade number (Some Many) in
       let none = none_kept (λ (q : Placed). nat_lt place q.0 && differs_from name [] q) (λ q. and-false (nat_lt place q.0)) all in
-      (λ i. map (pair key place) (map (λ (q : Placed). q.0) (sym none i)))
-      ∙ (λ i. (if are_many (sym empty i) then unit key place ∷ [] else []) ++ map (pair key place) (places_where (λ q. nat_lt place q.0 && differs_from name (sym empty i) q) all))
+      (λ i. keyed key (map (λ n. is_out place ∷ is_out n ∷ []) (map (λ (q : Placed). q.0) (sym none i))))
+      ∙ (λ i. keyed key ((if are_many (sym empty i) then (is_out place ∷ []) ∷ [] else []) ++ map (λ n. is_out place ∷ is_out n ∷ []) (places_where (λ q. nat_lt place q.0 && differs_from name (sym empty i) q) all)))

@@ -1,17 +1,19 @@
 -- Places of packages, as numbers and as literals.
-use Rattle.std.proofs.Common.{◌≡◌, ℕ, zero, suc, ◌==◌, Bool, true, false, not, ◌&&◌, List, [], ◌∷◌, ◌++◌, map, filter, refl, sym, subst, ap, ◌∙◌, arith, if◌then◌else◌}
+use Rattle.std.proofs.Common.{◌≡◌, ℕ, zero, suc, ◌==◌, Bool, true, false, not, ◌&&◌, List, [], ◌∷◌, ◌++◌, map, filter, Option, None, refl, sym, subst, ap, ◌∙◌, arith, if◌then◌else◌}
 use Rattle.std.specs.Prelude.{All, Result, Ok, Err, OnOk}
+use Rattle.std.proofs.lemmas.List.{append-nil}
 use Rattle.std.proofs.lemmas.List.Elements.{All-append, All-cons, All-filter, All-map, All-nil, All-weaker, filter_agree}
+use Rattle.cudf_problem.specs.Ids.{Id}
 use Rattle.cudf_index.specs.Satisfaction.{Placed, without, meets_clause_alone}
 use Rattle.cudf_value.specs.Formulas.{PlainAtom}
-use Rattle.cudf_job.specs.declared.key.Rule.TheVariants as rule
-use Rattle.cudf_job.specs.Keys.{PlainKey, package_key}
+use Rattle.cudf_job.specs.Keys.{PlainKey}
 use Rattle.cudf_lrat.specs.declared.cnf.Literal.{Literal}
 use Rattle.cudf_lrat.specs.Literals.{IsWithin}
-use Rattle.cudf_referee.proofs.ListLemmas.{filter-both, filter-map}
+use Rattle.cudf_referee.specs.Proposals.{holds_place}
+use Rattle.cudf_referee.proofs.ListLemmas.{filter-both, filter-map, none_kept}
 use Rattle.cudf_index.specs.Promises.Places.{places_where}
-use Rattle.cudf_cnf.specs.Cnf.{Keyed, conjunct_clauses, is_in, is_out, one_of}
-use Rattle.cudf_cnf.specs.Working.Parts.{ArePlaces, Fits, IsPlace}
+use Rattle.cudf_cnf.specs.Cnf.{Keyed, is_in, is_out, is_subject, needs_clauses, none_of, one_of}
+use Rattle.cudf_cnf.specs.Working.Parts.{ArePlaces, Fits, IsPlace, keyed}
 use Rattle.cudf_cnf.proofs.TestLemmas.{and-swap}
 
 -- ---- what was put
@@ -53,6 +55,9 @@ out_within places n p = (p.from_one, p.within)
 pub one_out : (places n : ℕ) → IsPlace places n → All (IsWithin places) (is_out n ∷ [])
 one_out places n p = All-cons (IsWithin places) (is_out n) [] (out_within places n p) (All-nil (IsWithin places))
 
+pub one_in : (places n : ℕ) → IsPlace places n → All (IsWithin places) (is_in n ∷ [])
+one_in places n p = All-cons (IsWithin places) (is_in n) [] (in_within places n p) (All-nil (IsWithin places))
+
 -- literals to which places were added
 pub places_added : (places : ℕ) (literals more : List Literal) (ns : List ℕ) → All (IsWithin places) literals → ArePlaces places ns → more ≡ literals ++ map is_in ns → All (IsWithin places) more
 places_added places literals more ns own fit is =
@@ -72,14 +77,18 @@ one_put r new old key key' l l' key_is is = put_as r new old ((key, l) ∷ []) (
 
 -- ---- each rule
 
--- a conjunct that the package itself doesn't satisfy
-pub conjunct_put : (all : List Placed) (p : Placed) (n : ℕ) (clause : List PlainAtom) → meets_clause_alone clause p ≡ false
-    → (package_key p.0 rule.Depends n, is_out p.0 ∷ one_of (meets_clause_alone clause) all) ∷ [] ≡ conjunct_clauses all p n clause
-conjunct_put all p n clause alone = (λ i. if sym alone i then [] else (package_key p.0 rule.Depends n, is_out p.0 ∷ one_of (meets_clause_alone clause) all) ∷ [])
+-- a conjunct that the package itself satisfies
+pub needs_met : (key : PlainKey) (all : List Placed) (own place : ℕ) (clause : List PlainAtom) (is : Bool) (old : List Keyed) → is ≡ true → is ≡ holds_place (filter (meets_clause_alone clause) all) own → own ≡ place
+    → old ≡ old ++ keyed key (needs_clauses all place clause)
+needs_met key all own place clause is old e found same =
+    sym (append-nil old)
+    ∙ (λ i. old ++ keyed key (if (sym e ∙ found ∙ ap (holds_place (filter (meets_clause_alone clause) all)) same) i then [] else (is_out place ∷ one_of (meets_clause_alone clause) all) ∷ []))
 
--- and one that it does
-pub conjunct_met : (all : List Placed) (p : Placed) (n : ℕ) (clause : List PlainAtom) → meets_clause_alone clause p ≡ true → [] ≡ conjunct_clauses all p n clause
-conjunct_met all p n clause alone = (λ i. if sym alone i then [] else (package_key p.0 rule.Depends n, is_out p.0 ∷ one_of (meets_clause_alone clause) all) ∷ [])
+-- and one that it doesn't
+pub needs_put : (key : PlainKey) (all : List Placed) (own place : ℕ) (clause : List PlainAtom) (is : Bool) → is ≡ false → is ≡ holds_place (filter (meets_clause_alone clause) all) own → own ≡ place
+    → (key, is_out place ∷ one_of (meets_clause_alone clause) all) ∷ [] ≡ keyed key (needs_clauses all place clause)
+needs_put key all own place clause is e found same =
+    (λ i. keyed key (if (sym e ∙ found ∙ ap (holds_place (filter (meets_clause_alone clause) all)) same) i then [] else (is_out place ∷ one_of (meets_clause_alone clause) all) ∷ []))
 
 -- clauses that rule one package out, and two
 abbrev pub unit : PlainKey → ℕ → Keyed
@@ -88,11 +97,21 @@ unit key n = (key, is_out n ∷ [])
 abbrev pub pair : PlainKey → ℕ → ℕ → Keyed
 pair key m n = (key, is_out m ∷ is_out n ∷ [])
 
-pub units_where : (key : PlainKey) (test : Placed → Bool) (all : List Placed) → map (unit key) (places_where test all) ≡ map (λ q. unit key q.0) (filter test all)
-units_where key test all = map-map (unit key) (λ (q : Placed). q.0) (filter test all)
+pub units_where : (key : PlainKey) (test : Placed → Bool) (all : List Placed) → map (unit key) (places_where test all) ≡ keyed key (none_of [] test all)
+units_where key test all =
+    map-map (unit key) (λ (q : Placed). q.0) (filter test all) ∙ sym (map-map (λ (clause : List Literal). (key, clause)) (λ (q : Placed). is_out q.0 ∷ []) (filter test all))
 
-pub pairs_where : (key : PlainKey) (place : ℕ) (test : Placed → Bool) (all : List Placed) → map (pair key place) (places_where test all) ≡ map (λ q. pair key place q.0) (filter test all)
-pairs_where key place test all = map-map (pair key place) (λ (q : Placed). q.0) (filter test all)
+pub pairs_where : (key : PlainKey) (place : ℕ) (test : Placed → Bool) (all : List Placed) → map (pair key place) (places_where test all) ≡ keyed key (none_of (is_out place ∷ []) test all)
+pairs_where key place test all =
+    map-map (pair key place) (λ (q : Placed). q.0) (filter test all) ∙ sym (map-map (λ (clause : List Literal). (key, clause)) (λ (q : Placed). is_out place ∷ is_out q.0 ∷ []) (filter test all))
+
+-- no package has the name of no subject
+pub no_subject : (key : PlainKey) (all : List Placed) (subject : Option Id) (old new : List Keyed) → subject ≡ None → new ≡ old ++ (key, []) ∷ [] → new ≡ old ++ (key, one_of (is_subject subject) all) ∷ []
+no_subject key all subject old new is put =
+    put ∙ ap (λ (ls : List Literal). let c : Keyed = (key, ls) in old ++ c ∷ []) (sym (ap (λ (s : Option Id). one_of (is_subject s) all) is ∙ nobody))
+  where
+    nobody : one_of (is_subject None) all ≡ []
+    nobody = ap (map (λ (q : Placed). is_in q.0)) (none_kept (is_subject None) (λ q. refl) all)
 
 filter-swap : {A : Type 0} (p q : A → Bool) (xs : List A) → filter p (filter q xs) ≡ filter q (filter p xs)
 filter-swap p q xs = sym (filter-both q p xs) ∙ filter_agree (λ x. q x && p x) (λ x. p x && q x) (λ x. and-swap (q x) (p x)) xs ∙ filter-both p q xs

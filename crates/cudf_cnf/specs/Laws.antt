@@ -1,29 +1,25 @@
 -- What the CNF of a problem says of its solutions: own.
-use Rattle.std.specs.Prelude.{◌≡◌, ◌↔◌, ◌-◌, ℕ, Bool, false, not, ◌&&◌, List, [], map, filter, Contains, IsTrue, Some, slice_get}
+use Rattle.std.specs.Prelude.{◌≡◌, ◌-◌, ℕ, Bool, false, not, ◌&&◌, List, [], filter, map, Contains, IsTrue, Some, slice_get}
 use Rattle.std.specs.List.{list_all}
 use Rattle.cudf_problem.specs.Documents.{is_empty}
 use Rattle.cudf_problem.specs.Statuses.{PlainUnknown, is_initial}
 use Rattle.cudf_problem.specs.Universe.{PlainProblem}
-use Rattle.cudf_job.specs.Keys.{PlainKey, never_descend}
+use Rattle.cudf_job.specs.Keys.{never_descend}
 use Rattle.cudf_lrat.specs.Literals.{IsCore, is_satisfied_by}
 use Rattle.cudf_referee.specs.Instances.{PlainInstance}
 use Rattle.cudf_referee.specs.Proposals.{Proposal, proposal}
 use Rattle.cudf_referee.specs.Solutions.{is_solution}
-use Rattle.cudf_referee.specs.Violations.{listing}
-use Rattle.cudf_cnf.specs.Cnf.{Keyed, clauses_of, cnf}
+use Rattle.cudf_referee.specs.Violations.{listing, problem_instances}
+use Rattle.cudf_cnf.specs.Cnf.{Keyed, clauses_of, cnf, instance_clauses}
 
 -- an assignment of truth to places is a status: its true places are the installed packages
 abbrev pub proposed : PlainProblem → (ℕ → Bool) → List PlainUnknown → Proposal
 proposed problem is_installed unknown = proposal problem (is_initial problem) is_installed unknown
 
--- the keys of the clauses that a status doesn't satisfy
-abbrev pub falsified : (ℕ → Bool) → List Keyed → List PlainKey
-falsified is_installed clauses = map (λ c. c.0) (filter (λ c. not (is_satisfied_by is_installed c.1)) clauses)
-
--- a status doesn't satisfy a clause of a key exactly where the instance of this key is violated
+-- the instances that a status violates are those of the problem whose clauses it doesn't all satisfy
 abbrev pub FalsifiedIsViolated : Type 0
-FalsifiedIsViolated = (problem : PlainProblem) (is_installed : ℕ → Bool) (key : PlainKey)
-    → Contains (falsified is_installed (cnf problem)) key ↔ Contains (map (λ i. i.key) (listing (proposed problem is_installed []))) key
+FalsifiedIsViolated = (problem : PlainProblem) (is_installed : ℕ → Bool)
+    → listing (proposed problem is_installed []) ≡ filter (λ i. not (list_all (is_satisfied_by is_installed) (instance_clauses problem i))) (problem_instances problem)
 
 -- a proposal is a solution exactly where it has no unknown stanza and satisfies each clause
 abbrev pub SolutionSatisfies : Type 0

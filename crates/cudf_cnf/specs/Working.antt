@@ -1,3 +1,2 @@
-pub mod Known
 pub mod Parts
-pub mod Views
+pub mod Collecting

@@ -30,7 +30,7 @@ impl KeyedClauses {
     ghost use Rattle.cudf_cnf.specs.Cnf.{clauses_of};
 
     /// Without clauses, over the places from 1 to `places`. Takes no memory.
-    pub fn new(alloc: Global, places: u32) -> Self
+    pub(crate) fn new(alloc: Global, places: u32) -> Self
         ensures { result ≡ record { places = places; clauses = [] } }
     {
         KeyedClauses {
@@ -40,7 +40,7 @@ impl KeyedClauses {
     }
 
     /// Takes all clauses out, and keeps the memory.
-    pub fn clear(&mut self)
+    pub(crate) fn clear(&mut self)
         ensures { self.new ≡ record { places = self.old.places; clauses = [] } }
     {
         self.cnf.clear();

@@ -1,104 +1,161 @@
-//! The CNF of a problem, put out in pieces.
-ghost use Rattle.std.specs.Prelude.{◌≡◌, IfOk};
+//! The clauses of the instances of a problem.
+ghost use Rattle.std.specs.Prelude.{◌≡◌, ◌-◌, ◌<◌, ◌^◌, ◌++◌, ℕ, IfOk, List, MatchOption, OnOk, Option, Some, false, length, slice_get};
 ghost use Rattle.std.specs.List.{enumerate_from};
+ghost use Rattle.cudf_value.specs.Promises.Views.{vpkg_view};
+ghost use Rattle.cudf_problem.specs.Statuses.{is_initial};
+ghost use Rattle.cudf_index.specs.Satisfaction.{members};
+ghost use Rattle.cudf_job.specs.declared.key.Aspect.TheVariants.{Many};
+ghost use Rattle.cudf_job.specs.KeyViews.{key_view};
+ghost use Rattle.cudf_referee.specs.Instances.{upgrade};
+ghost use Rattle.cudf_referee.specs.Promises.Views.{instance_view};
+ghost use Rattle.cudf_referee.specs.Promises.Where.{IsWhere};
+ghost use Rattle.cudf_cnf.specs.Cnf.{Keyed, keyed_clauses, upgrade_clauses};
+ghost use Rattle.cudf_cnf.specs.Working.Collecting.{Outcome, Received, SameFrame};
+ghost use Rattle.cudf_cnf.specs.Working.Parts.{AreBefore, Fits, is_many, is_many_what, keyed};
 
 use crate::clauses::KeyedClauses;
-use crate::numbered::Numbered;
-use crate::packages::next_package;
-use crate::put::Scratch;
-use crate::request::{next_install, next_removal};
-use crate::upgrades::Upgrades;
+use crate::collector::Collector;
+use crate::many::put_many;
+use crate::put::{Scratch, is_in};
+use crate::rules::{
+    place_of, put_conflict, put_lower, put_meeting, put_named, put_needs, put_removal,
+};
 use cudf_index::Index;
+use cudf_job::{Aspect, Key};
 use cudf_problem::{Problem, Status};
+use cudf_referee::{Instance, What, greatest_before};
+use cudf_value::Vpkg;
 use std::alloc::{AllocError, Global};
-use std::marker::Model;
 
-/// The CNF of a problem, put out in pieces in key order: the clauses of one package, those of one entry of the request,
-/// or of an entry of `upgrade` those of one package that gives its name (own).
-///
-/// Contracts see the clauses that are left to put out, over the places of the problem's packages.
+/// What is known of a problem to make the clauses of its instances.
 #[derive(Drop)]
-pub struct Encoder<'p, 't> {
-    problem: &'p Problem<'t>,
+pub(crate) struct Encoder<'p, 't> {
+    pub(crate) problem: &'p Problem<'t>,
     /// All packages, installed or not.
     all: Index<'p, 't>,
-    /// The index of the next package.
-    next: usize,
-    install: Numbered<'t>,
-    remove: Numbered<'t>,
-    upgrade: Upgrades<'t>,
-    scratch: Scratch,
-}
-
-impl<'p, 't> Model for Encoder<'p, 't> {
-    ghost use Rattle.std.specs.Prelude.{◌≡◌, ◌<◌, ◌^◌, ◌++◌, length};
-    ghost use Rattle.std.specs.List.{enumerate_from};
-    ghost use Rattle.cudf_cnf.specs.Encodings.{PlainEncoder};
-    ghost use Rattle.cudf_cnf.specs.Working.Parts.{AreHeld};
-    ghost use Rattle.cudf_cnf.specs.Working.Views.{packages_left, install_left, remove_left, upgrade_left};
-
-    ghost Value = { PlainEncoder };
-
-    ghost view = { λ e. record {
-      places = length e.problem.now.packages;
-      left = packages_left e.all e.next ++ install_left e.all e.install ++ remove_left e.all e.remove ++ upgrade_left e.all e.upgrade;
-    } };
-
-    ghost invariant = { λ e. (e.all ≡ enumerate_from 1 e.problem.now.packages) × (length e.problem.now.packages < 2 ^ 32) × AreHeld e.all e.upgrade.givers.items };
+    /// For each entry of `upgrade`, the greatest number of its name before.
+    before: Vec<Option<u64>>,
+    ghost every: { all ≡ enumerate_from 1 problem.now.packages },
+    ghost few: { length problem.now.packages < 2 ^ 32 },
 }
 
 impl<'p, 't> Encoder<'p, 't> {
-    ghost use Rattle.std.specs.Prelude.{◌<◌, ◌≤◌, ◌^◌, ◌++◌, OnOk, length};
-    ghost use Rattle.cudf_cnf.specs.Cnf.{cnf};
-    ghost use Rattle.cudf_cnf.specs.Encodings.{Tells};
-
-    /// The whole CNF of the problem, of which nothing is put out yet.
+    /// Of a problem.
     ///
     /// # Errors
     ///
     /// `AllocError` where memory for what is looked up is refused.
-    pub fn new(alloc: Global, problem: &'p Problem<'t>) -> Result<Self, AllocError>
+    pub(crate) fn new(alloc: Global, problem: &'p Problem<'t>) -> Result<Self, AllocError>
         requires { length problem.now.packages < 2 ^ 32 }
-        ensures { IfOk result (λ encoder. encoder ≡ record { places = length problem.now.packages; left = cnf problem.now }) }
+        ensures problem { IfOk result (λ encoder. encoder.problem.now ≡ problem.now) }
+        ensures before { IfOk result (λ encoder. AreBefore problem.now encoder.before.items) }
     {
-        let all = all_of(alloc, problem)?;
-        let upgrade = Upgrades::of(alloc, problem, &all)?;
-        let request = problem.request();
         Ok(Encoder {
             problem,
-            all,
-            next: 0,
-            install: Numbered::of(request.install),
-            remove: Numbered::of(request.remove),
-            upgrade,
-            scratch: Scratch::new(alloc),
+            all: all_of(alloc, problem)?,
+            before: greatest_before(alloc, problem)?,
         })
     }
 
-    /// Puts the next piece that has a clause after the clauses that are held: `true`. Where no clause is left it answers
-    /// `false`, and changes nothing.
-    ///
-    /// # Errors
-    ///
-    /// `AllocError` where memory is refused. What was put and what is left aren't reported then, so neither is of use.
-    pub fn next(&mut self, clauses: &mut KeyedClauses) -> Result<bool, AllocError>
-        requires { self.old.places ≤ clauses.old.places }
-        ensures put { OnOk result (clauses.new.clauses ++ self.new.left ≡ clauses.old.clauses ++ self.old.left) }
-        ensures tells { IfOk result (λ more. Tells more self.old clauses.old clauses.new) }
-        ensures over { self.new.places ≡ self.old.places }
-        ensures held { clauses.new.places ≡ clauses.old.places }
+    /// The greatest number that was given before of the name of an entry of `upgrade`, by its number from 1.
+    fn greatest(&self, number: u64) -> Option<u64>
+        requires { 0 < number }
+        ensures { (kept : Option ℕ) → slice_get self.now.before.items (number - 1) ≡ Some kept → result ≡ kept }
     {
-        let scratch = &mut self.scratch;
-        if next_package(self.problem, &self.all, &mut self.next, scratch, clauses)? {
-            return Ok(true);
+        *self.before.get(number as usize - 1)?
+    }
+
+    /// Puts the clauses of an instance that is an entry of `upgrade`, but for those of `many`.
+    fn put_upgrade(
+        &self,
+        key: Key,
+        vpkg: &Vpkg<'_>,
+        scratch: &mut Scratch,
+        clauses: &mut KeyedClauses,
+    ) -> Result<(), AllocError>
+        requires fits { Fits clauses.old.places self.now.all }
+        requires before { AreBefore self.now.problem.now self.now.before.items }
+        requires at { slice_get self.now.problem.now.request.upgrade ((key_view key).place - 1) ≡ Some (vpkg_view vpkg.now) }
+        requires other { is_many_what (upgrade (vpkg_view vpkg.now)) (key_view key).aspect ≡ false }
+        ensures put { OnOk result (clauses.new.clauses ≡ clauses.old.clauses
+            ++ keyed (key_view key) (upgrade_clauses self.now.all (members (is_initial self.now.problem.now) self.now.problem.now.packages) (vpkg_view vpkg.now) (key_view key).aspect)) }
+        ensures places { clauses.new.places ≡ clauses.old.places }
+    {
+        match key.aspect() {
+            None => Ok(()),
+            Some(Aspect::Unsatisfied) => put_meeting(&self.all, key, vpkg, scratch, clauses),
+            Some(Aspect::Many) => Ok(()),
+            Some(Aspect::Lower) => {
+                let greatest = self.greatest(key.place());
+                put_lower(&self.all, key, vpkg.name, greatest, scratch, clauses)
+            }
         }
-        if next_install(&self.all, &mut self.install, scratch, clauses)? {
-            return Ok(true);
+    }
+
+    /// Puts the clauses of an instance other than `many`.
+    fn put_other(
+        &self,
+        instance: &Instance<'_>,
+        scratch: &mut Scratch,
+        clauses: &mut KeyedClauses,
+    ) -> Result<(), AllocError>
+        requires fits { Fits clauses.old.places self.now.all }
+        requires before { AreBefore self.now.problem.now self.now.before.items }
+        requires places { clauses.old.places ≡ length self.now.problem.now.packages }
+        requires at { IsWhere self.now.problem.now (instance_view instance.now) }
+        requires other { is_many (instance_view instance.now) ≡ false }
+        ensures put { OnOk result (clauses.new.clauses ≡ clauses.old.clauses ++ keyed_clauses self.now.problem.now (instance_view instance.now)) }
+        ensures places { clauses.new.places ≡ clauses.old.places }
+    {
+        let all = &self.all;
+        let key = instance.key;
+        match instance.what {
+            What::Needs(clause) => put_needs(all, key, &clause, scratch, clauses),
+            What::ConflictsWith(vpkg) => put_conflict(all, key, &vpkg, scratch, clauses),
+            What::KeepVersion => clauses.push(key, &[is_in(place_of(key))]),
+            What::KeepPackage => put_named(all, key, instance.subject, scratch, clauses),
+            What::KeepFeature(vpkg) => put_meeting(all, key, &vpkg, scratch, clauses),
+            What::Install(vpkg) => put_meeting(all, key, &vpkg, scratch, clauses),
+            What::Remove(vpkg) => put_removal(all, key, &vpkg, scratch, clauses),
+            What::Upgrade(vpkg) => self.put_upgrade(key, &vpkg, scratch, clauses),
+            What::Unknown => clauses.push(key, &[]),
         }
-        if next_removal(&self.all, &mut self.remove, scratch, clauses)? {
-            return Ok(true);
+    }
+
+    /// Puts the clauses of an instance, as long as there is room: whether it was for all.
+    pub(crate) fn put(
+        &self,
+        alloc: Global,
+        instance: &Instance<'_>,
+        to: &mut Collector,
+    ) -> Result<bool, AllocError>
+        requires places { to.old.clauses.places ≡ length self.now.problem.now.packages }
+        requires before { AreBefore self.now.problem.now self.now.before.items }
+        requires at { IsWhere self.now.problem.now (instance_view instance.now) }
+        ensures outcome { (xs : List Keyed) → Received xs to.old → IfOk result (λ all_put. Outcome all_put (xs ++ keyed_clauses self.now.problem.now (instance_view instance.now)) to.new) }
+        ensures same { SameFrame to.old to.new }
+    {
+        if let Some(vpkg) = many_of(instance) {
+            return put_many(alloc, &self.all, instance.key, vpkg.name, to);
         }
-        self.upgrade.next(&self.all, scratch, clauses)
+        self.put_other(instance, &mut to.scratch, &mut to.clauses)?;
+        Ok(to.settle())
+    }
+}
+
+/// The entry of `upgrade` that the instance is `many` of, if it is one.
+fn many_of<'t>(instance: &Instance<'t>) -> Option<Vpkg<'t>>
+    ensures { MatchOption result (is_many (instance_view instance.now) ≡ false)
+        (λ v. ((instance_view instance.now).what ≡ upgrade (vpkg_view v)) × ((instance_view instance.now).key.aspect ≡ Some Many)) }
+{
+    let What::Upgrade(vpkg) = instance.what else {
+        return None;
+    };
+    match instance.key.aspect() {
+        None => None,
+        Some(Aspect::Unsatisfied) => None,
+        Some(Aspect::Many) => Some(vpkg),
+        Some(Aspect::Lower) => None,
     }
 }
 

@@ -1,7 +1,7 @@
 //! What follows from the definitions alone.
 ghost use Rattle.cudf_cnf.specs.Laws.{FalsifiedIsViolated, SolutionSatisfies, RefutedAreViolated, RefutedHasNone, KeysNeverDescend};
 
-/// A status doesn't satisfy a clause of a key exactly where the instance of this key is violated.
+/// A status doesn't satisfy all clauses of an instance exactly where it violates the instance.
 pub fn violated()
     ensures { FalsifiedIsViolated }
 {}

@@ -3,13 +3,13 @@
 #![tactic(auto)]
 
 mod clauses;
+mod collector;
 mod encoder;
+mod encoding;
 pub mod laws;
-mod numbered;
-mod packages;
+mod many;
 mod put;
-mod request;
-mod upgrades;
+mod rules;
 
 pub use clauses::KeyedClauses;
-pub use encoder::Encoder;
+pub use encoding::encoded;

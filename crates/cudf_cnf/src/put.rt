@@ -2,16 +2,12 @@
 ghost use Rattle.std.specs.Prelude.{◌≡◌, ◌<◌, ◌^◌, ◌++◌, ◌∷◌, [], All, OnOk, map};
 ghost use Rattle.cudf_job.specs.KeyViews.{key_view};
 ghost use Rattle.cudf_lrat.specs.Literals.{IsWithin};
-ghost use Rattle.cudf_value.specs.Promises.Views.{vpkg_view};
-ghost use Rattle.cudf_index.specs.Satisfaction.{meets_alone};
-ghost use Rattle.cudf_cnf.specs.Cnf.{is_in, is_out, one_of};
-ghost use Rattle.cudf_cnf.specs.Working.Parts.{ArePlaces, Fits};
+ghost use Rattle.cudf_cnf.specs.Cnf.{is_in, is_out};
+ghost use Rattle.cudf_cnf.specs.Working.Parts.{ArePlaces};
 
 use crate::clauses::KeyedClauses;
-use cudf_index::Index;
 use cudf_job::Key;
 use cudf_lrat::Literal;
-use cudf_value::Vpkg;
 use std::alloc::{AllocError, Global};
 
 /// Room for the places and the literals of one clause, used again for each.
@@ -112,21 +108,4 @@ pub(crate) fn put_pairs_out(
         clauses.push(key, &[is_out(first), is_out(*place)])?;
     }
     Ok(())
-}
-
-/// Puts the clause that one of the packages is installed that alone satisfy the vpkg.
-pub(crate) fn put_meeting(
-    all: &Index<'_, '_>,
-    key: Key,
-    vpkg: &Vpkg<'_>,
-    scratch: &mut Scratch,
-    clauses: &mut KeyedClauses,
-) -> Result<(), AllocError>
-    requires { Fits clauses.old.places all.now }
-    ensures put { OnOk result (clauses.new.clauses ≡ clauses.old.clauses ++ (key_view key, one_of (meets_alone (vpkg_view vpkg.now)) all.now) ∷ []) }
-    ensures places { clauses.new.places ≡ clauses.old.places }
-{
-    all.all_meeting(vpkg, &mut scratch.places)?;
-    scratch.literals.clear();
-    put_one_of(clauses, key, &mut scratch.literals, &scratch.places)
 }

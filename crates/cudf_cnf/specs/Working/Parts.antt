@@ -1,18 +1,19 @@
 -- Clauses as the code puts them: by places, and by the greatest number before.
-use Rattle.std.specs.Prelude.{◌≡◌, ◌<◌, ◌≤◌, ◌^◌, ℕ, Bool, not, ◌&&◌, ◌==◌, nat_lt, List, [], ◌∷◌, ◌++◌, map, All, IsTrue, Option, Some, None, if◌then◌else◌}
-use Rattle.std.specs.List.{flat_map, list_any}
+use Rattle.std.specs.Prelude.{◌≡◌, ◌<◌, ◌≤◌, ◌^◌, ℕ, Bool, true, false, not, ◌&&◌, ◌==◌, nat_lt, List, [], ◌∷◌, ◌++◌, map, All, Option, Some, None, if◌then◌else◌}
+use Rattle.std.specs.List.{list_any}
 use Rattle.cudf_value.specs.declared.relop.Relop.TheVariants.{Lt}
-use Rattle.cudf_value.specs.Vpkgs.{PlainVpkg}
+use Rattle.cudf_problem.specs.Statuses.{is_initial}
+use Rattle.cudf_problem.specs.Universe.{PlainProblem}
 use Rattle.cudf_index.specs.Promises.Places.{at, gives_number, numbers_at, places_where}
-use Rattle.cudf_index.specs.Satisfaction.{Placed, meets_alone, numbers_of}
-use Rattle.cudf_referee.specs.Proposals.{holds_place}
+use Rattle.cudf_index.specs.Satisfaction.{Placed, members, numbers_of}
+use Rattle.cudf_job.specs.declared.key.Aspect.{Aspect}
+use Rattle.cudf_job.specs.declared.key.Aspect.TheVariants.{Many}
+use Rattle.cudf_job.specs.Keys.{PlainKey}
+use Rattle.cudf_lrat.specs.declared.cnf.Literal.{Literal}
+use Rattle.cudf_referee.specs.Instances.{PlainInstance, PlainWhat, upgrade}
+use Rattle.cudf_referee.specs.Promises.Before.{AreGreatest}
 use Rattle.cudf_referee.specs.Violations.{are_many}
-use Rattle.cudf_job.specs.declared.key.Rule.TheVariants as rule
-use Rattle.cudf_job.specs.declared.key.Aspect.TheVariants.{Unsatisfied, Many, Lower}
-use Rattle.cudf_job.specs.Keys.{request_key}
-use Rattle.cudf_cnf.specs.declared.upgrades.known.Known.{Known}
-use Rattle.cudf_cnf.specs.Cnf.{Keyed, conflict_clauses, conjunct_clauses, for_each, is_out, keep_clauses, one_of}
-use Rattle.cudf_cnf.specs.Working.Known.{known_at}
+use Rattle.cudf_cnf.specs.Cnf.{Keyed, is_out, none_of}
 
 -- ---- places
 
@@ -33,46 +34,41 @@ Fits places all = ArePlaces places (map (λ q. q.0) all)
 abbrev pub IsAt : List Placed → Placed → Type 0
 IsAt all p = at p.0 all ≡ p ∷ []
 
--- the numbers are places of packages
-abbrev pub AreHeld : List Placed → List ℕ → Type 0
-AreHeld all numbers = All (λ n. IsTrue (holds_place all n)) numbers
+-- ---- instances
 
--- ---- packages
+-- it is `many` of an entry of `upgrade`, the one kind that may have far more clauses than there are packages
+abbrev pub is_many_what : PlainWhat → Option Aspect → Bool
+is_many_what (upgrade v) (Some Many) = true
+is_many_what what aspect = false
 
--- those of one package, by its own `installed`
-abbrev pub own_clauses : List Placed → Placed → List Keyed
-own_clauses all (place, p) =
-    for_each (conjunct_clauses all (place, p)) p.depends
-    ++ for_each (conflict_clauses all place) p.conflicts
-    ++ (if p.installed then keep_clauses all p.keep (place, p) else [])
+abbrev pub is_many : PlainInstance → Bool
+is_many i = is_many_what i.what i.key.aspect
 
--- ---- the request
+-- ---- clauses
 
--- what is made of numbered entries
-abbrev pub for_numbered : (ℕ → PlainVpkg → List Keyed) → List (ℕ × PlainVpkg) → List Keyed
-for_numbered make entries = flat_map (λ e. make e.0 e.1) entries
+-- clauses, each beside this key
+abbrev pub keyed : PlainKey → List (List Literal) → List Keyed
+keyed key clauses = map (λ clause. (key, clause)) clauses
 
 -- the package gives another number of the name than one of these
 abbrev pub differs_from : List ℕ → List ℕ → Placed → Bool
 differs_from name numbers q = list_any (λ m. list_any (λ n. not (m == n)) (numbers_of name (q ∷ []))) numbers
 
 -- upgrade, many: those of the package at a place
-abbrev pub differing_at : List Placed → ℕ → List ℕ → ℕ → List Keyed
-differing_at all number name place =
-    (if are_many (numbers_at name place all) then (request_key rule.Upgrade number (Some Many), is_out place ∷ []) ∷ [] else [])
-    ++ map (λ n. (request_key rule.Upgrade number (Some Many), is_out place ∷ is_out n ∷ [])) (places_where (λ q. nat_lt place q.0 && differs_from name (numbers_at name place all) q) all)
-
--- upgrade, lower: by the greatest number before, if there was one
-abbrev pub lower_by : List Placed → ℕ → List ℕ → Option ℕ → List Keyed
-lower_by all number name None = []
-lower_by all number name (Some least) = map (λ n. (request_key rule.Upgrade number (Some Lower), is_out n ∷ [])) (places_where (gives_number name (Some (Lt, least))) all)
+abbrev pub differing_at : List Placed → List ℕ → ℕ → List (List Literal)
+differing_at all name place =
+    (if are_many (numbers_at name place all) then (is_out place ∷ []) ∷ [] else [])
+    ++ map (λ n. is_out place ∷ is_out n ∷ []) (places_where (λ q. nat_lt place q.0 && differs_from name (numbers_at name place all) q) all)
 
 -- the packages that give a number of the name, where some differ
-abbrev pub givers_of : List Placed → List ℕ → Bool → List ℕ
-givers_of all name several = if several then places_where (gives_number name None) all else []
+abbrev pub givers_of : List Placed → List ℕ → List ℕ
+givers_of all name = if are_many (numbers_of name all) then places_where (gives_number name None) all else []
 
--- the clauses of an entry, by what is known of its name
-abbrev pub entry_by : List Placed → List Known → ℕ → PlainVpkg → List Keyed
-entry_by all known number v =
-    (request_key rule.Upgrade number (Some Unsatisfied), one_of (meets_alone v) all)
-    ∷ (flat_map (differing_at all number v.name) (givers_of all v.name (known_at known number).several) ++ lower_by all number v.name (known_at known number).floor)
+-- of each entry of `upgrade`, the greatest number of its name before
+abbrev pub AreBefore : PlainProblem → List (Option ℕ) → Type 0
+AreBefore problem before = AreGreatest (members (is_initial problem) problem.packages) problem.request.upgrade before
+
+-- upgrade, lower: by the greatest number before, if there was one
+abbrev pub lower_by : List Placed → List ℕ → Option ℕ → List (List Literal)
+lower_by all name None = []
+lower_by all name (Some greatest) = none_of [] (gives_number name (Some (Lt, greatest))) all

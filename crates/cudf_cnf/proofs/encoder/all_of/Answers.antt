@@ -5,7 +5,7 @@ use Rattle.std.proofs.lemmas.List.{length-map}
 use Rattle.cudf_problem.specs.Promises.Views.{package_view}
 use Rattle.cudf_problem.specs.Universe.{PlainPackage}
 use Rattle.cudf_index.specs.Satisfaction.{Placed}
-use Rattle.cudf_cnf.proofs.KnownLemmas.{every_member}
+use Rattle.cudf_cnf.proofs.ProblemLemmas.{every_member}
 use Rattle.cudf_cnf.proofs.encoder.all_of.Goals as goal
 
 pub returns : goal.returns
