@@ -1,8 +1,7 @@
 #!/usr/bin/env python3
 """Computes what a reader has to believe: the files of definitions on which the headline rests.
 
-The headline is the contract of `run`, a public function of the crate `cudf_check`, with two laws of `cudf_referee`. It
-rests on
+The headline is the contract of `run`, a public function of the crate `cudf_check`, with three laws. It rests on
 
 - the files of the definitions that these contracts name, and that the types of their signatures name, in the members of
   a trait and in the contracts of a type's own methods;
@@ -15,10 +14,10 @@ promise of its own; what `cudf_device` has to write with, the program may not us
 a count could be set back. The standard library and the crates from outside are believed as they are.
 
 Of these files a command needs the definitions that the contracts name, and those that these name: of equations by the
-job, those of its own.
+job, those of its own. The exact texts of `cnf` and `refute` aren't counted: the headline says what they mean.
 
     statement.py           prints the files in reading order, and for each command the lines of definitions that it needs,
-                           with and without what `--explain` adds; compares these with docs/PROOFS.md
+                           with and without what `--explain` and `-H` change; compares these with docs/PROOFS.md
     statement.py COMMAND   prints the definitions that the command needs
     statement.py --write   writes the table of docs/PROOFS.md anew
 
@@ -39,12 +38,12 @@ LIBRARIES = [line.split(":") for line in (ROOT / "crates.txt").read_text().split
 ORDER = [crate.split()[0] for crate, _ in LIBRARIES]
 OUTSIDE = {"std", "core"}.union(*(below.split() for _, below in LIBRARIES)).difference(ORDER)
 
-# the function that carries the headline, the one for several solutions, and the laws
-ENTRY, RANKING, LAWS = "run", "rank", ("ascending", "empty")
+# the function that carries the headline, the one for several solutions, and the laws with the commands that need them
+ENTRY, RANKING = "run", "rank"
+LAWS = {"ascending": {"check", "all"}, "empty": {"check", "refute", "all"}}
+# what isn't followed: exact texts, and without `--explain` and `-H` the style that these ask for, by a law of cudf_check
+TEXTS, STYLE, PLAIN = {"cnf_answer", "refute_answer"}, "style_of", "plain"
 PROOFS_BY_HAND = {f"crates/cudf_index/proofs/steps/mark/Mark/{name}/Proof.antt" for name in ("grow", "new")}
-# the files that only say what `--explain` adds
-EXPLAINED = ("cudf_check/specs/Explanations.antt", "cudf_referee/specs/Explanations.antt",
-             "cudf_document/specs/Details.antt", "cudf_value/specs/Misfits.antt")
 
 # a whole `use`, to the end of the line, or of the line on which its braces end; and the two forms that are read
 USE = re.compile(r"^[^\S\n]*(?:pub(?:\([^)]*\))?\s+)?(?:ghost\s+)?use\b(?:\{[^}]*\}|[^\n{])*", re.M)
@@ -302,10 +301,10 @@ def below(uses):
     return list(dict.fromkeys(found))
 
 
-def roots(laws):
-    """The definitions that the contract of `run`, and those of these laws, name."""
-    contracts = [("cudf_check", *contract_of("cudf_check", ENTRY))]
-    contracts += [("cudf_referee", *contract_of("cudf_referee", name)) for name in laws]
+def roots(command="all", is_plain=True):
+    """The definitions that the contract of `run`, and those of the laws that a command needs, name."""
+    names = [("cudf_check", ENTRY), *[("cudf_referee", law) for law in LAWS if command in LAWS[law]]]
+    contracts = [(crate, *contract_of(crate, name)) for crate, name in names + [("cudf_check", PLAIN)] * is_plain]
     return below(use for crate, path, contract in contracts
                  for use in uses_of(path, contract) + signature_uses(crate, path, contract))
 
@@ -367,7 +366,7 @@ def said_of(path, name, jobs):
 def used_by(path, lines):
     """The definitions that these lines name."""
     (own, made), found = definitions_in(path), []
-    code = COMMENTS[".antt"].sub("", "\n".join(lines))
+    code = re.sub(r'"(?:\\.|[^"\\])*"', "", COMMENTS[".antt"].sub("", "\n".join(lines)))
     for first, *rest in (word.split(".") for word in WORD.findall(code)):
         if first in own or first in made:
             found.append((path, made.get(first, first)))
@@ -376,9 +375,10 @@ def used_by(path, lines):
     return found
 
 
-def needed(command, leaves_out=()):
-    """What a reader of the headline needs for a command: the lines of each definition, by files."""
-    jobs, left, found = COMMANDS[command], roots(LAWS if command == "check" else ()), {}
+def needed(command, is_plain=False):
+    """What a reader of the headline needs for a command, or for one without options: each definition's lines, by files."""
+    jobs, left, found = COMMANDS[command], roots(command, is_plain), {}
+    left_out = TEXTS | ({STYLE} if is_plain else set())
     while left:
         path, name = left.pop()
         lines, made = definitions_in(path)
@@ -388,7 +388,7 @@ def needed(command, leaves_out=()):
         name = made.get(name, name)
         if name not in lines:
             raise Fault(2, f"can't find `{name}` in {path.relative_to(ROOT)}")
-        if str(path.relative_to(CRATES)) not in leaves_out and name not in found.setdefault(path, {}):
+        if name not in left_out and name not in found.setdefault(path, {}):
             found[path][name] = said_of(path, name, jobs)
             left += used_by(path, found[path][name])
     return {path: {name: found[path][name] for name in definitions_in(path)[0] if name in found[path]}
@@ -411,7 +411,7 @@ def main(arguments):
     command = arguments[0] if arguments and arguments[0] in COMMANDS else None
     if arguments not in ([], ["--write"], [command]):
         raise Fault(2, f"usage: statement.py [--write | {' | '.join(COMMANDS)}]")
-    files = files_below(roots(LAWS))
+    files = files_below(roots())
     check_entry()
     check_program()
     check_proofs_by_hand()
@@ -424,7 +424,7 @@ def main(arguments):
         for path, names in definitions.items():
             print(f"-- {path.relative_to(ROOT)}\n", *("\n".join(lines) + "\n" for lines in names.values()), sep="\n")
         print(f"-- {lines_in(definitions)} lines")
-    rows = [f"{lines_in(needed(one)):5} {lines_in(needed(one, EXPLAINED)):5}  {one}" for one in COMMANDS]
+    rows = [f"{lines_in(needed(one)):5} {lines_in(needed(one, True)):5}  {one}" for one in COMMANDS]
     computed = ["```", *rows, "```"]
     page = PROOFS.read_text()
     if len(TABLE.findall(page)) != 1:

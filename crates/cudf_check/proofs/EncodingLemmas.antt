@@ -1,5 +1,5 @@
 -- Clauses by their indices and numbers.
-use Rattle.std.proofs.Common.{◌≡◌, ◌<◌, ◌+◌, ◌-◌, ℕ, zero, suc, Bool, true, false, List, [], ◌∷◌, ◌++◌, length, take, get_or, Option, Some, None, slice_get, option_map, filter_map, refl, ap, sym, ◌∙◌, length-append, arith}
+use Rattle.std.proofs.Common.{◌≡◌, ◌<◌, ◌+◌, ◌-◌, ℕ, zero, suc, List, [], ◌∷◌, ◌++◌, length, take, get_or, Option, Some, None, slice_get, option_map, filter_map, refl, ap, sym, ◌∙◌, arith}
 use Rattle.std.proofs.lemmas.List.{take_more}
 use Rattle.std.proofs.lemmas.List.Elements.{filter_map-append}
 use Rattle.std.proofs.lemmas.Option.{slice_get_within, get_or_from_slice_get}
@@ -7,24 +7,8 @@ use Rattle.std.specs.List.{flat_map}
 use Rattle.cudf_job.specs.Keys.{PlainKey}
 use Rattle.cudf_lrat.specs.declared.cnf.Literal.{Literal}
 use Rattle.cudf_cnf.specs.Cnf.{Keyed}
-use Rattle.cudf_cnf.specs.Encodings.{PlainEncoder, PlainKeyedClauses, Tells}
 use Rattle.cudf_check.specs.Report.{needed}
 use Rattle.cudf_device.proofs.PaperLemmas.{texts-more}
-
--- what was taken off the front makes the rest shorter
-pub shorter : {A : Type 0} (put left held all : List A) → put ++ left ≡ held ++ all → length held < length put → length left < length all
-shorter put left held all is more = omega (arith, length-append put left, length-append held all, ap length is)
-
--- a call that has put a clause leaves less
-pub leaves_less : (more : Bool) (old new : PlainEncoder) (held put : PlainKeyedClauses) → more ≡ true → put.clauses ++ new.left ≡ held.clauses ++ old.left
-    → Tells more old held put → length new.left < length old.left
-leaves_less true old new held put is whole tells = shorter put.clauses new.left held.clauses old.left whole tells
-leaves_less false old new held put is whole tells = absurd (cc is)
-
--- a call that has put none found none
-pub finds_none : (more : Bool) (old : PlainEncoder) (held put : PlainKeyedClauses) → more ≡ false → Tells more old held put → (old.left ≡ []) × (put ≡ held)
-finds_none true old held put is tells = absurd (cc is)
-finds_none false old held put is tells = tells
 
 -- an entry after the first one
 pub later_entry : {A : Type 0} (x : A) (xs : List A) (n : ℕ) → 0 < n → slice_get (x ∷ xs) n ≡ slice_get xs (n - 1)

@@ -2,10 +2,10 @@ pub mod CoreLemmas
 pub mod EncodingLemmas
 pub mod FaultLemmas
 pub mod JudgingLemmas
-pub mod NamedInstanceLemmas
+pub mod MeaningLemmas
 pub mod PageLemmas
 pub mod PagePriceLemmas
 pub mod ReadingLemmas
-pub mod RefutationLemmas
 pub mod RunLemmas
 pub mod ShownLemmas
+pub mod StyleLemmas

@@ -12,7 +12,7 @@ use Rattle.cudf_problem.specs.Documents.{is_empty}
 use Rattle.cudf_job.specs.KeyViews.{key_view}
 use Rattle.cudf_referee.specs.Proposals.{Proposal}
 use Rattle.cudf_referee.specs.Violations.{listing, rest}
-use Rattle.cudf_check.specs.Naming.{PlainOrigins}
+use Rattle.cudf_check.specs.Styles.{Style}
 use Rattle.cudf_check.specs.Report.{line, instance_line, listed, limited, more_text, check_text}
 use Rattle.cudf_referee.specs.Promises.Pages as pages
 use Rattle.cudf_referee.specs.Promises.Walks.{Walking, left}
@@ -276,6 +276,6 @@ nothing_limited None is none = none
 nothing_limited (Some limit) is none = take-nothing limit is none
 
 -- no page of it has a text, after any key and up to any limit
-pub no-page : (explain : Bool) (origins : PlainOrigins) (s : Proposal) (after : Option PlainKey) (limit : Option ℕ) → is_empty (listing s) ≡ true
-    → check_text explain after limit origins s ≡ []
-no-page explain origins s after limit h = ap (λ page. flat_map (instance_line explain origins s) page ++ more_text s (last_or None page)) (nothing_limited limit (listed after s) (nothing_listed s after (nothing_in (listing s) h)))
+pub no-page : (style : Style) (s : Proposal) (after : Option PlainKey) (limit : Option ℕ) → is_empty (listing s) ≡ true
+    → check_text style after limit s ≡ []
+no-page style s after limit h = ap (λ page. flat_map (instance_line style s) page ++ more_text s (last_or None page)) (nothing_limited limit (listed after s) (nothing_listed s after (nothing_in (listing s) h)))

@@ -1,5 +1,5 @@
 -- The first fault of a document, by its bytes and by its text, and the report where none is left.
-use Rattle.std.proofs.Common.{◌≡◌, ℕ, Bool, true, false, List, Option, Some, None, Result, Ok, Err, IfOk, IfErr, if◌then◌else◌, refl, subst, sym, ap, ◌∙◌, codes, ◌⊎◌, inl, inr, Vec, Global}
+use Rattle.std.proofs.Common.{◌≡◌, ℕ, Bool, true, false, List, length, Option, Some, None, Result, Ok, Err, IfOk, IfErr, if◌then◌else◌, refl, subst, sym, ap, ◌∙◌, codes, ◌⊎◌, inl, inr, Vec, Global}
 use Rattle.std.specs.Str.{IsUtf8, is_utf8}
 use Rattle.std.proofs.lemmas.Str.{IsUtf8-from_is_utf8, is_utf8-from_IsUtf8}
 use Rattle.cudf_text.specs.declared.fault.Fault.{Fault}
@@ -17,13 +17,19 @@ use Rattle.cudf_problem.specs.Statuses.{PlainUnknown, is_initial, is_proposed, u
 use Rattle.cudf_problem.specs.Universe.{PlainProblem}
 use Rattle.cudf_job.specs.declared.aims.Aim.{Aim}
 use Rattle.cudf_job.specs.declared.job.Job.{Job}
-use Rattle.cudf_job.specs.declared.job.Job.TheVariants.{Check, Score}
+use Rattle.cudf_job.specs.declared.job.Job.TheVariants.{Lint, Check, Score, Cnf, Refute}
 use Rattle.cudf_job.specs.declared.key.Key.{Key}
 use Rattle.cudf_referee.specs.Proposals.{Proposal, proposal}
+use Rattle.cudf_lrat.specs.Answers.{PlainAnswer, checked, faulty, refuted}
+use Rattle.cudf_cnf.specs.Cnf.{clauses_of, cnf}
+use Rattle.cudf_device.specs.Outcomes.{Report}
 use Rattle.cudf_device.specs.declared.outcome.Outcome.TheVariants.{Fail}
-use Rattle.cudf_check.specs.Naming.{Names, PlainOrigin}
-use Rattle.cudf_check.specs.Report.{alone, faulty_or, problem_fault, solution_fault, proposal_of, judged_report, solution_report, inputs_report, report, detail_if}
-use Rattle.cudf_check.specs.Working.Found.{explains, found_text}
+use Rattle.cudf_check.specs.JobStyles.{explains, inputs_style, pair_style, refutation_style}
+use Rattle.cudf_check.specs.Naming.{Names, PlainOrigins}
+use Rattle.cudf_check.specs.Report.{alone, faulty_or, problem_fault, solution_fault, proposal_of, judged_report, solution_report, inputs_report, proof_report, refute_answer, report, unless_too_large}
+use Rattle.cudf_check.specs.Styles.{Style, of_solution}
+use Rattle.cudf_check.specs.Working.Found.{found_text}
+use Rattle.cudf_check.specs.Working.Named.{instance_style, reason_style}
 use Rattle.cudf_check.specs.Working.Unjudged.{IsFaultOf}
 
 -- ---- what a result says
@@ -86,20 +92,38 @@ pub put_forward : (problem : PlainProblem) (text : PlainText) (contains : ℕ �
 put_forward problem text contains unknown status others = λ k. proposal problem (is_initial problem) (λ place. status place k) (others k)
 
 -- the solution has no fault, and doesn't say FAIL
-pub solution_judged : (explain : Bool) (mode : Mode) (found : Proposal → List ℕ) (origin : Option PlainOrigin) (problem : PlainProblem) (solution : List ℕ) (s : Proposal)
+pub solution_judged : (style : Style) (mode : Mode) (found : Proposal → List ℕ) (problem : PlainProblem) (solution : List ℕ) (s : Proposal)
     → solution_fault mode solution ≡ None → is_fail solution ≡ false → s ≡ proposal_of problem (plain_text solution)
-    → judged_report found s ≡ solution_report explain mode found origin problem solution
-solution_judged explain mode found origin problem solution s sound goes_on is =
+    → judged_report found s ≡ solution_report style mode found problem solution
+solution_judged style mode found problem solution s sound goes_on is =
     ap (judged_report found) is
-    ∙ (λ k. faulty_or origin (codes "solution") (detail_if explain solution) (sym sound k)
+    ∙ (λ k. faulty_or style of_solution (codes "solution") (sym sound k)
     (if sym goes_on k then alone (codes "solution FAIL") Fail else judged_report found (proposal_of problem (plain_text solution))))
 
--- a job that judges a solution has the report of its inputs
+-- what is found says nothing of faults, so the documents' bytes don't count
+pub found_same : (job : Job) (explain : Bool) (origins : PlainOrigins) (problem solution : List ℕ) → found_text job (instance_style explain origins) ≡ found_text job (pair_style explain origins problem solution)
+found_same (Lint flag) explain origins problem solution = refl
+found_same (Check after limit flag) explain origins problem solution = refl
+found_same (Score aims) explain origins problem solution = refl
+found_same Cnf explain origins problem solution = refl
+found_same (Refute flag) explain origins problem solution = refl
+
+-- the report of inputs of which a solution is judged
+abbrev judged_inputs : Job → Mode → Names → List ℕ → Option (List ℕ) → Report
+judged_inputs job mode names input solution = let style = inputs_style (explains job) names input solution in inputs_report style mode (found_text job style) input solution
+
+-- a job that judges a solution has it
 pub pair_of : (job : Job) (mode : Mode) (names : Names) (input : List ℕ) (solution : Option (List ℕ))
     → ((after : Option Key) × (limit : Option ℕ) × (explain : Bool) × (job ≡ Check after limit explain)) ⊎ ((aims : Option (Vec Aim Global)) × (job ≡ Score aims))
-    → inputs_report (explains job) mode (found_text job) names input solution ≡ report job mode names input solution
+    → judged_inputs job mode names input solution ≡ report job mode names input solution
 unfolding report
-pair_of job mode names input solution (inl check) =
-    subst (λ j. inputs_report (explains j) mode (found_text j) names input solution ≡ report j mode names input solution) (sym check.3) refl
-pair_of job mode names input solution (inr score) =
-    subst (λ j. inputs_report (explains j) mode (found_text j) names input solution ≡ report j mode names input solution) (sym score.1) refl
+pair_of job mode names input solution (inl check) = subst (λ j. judged_inputs j mode names input solution ≡ report j mode names input solution) (sym check.3) refl
+pair_of job mode names input solution (inr score) = subst (λ j. judged_inputs j mode names input solution ≡ report j mode names input solution) (sym score.1) refl
+
+-- the same of what is answered of a proof
+pub refuted_same : (explain : Bool) (bytes proof : List ℕ) (problem : PlainProblem) → refute_answer (reason_style explain) proof problem ≡ refute_answer (refutation_style explain bytes) proof problem
+refuted_same explain bytes proof problem = ap (unless_too_large problem) (by (checked (length problem.packages) (clauses_of (cnf problem)) proof))
+  where
+    by : (answer : PlainAnswer) → proof_report (reason_style explain) problem answer ≡ proof_report (refutation_style explain bytes) problem answer
+    by (faulty number kind) = refl
+    by (refuted core) = refl

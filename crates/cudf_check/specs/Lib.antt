@@ -1,9 +1,11 @@
 pub mod Explanations
+pub mod JobStyles
+pub mod Meanings
 pub mod Naming
 pub mod Promises
 pub mod RankReport
-pub mod Refutations
 pub mod Report
 pub mod Runs
 pub mod Shown
+pub mod Styles
 pub mod Working

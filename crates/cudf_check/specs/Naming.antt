@@ -1,12 +1,11 @@
 -- How lines name the files that they are about, where readers have names: own.
 use Rattle.std.specs.Prelude.{ℕ, ◌+◌, ◌-◌, List, [], ◌++◌, length, filter, map, slice_get, codes, decimal, Option, Some, None, option_map, option_and_then}
 use Rattle.cudf_text.specs.Lines.{is_lf}
-use Rattle.cudf_job.specs.declared.key.Part.{Part}
-use Rattle.cudf_job.specs.declared.key.Part.TheVariants as part
 use Rattle.cudf_referee.specs.Criteria.{at_most_max}
 use Rattle.cudf_device.specs.Readers.{Change}
 use Rattle.cudf_device.specs.Device.{SourceState}
 use Rattle.cudf_check.specs.Shown.{shown}
+use Rattle.cudf_check.specs.Styles.{Document, of_problem, of_solution}
 
 -- ---- the readers
 
@@ -56,10 +55,10 @@ one_file problem names = record {
   solution = option_map (λ file. record { file = file; before = ended_lines problem }) names.first;
 }
 
--- the origin of the document that an instance of this part is about
-abbrev pub origin_of : PlainOrigins → Part → Option PlainOrigin
-origin_of origins part.Solution = origins.solution
-origin_of origins _ = origins.problem
+-- that of this document
+abbrev pub origin_of : PlainOrigins → Document → Option PlainOrigin
+origin_of origins of_problem = origins.problem
+origin_of origins of_solution = origins.solution
 
 -- ---- the lines
 

@@ -5,7 +5,7 @@ use Rattle.cudf_problem.specs.declared.mode.Mode.{Mode}
 use Rattle.cudf_text.specs.declared.fault.Fault.{Fault}
 use Rattle.cudf_text.specs.Joined.{is_fail}
 use Rattle.cudf_text.specs.Stanzas.{plain_text}
-use Rattle.cudf_problem.specs.Universe.{PlainProblem, plain_problem}
+use Rattle.cudf_problem.specs.Universe.{PlainProblem}
 use Rattle.cudf_job.specs.Aims.{aim_text, count_of}
 use Rattle.cudf_referee.specs.Criteria.{criteria}
 use Rattle.cudf_referee.specs.Proposals.{Proposal}
@@ -13,9 +13,11 @@ use Rattle.cudf_referee.specs.Solutions.{is_solution}
 use Rattle.cudf_job.specs.declared.aims.Aim.{Aim}
 use Rattle.cudf_job.specs.declared.criteria.Criteria.{Criteria}
 use Rattle.cudf_job.specs.Ranking.{class, have_own_places, ranking}
+use Rattle.cudf_check.specs.JobStyles.{named_style}
 use Rattle.cudf_check.specs.Naming.{Names, name_at, own_file}
 use Rattle.cudf_check.specs.Shown.{shown}
-use Rattle.cudf_check.specs.Report.{line, faulty, faulty_or, problem_fault, solution_fault, proposal_of}
+use Rattle.cudf_check.specs.Styles.{of_solution}
+use Rattle.cudf_check.specs.Report.{line, faulty, problem_report, solution_fault, proposal_of}
 use Rattle.cudf_device.specs.Outcomes.{Report}
 use Rattle.cudf_device.specs.declared.outcome.Outcome.{Outcome}
 use Rattle.cudf_device.specs.declared.outcome.Outcome.TheVariants.{Yes, No, Fail}
@@ -105,7 +107,7 @@ entrant_word (Some file) place = codes "solution"
 -- `solution 2 line 1: E12 no version`, or `S2:1: solution: E12 no version`, of the first faulty solution; or else, where none is, the report
 abbrev pub first_faulty_or : List (Option (List ℕ)) → List (ℕ × Fault) → Report → Report
 first_faulty_or names [] report = report
-first_faulty_or names ((place, f) ∷ others) report = let name = name_at names place in faulty (own_file name) (entrant_word name place) f None
+first_faulty_or names ((place, f) ∷ others) report = let name = name_at names place in faulty (named_style (own_file name)) of_solution (entrant_word name place) f
 
 -- solutions of a problem that has no fault: the fault of the first faulty one, or else the ranking
 abbrev pub solutions_report : List Aim → Mode → List (Option (List ℕ)) → PlainProblem → List (List ℕ) → Report
@@ -113,9 +115,7 @@ solutions_report aims mode names problem solutions = first_faulty_or names (plac
 
 -- a problem and solutions: the problem's fault, or else the solutions' report
 unfoldable pub rank_report : List Aim → Mode → Names → List ℕ → List (List ℕ) → Report
-rank_report aims mode names problem solutions =
-    faulty_or (own_file names.first) (codes "problem") (λ f. None) (problem_fault mode problem)
-    (solutions_report aims mode names.others (plain_problem (plain_text problem)) solutions)
+rank_report aims mode names problem solutions = problem_report (named_style (own_file names.first)) mode problem (λ p. solutions_report aims mode names.others p solutions)
 
 -- ---- what makes the laws over rankings hold of it
 

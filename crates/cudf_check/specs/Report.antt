@@ -1,5 +1,5 @@
 -- The report of a run: a function of the job and the inputs to a text and an outcome. Own.
-use Rattle.std.specs.Prelude.{ℕ, ◌-◌, Bool, false, ◌||◌, nat_lt, List, [], ◌∷◌, ◌++◌, length, map, filter_map, find, take, slice_get, codes, decimal, Option, Some, None, unwrap_or, option_map, option_and_then, if◌then◌else◌}
+use Rattle.std.specs.Prelude.{◌≡◌, All, ℕ, ◌-◌, Bool, false, List, [], ◌∷◌, ◌++◌, length, map, filter_map, take, slice_get, codes, decimal, Option, Some, None, unwrap_or, option_map, option_and_then, if◌then◌else◌}
 use Rattle.std.specs.List.{flat_map, last_or, enumerate_from}
 use Rattle.std.specs.Option.{option_map_or}
 use Rattle.std.specs.Str.{is_utf8}
@@ -11,7 +11,6 @@ use Rattle.cudf_text.specs.Joined.{problem_part, solution_part, is_fail}
 use Rattle.cudf_value.specs.Vpkgs.{PlainVpkg}
 use Rattle.cudf_value.specs.Printing.{vpkg_text, clause_text}
 use Rattle.cudf_problem.specs.declared.mode.Mode.{Mode}
-use Rattle.cudf_document.specs.Details.{PlainDetail, fault_detail}
 use Rattle.cudf_document.specs.Faults.{least}
 use Rattle.cudf_document.specs.ProblemFaults.{problem_faults}
 use Rattle.cudf_document.specs.SolutionFaults.{solution_faults}
@@ -29,21 +28,21 @@ use Rattle.cudf_job.specs.declared.criteria.Criteria.{Criteria}
 use Rattle.cudf_job.specs.Vectors.{paranoid, trendy}
 use Rattle.cudf_referee.specs.Criteria.{criteria}
 use Rattle.cudf_problem.specs.Documents.{is_empty}
-use Rattle.std.specs.Ordering.{is_eq}
-use Rattle.cudf_job.specs.Keys.{PlainKey, key_cmp, key_text}
+use Rattle.cudf_job.specs.Keys.{PlainKey, key_text}
 use Rattle.cudf_job.specs.KeyViews.{key_view}
 use Rattle.cudf_referee.specs.Instances.{PlainWhat, needs, conflicts_with, keep_version, keep_package, keep_feature, install, remove, upgrade, unknown, PlainInstance}
 use Rattle.cudf_referee.specs.Proposals.{Proposal, proposal}
-use Rattle.cudf_referee.specs.Violations.{needed_instances, kept_instances, request_instances, listing, rest, met_by}
+use Rattle.cudf_referee.specs.Violations.{instance_of, listing, met_by, rest}
 use Rattle.cudf_referee.specs.Solutions.{is_solution}
 use Rattle.cudf_lrat.specs.Answers as lrat
 use Rattle.cudf_lrat.specs.Kinds.{kind_text}
 use Rattle.cudf_lrat.specs.declared.cnf.Literal.{Literal}
-use Rattle.cudf_cnf.specs.Cnf.{Keyed, cnf, clauses_of}
+use Rattle.cudf_cnf.specs.Cnf.{Keyed, cnf, clauses_of, is_too_large}
 use Rattle.cudf_reasons.specs.Reasons.{reasons_of}
 use Rattle.cudf_reasons.specs.Views.{Told, told_as}
-use Rattle.cudf_check.specs.Explanations.{instance_added, reason_added, detail_added}
-use Rattle.cudf_check.specs.Naming.{Names, PlainOrigin, PlainOrigins, named_before, numbered, one_file, origin_of, own_file, own_files}
+use Rattle.cudf_check.specs.JobStyles.{explains, style_of}
+use Rattle.cudf_check.specs.Naming.{Names}
+use Rattle.cudf_check.specs.Styles.{Document, of_problem, of_solution, Style, document_of, plainly}
 use Rattle.cudf_job.specs.declared.job.Job.{Job}
 use Rattle.cudf_job.specs.declared.job.Job.TheVariants.{Lint, Check, Score, Cnf, Refute}
 use Rattle.cudf_device.specs.Outcomes.{Report}
@@ -60,21 +59,17 @@ alone text outcome = record { text = line text; outcome = outcome }
 
 -- ---- faulty documents
 
--- `problem line 3: E9 value is not of its type`, or `P:3: problem: E9 ..`, and what the document says beside it, if that is reported
-abbrev pub faulty : Option PlainOrigin → List ℕ → Fault → Option PlainDetail → Report
-faulty origin whose f detail = record {
-  text = line (named_before origin f.line ++ whose ++ numbered origin f.line ++ codes ": " ++ fault_text f.kind ++ detail_added origin detail);
+-- `problem line 3: E9 value is not of its type`
+abbrev pub faulty : Style → Document → List ℕ → Fault → Report
+faulty style document whose f = record {
+  text = line (style.prefix document f.line ++ whose ++ style.location document f.line ++ codes ": " ++ fault_text f.kind ++ style.added_to_fault document f);
   outcome = Faulty;
 }
 
--- what a document says beside a fault of it, where lines are explained
-abbrev pub detail_if : Bool → List ℕ → Fault → Option PlainDetail
-detail_if explain bytes f = if explain then fault_detail bytes f else None
-
--- the fault, if there is one, with what is reported of it, or else the report
-abbrev pub faulty_or : Option PlainOrigin → List ℕ → (Fault → Option PlainDetail) → Option Fault → Report → Report
-faulty_or origin whose tell None report = report
-faulty_or origin whose tell (Some f) report = faulty origin whose f (tell f)
+-- the fault, if there is one, or else the report
+abbrev pub faulty_or : Style → Document → List ℕ → Option Fault → Report → Report
+faulty_or style document whose None report = report
+faulty_or style document whose (Some f) report = faulty style document whose f
 
 -- the first fault of a problem: E1 where its bytes aren't UTF-8
 abbrev pub problem_fault : Mode → List ℕ → Option Fault
@@ -115,15 +110,13 @@ what_text (remove v) aspect met = codes "must remove " ++ vpkg_text v ++ meeting
 what_text (upgrade v) aspect met = upgrade_text v aspect
 what_text unknown aspect met = codes "not in the universe"
 
--- `p1.depends.1 car 1 line 1: needs wheel > 2`, or `P:1: p1.depends.1 car 1: needs wheel > 2`
-abbrev pub met_text : Option PlainOrigin → PlainInstance → Option PlainPackage → List ℕ
-met_text origin i met =
-    named_before origin i.line ++ key_text i.key ++ subject_text i.subject ++ numbered origin i.line ++ codes ": " ++ what_text i.what i.key.aspect met
+-- `p1.depends.1 car 1 line 1: needs wheel > 2`
+abbrev pub met_text : Style → PlainInstance → Option PlainPackage → List ℕ
+met_text style i met = let document = document_of i.key.part in
+    style.prefix document i.line ++ key_text i.key ++ subject_text i.subject ++ style.location document i.line ++ codes ": " ++ what_text i.what i.key.aspect met
 
--- its line, with what is added where lines are explained
-abbrev pub instance_line : Bool → PlainOrigins → Proposal → PlainInstance → List ℕ
-instance_line explain origins s i =
-    line (met_text (origin_of origins i.key.part) i (option_and_then (package_at s.problem) (met_by s.proposed i)) ++ instance_added explain s i)
+abbrev pub instance_line : Style → Proposal → PlainInstance → List ℕ
+instance_line style s i = line (met_text style i (option_and_then (package_at s.problem) (met_by s.proposed i)) ++ style.added_to_instance s i)
 
 -- ---- pages of the listing
 
@@ -143,8 +136,8 @@ more_text s None = []
 more_text s (Some last) = if is_empty (rest last.key s) then [] else line (codes "more after " ++ key_text last.key)
 
 -- a line for each violated instance of the page, and where the next page begins
-abbrev pub check_text : Bool → Option PlainKey → Option ℕ → PlainOrigins → Proposal → List ℕ
-check_text explain after limit origins s = let page = limited limit (listed after s) in flat_map (instance_line explain origins s) page ++ more_text s (last_or None page)
+abbrev pub check_text : Style → Option PlainKey → Option ℕ → Proposal → List ℕ
+check_text style after limit s = let page = limited limit (listed after s) in flat_map (instance_line style s) page ++ more_text s (last_or None page)
 
 -- ---- scores
 
@@ -193,26 +186,20 @@ proposal_of problem text = proposal problem (is_initial problem) (is_proposed pr
 -- ---- documents
 
 -- a solution of a problem that has no fault: the solution's fault, or else FAIL, or else what is found of the proposed status
-abbrev pub solution_report : Bool → Mode → (Proposal → List ℕ) → Option PlainOrigin → PlainProblem → List ℕ → Report
-solution_report explain mode found origin problem solution =
-    faulty_or origin (codes "solution") (detail_if explain solution) (solution_fault mode solution)
+abbrev pub solution_report : Style → Mode → (Proposal → List ℕ) → PlainProblem → List ℕ → Report
+solution_report style mode found problem solution =
+    faulty_or style of_solution (codes "solution") (solution_fault mode solution)
     (if is_fail solution then alone (codes "solution FAIL") Fail else judged_report found (proposal_of problem (plain_text solution)))
 
--- a problem and a solution: the problem's fault, or else the solution's report
-abbrev pub pair_report : Bool → Mode → (PlainOrigins → Proposal → List ℕ) → PlainOrigins → List ℕ → List ℕ → Report
-pair_report explain mode found origins problem solution =
-    faulty_or origins.problem (codes "problem") (detail_if explain problem) (problem_fault mode problem)
-    (solution_report explain mode (found origins) origins.solution (plain_problem (plain_text problem)) solution)
+-- a problem: its fault, or else what is answered of it
+abbrev pub problem_report : Style → Mode → List ℕ → (PlainProblem → Report) → Report
+problem_report style mode bytes answer = faulty_or style of_problem (codes "problem") (problem_fault mode bytes) (answer (plain_problem (plain_text bytes)))
+
+-- a problem and a solution
+abbrev pub pair_report : Style → Mode → (Proposal → List ℕ) → List ℕ → List ℕ → Report
+pair_report style mode found problem solution = problem_report style mode problem (λ p. solution_report style mode found p solution)
 
 -- ---- CNFs
-
--- a problem's report, where it has no fault
-abbrev pub problem_report : Bool → Mode → List ℕ → (PlainProblem → Report) → Report
-problem_report explain mode bytes answer = faulty_or None (codes "problem") (detail_if explain bytes) (problem_fault mode bytes) (answer (plain_problem (plain_text bytes)))
-
--- more packages or clauses than a CNF may have here
-abbrev pub is_too_large : PlainProblem → Bool
-is_too_large problem = nat_lt 4294967295 (length problem.packages) || nat_lt 4294967295 (length (cnf problem))
 
 -- nothing is written of a CNF that is too large
 abbrev pub unless_too_large : PlainProblem → Report → Report
@@ -234,24 +221,14 @@ literal_text l = (if l.positive then [] else codes "-") ++ decimal l.variable ++
 abbrev pub clause_line : List Literal → List ℕ
 clause_line literals = line (flat_map literal_text literals ++ codes "0")
 
--- the CNF of a problem in DIMACS
-abbrev pub cnf_text : PlainProblem → List ℕ
-cnf_text problem =
-    flat_map package_comment (enumerate_from 1 problem.packages)
-    ++ header_line (length problem.packages) (length (cnf problem))
-    ++ flat_map (λ c. clause_line c.1) (cnf problem)
+-- clauses over packages in DIMACS
+abbrev pub dimacs : List PlainPackage → List (List Literal) → List ℕ
+dimacs packages clauses = flat_map package_comment (enumerate_from 1 packages) ++ header_line (length packages) (length clauses) ++ flat_map clause_line clauses
 
 abbrev pub cnf_answer : PlainProblem → Report
-cnf_answer problem = unless_too_large problem (record { text = cnf_text problem; outcome = Yes })
+cnf_answer problem = unless_too_large problem (record { text = dimacs problem.packages (clauses_of (cnf problem)); outcome = Yes })
 
 -- ---- refutations
-
--- all instances of a problem, whatever the statuses, and the one of a key
-abbrev pub problem_instances : PlainProblem → List PlainInstance
-problem_instances problem = flat_map (λ p. needed_instances p ++ kept_instances p.1.keep p) (enumerate_from 1 problem.packages) ++ request_instances problem.request
-
-abbrev pub instance_of : PlainProblem → PlainKey → Option PlainInstance
-instance_of problem key = find (λ i. is_eq (key_cmp i.key key)) (problem_instances problem)
 
 -- another package that meets an entry
 abbrev pub also_text : Option PlainPackage → List ℕ
@@ -263,38 +240,49 @@ abbrev pub met_texts : PlainProblem → List ℕ → List ℕ
 met_texts problem [] = []
 met_texts problem (place ∷ places) = meeting_text (package_at problem place) ++ flat_map (λ other. also_text (package_at problem other)) places
 
--- the line of a needed instance, with all packages by which its clauses are needed, and what is added where lines are explained
-abbrev pub reason_line : Bool → PlainProblem → Told → List ℕ
-reason_line explain problem (key, places) =
-    option_map_or (λ i. line (met_text None i None ++ met_texts problem places ++ reason_added explain problem i)) (instance_of problem key) []
+-- the line of an instance that is met by the packages at these places
+abbrev pub reason_line : Style → PlainProblem → PlainInstance × List ℕ → List ℕ
+reason_line style problem (i, places) = line (met_text style i None ++ met_texts problem places ++ style.added_to_reason problem i)
+
+-- that of the instance of a key, with all packages by which its clauses are needed
+abbrev pub told_line : Style → PlainProblem → Told → List ℕ
+told_line style problem (key, places) = option_map_or (λ i. reason_line style problem (i, places)) (instance_of problem key) []
 
 -- the clauses of these numbers from 1
 abbrev pub needed : List Keyed → List ℕ → List Keyed
 needed clauses numbers = filter_map (λ n. slice_get clauses (n - 1)) numbers
 
 -- no status keeps all of these instances, so none is a solution
-abbrev pub core_text : Bool → PlainProblem → List ℕ → List ℕ
-core_text explain problem core = flat_map (reason_line explain problem) (map told_as (reasons_of (needed (cnf problem) core))) ++ line (codes "no solution exists")
+abbrev pub core_text : Style → PlainProblem → List ℕ → List ℕ
+core_text style problem core = flat_map (told_line style problem) (map told_as (reasons_of (needed (cnf problem) core))) ++ line (codes "no solution exists")
 
 -- what comes of a proof: the line of its first fault, or the core
-abbrev pub proof_report : Bool → PlainProblem → lrat.PlainAnswer → Report
-proof_report explain problem (lrat.faulty number kind) = alone (codes "proof line " ++ decimal number ++ codes ": " ++ kind_text kind) No
-proof_report explain problem (lrat.refuted core) = record { text = core_text explain problem core; outcome = Yes }
+abbrev pub proof_report : Style → PlainProblem → lrat.PlainAnswer → Report
+proof_report style problem (lrat.faulty number kind) = alone (codes "proof line " ++ decimal number ++ codes ": " ++ kind_text kind) No
+proof_report style problem (lrat.refuted core) = record { text = core_text style problem core; outcome = Yes }
 
-abbrev pub refute_answer : Bool → List ℕ → PlainProblem → Report
-refute_answer explain proof problem = unless_too_large problem (proof_report explain problem (lrat.checked (length problem.packages) (clauses_of (cnf problem)) proof))
+abbrev pub refute_answer : Style → List ℕ → PlainProblem → Report
+refute_answer style proof problem = unless_too_large problem (proof_report style problem (lrat.checked (length problem.packages) (clauses_of (cnf problem)) proof))
 
 -- ---- the report
 
 -- the second input is the solution; where there is none, the first one is cut
-abbrev pub inputs_report : Bool → Mode → (PlainOrigins → Proposal → List ℕ) → Names → List ℕ → Option (List ℕ) → Report
-inputs_report explain mode found names input None = pair_report explain mode found (one_file (problem_part input) names) (problem_part input) (solution_part input)
-inputs_report explain mode found names input (Some solution) = pair_report explain mode found (own_files names) input solution
+abbrev pub inputs_report : Style → Mode → (Proposal → List ℕ) → List ℕ → Option (List ℕ) → Report
+inputs_report style mode found input None = pair_report style mode found (problem_part input) (solution_part input)
+inputs_report style mode found input (Some solution) = pair_report style mode found input solution
 
--- of CNFs and refutations no line names a file
+abbrev pub styled_report : Style → Job → Mode → List ℕ → Option (List ℕ) → Report
+styled_report style (Lint explain) mode input solution = faulty_or style of_problem (codes "problem") (problem_fault mode input) (alone (codes "problem ok") Yes)
+styled_report style (Check after limit explain) mode input solution = inputs_report style mode (check_text style (option_map key_view after) limit) input solution
+styled_report style (Score aims) mode input solution = inputs_report style mode (scored_text (option_map (λ list. list.items) aims)) input solution
+styled_report style Cnf mode input solution = problem_report style mode input cnf_answer
+styled_report style (Refute explain) mode input proof = problem_report style mode input (refute_answer style (unwrap_or proof []))
+
+-- in the style for which the job and the names of the inputs ask
 unfoldable pub report : Job → Mode → Names → List ℕ → Option (List ℕ) → Report
-report (Lint explain) mode names input solution = faulty_or (own_file names.first) (codes "problem") (detail_if explain input) (problem_fault mode input) (alone (codes "problem ok") Yes)
-report (Check after limit explain) mode names input solution = inputs_report explain mode (check_text explain (option_map key_view after) limit) names input solution
-report (Score aims) mode names input solution = inputs_report false mode (λ origins. scored_text (option_map (λ list. list.items) aims)) names input solution
-report Cnf mode names input solution = problem_report false mode input cnf_answer
-report (Refute explain) mode names input proof = problem_report explain mode input (refute_answer explain (unwrap_or proof []))
+report job mode names input solution = styled_report (style_of job names input solution) job mode input solution
+
+-- a job that asks for no explanation, and whose inputs have no names, is told plainly
+abbrev pub IsToldPlainly : Type 0
+IsToldPlainly = (job : Job) (mode : Mode) (names : Names) (input : List ℕ) (solution : Option (List ℕ)) → explains job ≡ false
+    → names.first ≡ None → All (λ name. name ≡ None) names.others → report job mode names input solution ≡ styled_report plainly job mode input solution

@@ -66,7 +66,7 @@ abbrev pub lent : {D : Type 0} → Option (MutBor D) → List D
 lent None = []
 lent (Some r) = r.now ∷ []
 
--- and as it is returned
+-- and as it is returned, in the form that the toolchain gives an optional reference
 abbrev pub returned : {D : Type 0} → Unit {0} ⊎ ((MutBor D × Unit {0}) ⊎ ⊥) → List D
 returned (inr (inl r)) = r.0.now ∷ []
 returned _ = []

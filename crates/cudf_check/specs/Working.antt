@@ -1,6 +1,4 @@
-pub mod Encoded
 pub mod Found
-pub mod Instances
 pub mod Judged
 pub mod Named
 pub mod Pages

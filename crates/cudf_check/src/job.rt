@@ -1,6 +1,6 @@
 //! Whether lines are explained.
 ghost use Rattle.std.specs.Prelude.{◌≡◌};
-ghost use Rattle.cudf_check.specs.Working.Found.{explains};
+ghost use Rattle.cudf_check.specs.JobStyles.{explains};
 
 use cudf_job::Job;
 

@@ -1,6 +1,7 @@
 //! What follows from the definitions alone.
-ghost use Rattle.cudf_check.specs.Promises.Laws.{AddsToInstances, AddsToFaults};
+ghost use Rattle.cudf_check.specs.Promises.Laws.{AddsToInstances, AddsToFaults, AddsToReasons};
 ghost use Rattle.cudf_check.specs.RankReport.{EntrantsHaveOwnPlaces};
+ghost use Rattle.cudf_check.specs.Report.{IsToldPlainly};
 
 pub use cudf_job::laws::ranking;
 
@@ -9,9 +10,15 @@ pub fn own_places()
     ensures { EntrantsHaveOwnPlaces }
 {}
 
-/// An explained line is the line without explanation with something added after its text: a line of an instance, and
-/// the line of a fault.
+/// Without explanation, and without names of readers, a job has the report in the plain style.
+pub fn plain()
+    ensures { IsToldPlainly }
+{}
+
+/// An explained line is the line without explanation with something added after its text: the line of a violated
+/// instance, of a fault, and of an instance of a refutation.
 pub fn explained()
     ensures instances { AddsToInstances }
     ensures faults { AddsToFaults }
+    ensures reasons { AddsToReasons }
 {}

@@ -4,13 +4,12 @@
 
 ghost use Rattle.std.specs.Prelude.{◌≡◌, IfOk, option_map};
 ghost use Rattle.std.specs.List.{All};
+ghost use Rattle.cudf_device.specs.declared.outcome.Outcome.TheVariants.{Yes};
 ghost use Rattle.cudf_device.specs.Readers.{LeavesBehind, change, IsStopped, StopsInTime, changes};
 ghost use Rattle.cudf_check.specs.RankReport.{rank_report};
-ghost use Rattle.cudf_check.specs.Refutations.{HasRefutedIfYes};
+ghost use Rattle.cudf_check.specs.Meanings.{HasWritten, Means};
 ghost use Rattle.cudf_check.specs.Runs.{job_report, lent, read_for, returned, Runs, SkipsSolution};
 
-mod encoding;
-mod instances;
 mod job;
 mod judging;
 pub mod laws;
@@ -21,6 +20,7 @@ mod readings;
 mod report;
 mod setting;
 
+use cudf_cnf::laws::solution as encoded;
 pub use cudf_device::{Device, Named, Outcome, RunError, Sink, Source, Trouble};
 use cudf_device::{read_all, read_each};
 pub use cudf_document::Mode;
@@ -63,9 +63,9 @@ pub fn run<R: Source, S: Source, W: Sink>(
         (read_for job.now (changes S.state (lent solution.entry) (returned solution.exit)))
         (change W.state out.old out.new) result }
 
-    // Where a refutation ends with `Yes`, no proposed status of its problem is a solution: each violates the instance
-    // of a written reason.
-    ensures refuted { IfOk result (λ outcome. HasRefutedIfYes job.now outcome (change R.state input.old input.new) (change W.state out.old out.new)) }
+    // Where `Cnf` ends with `Yes`, clauses were written that exactly the solutions satisfy; where `Refute` does, the lines
+    // of instances of which each proposed status violates one, so none is a solution.
+    ensures meaning { IfOk result (λ outcome. outcome ≡ Yes → HasWritten (Means job.now) (change R.state input.old input.new) (change W.state out.old out.new)) }
 
     // No reader is called more often than an input may take, nor after a call that failed, reached the end or gave too much.
     ensures calls { StopsInTime (change R.state input.old input.new) }
@@ -75,6 +75,7 @@ pub fn run<R: Source, S: Source, W: Sink>(
     ensures unread { SkipsSolution job.now (change R.state input.old input.new)
         → returned solution.exit ≡ lent solution.entry }
 {
+    encoded();
     refuted();
     let setting = Setting { alloc, mode };
     let Some(solution) = solution else {

@@ -1,6 +1,7 @@
 //! Which file a document is in, for the lines that name it.
 ghost use Rattle.std.specs.Prelude.{◌≡◌, option_map};
 ghost use Rattle.cudf_check.specs.Naming.{ended_lines, line_in, name_at, origin_of, own_file};
+ghost use Rattle.cudf_check.specs.Styles.{document_of};
 ghost use Rattle.cudf_check.specs.Working.Named.{origin_view, origins_view};
 ghost use Rattle.cudf_device.specs.Readers.{names_in};
 
@@ -33,7 +34,7 @@ pub(crate) struct Origins<'n> {
 impl<'n> Origins<'n> {
     /// The file of the document that an instance of this part is about.
     pub(crate) fn of(self, part: Part) -> Option<Origin<'n>>
-        ensures { option_map origin_view result ≡ origin_of (origins_view self.entry) part }
+        ensures { option_map origin_view result ≡ origin_of (origins_view self.entry) (document_of part) }
     {
         match part {
             Part::Solution => self.solution,

@@ -6,13 +6,15 @@ ghost use Rattle.cudf_problem.specs.declared.mode.Mode.{Mode};
 ghost use Rattle.cudf_document.specs.Promises.Views.{detail_view};
 ghost use Rattle.cudf_referee.specs.Proposals.{Proposal};
 ghost use Rattle.cudf_device.specs.declared.outcome.Outcome.TheVariants.{Fail, Yes};
-ghost use Rattle.cudf_check.specs.Naming.{PlainOrigins, one_file, own_file};
-ghost use Rattle.cudf_check.specs.Report.{alone, faulty_or, cnf_answer, problem_fault, problem_report, refute_answer, solution_fault, solution_report, pair_report, inputs_report, report, detail_if};
+ghost use Rattle.cudf_check.specs.JobStyles.{detail_if, document_style, explains, inputs_style, pair_style, refutation_style};
+ghost use Rattle.cudf_check.specs.Naming.{one_file, own_file};
+ghost use Rattle.cudf_check.specs.Report.{alone, faulty_or, cnf_answer, problem_fault, problem_report, refute_answer, solution_fault, solution_report, pair_report, inputs_report, report};
+ghost use Rattle.cudf_check.specs.Styles.{Style, of_problem, of_solution};
 ghost use Rattle.cudf_device.specs.Outcomes.{Report};
 ghost use Rattle.cudf_device.specs.Promises.Answering.{Answers};
 ghost use Rattle.cudf_device.specs.Promises.PaperInside.{Prints};
-ghost use Rattle.cudf_check.specs.Working.Found.{explains, found_text};
-ghost use Rattle.cudf_check.specs.Working.Named.{given_names, origin_view, origins_view};
+ghost use Rattle.cudf_check.specs.Working.Found.{found_text};
+ghost use Rattle.cudf_check.specs.Working.Named.{given_names, origin_view, origins_view, style_for};
 ghost use Rattle.cudf_check.specs.Working.Unjudged.{IsFaultOf, IsUnjudged};
 
 use crate::job::explains;
@@ -61,7 +63,7 @@ fn print_unread<W: Sink>(
     error: ReadError,
 ) -> Result<Outcome, AllocError>
     ensures { (fault : Option Fault) → (report : Report) → IsFaultOf fault error
-        → Prints W.state paper.old paper.new (faulty_or (option_map origin_view document.entry.origin) document.entry.whose.now (detail_if document.entry.explain document.entry.bytes.now) fault report) result }
+        → Prints W.state paper.old paper.new (faulty_or (style_for document.entry) of_problem document.entry.whose.now fault report) result }
 {
     match error {
         ReadError::Fault(fault) => {
@@ -88,8 +90,8 @@ pub(crate) fn print_unsound<W: Sink>(
     error: ReadError,
 ) -> Result<Outcome, AllocError>
     requires { IsFaultOf (problem_fault setting.mode bytes.now) error }
-    ensures { (report : Report) → Prints W.state paper.old paper.new (faulty_or (option_map origin_view origin.entry) (codes "problem") (detail_if explain bytes.now)
-        (problem_fault setting.mode bytes.now) report) result }
+    ensures { (report : Report) → Prints W.state paper.old paper.new
+        (faulty_or (document_style explain (option_map origin_view origin.entry) bytes.now) of_problem (codes "problem") (problem_fault setting.mode bytes.now) report) result }
 {
     let problem = Document {
         whose: "problem",
@@ -108,7 +110,7 @@ fn print_unjudged<W: Sink>(
     reason: Unjudged,
 ) -> Result<Outcome, AllocError>
     ensures { (report : Report) → IsUnjudged setting.mode solution.entry.bytes.now reason
-        → Prints W.state paper.old paper.new (faulty_or (option_map origin_view solution.entry.origin) solution.entry.whose.now (detail_if solution.entry.explain solution.entry.bytes.now) (solution_fault setting.mode solution.entry.bytes.now)
+        → Prints W.state paper.old paper.new (faulty_or (style_for solution.entry) of_solution solution.entry.whose.now (solution_fault setting.mode solution.entry.bytes.now)
         (if is_fail solution.entry.bytes.now then alone (codes "solution FAIL") Fail else report)) result }
 {
     match reason {
@@ -127,8 +129,8 @@ fn print_pair<W: Sink>(
     job: &Job,
     inputs: Inputs<'_>,
 ) -> Result<Outcome, AllocError>
-    ensures { Prints W.state paper.old paper.new
-        (pair_report (explains job.now) setting.mode (found_text job.now) (origins_view inputs.entry.origins) inputs.entry.problem.now inputs.entry.solution.now) result }
+    ensures { let style = pair_style (explains job.now) (origins_view inputs.entry.origins) inputs.entry.problem.now inputs.entry.solution.now in
+        Prints W.state paper.old paper.new (pair_report style setting.mode (found_text job.now style) inputs.entry.problem.now inputs.entry.solution.now) result }
 {
     let mut room = Room::new(setting.alloc);
     let mut names = NameRoom::new(setting.alloc);
@@ -149,8 +151,8 @@ fn print_proposed<W: Sink>(
     inputs: Inputs<'_>,
     problem: &Problem<'_>,
 ) -> Result<Outcome, AllocError>
-    ensures { Prints W.state paper.old paper.new
-        (solution_report (explains job.now) setting.mode (found_text job.now (origins_view inputs.entry.origins)) (option_map origin_view inputs.entry.origins.solution) problem.now inputs.entry.solution.now) result }
+    ensures { let style = pair_style (explains job.now) (origins_view inputs.entry.origins) inputs.entry.problem.now inputs.entry.solution.now in
+        Prints W.state paper.old paper.new (solution_report style setting.mode (found_text job.now style) problem.now inputs.entry.solution.now) result }
 {
     let alloc = setting.alloc;
     let document = Document {
@@ -176,7 +178,7 @@ fn print_sound<W: Sink>(
     problem: Given<'_, '_>,
     explain: bool,
 ) -> Result<Outcome, AllocError>
-    ensures { Prints W.state paper.old paper.new (faulty_or (own_file (option_map (λ n. n.now) problem.entry.name)) (codes "problem") (detail_if explain problem.entry.bytes.now)
+    ensures { Prints W.state paper.old paper.new (faulty_or (document_style explain (own_file (option_map (λ n. n.now) problem.entry.name)) problem.entry.bytes.now) of_problem (codes "problem")
         (problem_fault setting.mode problem.entry.bytes.now) (alone (codes "problem ok") Yes)) result }
 {
     match sound_in(setting, problem.bytes) {
@@ -197,7 +199,7 @@ fn print_encoded<W: Sink>(
     setting: Setting,
     bytes: &[u8],
 ) -> Result<Outcome, AllocError>
-    ensures { Prints W.state paper.old paper.new (problem_report false setting.mode bytes.now cnf_answer) result }
+    ensures { Prints W.state paper.old paper.new (problem_report (document_style false None bytes.now) setting.mode bytes.now cnf_answer) result }
 {
     let mut room = Room::new(setting.alloc);
     let mut names = NameRoom::new(setting.alloc);
@@ -215,7 +217,8 @@ fn print_refuted<W: Sink>(
     proof: &[u8],
     explain: bool,
 ) -> Result<Outcome, AllocError>
-    ensures { Prints W.state paper.old paper.new (problem_report explain setting.mode bytes.now (refute_answer explain proof.now)) result }
+    ensures { let style = refutation_style explain bytes.now in
+        Prints W.state paper.old paper.new (problem_report style setting.mode bytes.now (refute_answer style proof.now)) result }
 {
     let mut room = Room::new(setting.alloc);
     let mut names = NameRoom::new(setting.alloc);
@@ -235,9 +238,11 @@ struct Inputs<'t> {
 
 /// The problem and its solution: the second input is the solution; where there is none, the first is cut.
 fn parted<'t>(first: Given<'t, 't>, second: Option<Given<'t, 't>>) -> Inputs<'t>
-    ensures { (explain : Bool) → (mode : Mode) → (found : PlainOrigins → Proposal → List ℕ)
-        → pair_report explain mode found (origins_view result.origins) result.problem.now result.solution.now
-        ≡ inputs_report explain mode found (given_names first.entry second.entry) first.entry.bytes.now (option_map (λ g. g.bytes.now) second.entry) }
+    ensures { (explain : Bool) → (mode : Mode) → (found : Style → Proposal → List ℕ)
+        → (let style = pair_style explain (origins_view result.origins) result.problem.now result.solution.now in
+        pair_report style mode (found style) result.problem.now result.solution.now)
+        ≡ (let bytes = option_map (λ g. g.bytes.now) second.entry in let style = inputs_style explain (given_names first.entry second.entry) first.entry.bytes.now bytes in
+        inputs_report style mode (found style) first.entry.bytes.now bytes) }
 {
     match second {
         Some(second) => Inputs {

@@ -5,7 +5,7 @@ use Rattle.cudf_check.specs.Runs.{Runs, job_report}
 use Rattle.cudf_device.specs.Promises.Answering.{Answers}
 use Rattle.cudf_check.specs.Working.Named.{given_names}
 use Rattle.cudf_device.proofs.InputsLemmas.{each_still, none_still, too_long_fails, unfinished_fails}
-use Rattle.cudf_check.proofs.RefutationLemmas.{job_refutes}
+use Rattle.cudf_check.proofs.MeaningLemmas.{run_means}
 use Rattle.cudf_check.proofs.RunLemmas.{all_answered, first_stopped, none_for, of_one, one_behind, reads_it, reads_none, second_stopped, was_read}
 use Rattle.cudf_check.proofs.run.Goals as goal
 
@@ -97,19 +97,19 @@ returns-in_default-clause-runs g c =
     (λ k. report job mode (record { first = name k; others = [] }) (text_is k) None)
     c.answer_job.ensures)))
 
-pub returns-in_default-clause-refuted : goal.returns-in_default-clause-refuted
-returns-in_default-clause-refuted g c =
+pub returns-in_default-clause-meaning : goal.returns-in_default-clause-meaning
+returns-in_default-clause-meaning g c =
     let job = c.args.job.now in
     let mode = c.args.mode in
     let names = given_names c.given.result None in
     let first = change g.R.Source.state c.args.input.now c.read_all.new.source in
     let before = g.W.Sink.state c.args.out.now in
     let after = g.W.Sink.state c.answer_job.new.out in
-    job_refutes c.refuted.ensures job mode names first (record { before = before; after = after }) c.in_ok-first.first.items None c.answer_job.result c.in_ok-first.ensures.all
+    run_means c.refuted.ensures c.solution.ensures job mode names first (record { before = before; after = after }) c.in_ok-first.first.items None c.answer_job.result c.in_ok-first.ensures.all
     (subst (λ t. Answers before after (report job mode names t None) c.answer_job.result) (c.given.ensures.bytes ∙ c.deref.ensures.value) c.answer_job.ensures)
 
-pub returns-clause-refuted : goal.returns-clause-refuted
-returns-clause-refuted g c =
+pub returns-clause-meaning : goal.returns-clause-meaning
+returns-clause-meaning g c =
     let job = c.args.job.now in
     let mode = c.args.mode in
     let names = given_names c.given-in-Check-2.result (Some c.given-in-Check.result) in
@@ -117,5 +117,16 @@ returns-clause-refuted g c =
     let before = g.W.Sink.state c.args.out.now in
     let after = g.W.Sink.state c.answer_job-in-Check.new.out in
     let bytes = c.given-in-Check.result.bytes.now in
-    job_refutes c.refuted.ensures job mode names first (record { before = before; after = after }) c.in_ok-first-2.first.items (Some bytes) c.answer_job-in-Check.result c.in_ok-first-2.ensures.all
+    run_means c.refuted.ensures c.solution.ensures job mode names first (record { before = before; after = after }) c.in_ok-first-2.first.items (Some bytes) c.answer_job-in-Check.result c.in_ok-first-2.ensures.all
     (subst (λ t. Answers before after (report job mode names t (Some bytes)) c.answer_job-in-Check.result) (c.given-in-Check-2.ensures.bytes ∙ c.deref-in-Check-2.ensures.value) c.answer_job-in-Check.ensures)
+
+pub returns-in-Lint-clause-meaning : goal.returns-in-Lint-clause-meaning
+returns-in-Lint-clause-meaning g c =
+    let job = c.args.job.now in
+    let mode = c.args.mode in
+    let names = given_names c.given-in-Lint.result None in
+    let first = change g.R.Source.state c.args.input.now c.read_all-2.new.source in
+    let before = g.W.Sink.state c.args.out.now in
+    let after = g.W.Sink.state c.answer_job-in-Lint.new.out in
+    run_means c.refuted.ensures c.solution.ensures job mode names first (record { before = before; after = after }) c.in_ok-first-2.first.items None c.answer_job-in-Lint.result c.in_ok-first-2.ensures.all
+    (subst (λ t. Answers before after (report job mode names t None) c.answer_job-in-Lint.result) (c.given-in-Lint.ensures.bytes ∙ c.deref-in-Lint.ensures.value) c.answer_job-in-Lint.ensures)

@@ -1,11 +1,13 @@
 -- Laws of explained lines, over the definitions alone: own.
-use Rattle.std.specs.Prelude.{◌≡◌, ℕ, true, false, List, ◌++◌, Option, None}
+use Rattle.std.specs.Prelude.{◌≡◌, ℕ, true, false, List, ◌++◌, Option}
 use Rattle.cudf_text.specs.declared.fault.Fault.{Fault}
-use Rattle.cudf_document.specs.Details.{PlainDetail}
+use Rattle.cudf_problem.specs.Universe.{PlainProblem}
 use Rattle.cudf_referee.specs.Instances.{PlainInstance}
 use Rattle.cudf_referee.specs.Proposals.{Proposal}
+use Rattle.cudf_check.specs.JobStyles.{document_style, pair_style, refutation_style}
 use Rattle.cudf_check.specs.Naming.{PlainOrigin, PlainOrigins}
-use Rattle.cudf_check.specs.Report.{line, faulty, instance_line}
+use Rattle.cudf_check.specs.Report.{line, faulty, instance_line, reason_line}
+use Rattle.cudf_check.specs.Styles.{of_problem}
 
 -- the explained line is the plain one with something added after its text
 pub record AddsAfter (plain explained : List ℕ) : Type 0 where
@@ -14,11 +16,17 @@ pub record AddsAfter (plain explained : List ℕ) : Type 0 where
   pub plain_is : plain ≡ line text
   pub explained_is : explained ≡ line (text ++ added)
 
--- so are the lines of instances
+-- so are the lines of violated instances
 abbrev pub AddsToInstances : Type 0
-AddsToInstances = (origins : PlainOrigins) (s : Proposal) (i : PlainInstance) → AddsAfter (instance_line false origins s i) (instance_line true origins s i)
+AddsToInstances = (origins : PlainOrigins) (problem solution : List ℕ) (s : Proposal) (i : PlainInstance)
+    → AddsAfter (instance_line (pair_style false origins problem solution) s i) (instance_line (pair_style true origins problem solution) s i)
 
--- and those of faults
+-- those of faults
 abbrev pub AddsToFaults : Type 0
-AddsToFaults = (origin : Option PlainOrigin) (whose : List ℕ) (f : Fault) (detail : Option PlainDetail)
-    → AddsAfter (faulty origin whose f None).text (faulty origin whose f detail).text
+AddsToFaults = (origin : Option PlainOrigin) (bytes whose : List ℕ) (f : Fault)
+    → AddsAfter (faulty (document_style false origin bytes) of_problem whose f).text (faulty (document_style true origin bytes) of_problem whose f).text
+
+-- and those of a refutation
+abbrev pub AddsToReasons : Type 0
+AddsToReasons = (bytes : List ℕ) (problem : PlainProblem) (reason : PlainInstance × List ℕ)
+    → AddsAfter (reason_line (refutation_style false bytes) problem reason) (reason_line (refutation_style true bytes) problem reason)

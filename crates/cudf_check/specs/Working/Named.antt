@@ -1,9 +1,14 @@
 -- Contracts' view of the files that lines name.
-use Rattle.std.specs.Prelude.{ℕ, List, [], ◌∷◌, Option, None, Some, option_map}
+use Rattle.std.specs.Prelude.{ℕ, Bool, List, [], ◌∷◌, Option, None, Some, option_map}
+use Rattle.cudf_document.specs.Details.{PlainDetail}
+use Rattle.cudf_check.specs.Explanations.{detail_added}
+use Rattle.cudf_check.specs.JobStyles.{document_style, named_style, pair_style, refutation_style}
 use Rattle.cudf_check.specs.Naming.{Names, PlainOrigin, PlainOrigins}
+use Rattle.cudf_check.specs.Styles.{Style}
 use Rattle.cudf_check.specs.declared.naming.Given.{Given}
 use Rattle.cudf_check.specs.declared.naming.Origin.{Origin}
 use Rattle.cudf_check.specs.declared.naming.Origins.{Origins}
+use Rattle.cudf_check.specs.declared.report.Document.{Document}
 
 -- one file
 abbrev pub origin_view : Origin → PlainOrigin
@@ -19,3 +24,21 @@ other_names (Some given) = option_map (λ n. n.now) given.name ∷ []
 
 abbrev pub given_names : Given → Option Given → Names
 given_names first second = record { first = option_map (λ n. n.now) first.name; others = other_names second }
+
+-- ---- styles
+
+-- of a document whose faults are reported
+abbrev pub style_for : Document → Style
+style_for d = document_style d.explain (option_map origin_view d.origin) d.bytes.now
+
+-- with this detail of a fault
+abbrev pub detailed_style : Option PlainOrigin → Option PlainDetail → Style
+detailed_style origin detail = record (named_style origin) { added_to_fault = λ document f. detail_added origin detail }
+
+-- of lines about instances
+abbrev pub instance_style : Bool → PlainOrigins → Style
+instance_style explain origins = pair_style explain origins [] []
+
+-- and about those of a refutation
+abbrev pub reason_style : Bool → Style
+reason_style explain = refutation_style explain []

@@ -5,7 +5,8 @@ ghost use Rattle.cudf_document.specs.Promises.Views.{detail_view};
 ghost use Rattle.cudf_check.specs.Explanations.{detail_added};
 ghost use Rattle.cudf_check.specs.Naming.{numbered};
 ghost use Rattle.cudf_check.specs.Report.{faulty};
-ghost use Rattle.cudf_check.specs.Working.Named.{origin_view};
+ghost use Rattle.cudf_check.specs.Styles.{of_problem};
+ghost use Rattle.cudf_check.specs.Working.Named.{detailed_style, origin_view};
 ghost use Rattle.cudf_device.specs.Promises.PaperInside.{Says};
 
 use crate::lines::detail::print_added;
@@ -40,7 +41,7 @@ pub(crate) fn print_faulty<W: Sink>(
     detail: Option<Detail<'_>>,
 )
     ensures { Says W.state paper.old paper.new
-        (faulty (option_map origin_view document.entry.origin) document.entry.whose.now fault (option_map detail_view detail.entry)).text }
+        (faulty (detailed_style (option_map origin_view document.entry.origin) (option_map detail_view detail.entry)) of_problem document.entry.whose.now fault).text }
 {
     print_before(paper, document.origin, fault.line);
     paper.text(document.whose);

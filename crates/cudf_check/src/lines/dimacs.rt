@@ -2,11 +2,11 @@
 ghost use Rattle.std.specs.Prelude.{map};
 ghost use Rattle.std.specs.List.{flat_map, enumerate_from};
 ghost use Rattle.cudf_problem.specs.Promises.Views.{package_view};
+ghost use Rattle.cudf_cnf.specs.Cnf.{clauses_of};
 ghost use Rattle.cudf_check.specs.Report.{clause_line, cnf_answer, header_line, literal_text, package_comment};
 ghost use Rattle.cudf_device.specs.Promises.PaperInside.{Prints, Says};
 
-use crate::encoding::encoded;
-use cudf_cnf::KeyedClauses;
+use cudf_cnf::{KeyedClauses, encoded};
 use cudf_device::{Outcome, Paper, Sink};
 use cudf_document::{Package, Problem};
 use cudf_lrat::Literal;
@@ -74,7 +74,7 @@ fn print_clause<W: Sink>(paper: &mut Paper<'_, W>, literals: &[Literal])
 
 /// Prints a line for each clause.
 fn print_clauses<W: Sink>(paper: &mut Paper<'_, W>, clauses: &KeyedClauses)
-    ensures { Says W.state paper.old paper.new (flat_map (λ c. clause_line c.1) clauses.now.clauses) }
+    ensures { Says W.state paper.old paper.new (flat_map clause_line (clauses_of clauses.now.clauses)) }
 {
     for index in 0..clauses.len() {
         print_clause(paper, clauses.clause(index));

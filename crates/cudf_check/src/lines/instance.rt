@@ -8,6 +8,7 @@ ghost use Rattle.cudf_job.specs.Keys.{key_text, part_text, aspect_text};
 ghost use Rattle.cudf_job.specs.KeyViews.{key_view};
 ghost use Rattle.cudf_referee.specs.Promises.Views.{instance_view, what_view};
 ghost use Rattle.cudf_check.specs.Report.{meeting_text, met_text, upgrade_text, what_text, subject_text};
+ghost use Rattle.cudf_check.specs.JobStyles.{named_style};
 ghost use Rattle.cudf_check.specs.Working.Named.{origin_view};
 ghost use Rattle.cudf_device.specs.Promises.PaperInside.{Says};
 
@@ -199,7 +200,7 @@ pub(crate) fn print_instance<W: Sink>(
     instance: &Instance<'_>,
     met: Option<&Package<'_>>,
 )
-    ensures { Says W.state paper.old paper.new (met_text (option_map origin_view origin.entry) (instance_view instance.now) (option_map (λ p. package_view p.now) met.entry)) }
+    ensures { Says W.state paper.old paper.new (met_text (named_style (option_map origin_view origin.entry)) (instance_view instance.now) (option_map (λ p. package_view p.now) met.entry)) }
 {
     print_before(paper, origin, instance.line);
     print_key(paper, instance.key);

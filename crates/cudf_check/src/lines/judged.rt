@@ -6,8 +6,9 @@ ghost use Rattle.cudf_problem.specs.Promises.Views.{unknown_view};
 ghost use Rattle.cudf_referee.specs.Proposals.{proposal};
 ghost use Rattle.cudf_referee.specs.Solutions.{is_solution};
 ghost use Rattle.cudf_check.specs.Report.{verdict, judged_report, scored_text};
-ghost use Rattle.cudf_check.specs.Working.Found.{explains, found_text};
-ghost use Rattle.cudf_check.specs.Working.Named.{origins_view};
+ghost use Rattle.cudf_check.specs.JobStyles.{explains};
+ghost use Rattle.cudf_check.specs.Working.Found.{found_text};
+ghost use Rattle.cudf_check.specs.Working.Named.{instance_style, origins_view};
 ghost use Rattle.cudf_check.specs.Working.Pages.{Ascends};
 ghost use Rattle.cudf_device.specs.Promises.PaperInside.{Prints, Says};
 
@@ -56,7 +57,7 @@ fn print_counted<W: Sink>(
 fn print_found<W: Sink>(paper: &mut Paper<'_, W>, scribe: &Scribe<'_, '_, '_>, job: &Job)
     requires ascending { Ascends scribe.now.judged }
     requires explained { is_solution scribe.now.judged ≡ false → scribe.now.explain ≡ explains job.now }
-    ensures { Says W.state paper.old paper.new (found_text job.now scribe.entry.now.origins scribe.entry.now.judged) }
+    ensures { Says W.state paper.old paper.new (found_text job.now (instance_style (explains job.now) scribe.entry.now.origins) scribe.entry.now.judged) }
 {
     let referee = scribe.referee();
     match job {
@@ -78,8 +79,8 @@ fn print_judged<W: Sink>(
 ) -> Outcome
     requires ascending { Ascends scribe.now.judged }
     requires explained { is_solution scribe.now.judged ≡ false → scribe.now.explain ≡ explains job.now }
-    ensures text { Says W.state paper.old paper.new (judged_report (found_text job.now scribe.entry.now.origins) scribe.entry.now.judged).text }
-    ensures outcome { result ≡ (judged_report (found_text job.now scribe.entry.now.origins) scribe.entry.now.judged).outcome }
+    ensures text { Says W.state paper.old paper.new (judged_report (found_text job.now (instance_style (explains job.now) scribe.entry.now.origins)) scribe.entry.now.judged).text }
+    ensures outcome { result ≡ (judged_report (found_text job.now (instance_style (explains job.now) scribe.entry.now.origins)) scribe.entry.now.judged).outcome }
 {
     print_found(paper, scribe, job);
     print_verdict(paper, scribe.referee().is_solution())
@@ -95,7 +96,7 @@ pub(crate) fn print_solution<W: Sink>(
     solution: &Solution<'_>,
 ) -> Result<Outcome, AllocError>
     requires { IsTrue (ascend_above 0 (map unknown_view solution.now.unknown.items)) }
-    ensures { Prints W.state paper.old paper.new (judged_report (found_text job.now (origins_view origins.entry)) (proposal problem.now (is_initial problem.now) (set.contains solution.now.status)
+    ensures { Prints W.state paper.old paper.new (judged_report (found_text job.now (instance_style (explains job.now) (origins_view origins.entry))) (proposal problem.now (is_initial problem.now) (set.contains solution.now.status)
         (map unknown_view solution.now.unknown.items))) result }
 {
     ascending();
@@ -112,7 +113,7 @@ fn print_by<W: Sink>(
     referee: &Referee<'_, '_>,
 ) -> Result<Outcome, AllocError>
     requires { Ascends referee.now }
-    ensures { Prints W.state paper.old paper.new (judged_report (found_text job.now (origins_view origins.entry)) referee.entry.now) result }
+    ensures { Prints W.state paper.old paper.new (judged_report (found_text job.now (instance_style (explains job.now) (origins_view origins.entry))) referee.entry.now) result }
 {
     // Where the status is a solution, there is no line to explain.
     let explain = explains(job) && !referee.is_solution();

@@ -1,9 +1,11 @@
 //! The report of a ranking: a line for each solution, the best first; or the fault of one.
 ghost use Rattle.std.specs.Prelude.{◌++◌, None, codes, decimal, option_map};
 ghost use Rattle.std.specs.List.{flat_map};
+ghost use Rattle.cudf_check.specs.JobStyles.{named_style};
 ghost use Rattle.cudf_check.specs.Naming.{own_file};
 ghost use Rattle.cudf_check.specs.RankReport.{aim_count, entrant_name, entrant_word, judgement_text, rank_line, ranking_text};
 ghost use Rattle.cudf_check.specs.Report.{faulty};
+ghost use Rattle.cudf_check.specs.Styles.{of_solution};
 ghost use Rattle.cudf_device.specs.Readers.{names_in};
 ghost use Rattle.cudf_device.specs.Promises.PaperInside.{Says};
 
@@ -120,7 +122,7 @@ pub(crate) fn print_faulty_solution<W: Sink>(
     fault: Fault,
 )
     ensures { let plain = option_map (λ n. n.now) name.entry in
-        Says W.state paper.old paper.new (faulty (own_file plain) (entrant_word plain place) fault None).text }
+        Says W.state paper.old paper.new (faulty (named_style (own_file plain)) of_solution (entrant_word plain place) fault).text }
 {
     let origin = own_file(name);
     print_before(paper, origin, fault.line);

@@ -10,22 +10,21 @@ ghost use Rattle.cudf_reasons.specs.Laws.{keys_of};
 ghost use Rattle.cudf_reasons.specs.Reasons.{reasons_of};
 ghost use Rattle.cudf_reasons.specs.Views.{needed_view, told_as};
 ghost use Rattle.cudf_device.specs.declared.outcome.Outcome.TheVariants.{Yes};
-ghost use Rattle.cudf_check.specs.Report.{also_text, core_text, line, met_texts, needed, reason_line, refute_answer};
+ghost use Rattle.cudf_check.specs.Report.{also_text, core_text, line, met_texts, needed, refute_answer, told_line};
 ghost use Rattle.cudf_device.specs.Promises.PaperInside.{Prints, Says};
-ghost use Rattle.cudf_check.specs.Working.Encoded.{IsEncoded};
+ghost use Rattle.cudf_cnf.specs.Encodings.{IsEncoded};
+ghost use Rattle.cudf_check.specs.Working.Named.{reason_style};
 
-use crate::encoding::encoded;
-use crate::instances::instance_of;
 use crate::lines::explanation::print_help;
 use crate::lines::instance::{package_at, print_instance, print_meeting};
-use cudf_cnf::KeyedClauses;
 use cudf_cnf::laws::ordered;
+use cudf_cnf::{KeyedClauses, encoded};
 use cudf_device::{Outcome, Paper, Sink};
 use cudf_document::{Package, Problem};
 use cudf_lrat::laws::refuted;
 use cudf_lrat::{Answer, Kind, check};
 use cudf_reasons::{Needed, Reasons, reasons};
-use cudf_referee::{Instance, Key, Remedies};
+use cudf_referee::{Instance, InstanceFinder, Key, Remedies};
 use std::alloc::{AllocError, Global};
 use std::marker::Model;
 
@@ -89,7 +88,8 @@ impl<'p, 't> ReasonScribe<'p, 't> {
     ghost use Rattle.cudf_job.specs.KeyViews.{key_view};
     ghost use Rattle.cudf_referee.specs.Promises.Views.{instance_view};
     ghost use Rattle.cudf_check.specs.Explanations.{reason_added};
-    ghost use Rattle.cudf_check.specs.Report.{line, met_text, met_texts, reason_line};
+    ghost use Rattle.cudf_check.specs.Report.{line, reason_line, told_line};
+    ghost use Rattle.cudf_check.specs.Working.Named.{reason_style};
     ghost use Rattle.cudf_device.specs.Promises.PaperInside.{Says};
 
     /// The scribe of a problem. Memory for what is added to lines is taken here.
@@ -111,7 +111,7 @@ impl<'p, 't> ReasonScribe<'p, 't> {
 
     /// Prints the lines of the needed instances, and that there is no solution.
     fn print_core<W: Sink>(&self, paper: &mut Paper<'_, W>, reasons: &Reasons)
-        ensures { Says W.state paper.old paper.new (flat_map (reason_line self.now.explain self.now.problem) reasons.now ++ line (codes "no solution exists")) }
+        ensures { Says W.state paper.old paper.new (flat_map (told_line (reason_style self.now.explain) self.now.problem) reasons.now ++ line (codes "no solution exists")) }
     {
         self.print_reasons(paper, reasons);
         paper.text("no solution exists\n");
@@ -119,18 +119,27 @@ impl<'p, 't> ReasonScribe<'p, 't> {
 
     /// Prints the lines of the needed instances.
     fn print_reasons<W: Sink>(&self, paper: &mut Paper<'_, W>, reasons: &Reasons)
-        ensures { Says W.state paper.old paper.new (flat_map (reason_line self.now.explain self.now.problem) reasons.now) }
+        ensures { Says W.state paper.old paper.new (flat_map (told_line (reason_style self.now.explain) self.now.problem) reasons.now) }
     {
+        let mut finder = InstanceFinder::new(self.problem);
         for index in 0..reasons.len() {
-            self.print_reason(paper, reasons.key(index), reasons.met(index));
+            self.print_reason(paper, &mut finder, reasons.key(index), reasons.met(index));
         }
     }
 
     /// Prints the line of a needed instance.
-    fn print_reason<W: Sink>(&self, paper: &mut Paper<'_, W>, key: Key, met: &[u32])
-        ensures { Says W.state paper.old paper.new (reason_line self.now.explain self.now.problem (key_view key, met.now)) }
+    fn print_reason<W: Sink>(
+        &self,
+        paper: &mut Paper<'_, W>,
+        finder: &mut InstanceFinder<'_, '_>,
+        key: Key,
+        met: &[u32],
+    )
+        requires { finder.old ≡ self.now.problem }
+        ensures told { Says W.state paper.old paper.new (told_line (reason_style self.now.explain) self.now.problem (key_view key, met.now)) }
+        ensures finder { finder.new ≡ finder.old }
     {
-        match instance_of(self.problem, key) {
+        match finder.find(key) {
             Some(instance) => self.print_line(paper, &instance, met),
             None => {}
         }
@@ -138,8 +147,7 @@ impl<'p, 't> ReasonScribe<'p, 't> {
 
     /// Prints the line of an instance that is met by the packages at these places.
     fn print_line<W: Sink>(&self, paper: &mut Paper<'_, W>, instance: &Instance<'_>, met: &[u32])
-        ensures { let i = instance_view instance.now in
-            Says W.state paper.old paper.new (line (met_text None i None ++ met_texts self.now.problem met.now ++ reason_added self.now.explain self.now.problem i)) }
+        ensures { Says W.state paper.old paper.new (reason_line (reason_style self.now.explain) self.now.problem (instance_view instance.now, met.now)) }
     {
         print_instance(paper, None, instance, None);
         print_met(paper, self.problem, met);
@@ -199,7 +207,7 @@ fn print_core<W: Sink>(
     requires clauses { clauses.now.clauses ≡ cnf problem.now }
     requires within { All (λ n. (0 < n) × (n ≤ length clauses.now.clauses)) numbers.now }
     requires ordered { IsTrue (never_descend (keys_of (needed clauses.now.clauses numbers.now))) }
-    ensures { Prints W.state paper.old paper.new (record { text = core_text explain problem.now numbers.now; outcome = Yes }) result }
+    ensures { Prints W.state paper.old paper.new (record { text = core_text (reason_style explain) problem.now numbers.now; outcome = Yes }) result }
 {
     let reasons = reasons_of(alloc, clauses, numbers)?;
     print_reasons(paper, alloc, problem, &reasons, explain)
@@ -213,7 +221,7 @@ fn print_reasons<W: Sink>(
     reasons: &Reasons,
     explain: bool,
 ) -> Result<Outcome, AllocError>
-    ensures { Prints W.state paper.old paper.new (record { text = flat_map (reason_line explain problem.now) reasons.now ++ line (codes "no solution exists"); outcome = Yes }) result }
+    ensures { Prints W.state paper.old paper.new (record { text = flat_map (told_line (reason_style explain) problem.now) reasons.now ++ line (codes "no solution exists"); outcome = Yes }) result }
 {
     let scribe = ReasonScribe::new(alloc, problem, explain)?;
     scribe.print_core(paper, reasons);
@@ -239,7 +247,7 @@ pub(crate) fn print_proof<W: Sink>(
     proof: &[u8],
     explain: bool,
 ) -> Result<Outcome, AllocError>
-    ensures { Prints W.state paper.old paper.new (refute_answer explain proof.now problem.now) result }
+    ensures { Prints W.state paper.old paper.new (refute_answer (reason_style explain) proof.now problem.now) result }
 {
     match encoded(alloc, problem) {
         Ok(Some(clauses)) => print_checked(paper, alloc, problem, &clauses, proof, explain),
@@ -258,7 +266,7 @@ fn print_checked<W: Sink>(
     explain: bool,
 ) -> Result<Outcome, AllocError>
     requires { IsEncoded problem.now (Some clauses.now) }
-    ensures { Prints W.state paper.old paper.new (refute_answer explain proof.now problem.now) result }
+    ensures { Prints W.state paper.old paper.new (refute_answer (reason_style explain) proof.now problem.now) result }
 {
     refuted();
     ordered();

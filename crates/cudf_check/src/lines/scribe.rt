@@ -32,7 +32,7 @@ impl<'r, 'p, 't> Scribe<'r, 'p, 't> {
     ghost use Rattle.cudf_referee.specs.Promises.Views.{instance_view};
     ghost use Rattle.cudf_check.specs.Explanations.{met_added};
     ghost use Rattle.cudf_check.specs.Report.{instance_line};
-    ghost use Rattle.cudf_check.specs.Working.Named.{origins_view};
+    ghost use Rattle.cudf_check.specs.Working.Named.{instance_style, origins_view};
     ghost use Rattle.cudf_device.specs.Promises.PaperInside.{Says};
 
     /// The scribe of a referee. Memory for what is added to lines is taken here.
@@ -72,7 +72,7 @@ impl<'r, 'p, 't> Scribe<'r, 'p, 't> {
 
     /// Prints the line of an instance.
     pub(crate) fn print_line<W: Sink>(&self, paper: &mut Paper<'_, W>, instance: &Instance<'_>)
-        ensures { Says W.state paper.old paper.new (instance_line self.now.explain self.now.origins self.now.judged (instance_view instance.now)) }
+        ensures { Says W.state paper.old paper.new (instance_line (instance_style self.now.explain self.now.origins) self.now.judged (instance_view instance.now)) }
     {
         let referee = self.referee;
         let place = referee.met_by(instance);

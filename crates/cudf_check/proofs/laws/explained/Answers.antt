@@ -1,24 +1,31 @@
-use Rattle.std.proofs.Common.{◌++◌, codes, option_and_then, refl, ap, append-nil, true}
+use Rattle.std.proofs.Common.{◌++◌, None, codes, option_and_then, refl, ap, append-nil, true, false}
 use Rattle.cudf_text.specs.Faults.{fault_text}
 use Rattle.cudf_problem.specs.Universe.{package_at}
 use Rattle.cudf_referee.specs.Violations.{met_by}
-use Rattle.cudf_check.specs.Explanations.{detail_added, instance_added}
-use Rattle.cudf_check.specs.Naming.{named_before, numbered, origin_of}
-use Rattle.cudf_check.specs.Report.{line, met_text}
+use Rattle.cudf_check.specs.Explanations.{instance_added, reason_added}
+use Rattle.cudf_check.specs.JobStyles.{document_style, pair_style, refutation_style}
+use Rattle.cudf_check.specs.Naming.{named_before, numbered}
+use Rattle.cudf_check.specs.Report.{line, met_text, met_texts}
+use Rattle.cudf_check.specs.Styles.{of_problem}
 use Rattle.cudf_check.proofs.laws.explained.Goals as goal
 
 pub returns-clause-instances : goal.returns-clause-instances
-returns-clause-instances c origins s i = let text = met_text (origin_of origins i.key.part) i (option_and_then (package_at s.problem) (met_by s.proposed i)) in record {
+returns-clause-instances c origins problem solution s i =
+    let text = met_text (pair_style false origins problem solution) i (option_and_then (package_at s.problem) (met_by s.proposed i)) in
+    record { text = text; added = instance_added true s i; plain_is = ap line (append-nil text); explained_is = refl }
+
+pub returns-clause-faults : goal.returns-clause-faults
+returns-clause-faults c origin bytes whose f = let text = named_before origin f.line ++ whose ++ numbered origin f.line ++ codes ": " ++ fault_text f.kind in record {
   text = text;
-  added = instance_added true s i;
+  added = (document_style true origin bytes).added_to_fault of_problem f;
   plain_is = ap line (append-nil text);
   explained_is = refl;
 }
 
-pub returns-clause-faults : goal.returns-clause-faults
-returns-clause-faults c origin whose f detail = let text = named_before origin f.line ++ whose ++ numbered origin f.line ++ codes ": " ++ fault_text f.kind in record {
+pub returns-clause-reasons : goal.returns-clause-reasons
+returns-clause-reasons c bytes problem reason = let text = met_text (refutation_style false bytes) reason.0 None ++ met_texts problem reason.1 in record {
   text = text;
-  added = detail_added origin detail;
+  added = reason_added true problem reason.0;
   plain_is = ap line (append-nil text);
   explained_is = refl;
 }

@@ -1,10 +1,12 @@
-use Rattle.std.proofs.Common.{None, refl, subst}
+use Rattle.std.proofs.Common.{refl, subst}
 use Rattle.cudf_device.specs.Readers.{names_in}
 use Rattle.cudf_device.specs.Promises.PaperInside.{Says}
 use Rattle.cudf_device.proofs.PaperLemmas.{Prints-as}
+use Rattle.cudf_check.specs.JobStyles.{named_style}
 use Rattle.cudf_check.specs.Naming.{own_file}
 use Rattle.cudf_check.specs.RankReport.{entrant_word, placed_faults}
 use Rattle.cudf_check.specs.Report.{faulty}
+use Rattle.cudf_check.specs.Styles.{of_solution}
 use Rattle.cudf_check.specs.Working.Judged.{IsFaultAt}
 use Rattle.cudf_check.proofs.JudgingLemmas.{first_is}
 use Rattle.cudf_check.proofs.rank_report.print_unranked.Goals as goal
@@ -15,7 +17,7 @@ returns-in-Fault g c = λ mode solutions report is.
     Prints-as _ _ _ _ _ _
     (first_is (names_in g.S.Source.state c.args.sources.now) (placed_faults mode solutions) report place c.in-Fault.fault (subst (λ e. IsFaultAt mode solutions place e) c.in-Fault.is is))
     (record {
-      said = subst (λ name. Says g.W.Sink.state c.args.paper.now c.print_faulty_solution.new.paper (faulty (own_file name) (entrant_word name place) c.in-Fault.fault None).text) c.name_at.ensures
+      said = subst (λ name. Says g.W.Sink.state c.args.paper.now c.print_faulty_solution.new.paper (faulty (named_style (own_file name)) of_solution (entrant_word name place) c.in-Fault.fault).text) c.name_at.ensures
           c.print_faulty_solution.ensures;
       answered = refl;
       untouched = tt;

@@ -1,6 +1,7 @@
 use Rattle.std.proofs.Common.{option_map, ◌∙◌}
 use Rattle.cudf_device.proofs.PaperLemmas.{Prints-as}
-use Rattle.cudf_check.specs.Working.Found.{explains, found_text}
+use Rattle.cudf_check.specs.JobStyles.{explains}
+use Rattle.cudf_check.specs.Working.Found.{found_text}
 use Rattle.cudf_check.specs.Working.Named.{given_names}
 use Rattle.cudf_check.proofs.ReadingLemmas.{pair_of}
 use Rattle.cudf_check.proofs.report.print_report.Goals as goal

@@ -1,9 +1,10 @@
-use Rattle.std.proofs.Common.{if◌then◌else◌, refl, sym, subst, codes, option_map}
+use Rattle.std.proofs.Common.{if◌then◌else◌, refl, sym, subst, codes}
 use Rattle.cudf_text.specs.Joined.{is_fail}
 use Rattle.cudf_device.specs.declared.outcome.Outcome.TheVariants.{Fail}
 use Rattle.cudf_device.proofs.PaperLemmas.{Prints-as}
-use Rattle.cudf_check.specs.Report.{alone, faulty_or, solution_fault, detail_if}
-use Rattle.cudf_check.specs.Working.Named.{origin_view}
+use Rattle.cudf_check.specs.Report.{alone, faulty_or, solution_fault}
+use Rattle.cudf_check.specs.Styles.{of_solution}
+use Rattle.cudf_check.specs.Working.Named.{style_for}
 use Rattle.cudf_check.specs.Working.Unjudged.{IsUnjudged}
 use Rattle.cudf_check.proofs.report.print_unjudged.Goals as goal
 
@@ -11,7 +12,7 @@ pub returns-in-SaysFail : goal.returns-in-SaysFail
 returns-in-SaysFail g c = λ report is.
     let solution = c.args.solution in
     let unjudged = subst (IsUnjudged c.args.setting.mode solution.bytes.now) c.in-SaysFail.is is in
-    Prints-as _ _ _ _ _ _ (λ k. faulty_or (option_map origin_view solution.origin) solution.whose.now (detail_if solution.explain solution.bytes.now) (sym unjudged.0 k)
+    Prints-as _ _ _ _ _ _ (λ k. faulty_or (style_for solution) of_solution solution.whose.now (sym unjudged.0 k)
     (if sym unjudged.1 k then alone (codes "solution FAIL") Fail else report))
     (record { said = c.text.ensures; answered = refl; untouched = tt })
 

@@ -1,0 +1,61 @@
+-- The style that a job asks for by `--explain`, and its readers by their names: own.
+use Rattle.std.specs.Prelude.{ℕ, Bool, false, List, Option, Some, None, if◌then◌else◌}
+use Rattle.cudf_text.specs.declared.fault.Fault.{Fault}
+use Rattle.cudf_text.specs.Joined.{problem_part, solution_part}
+use Rattle.cudf_document.specs.Details.{PlainDetail, fault_detail}
+use Rattle.cudf_job.specs.declared.job.Job.{Job}
+use Rattle.cudf_job.specs.declared.job.Job.TheVariants.{Lint, Check, Score, Cnf, Refute}
+use Rattle.cudf_check.specs.Explanations.{instance_added, reason_added, detail_added}
+use Rattle.cudf_check.specs.Naming.{Names, PlainOrigin, PlainOrigins, named_before, numbered, one_file, origin_of, own_file, own_files}
+use Rattle.cudf_check.specs.Styles.{Document, of_problem, of_solution, Style, plainly}
+
+-- the job asks for explained lines
+abbrev pub explains : Job → Bool
+explains (Lint explain) = explain
+explains (Check after limit explain) = explain
+explains (Score aims) = false
+explains Cnf = false
+explains (Refute explain) = explain
+
+-- what a document says beside a fault of it, where lines are explained
+abbrev pub detail_if : Bool → List ℕ → Fault → Option PlainDetail
+detail_if explain bytes f = if explain then fault_detail bytes f else None
+
+-- of the problem, or of the solution
+abbrev pub by_document : {A : Type 0} → A → A → Document → A
+by_document problem solution of_problem = problem
+by_document problem solution of_solution = solution
+
+-- of a document: lines name its file, if it is given, and none is explained
+abbrev pub named_style : Option PlainOrigin → Style
+named_style origin = record plainly { prefix = λ document. named_before origin; location = λ document. numbered origin }
+
+-- of a document of these bytes, whose fault is explained or not
+abbrev pub document_style : Bool → Option PlainOrigin → List ℕ → Style
+document_style explain origin bytes = record (named_style origin) { added_to_fault = λ document f. detail_added origin (detail_if explain bytes f) }
+
+-- and so are instances of a refutation of it; no line names a file
+abbrev pub refutation_style : Bool → List ℕ → Style
+refutation_style explain bytes = record (document_style explain None bytes) { added_to_reason = reason_added explain }
+
+-- of a problem and a solution of these bytes, explained or not
+abbrev pub pair_style : Bool → PlainOrigins → List ℕ → List ℕ → Style
+pair_style explain origins problem solution = record plainly {
+  prefix = λ document. named_before (origin_of origins document);
+  location = λ document. numbered (origin_of origins document);
+  added_to_fault = λ document f. detail_added (origin_of origins document) (detail_if explain (by_document problem solution document) f);
+  added_to_instance = instance_added explain;
+}
+
+-- the second input is the solution; where there is none, the first one is cut
+abbrev pub inputs_style : Bool → Names → List ℕ → Option (List ℕ) → Style
+inputs_style explain names input None = pair_style explain (one_file (problem_part input) names) (problem_part input) (solution_part input)
+inputs_style explain names input (Some solution) = pair_style explain (own_files names) input solution
+
+-- the job's; of a CNF no line names a file
+abbrev pub style_of : Job → Names → List ℕ → Option (List ℕ) → Style
+style_of (Lint explain) names input solution = document_style explain (own_file names.first) input
+style_of (Check after limit explain) names input solution = inputs_style explain names input solution
+style_of (Score aims) names input solution = inputs_style false names input solution
+style_of Cnf names input solution = document_style false None input
+style_of (Refute explain) names input proof = refutation_style explain input
