@@ -227,9 +227,11 @@ def unopened(trial):
 def unreadable_files(trial):
     """A folder, a file that is missing or below another one, and a descriptor for writing only."""
     for name in (".", "/", "missing", "both/x", ""):
+        shown = name or "''"
+        start = f"cudf_check: {shown} c"
         for words in (["lint", name], ["check", name], ["check", "both", name], ["check", name, "both"]):
             status, output, errors = trial.run(words)
-            trial.same(words, (status, output, errors.startswith(f"cudf_check: {name} c") or errors), (5, "", True))
+            trial.same(words, (status, output, errors.startswith(start) or errors), (5, "", True))
     with open("written", "wb") as file:
         trial.same("a descriptor for writing only", trial.run("check -", stdin=file)[:2], (5, ""))
 
