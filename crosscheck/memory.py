@@ -201,15 +201,16 @@ def seconds_of(trial, job):
 
 
 def doubled(trial, jobs):
-    """The time for twice the input by that for the input, and the time."""
-    least = [float("inf")] * 2
+    """The time for twice the input by that for the input, both of one round, and the time."""
+    least = float("inf"), float("inf")
     for turn in range(ROUNDS):
-        for _ in range(TURNS):
-            least = [min(one, seconds_of(trial, job)) for one, job in zip(least, jobs)]
-        if least[1] <= TIME_DOUBLED * least[0]:
+        times = zip(*[[seconds_of(trial, job) for job in jobs] for _ in range(TURNS)])
+        one, two = map(min, times)
+        least = min(least, (two / max(one, 1e-4), two))
+        if least[0] <= TIME_DOUBLED:
             break
         time.sleep(PAUSE * 2**turn)
-    return least[1] / max(least[0], 1e-4), least[1]
+    return least
 
 
 def excesses(counts, job, most):

@@ -126,7 +126,10 @@ fn whole_text(alloc: Global, words: &[String], error: &clap::Error) -> Result<St
     let mut program = program(alloc)?;
     match program.try_get_matches_from_mut(&shown) {
         Ok(_) => written(alloc, error),
-        Err(fault) => written(alloc, &fault),
+        Err(fault) => match fault.kind() {
+            ErrorKind::OutOfMemory => Err(AllocError),
+            _ => written(alloc, &fault),
+        },
     }
 }
 
