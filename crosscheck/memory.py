@@ -12,7 +12,8 @@ usage: memory.py PROGRAM [TESTS]
   - growths: one for each byte of the input, and 500; for twice the input 2.2 times as many, and 500
   - bytes held at once: 64 for each byte of the input, or 4 after an error, and 1 MB; none at the end
   - reads: of a file one for each 65,536 bytes, of a pipe that gives a byte at a time one for each byte, and 8
-  - processor time: for twice the input 3 times, where a square takes 4; the least of some runs of both in turn
+  - processor time: for twice the input 3 times, where a square takes 4; the least of three runs of both in turn, and the
+    middle of further rounds where that is too much
 - Inputs of 268,435,456 bytes, with 3 bytes of memory for each byte and 1 MB; and of one byte more, which is too long.
 - TESTS is the executable of the tests of cudf_tests (`rt test` leaves it in out/). Its tests in `memory` make calls
   that take memory, and say where one answered that a growth was refused: each is refused as above. At their ends they
@@ -167,7 +168,7 @@ CHUNK = 65_536
 BYTES_PER_BYTE, GREATEST_BYTES_PER_BYTE, MORE_BYTES = 64, 3, MEGABYTE
 MORE_GROWTHS, MORE_READS = 500, 8
 GROWTHS_DOUBLED, TIME_DOUBLED = 2.2, 3.0
-# a measure that is too great is taken again after a pause, each twice as long as the one before, since other programs disturb it
+# other programs disturb measures: a ratio that is too great is measured again, after a pause twice as long each time
 TURNS, ROUNDS, PAUSE = 3, 9, 0.1
 # what the greatest input G begins and ends with, in a command with the small one S or the problem P, and the report
 GREATEST = (
@@ -201,16 +202,16 @@ def seconds_of(trial, job):
 
 
 def doubled(trial, jobs):
-    """The time for twice the input by that for the input, both of one round, and the time."""
-    least = float("inf"), float("inf")
+    """The middle of the ratios of the time for twice the input to that for the input, each of one round, and the least time."""
+    ratios, least = [], float("inf")
     for turn in range(ROUNDS):
         times = zip(*[[seconds_of(trial, job) for job in jobs] for _ in range(TURNS)])
         one, two = map(min, times)
-        least = min(least, (two / max(one, 1e-4), two))
-        if least[0] <= TIME_DOUBLED:
+        ratios, least = sorted([*ratios, two / max(one, 1e-4)]), min(least, two)
+        if ratios[len(ratios) // 2] <= TIME_DOUBLED:
             break
         time.sleep(PAUSE * 2**turn)
-    return least
+    return ratios[len(ratios) // 2], least
 
 
 def excesses(counts, job, most):
