@@ -22,7 +22,7 @@ complete -c cudf_check -n __fish_use_subcommand -s V -l version -d 'Print the ve
 complete -c cudf_check -n 'not __fish_seen_subcommand_from help' -s h -l help -d 'Print help'
 complete -c cudf_check -n '__fish_seen_subcommand_from help' -f
 complete -c cudf_check -n '__fish_seen_subcommand_from help; and test (count (commandline -opc)) -eq 2' -a 'lint check score rank cnf refute help'
-complete -c cudf_check -n '__fish_seen_subcommand_from lint check score rank cnf refute' -l strict -d 'Also reject three things that the standard forbids'
+complete -c cudf_check -n '__fish_seen_subcommand_from lint check score rank cnf refute' -l strict -d 'Also reject four things that the standard forbids'
 complete -c cudf_check -n '__fish_seen_subcommand_from lint check refute' -l explain -d 'Add the cause to each line'
 complete -c cudf_check -n '__fish_seen_subcommand_from lint check score rank' -s H -l with-filename -d 'Begin lines with FILE:LINE:'
 complete -c cudf_check -n '__fish_seen_subcommand_from check' -x -l after -d 'Print only the violations with greater keys'

@@ -43,6 +43,8 @@ ENTRY, RANKING = "run", "rank"
 LAWS = {"ascending": {"check", "all"}, "empty": {"check", "refute", "all"}}
 # what isn't followed: exact texts, and without `--explain` and `-H` the style that these ask for, by a law of cudf_check
 TEXTS, STYLE, PLAIN = {"cnf_answer", "refute_answer"}, "style_of", "plain"
+# and what a text means, of commands of which the headline says the text
+MEANINGS, MEANT = {"Means", "HasWritten"}, {"cnf", "refute", "all"}
 PROOFS_BY_HAND = {f"crates/cudf_index/proofs/steps/mark/Mark/{name}/Proof.antt" for name in ("grow", "new")}
 
 # a whole `use`, to the end of the line, or of the line on which its braces end; and the two forms that are read
@@ -378,7 +380,7 @@ def used_by(path, lines):
 def needed(command, is_plain=False):
     """What a reader of the headline needs for a command, or for one without options: each definition's lines, by files."""
     jobs, left, found = COMMANDS[command], roots(command, is_plain), {}
-    left_out = TEXTS | ({STYLE} if is_plain else set())
+    left_out = TEXTS | ({STYLE} if is_plain else set()) | (MEANINGS if command not in MEANT else set())
     while left:
         path, name = left.pop()
         lines, made = definitions_in(path)
