@@ -10,6 +10,11 @@ from second.keys import ASPECTS
 from second.values import BLANKS, ENTRIES, OPERATORS, PROPERTIES, RESERVED
 
 FAILS = (b"FAIL", b"# c\n FAIL\r\nx")
+# a byte order mark and what files of other formats begin with stand last
+ODD_BYTES = (
+    b"\xff", b"\xc3", b"\x80", b"\r", b"\n", b" ", b"#", b":",
+    b"\xef\xbb\xbf", b"\x1f\x8b", b"BZh", b"\xff\xfe",
+)
 ODD_SOLUTIONS = (*FAILS, b"\nFAIL\t\n\xff", b"FAIL x\n", b"fail\n")
 BUILT_IN = {name: kind.word for name, kind in PROPERTIES.items() if name not in ("package", "was-installed")}
 
@@ -39,7 +44,8 @@ class Faults:
         self.pick(ways + [self.out_of_place] * 2)(stanzas)
 
     def put_in_solution(self, stanzas):
-        self.pick((self.begins_otherwise, self.repeats, self.wrong_value, self.wrong_name, self.out_of_place))(stanzas)
+        ways = [self.begins_otherwise, self.repeats, self.undeclared, self.wrong_value, self.wrong_name]
+        self.pick([*ways, self.out_of_place])(stanzas)
 
     def of_kind(self, stanzas, kind):
         """A stanza with this postmark; one is added if there is none."""
@@ -80,6 +86,15 @@ class Faults:
 
     def undeclared(self, stanzas):
         self.put(self.of_kind(stanzas, "package"), self.pick(WORDS.undeclared))
+
+    def says_more(self, stanzas):
+        """More properties in the packages of a solution, and mostly a preamble that may declare them."""
+        for _ in range(self.pick((1, 1, 2, 4))):
+            self.put(self.of_kind(stanzas, "package"), self.pick(WORDS.said))
+        if self.pick((False, True, True)):
+            values = [self.chance.sample(WORDS.declarations, self.pick((0, 1, 2))) for _ in range(self.pick((1, 2)))]
+            at = self.pick((0, 0, 0, self.chance.randrange(len(stanzas) + 1)))
+            stanzas.insert(at, ["preamble:", *(f"property: {', '.join(value)}" for value in values)])
 
     def out_of_place(self, stanzas):
         """A name in a preamble or a request that mostly has no meaning there."""
@@ -254,6 +269,11 @@ class Inputs(Faults):
         self.chance.shuffle(lines)
         return [f"package: {name}", *lines]
 
+    def listing(self, name, version):
+        """A stanza of a solution that doesn't install the pair."""
+        written = "version: " + self.pick(WORDS.repeated_versions).format(version)
+        return [f"package: {name}", *self.pick(([written], [written, "installed: false"], ["installed: false", written]))]
+
     def pairs(self):
         """Names and versions of packages."""
         known = [(name, version) for name in WORDS.names for version in range(1, 500 if self.is_long else 4)]
@@ -277,11 +297,15 @@ class Inputs(Faults):
         chosen = [pair for pair in pairs if self.now_and_then(share)]
         chosen += [(self.pick("acfz"), 4)] * self.now_and_then(0.15)
         stanzas = [[f"package: {name}", f"version: {version}", "installed: true"] for name, version in chosen]
+        listed = self.pick((0, 0, 0.4))
+        stanzas += [self.listing(*pair) for pair in pairs if pair not in chosen and self.now_and_then(listed)]
         if self.now_and_then(self.again):
             pair = self.pick(chosen + pairs + [("z", 1)])
             stanzas += [self.repetition(*pair) for _ in range(self.pick((1, 1, 2)))]
         self.chance.shuffle(stanzas)
         stanzas += [["request: ", "install: ,"]] * self.now_and_then(0.05)
+        if self.oddly(0.12):
+            self.says_more(stanzas)
         if self.oddly(0.08):
             self.put_in_solution(stanzas)
         return self.document(stanzas)
@@ -305,15 +329,15 @@ class Inputs(Faults):
         if self.oddly(0.02):
             data = data[:self.chance.randrange(len(data) + 1)]
         if self.oddly(0.03):
-            at = self.chance.randrange(len(data) + 1)
-            data = data[:at] + self.pick((b"\xff", b"\xc3", b"\x80", b"\r", b"\n", b" ", b"#", b":")) + data[at:]
-        return data
+            at = self.pick((0, self.chance.randrange(len(data) + 1)))
+            data = data[:at] + self.pick(ODD_BYTES) + data[at:]
+        return self.pick((b"", b"\n")) if self.oddly(0.01) else data
 
     def odd_lines(self, lines):
         """The lines with odd ones among them, and lists on two lines; some are missing or doubled."""
         for line in lines:
             if self.now_and_then(0.02):
-                yield self.pick(WORDS.odd_lines)
+                yield self.pick(self.pick((WORDS.odd_lines, WORDS.odd_lines, WORDS.junk)))
             if ", " in line and self.now_and_then(0.1):
                 front, back = line.split(", ", 1)
                 yield from [front + ","] + ["# between"] * self.now_and_then(0.5)

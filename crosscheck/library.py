@@ -199,7 +199,7 @@ def lines_of(request, answer):
         whose = fault.whose if fault.place is None else f"{fault.whose} {fault.place}"
         yield f"{whose} line {fault.line}: {fault.kind} {text_of(fault)}"
     elif proof_fault:
-        yield f"proof line {proof_fault.line}: {proof_fault.kind} {proof_fault.text}"
+        yield f"proof line {proof_fault.line}: {proof_fault.kind} {text_of(proof_fault)}"
     elif call == "lint":
         yield "problem ok"
     elif call == "cnf":

@@ -87,6 +87,8 @@ def runs(folder, problem, solution):
         yield ["check", *option, *words], b"", second.check(explains=explains)
         yield ["check", "-", *option], problem + solution, both.check(explains=explains)
     yield ["score", *words], b"", second.score()
+    strict = reports.Second(problem, solution, is_strict=True)
+    yield ["check", "--strict", "--explain", *words], b"", strict.check(explains=True)
 
 
 def mutations(trial):

@@ -12,8 +12,9 @@ import re
 
 import common
 from common import contents, read, section, sections, unescaped, write
-from inputs import Inputs
+from inputs import ODD_BYTES, WORDS, Inputs
 from second.cnf import Rules, is_satisfied, statuses
+from second.explained import with_cause
 from second.judge import Judgement
 from second.lrat import KINDS, Proof, Prover
 from second.reasons import Reasons
@@ -58,7 +59,7 @@ def proof_answer(problem, data, explains=False):
     rules = Rules(problem.decode())
     shown = Proof(len(rules.packages), [clause for _, clause in rules.clauses], data)
     if shown.fault:
-        return [error_line(*shown.fault)], 1
+        return [with_cause(error_line(*shown.fault), shown.cause() if explains else "")], 1
     return [*Reasons(rules, shown.core, explains).lines, "no solution exists"], 0
 
 
@@ -68,8 +69,9 @@ def error_line(line, kind):
 
 def by_hand(wanted):
     """The answers without and with `--explain`: to a proof with an error, a problem with an error, or else a core."""
-    if error := re.fullmatch(r"(\d) (\d)\n", wanted):
-        return [([error_line(*map(int, error.groups()))], 1)] * 2
+    if error := re.fullmatch(r"(\d) (\d)(?:; (.*))?\n", wanted):
+        line = error_line(*map(int, error.groups()[:2]))
+        return [([with_cause(line, cause)], 1) for cause in ("", error[3])]
     end, status = ([], 2) if wanted.startswith("problem") else (["no solution exists"], 0)
     return [(text.splitlines() + end, status) for text in (re.sub("; .*", "", wanted), wanted)]
 
@@ -106,10 +108,19 @@ def proof_rows(trial):
 def spoilt(chance, data):
     """The proof with something changed."""
     lines = data.split(b"\n")
-    at, way = chance.randrange(len(lines)), chance.randrange(6)
+    at, way = chance.randrange(len(lines)), chance.randrange(9)
     words = lines[at].split(b" ")
     if way == 5:
         return data[:chance.randrange(len(data) + 1)]
+    if way == 6:
+        place = chance.choice((0, chance.randrange(len(data) + 1)))
+        return data[:place] + chance.choice(ODD_BYTES) + data[place:]
+    if way == 7:
+        return b"\n".join([*lines[:at], chance.choice(WORDS.no_step).encode(), *lines[at + 1:]])
+    if way == 8:
+        # the literals alone, or what is passed over before a number that is not new
+        alone = lines[at].partition(b" 0 ")[0] + b" 0"
+        return b"\n".join([*lines[:at], *chance.choice(([alone], [b"c x", b"", b"1 d 1 0", b"1 " + alone + b" 1 0"]))])
     if way < 2:
         lines[at:at + 1] = [lines[chance.randrange(len(lines))], lines[at]] if way else []
         return b"\n".join(lines)

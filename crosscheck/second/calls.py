@@ -123,7 +123,7 @@ OF_BYTES = {
 
 
 def solution(data, asked, is_strict=False):
-    if faults := documents.faults_of(data, False, is_strict):
+    if faults := documents.faults_of(data, False, is_strict, asked.declared):
         return error(faults)
     status, unknown = installed(asked, data.decode())
     shown = [f"{place} line {line}: {name} {version}" for place, line, name, version in unknown]

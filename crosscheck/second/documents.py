@@ -96,6 +96,11 @@ def declared_by(stanzas):
     return stanzas[0].declarations()[0] if stanzas and stanzas[0].mark() == "preamble" else {}
 
 
+def declared_in(data):
+    """The same of a document that is UTF-8."""
+    return declared_by(read_stanzas(data.decode())[0])
+
+
 def utf8_error(data):
     """The place of the first byte that is not UTF-8, or None."""
     try:
@@ -112,16 +117,14 @@ def repeated(properties):
 
 
 def package_faults(stanza, declared, pairs, is_problem):
-    """`pairs` has those of earlier stanzas."""
+    """`declared` has what may stand in it, by name, and `pairs` those of earlier stanzas."""
     types = PROPERTIES | {name: known.type for name, known in declared.items()}
+    names = types if is_problem else (*RESERVED, *declared)
+    yield from ((line, 8) for line, name, _ in stanza.properties if name not in names)
     properties = [it for it in stanza.properties if is_problem or it[1] in COUNTED]
-    for line, name, value in properties:
-        if name not in types:
-            yield line, 8
-        elif types[name].read(value) is None:
-            yield line, 9
+    yield from ((line, 9) for line, name, value in properties if name in types and types[name].read(value) is None)
     yield from repeated(properties)
-    yield from [(stanza.last, 14)] if stanza.missing(declared) else []
+    yield from [(stanza.last, 14)] if is_problem and stanza.missing(declared) else []
     if stanza.value("version") is None:
         yield stanza.last, 12
     elif stanza.pair() and stanza.pair() in pairs:
@@ -143,12 +146,12 @@ def other_faults(stanza, is_problem):
     yield from repeated(properties) if is_problem else []
 
 
-def faults_in(text, is_problem):
+def faults_in(text, is_problem, others):
     stanzas, fault, lines = read_stanzas(text)
     yield from [fault] if fault else []
     marks = [stanza.mark() for stanza in stanzas]
     end = marks.index("request") if is_problem and "request" in marks else len(marks)
-    declared, pairs = declared_by(stanzas) if is_problem else {}, set()
+    declared, pairs = dict(others) | declared_by(stanzas), set()
     for at, (mark, stanza) in enumerate(zip(marks, stanzas)):
         wrong = {4: mark not in POSTMARKS, 5: is_problem and mark == "preamble" and at > 0, 6: at > end}
         yield from ((stanza.line, kind) for kind, is_so in wrong.items() if is_so)
@@ -160,14 +163,18 @@ def faults_in(text, is_problem):
         yield max(lines, 1), 13
 
 
-def faults_of(data, is_problem, is_strict=False):
-    """The errors of a problem or a solution; a solution that says FAIL has at most E1."""
+def faults_of(data, is_problem, is_strict=False, others=()):
+    """The errors of a problem or a solution; a solution that says FAIL has at most E1.
+
+    `others` has what the problem of a solution declares, by name.
+    """
     at = utf8_error(data)
     if at is not None:
         return {(1 + data.count(b"\n", 0, at), 1)}
     if not is_problem and says_fail(data.decode()):
         return set()
-    return {fault for fault in faults_in(data.decode(), is_problem) if is_strict or fault[1] not in STRICT_KINDS}
+    left_out = () if is_strict else STRICT_KINDS if is_problem else (8, *STRICT_KINDS)
+    return {fault for fault in faults_in(data.decode(), is_problem, others) if fault[1] not in left_out}
 
 
 def says_fail(text):

@@ -1,5 +1,5 @@
 """What `--explain` adds to a line, by docs/FORMAT.md. Python's standard library alone."""
-from second.documents import POSTMARKS, declared_by, read_stanzas, utf8_error
+from second.documents import POSTMARKS, declared_by, lines_of, read_stanzas, utf8_error
 from second.universe import satisfies_clause
 from second.values import BLANKS, ENTRIES, PROPERTIES
 
@@ -20,22 +20,40 @@ def escaped(text):
     return "".join(f"\\u{{{ord(it):X}}}" if it < " " or "\x7f" <= it <= "\x9f" else it for it in text)
 
 
+def shown(text):
+    """The text as it is told: trimmed, cut, and escaped."""
+    text = text.strip(BLANKS)
+    return escaped(text[:SHOWN_LENGTH]) + ".." * (len(text) > SHOWN_LENGTH)
+
+
+def format_of(data):
+    """What a file that begins with these bytes is, if they are those of a format."""
+    return next((f"it is {name}" for start, name in FORMATS.items() if data.startswith(start)), "")
+
+
 def place_of(package):
     return f"{package.words()} line {package.line}"
 
 
 class Explainer:
-    """The causes of violations by one status. Each clause and each package is looked up once."""
+    """The causes of violations by one status. Each clause and each package is looked up once.
 
-    def __init__(self, packages):
-        self.packages, self.remedies, self.needs = packages, {}, {}
+    `listed` has the line of a solution's first stanza of each pair.
+    """
+
+    def __init__(self, packages, listed=()):
+        self.packages, self.listed, self.remedies, self.needs = packages, dict(listed), {}, {}
+
+    def remedy(self, package, what):
+        line = self.listed.get((package.name, package.version))
+        return f"{place_of(package)} {what}" + (f", not installed on line {line} of the solution" if line else "")
 
     def clause(self, clause):
         """The first package that alone satisfies it and was installed, or else the first that alone satisfies it."""
         if clause not in self.remedies:
             would = [package for package in self.packages if satisfies_clause([package], clause)]
-            found = [f"{place_of(package)} was installed" for package in would if package.installed]
-            found += [f"{place_of(package)} would do" for package in would[:1]]
+            found = [self.remedy(package, "was installed") for package in would if package.installed]
+            found += [self.remedy(package, "would do") for package in would[:1]]
             self.remedies[clause] = (found + ["nothing in the problem would do"])[0]
         return self.remedies[clause]
 
@@ -81,8 +99,7 @@ class Place:
             pieces = enumerate(text.split(","), 1)
             at, text = next((at, piece.strip(BLANKS)) for at, piece in pieces if ENTRIES[word](piece) is None)
             entry = f", entry {at}"
-        shown = escaped(text[:SHOWN_LENGTH]) + ".." * (len(text) > SHOWN_LENGTH)
-        return f"{self.name} is no {word}{entry}" + (f": {shown}" if text else "")
+        return f"{self.name} is no {word}{entry}" + (f": {shown(text)}" if text else "")
 
     def declaration(self):
         piece = self.stanza.declarations()[1][self.line]
@@ -109,8 +126,12 @@ def error_cause(data, line, kind):
     if kind == 1:
         at = utf8_error(data)
         place = at - data.rfind(b"\n", 0, at)
-        formats = (f"it is {name}" for start, name in FORMATS.items() if data.startswith(start))
-        return next(formats, f"byte {place} of the line is {data[at]:02X}")
-    if kind == 2 and line == 1 and data.startswith(b"\xef\xbb\xbf"):
-        return "it begins with a byte order mark"
+        return format_of(data) or f"byte {place} of the line is {data[at]:02X}"
+    if kind == 2:
+        text = lines_of(data.decode())[line - 1]
+        if text.startswith("\ufeff"):
+            return "it begins with a byte order mark" if line == 1 else ""
+        return f"it is {shown(text)}"
+    if kind == 13:
+        return "" if data else "it is empty"
     return CAUSES[kind](Place(data, line)) if kind in CAUSES else ""

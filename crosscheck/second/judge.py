@@ -89,13 +89,18 @@ def installed(problem, solution):
     return status, [(at, it.line, *it.pair()) for at, it in chosen.items() if it.pair() not in known]
 
 
+def first_lines(solution):
+    """The line of the first stanza of each pair."""
+    return {it.pair(): it.line for it in reversed(read_stanzas(solution)[0]) if it.mark() == "package"}
+
+
 class Judgement:
     """The violations and counts of a solution. Both texts are without error, and the solution does not say FAIL."""
 
     def __init__(self, problem, solution):
         problem = Problem(problem)
         status, unknown = installed(problem, solution)
-        explainer, found = explained.Explainer(problem.packages), []
+        explainer, found = explained.Explainer(problem.packages, first_lines(solution)), []
         violated = [*violated_packages(problem.packages, status, explainer)]
         asked = violated_request(problem.request, problem.initial, status, explainer)
         for key, met, cause in violated + [(f"r.{key}", met, cause) for key, met, cause in asked]:

@@ -4,7 +4,8 @@ A clause is a list of literals.
 """
 import re
 
-from second.documents import lines_of
+from second.documents import lines_of, utf8_error
+from second.explained import format_of, shown
 from second.values import GREATEST
 
 KINDS = dict(enumerate((
@@ -19,9 +20,13 @@ def number(word):
     return None if found is None or abs(found) > GREATEST or found == 0 and "-" in word else found
 
 
+def words_of(line):
+    return list(filter(None, re.split("[ \t]", line)))
+
+
 def step_of(line):
     """The number, literals and hints of a line; () if it is skipped, None if it is no step."""
-    words = list(filter(None, re.split("[ \t]", line)))
+    words = words_of(line)
     if not words or words[0] == "c":
         return ()
     is_deletion = words[1:2] == ["d"]
@@ -32,6 +37,16 @@ def step_of(line):
         return () if rest.count(0) == 1 and min(rest) == 0 else None
     end = rest.index(0)
     return (name, rest[:end], rest[end + 1:-1]) if rest.count(0) == 2 else None
+
+
+def line_cause(line):
+    """What is said of a line that is no step."""
+    data, numbers = line.encode("latin-1"), [number(word) for word in words_of(line)]
+    if utf8_error(data) is not None or any(byte < 32 and byte not in b"\t\r" for byte in data):
+        return "it is a binary proof"
+    if None not in numbers and numbers[-1] == 0 and numbers.count(0) == 1:
+        return "a step has a number and hints"
+    return f"it is {shown(data.decode())}"
 
 
 def used(literals, hints, clauses):
@@ -52,7 +67,7 @@ class Proof:
     """What a proof shows of a CNF: the numbers of a core, or the line and the kind of the first error."""
 
     def __init__(self, places, cnf, data):
-        self.places, self.count = places, len(cnf)
+        self.places, self.count, self.data = places, len(cnf), data
         self.clauses, self.sources = dict(enumerate(cnf, 1)), {}
         empty = [[name] for name, clause in self.clauses.items() if not clause]
         self.core, self.fault = (empty[0], None) if empty else self.read(lines_of(data.decode("latin-1")))
@@ -70,6 +85,13 @@ class Proof:
             if not step[1]:
                 return self.needed(last), None
         return None, (max(1, len(lines)), 8)
+
+    def cause(self):
+        """What `--explain` adds to the error."""
+        (at, kind), lines = self.fault, lines_of(self.data.decode("latin-1"))
+        if kind == 2 and not any(map(step_of, lines[:at - 1])):
+            return format_of(self.data) or f"the CNF has {self.count} clauses"
+        return format_of(self.data) or (line_cause(lines[at - 1]) if kind == 1 else "")
 
     def take(self, last, name, literals, hints):
         """Takes a step, or returns the kind of its error."""

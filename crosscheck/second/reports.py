@@ -12,9 +12,12 @@ STANDARD = "(standard input)"
 OF_LINES = ("E6", "E7", "E11", "E15")
 
 
-def error_answer(whose, data, is_strict=False, explains=False):
-    """The answer to a document with an error, which is `problem` or begins with `solution`; None without one."""
-    faults = documents.faults_of(data, whose == "problem", is_strict)
+def error_answer(whose, data, is_strict=False, explains=False, others=()):
+    """The answer to a document with an error, which is `problem` or begins with `solution`; None without one.
+
+    `others` has what the problem of a solution declares, by name.
+    """
+    faults = documents.faults_of(data, whose == "problem", is_strict, others)
     if not faults:
         return None
     line, kind = min(faults)
@@ -41,9 +44,10 @@ class Second:
         problem, solution, is_strict = self.asked
         if max(len(problem), len(solution)) > GREATEST_INPUT:
             return [], TROUBLE
-        for whose, data in (("problem", problem), ("solution", solution)):
-            if refused := error_answer(whose, data, is_strict, explains):
-                return refused
+        if refused := error_answer("problem", problem, is_strict, explains):
+            return refused
+        if refused := error_answer("solution", solution, is_strict, explains, documents.declared_in(problem)):
+            return refused
         return (["solution FAIL"], FAIL) if documents.says_fail(solution.decode()) else None
 
     def verdict(self, lines):
@@ -85,8 +89,9 @@ def rank(aims, problem, solutions, is_strict=False):
         return [], TROUBLE
     if refused := error_answer("problem", problem, is_strict):
         return refused
+    others = documents.declared_in(problem)
     for place, solution in enumerate(solutions, 1):
-        if refused := error_answer(f"solution {place}", solution, is_strict):
+        if refused := error_answer(f"solution {place}", solution, is_strict, others=others):
             return refused
         second = Second(problem, solution, is_strict)
         (*counts, verdict), status = second.score(aims)
@@ -96,17 +101,23 @@ def rank(aims, problem, solutions, is_strict=False):
     return [f"{at} {line}" for at, (*_, line) in enumerate(sorted(standings), 1)], min(standings)[0]
 
 
+def moved(text, before, shift):
+    """The text with what is counted in the number behind these words greater."""
+    return re.sub(rf"(?<={before} )\d+", lambda found: str(int(found[0]) + shift), text)
+
+
 def named_line(line, problem, solutions, before):
     """A line by the names of its files; `before` is how many lines of its file are before the solution."""
     if fault := re.match(r"(problem|solution)(?: (\d+))? line (\d+): (.*)", line):
         whose, place, number, text = fault.groups()
         file, shift = (problem, 0) if whose == "problem" else (solutions[int(place or 1) - 1], before)
         if text.split(" ")[0] in OF_LINES:
-            text = re.sub(r"(?<=stands on line )\d+", lambda found: str(int(found[0]) + shift), text)
+            text = moved(text, "stands on line", shift)
         return f"{explained.escaped(file)}:{int(number) + shift}: {whose}: {text}"
     if instance := re.match(r"(([prs])\S*\.\S+(?: \S+ \d+)?) line (\d+): (.*)", line):
         subject, part, number, text = instance.groups()
         file, shift = (solutions[0], before) if part == "s" else (problem, 0)
+        text = moved(text, "not installed on line", before)
         return f"{explained.escaped(file)}:{int(number) + shift}: {subject}: {text}"
     if ranked := re.match(r"(\d+ solution )(\d+) (.*)", line):
         return f"{ranked[1]}{explained.escaped(solutions[int(ranked[2]) - 1])} {ranked[3]}"

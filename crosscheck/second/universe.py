@@ -26,12 +26,13 @@ def package_of(place, stanza, declaration):
 
 
 class Problem:
-    """A problem without errors: its packages, those that are installed before, and its request."""
+    """A problem without errors: what it declares, its packages, those installed before, and its request."""
 
     def __init__(self, text):
         *stanzas, request = read_stanzas(text)[0]
-        own, declaration = [it for it in stanzas if it.mark() == "package"], declared_by(stanzas).get("recommends")
-        self.packages = [package_of(place, stanza, declaration) for place, stanza in enumerate(own, 1)]
+        own, self.declared = [it for it in stanzas if it.mark() == "package"], declared_by(stanzas)
+        recommends = self.declared.get("recommends")
+        self.packages = [package_of(place, stanza, recommends) for place, stanza in enumerate(own, 1)]
         self.initial = [package for package in self.packages if package.installed]
         self.request = Request(request.line, {name: read_vpkglist(request.value(name) or "") for name in WISHES})
 

@@ -154,11 +154,12 @@ class Encoded:
 
 @dataclass(frozen=True)
 class ProofFault:
-    """The first error of a proof."""
+    """The first error of a proof; `added` is what an explained error says after its text, or None."""
 
     line: int
     kind: str
     text: str
+    added: Optional[str] = None
 
 
 @dataclass(frozen=True)
@@ -243,7 +244,7 @@ _FAULT_LINE = re.compile(rf"(problem|solution)(?: (\d+))? line (\d+): (E\d+) {_S
 _VIOLATION_LINE = re.compile(
     rf"((p\d+|r|s)\.([a-z]+)\.(\d+)(?:\.([a-z]+))?) (?:(\S+) (\d+) )?line (\d+): {_SAID}"
 )
-_PROOF_LINE = re.compile(r"proof line (\d+): (L\d+) (.*)\n")
+_PROOF_LINE = re.compile(rf"proof line (\d+): (L\d+) {_SAID}\n")
 _RANK_LINE = re.compile(r"(\d+) solution (\d+) (yes|no|FAIL)(.*)")
 _VERDICTS = {Status.YES: "yes", Status.NO: "no", Status.FAIL: "FAIL"}
 
@@ -269,7 +270,7 @@ def _fault(report: str) -> Optional[Fault]:
 
 def _proof_fault(report: str) -> Optional[ProofFault]:
     found = _PROOF_LINE.fullmatch(report)
-    return ProofFault(int(found[1]), found[2], found[3]) if found else None
+    return ProofFault(int(found[1]), *found.groups()[1:]) if found else None
 
 
 def _violation(line: str) -> Violation:
