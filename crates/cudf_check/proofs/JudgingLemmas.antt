@@ -26,7 +26,7 @@ left view xs n = enumerate_from (n + 1) (map view (drop n xs))
 -- those so far have no fault, and these are their entrants
 pub record JudgedSoFar {A : Type 0} (mode : Mode) (problem : PlainProblem) (view : A → List ℕ) (xs : List A) (n : ℕ) (ss : List Entrant) : Type 0 where
   pub found : ss ++ map (entrant_of problem) (left view xs n) ≡ entrants problem (map view xs)
-  pub sound : placed_faults mode (map view xs) ≡ filter_map (placed_fault mode) (left view xs n)
+  pub sound : placed_faults mode problem (map view xs) ≡ filter_map (placed_fault mode problem) (left view xs n)
 
 pub none_judged : {A : Type 0} (mode : Mode) (problem : PlainProblem) (view : A → List ℕ) (xs : List A) → JudgedSoFar mode problem view xs 0 []
 none_judged mode problem view xs = record { found = refl; sound = refl }
@@ -51,20 +51,20 @@ module _ {A : Type 0} (mode : Mode) (problem : PlainProblem) (view : A → List 
         ap (λ ys. ys ++ map (entrant_of problem) (left view xs (n + 1))) (pushed ∙ (λ k. ss ++ (record { place = at k; judgement = is.found k }) ∷ []))
         ∙ append_assoc ss (entrant_of problem (n + 1, view (get_or xs n d)) ∷ []) (map (entrant_of problem) (left view xs (n + 1)))
         ∙ ap (λ ys. ss ++ map (entrant_of problem) ys) (sym behind) ∙ m.found;
-    sound = m.sound ∙ ap (filter_map (placed_fault mode)) behind
-        ∙ ap (λ f. cons_option (option_map (λ f. (n + 1, f)) f) (filter_map (placed_fault mode) (left view xs (n + 1)))) is.sound;
+    sound = m.sound ∙ ap (filter_map (placed_fault mode problem)) behind
+        ∙ ap (λ f. cons_option (option_map (λ f. (n + 1, f)) f) (filter_map (placed_fault mode problem) (left view xs (n + 1)))) is.sound;
   }
 
-  pub faulty_here : (place : ℕ) → place ≡ n + 1 → (f : Fault) → solution_fault mode (view (get_or xs n d)) ≡ Some f
-      → slice_get (placed_faults mode (map view xs)) 0 ≡ Some (place, f)
-  faulty_here place at f is = ap (λ fs. slice_get fs 0) (m.sound ∙ ap (filter_map (placed_fault mode)) behind
-      ∙ ap (λ o. cons_option (option_map (λ f. (n + 1, f)) o) (filter_map (placed_fault mode) (left view xs (n + 1)))) is) ∙ (λ k. Some (sym at k, f))
+  pub faulty_here : (place : ℕ) → place ≡ n + 1 → (f : Fault) → solution_fault mode problem.extra_names (view (get_or xs n d)) ≡ Some f
+      → slice_get (placed_faults mode problem (map view xs)) 0 ≡ Some (place, f)
+  faulty_here place at f is = ap (λ fs. slice_get fs 0) (m.sound ∙ ap (filter_map (placed_fault mode problem)) behind
+      ∙ ap (λ o. cons_option (option_map (λ f. (n + 1, f)) o) (filter_map (placed_fault mode problem) (left view xs (n + 1)))) is) ∙ (λ k. Some (sym at k, f))
 
 pub all_judged : {A : Type 0} (mode : Mode) (problem : PlainProblem) (view : A → List ℕ) (xs : List A) (n : ℕ) (ss : List Entrant) → length xs ≤ n
     → JudgedSoFar mode problem view xs n ss → AreJudged mode problem (map view xs) ss
 all_judged mode problem view xs n ss end m = record {
   found = sym (append-nil ss) ∙ ap (λ ys. ss ++ map (entrant_of problem) (enumerate_from (n + 1) (map view ys))) (sym (none_left xs n end)) ∙ m.found;
-  sound = m.sound ∙ ap (λ ys. filter_map (placed_fault mode) (enumerate_from (n + 1) (map view ys))) (none_left xs n end);
+  sound = m.sound ∙ ap (λ ys. filter_map (placed_fault mode problem) (enumerate_from (n + 1) (map view ys))) (none_left xs n end);
 }
   where
     none_left : {A : Type 0} (xs : List A) (n : ℕ) → length xs ≤ n → drop n xs ≡ []
@@ -83,10 +83,10 @@ first_is names (first ∷ others) report place f is =
 -- ---- the first that is faulty
 
 pub faulty_at : {A : Type 0} (mode : Mode) (problem : PlainProblem) (view : A → List ℕ) (xs : List A) (n : ℕ) (d : A) (ss : List Entrant) → n < length xs → JudgedSoFar mode problem view xs n ss
-    → (bytes : List ℕ) → bytes ≡ view (get_or xs n d) → (e : ReadError) → IsFaultOf (solution_fault mode bytes) e → IsFaultAt mode (map view xs) (n + 1) e
+    → (bytes : List ℕ) → bytes ≡ view (get_or xs n d) → (e : ReadError) → IsFaultOf (solution_fault mode problem.extra_names bytes) e → IsFaultAt mode problem (map view xs) (n + 1) e
 faulty_at mode problem view xs n d ss below m bytes same (read_error.Memory e) first = tt
 faulty_at mode problem view xs n d ss below m bytes same (read_error.Fault f) first =
-    faulty_here mode problem view xs n d ss below m (n + 1) refl f (ap (solution_fault mode) (sym same) ∙ first)
+    faulty_here mode problem view xs n d ss below m (n + 1) refl f (ap (solution_fault mode problem.extra_names) (sym same) ∙ first)
 
 -- ---- the places of a problem's solutions
 

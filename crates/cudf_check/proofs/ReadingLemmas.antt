@@ -1,11 +1,12 @@
 -- The first fault of a document, by its bytes and by its text, and the report where none is left.
-use Rattle.std.proofs.Common.{◌≡◌, ℕ, Bool, true, false, List, length, Option, Some, None, Result, Ok, Err, IfOk, IfErr, if◌then◌else◌, refl, subst, sym, ap, ◌∙◌, codes, ◌⊎◌, inl, inr, Vec, Global}
+use Rattle.std.proofs.Common.{◌≡◌, ℕ, ◌-◌, ◌==◌, Bool, true, false, List, ◌++◌, map, length, slice_get, option_map, option_and_then, Option, Some, None, Result, Ok, Err, IfOk, IfErr, if◌then◌else◌, refl, subst, sym, ap, ◌∙◌, codes, ◌⊎◌, inl, inr, Vec, Global}
+use Rattle.std.proofs.lemmas.Option.{slice_get-map}
 use Rattle.std.specs.Str.{IsUtf8, is_utf8}
 use Rattle.std.proofs.lemmas.Str.{IsUtf8-from_is_utf8, is_utf8-from_IsUtf8}
 use Rattle.cudf_text.specs.declared.fault.Fault.{Fault}
 use Rattle.cudf_text.specs.Joined.{is_fail}
 use Rattle.cudf_text.specs.LineFaults.{utf8_fault}
-use Rattle.cudf_text.specs.Stanzas.{PlainText, plain_text}
+use Rattle.cudf_text.specs.Stanzas.{PlainStanza, PlainText, plain_text}
 use Rattle.cudf_document.specs.declared.error.ReadError.{ReadError}
 use Rattle.cudf_document.specs.declared.error.ReadError.TheVariants as read_error
 use Rattle.cudf_problem.specs.declared.mode.Mode.{Mode}
@@ -14,23 +15,30 @@ use Rattle.cudf_document.specs.ProblemFaults.{problem_faults}
 use Rattle.cudf_document.specs.SolutionFaults.{solution_faults}
 use Rattle.cudf_document.specs.Promises.Faults.{IsFirstFault}
 use Rattle.cudf_problem.specs.Statuses.{PlainUnknown, is_initial, is_proposed, unknown_stanzas}
-use Rattle.cudf_problem.specs.Universe.{PlainProblem}
+use Rattle.cudf_problem.specs.Documents.{is_empty}
+use Rattle.cudf_problem.specs.Universe.{PlainPackage, PlainProblem}
+use Rattle.cudf_document.specs.Details.{stanza_line}
 use Rattle.cudf_job.specs.declared.aims.Aim.{Aim}
 use Rattle.cudf_job.specs.declared.job.Job.{Job}
 use Rattle.cudf_job.specs.declared.job.Job.TheVariants.{Lint, Check, Score, Cnf, Refute}
 use Rattle.cudf_job.specs.declared.key.Key.{Key}
+use Rattle.cudf_job.specs.KeyViews.{key_view}
 use Rattle.cudf_referee.specs.Proposals.{Proposal, proposal}
+use Rattle.cudf_referee.specs.Solutions.{is_solution}
+use Rattle.cudf_referee.specs.Violations.{listing, met_by}
 use Rattle.cudf_lrat.specs.Answers.{PlainAnswer, checked, faulty, refuted}
 use Rattle.cudf_cnf.specs.Cnf.{clauses_of, cnf}
 use Rattle.cudf_device.specs.Outcomes.{Report}
 use Rattle.cudf_device.specs.declared.outcome.Outcome.TheVariants.{Fail}
 use Rattle.cudf_check.specs.JobStyles.{explains, inputs_style, pair_style, refutation_style}
-use Rattle.cudf_check.specs.Naming.{Names, PlainOrigins}
-use Rattle.cudf_check.specs.Report.{alone, faulty_or, problem_fault, solution_fault, proposal_of, judged_report, solution_report, inputs_report, proof_report, refute_answer, report, unless_too_large}
+use Rattle.cudf_check.specs.Explanations.{listed_in, listed_text, met_added}
+use Rattle.cudf_check.specs.Naming.{Names, PlainOrigin, PlainOrigins}
+use Rattle.cudf_check.specs.Report.{alone, check_text, verdict, faulty_or, problem_fault, solution_fault, proposal_of, judged_report, solution_report, inputs_report, proof_report, refute_answer, report, unless_too_large}
 use Rattle.cudf_check.specs.Styles.{Style, of_solution}
 use Rattle.cudf_check.specs.Working.Found.{found_text}
-use Rattle.cudf_check.specs.Working.Named.{instance_style, reason_style}
+use Rattle.cudf_check.specs.Working.Named.{instance_style, listed_by, reason_style}
 use Rattle.cudf_check.specs.Working.Unjudged.{IsFaultOf}
+use Rattle.cudf_check.proofs.PageLemmas.{no-page}
 
 -- ---- what a result says
 
@@ -68,18 +76,19 @@ module _ (mode : Mode) (bytes : List ℕ) where
   unfolding problem_by
   problem_unread f other is = ap problem_by (not_utf8 bytes other) ∙ ap Some (sym is)
 
+module _ (mode : Mode) (names : List (List ℕ)) (bytes : List ℕ) where
   solution_by : Bool → Bool → Option Fault
-  solution_by a b = if a then (if b then None else least (solution_faults (plain_text bytes) mode)) else Some (utf8_fault bytes)
+  solution_by a b = if a then (if b then None else least (solution_faults (plain_text bytes) mode names)) else Some (utf8_fault bytes)
 
-  pub solution_read : (text : PlainText) → IsUtf8 bytes → is_fail bytes ≡ false → text ≡ plain_text bytes → least (solution_faults text mode) ≡ solution_fault mode bytes
+  pub solution_read : (text : PlainText) → IsUtf8 bytes → is_fail bytes ≡ false → text ≡ plain_text bytes → least (solution_faults text mode names) ≡ solution_fault mode names bytes
   unfolding solution_by
-  solution_read text utf8 goes_on is = ap (λ t. least (solution_faults t mode)) is ∙ (λ k. solution_by (sym (is_utf8-from_IsUtf8 bytes utf8) k) (sym goes_on k))
+  solution_read text utf8 goes_on is = ap (λ t. least (solution_faults t mode names)) is ∙ (λ k. solution_by (sym (is_utf8-from_IsUtf8 bytes utf8) k) (sym goes_on k))
 
-  pub solution_fails : IsUtf8 bytes → is_fail bytes ≡ true → solution_fault mode bytes ≡ None
+  pub solution_fails : IsUtf8 bytes → is_fail bytes ≡ true → solution_fault mode names bytes ≡ None
   unfolding solution_by
   solution_fails utf8 fails = λ k. solution_by (is_utf8-from_IsUtf8 bytes utf8 k) (fails k)
 
-  pub solution_unread : (f : Fault) → (IsUtf8 bytes → ⊥) → f ≡ utf8_fault bytes → solution_fault mode bytes ≡ Some f
+  pub solution_unread : (f : Fault) → (IsUtf8 bytes → ⊥) → f ≡ utf8_fault bytes → solution_fault mode names bytes ≡ Some f
   unfolding solution_by
   solution_unread f other is = ap (λ a. solution_by a (is_fail bytes)) (not_utf8 bytes other) ∙ ap Some (sym is)
 
@@ -93,20 +102,53 @@ put_forward problem text contains unknown status others = λ k. proposal problem
 
 -- the solution has no fault, and doesn't say FAIL
 pub solution_judged : (style : Style) (mode : Mode) (found : Proposal → List ℕ) (problem : PlainProblem) (solution : List ℕ) (s : Proposal)
-    → solution_fault mode solution ≡ None → is_fail solution ≡ false → s ≡ proposal_of problem (plain_text solution)
+    → solution_fault mode problem.extra_names solution ≡ None → is_fail solution ≡ false → s ≡ proposal_of problem (plain_text solution)
     → judged_report found s ≡ solution_report style mode found problem solution
 solution_judged style mode found problem solution s sound goes_on is =
     ap (judged_report found) is
     ∙ (λ k. faulty_or style of_solution (codes "solution") (sym sound k)
     (if sym goes_on k then alone (codes "solution FAIL") Fail else judged_report found (proposal_of problem (plain_text solution))))
 
--- what is found says nothing of faults, so the documents' bytes don't count
-pub found_same : (job : Job) (explain : Bool) (origins : PlainOrigins) (problem solution : List ℕ) → found_text job (instance_style explain origins) ≡ found_text job (pair_style explain origins problem solution)
-found_same (Lint flag) explain origins problem solution = refl
-found_same (Check after limit flag) explain origins problem solution = refl
-found_same (Score aims) explain origins problem solution = refl
-found_same Cnf explain origins problem solution = refl
-found_same (Refute flag) explain origins problem solution = refl
+-- at each place the lines say what the stanzas do
+lines_say : (origin : Option PlainOrigin) (problem : PlainProblem) (stanzas : List PlainStanza) (lines : List (Option ℕ)) → lines ≡ map (stanza_line stanzas) problem.packages
+    → (place : ℕ) → listed_by origin lines place ≡ listed_in origin stanzas problem place
+lines_say origin problem stanzas lines are place = ap (λ ls. listed_by origin ls place) are ∙ ap (listed_text origin) (by (place == 0))
+  where
+    through : (o : Option PlainPackage) → option_and_then (λ n. n) (option_map (stanza_line stanzas) o) ≡ option_and_then (stanza_line stanzas) o
+    through None = refl
+    through (Some p) = refl
+
+    by : (b : Bool) → (if b then None else option_and_then (λ n. n) (slice_get (map (stanza_line stanzas) problem.packages) (place - 1)))
+        ≡ option_and_then (stanza_line stanzas) (if b then None else slice_get problem.packages (place - 1))
+    by true = refl
+    by false = ap (option_and_then (λ n. n)) (slice_get-map (stanza_line stanzas) problem.packages (place - 1)) ∙ through (slice_get problem.packages (place - 1))
+
+-- what is found says nothing of faults, so of the documents' bytes only the solution's stanzas count, and these only where
+-- lines are explained and there is a line
+pub found_same : (job : Job) (explain : Bool) (origins : PlainOrigins) (problem solution : List ℕ) (lines : List (Option ℕ)) (s : Proposal)
+    → (explain ≡ true → is_empty (listing s) ≡ false → lines ≡ map (stanza_line (plain_text solution).stanzas) s.problem.packages)
+    → found_text job (instance_style explain origins lines) s ≡ found_text job (pair_style explain origins problem solution) s
+found_same (Lint flag) explain origins problem solution lines s are = refl
+found_same (Check after limit flag) false origins problem solution lines s are = refl
+found_same (Check after limit flag) true origins problem solution lines s are = by (is_empty (listing s)) refl
+  where
+    by : (b : Bool) → is_empty (listing s) ≡ b → check_text (instance_style true origins lines) (option_map key_view after) limit s ≡ check_text (pair_style true origins problem solution) (option_map key_view after) limit s
+    by true none = no-page (instance_style true origins lines) s (option_map key_view after) limit none ∙ sym (no-page (pair_style true origins problem solution) s (option_map key_view after) limit none)
+    by false some = λ k. check_text (record (pair_style true origins problem solution) {
+      added_to_instance = λ t i. met_added true (λ place. lines_say origins.solution s.problem (plain_text solution).stanzas lines (are refl some) place k) s i (met_by s.proposed i);
+    }) (option_map key_view after) limit s
+found_same (Score aims) explain origins problem solution lines s are = refl
+found_same Cnf explain origins problem solution lines s are = refl
+found_same (Refute flag) explain origins problem solution lines s are = refl
+
+-- the same report
+pub judged_same : (job : Job) (explain : Bool) (origins : PlainOrigins) (problem solution : List ℕ) (lines : List (Option ℕ)) (s : Proposal)
+    → (explain ≡ true → is_empty (listing s) ≡ false → lines ≡ map (stanza_line (plain_text solution).stanzas) s.problem.packages)
+    → judged_report (found_text job (instance_style explain origins lines)) s ≡ judged_report (found_text job (pair_style explain origins problem solution)) s
+judged_same job explain origins problem solution lines s are = λ k. record {
+  text = found_same job explain origins problem solution lines s are k ++ (verdict (is_solution s)).text;
+  outcome = (verdict (is_solution s)).outcome;
+}
 
 -- the report of inputs of which a solution is judged
 abbrev judged_inputs : Job → Mode → Names → List ℕ → Option (List ℕ) → Report

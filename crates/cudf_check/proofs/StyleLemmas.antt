@@ -2,8 +2,9 @@
 use Rattle.std.proofs.Common.{◌≡◌, ◌∙◌, ℕ, Bool, false, List, [], ◌∷◌, Option, Some, None, refl, ap, arith}
 use Rattle.std.specs.List.{All}
 use Rattle.cudf_text.specs.Joined.{problem_part, solution_part}
+use Rattle.cudf_text.specs.Stanzas.{plain_text}
 use Rattle.cudf_job.specs.declared.job.Job.TheVariants.{Lint, Check, Score, Cnf, Refute}
-use Rattle.cudf_check.specs.Explanations.{detail_added, instance_added}
+use Rattle.cudf_check.specs.Explanations.{detail_added, instance_added, listed_in}
 use Rattle.cudf_check.specs.JobStyles.{by_document, detail_if, document_style, inputs_style, pair_style, refutation_style}
 use Rattle.cudf_check.specs.Naming.{Names, PlainOrigins, name_at, named_before, numbered, one_file, origin_of, own_file}
 use Rattle.cudf_check.specs.Report.{IsToldPlainly, report, styled_report}
@@ -30,7 +31,7 @@ plain_pair problem solution = λ k. record plainly {
   prefix = λ document. named_before (no_origin document k);
   location = λ document. numbered (no_origin document k);
   added_to_fault = λ document f. detail_added (no_origin document k) (detail_if false (by_document problem solution document) f);
-  added_to_instance = instance_added false;
+  added_to_instance = instance_added false (listed_in None (plain_text solution).stanzas);
 }
 
 plain_inputs : (names : Names) (input : List ℕ) (solution : Option (List ℕ)) (explain : Bool) → explain ≡ false → names.first ≡ None → All (λ name. name ≡ None) names.others

@@ -1,8 +1,10 @@
 -- What is added to a line, where lines are explained: own.
 use Rattle.std.specs.Prelude.{ℕ, ◌==◌, Bool, true, false, List, [], ◌++◌, length, codes, decimal, Option, Some, None, is_some, unwrap_or, option_and_then, if◌then◌else◌}
+use Rattle.std.specs.Option.{option_map_or}
+use Rattle.cudf_text.specs.Stanzas.{PlainStanza}
 use Rattle.cudf_document.specs.declared.details.Format.{Format}
 use Rattle.cudf_document.specs.declared.details.Format.TheVariants.{Gzip, Bzip2, Xz, Zstandard, Utf16}
-use Rattle.cudf_document.specs.Details.{PlainDetail, invalid_byte, of_format, byte_order_mark, begins_with, request_on, name_on, undeclared, mistyped, misdeclared, package_on, lacking, misplaced}
+use Rattle.cudf_document.specs.Details.{stanza_line, PlainDetail, invalid_byte, of_format, byte_order_mark, begins_with, request_on, name_on, undeclared, mistyped, misdeclared, package_on, lacking, misplaced}
 use Rattle.cudf_problem.specs.Documents.{postmark_named}
 use Rattle.cudf_problem.specs.Ids.{Id}
 use Rattle.cudf_problem.specs.Universe.{PlainPackage, PlainProblem, package_at}
@@ -28,10 +30,23 @@ abbrev pub would_do_text : Option PlainPackage → List ℕ
 would_do_text None = codes "; nothing in the problem would do"
 would_do_text (Some p) = codes "; " ++ stanza_text p ++ codes " would do"
 
--- the first of those that were installed, or else of all
-abbrev pub help_text : Option PlainPackage → Option PlainPackage → List ℕ
-help_text (Some p) does = codes "; " ++ stanza_text p ++ codes " was installed"
-help_text None does = would_do_text does
+-- `, not installed on line 21 of the solution`, where it has a stanza of the package on this line
+abbrev pub listed_text : Option PlainOrigin → Option ℕ → List ℕ
+listed_text origin None = []
+listed_text origin (Some n) = codes ", not installed on line " ++ decimal (line_in origin n) ++ codes " of the solution"
+
+-- of the package at a place, the first of these stanzas of a solution
+abbrev pub listed_in : Option PlainOrigin → List PlainStanza → PlainProblem → ℕ → List ℕ
+listed_in origin stanzas problem place = listed_text origin (option_and_then (stanza_line stanzas) (package_at problem place))
+
+-- where there is a place, what is said of the package there
+abbrev pub said_of : (ℕ → List ℕ) → Option ℕ → List ℕ
+said_of listed place = option_map_or listed place []
+
+-- the first of those that were installed, or else of all, each with what is said of it
+abbrev pub help_text : Option PlainPackage → List ℕ → Option PlainPackage → List ℕ → List ℕ
+help_text (Some p) said does others = codes "; " ++ stanza_text p ++ codes " was installed" ++ said
+help_text None said does others = would_do_text does ++ others
 
 -- the instance is of depends, install or upgrade, and lacks a package that satisfies its clause or entry
 abbrev pub lacks_package : PlainWhat → Option Aspect → Bool
@@ -40,10 +55,11 @@ lacks_package (install v) aspect = true
 lacks_package (upgrade v) (Some Unsatisfied) = true
 lacks_package what aspect = false
 
--- `; wheel 3 line 9 was installed`, of the first by place
-abbrev pub help_of : PlainProblem → PlainInstance → List ℕ
-help_of problem i = if lacks_package i.what i.key.aspect
-    then help_text (option_and_then (package_at problem) (was_installed problem i)) (option_and_then (package_at problem) (would_do problem i))
+-- `; wheel 3 line 9 was installed`, of the first by place, and what is said of the package at that place
+abbrev pub help_of : (ℕ → List ℕ) → PlainProblem → PlainInstance → List ℕ
+help_of listed problem i = if lacks_package i.what i.key.aspect
+    then help_text (option_and_then (package_at problem) (was_installed problem i)) (said_of listed (was_installed problem i))
+    (option_and_then (package_at problem) (would_do problem i)) (said_of listed (would_do problem i))
     else []
 
 -- the first package of this name, where there is one
@@ -88,20 +104,21 @@ needed_text (Some p) needer = codes "; line " ++ decimal p.line ++ codes ", need
 abbrev pub needed_added : Proposal → Option ℕ → List ℕ
 needed_added s met = needed_text (option_and_then (package_at s.problem) met) (option_and_then (package_at s.problem) (option_and_then (needed_by s.proposed) met))
 
--- what the problem and the statuses say of a violated instance, whose entry the package at this place meets
-unfoldable pub explained : Proposal → PlainInstance → Option ℕ → List ℕ
-explained s i met = help_of s.problem i ++ status_added s i.what i.key.aspect i.subject ++ needed_added s met
+-- what the problem, the statuses and the solution's stanzas say of a violated instance, whose entry the package at this
+-- place meets
+unfoldable pub explained : (ℕ → List ℕ) → Proposal → PlainInstance → Option ℕ → List ℕ
+explained listed s i met = help_of listed s.problem i ++ status_added s i.what i.key.aspect i.subject ++ needed_added s met
 
-abbrev pub met_added : Bool → Proposal → PlainInstance → Option ℕ → List ℕ
-met_added explain s i met = if explain then explained s i met else []
+abbrev pub met_added : Bool → (ℕ → List ℕ) → Proposal → PlainInstance → Option ℕ → List ℕ
+met_added explain listed s i met = if explain then explained listed s i met else []
 
 -- what is added to its line, where lines are explained
-abbrev pub instance_added : Bool → Proposal → PlainInstance → List ℕ
-instance_added explain s i = met_added explain s i (met_by s.proposed i)
+abbrev pub instance_added : Bool → (PlainProblem → ℕ → List ℕ) → Proposal → PlainInstance → List ℕ
+instance_added explain listed s i = met_added explain (listed s.problem) s i (met_by s.proposed i)
 
 -- and to that of an instance of a problem, whatever the status
 abbrev pub reason_added : Bool → PlainProblem → PlainInstance → List ℕ
-reason_added explain problem i = if explain then help_of problem i else []
+reason_added explain problem i = if explain then help_of (λ place. []) problem i else []
 
 -- ---- faults
 

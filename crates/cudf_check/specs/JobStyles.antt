@@ -2,10 +2,11 @@
 use Rattle.std.specs.Prelude.{ℕ, Bool, false, List, Option, Some, None, if◌then◌else◌}
 use Rattle.cudf_text.specs.declared.fault.Fault.{Fault}
 use Rattle.cudf_text.specs.Joined.{problem_part, solution_part}
+use Rattle.cudf_text.specs.Stanzas.{plain_text}
 use Rattle.cudf_document.specs.Details.{PlainDetail, fault_detail}
 use Rattle.cudf_job.specs.declared.job.Job.{Job}
 use Rattle.cudf_job.specs.declared.job.Job.TheVariants.{Lint, Check, Score, Cnf, Refute}
-use Rattle.cudf_check.specs.Explanations.{instance_added, reason_added, detail_added}
+use Rattle.cudf_check.specs.Explanations.{listed_in, instance_added, reason_added, detail_added}
 use Rattle.cudf_check.specs.Naming.{Names, PlainOrigin, PlainOrigins, named_before, numbered, one_file, origin_of, own_file, own_files}
 use Rattle.cudf_check.specs.Styles.{Document, of_problem, of_solution, Style, plainly}
 
@@ -44,7 +45,7 @@ pair_style explain origins problem solution = record plainly {
   prefix = λ document. named_before (origin_of origins document);
   location = λ document. numbered (origin_of origins document);
   added_to_fault = λ document f. detail_added (origin_of origins document) (detail_if explain (by_document problem solution document) f);
-  added_to_instance = instance_added explain;
+  added_to_instance = instance_added explain (listed_in origins.solution (plain_text solution).stanzas);
 }
 
 -- the second input is the solution; where there is none, the first one is cut

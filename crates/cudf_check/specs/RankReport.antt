@@ -38,12 +38,12 @@ judgement problem bytes = if is_fail bytes then SaysFail else judgement_of (prop
 -- ---- the solutions, by their places from 1
 
 -- the fault of the solution at a place, if it has one, with the place
-abbrev pub placed_fault : Mode → ℕ × List ℕ → Option (ℕ × Fault)
-placed_fault mode (place, bytes) = option_map (λ f. (place, f)) (solution_fault mode bytes)
+abbrev pub placed_fault : Mode → PlainProblem → ℕ × List ℕ → Option (ℕ × Fault)
+placed_fault mode problem (place, bytes) = option_map (λ f. (place, f)) (solution_fault mode problem.extra_names bytes)
 
 -- the faulty solutions in order: the place of each, with its first fault
-abbrev pub placed_faults : Mode → List (List ℕ) → List (ℕ × Fault)
-placed_faults mode solutions = filter_map (placed_fault mode) (enumerate_from 1 solutions)
+abbrev pub placed_faults : Mode → PlainProblem → List (List ℕ) → List (ℕ × Fault)
+placed_faults mode problem solutions = filter_map (placed_fault mode problem) (enumerate_from 1 solutions)
 
 -- the solution at a place, judged
 abbrev pub entrant_of : PlainProblem → ℕ × List ℕ → Entrant
@@ -111,7 +111,7 @@ first_faulty_or names ((place, f) ∷ others) report = let name = name_at names 
 
 -- solutions of a problem that has no fault: the fault of the first faulty one, or else the ranking
 abbrev pub solutions_report : List Aim → Mode → List (Option (List ℕ)) → PlainProblem → List (List ℕ) → Report
-solutions_report aims mode names problem solutions = first_faulty_or names (placed_faults mode solutions) (ranked_report aims names (entrants problem solutions))
+solutions_report aims mode names problem solutions = first_faulty_or names (placed_faults mode problem solutions) (ranked_report aims names (entrants problem solutions))
 
 -- a problem and solutions: the problem's fault, or else the solutions' report
 unfoldable pub rank_report : List Aim → Mode → Names → List ℕ → List (List ℕ) → Report

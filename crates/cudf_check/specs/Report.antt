@@ -75,9 +75,9 @@ faulty_or style document whose (Some f) report = faulty style document whose f
 abbrev pub problem_fault : Mode → List ℕ → Option Fault
 problem_fault mode bytes = if is_utf8 bytes then least (problem_faults (plain_text bytes) mode) else Some (utf8_fault bytes)
 
--- the first fault of a solution; a text that says FAIL can have E1 alone
-abbrev pub solution_fault : Mode → List ℕ → Option Fault
-solution_fault mode bytes = if is_utf8 bytes then (if is_fail bytes then None else least (solution_faults (plain_text bytes) mode)) else Some (utf8_fault bytes)
+-- the first fault of a solution of a problem that declares these names; a text that says FAIL can have E1 alone
+abbrev pub solution_fault : Mode → List (List ℕ) → List ℕ → Option Fault
+solution_fault mode names bytes = if is_utf8 bytes then (if is_fail bytes then None else least (solution_faults (plain_text bytes) mode names)) else Some (utf8_fault bytes)
 
 -- ---- instances
 
@@ -188,7 +188,7 @@ proposal_of problem text = proposal problem (is_initial problem) (is_proposed pr
 -- a solution of a problem that has no fault: the solution's fault, or else FAIL, or else what is found of the proposed status
 abbrev pub solution_report : Style → Mode → (Proposal → List ℕ) → PlainProblem → List ℕ → Report
 solution_report style mode found problem solution =
-    faulty_or style of_solution (codes "solution") (solution_fault mode solution)
+    faulty_or style of_solution (codes "solution") (solution_fault mode problem.extra_names solution)
     (if is_fail solution then alone (codes "solution FAIL") Fail else judged_report found (proposal_of problem (plain_text solution)))
 
 -- a problem: its fault, or else what is answered of it

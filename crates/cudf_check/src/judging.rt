@@ -38,8 +38,8 @@ fn judgement_by(referee: &Referee<'_, '_>) -> Judgement
 
 /// A solution that isn't judged, where it says FAIL.
 fn said_fail(reason: Unjudged) -> Result<Judgement, ReadError>
-    ensures judged { (mode : Mode) → (problem : PlainProblem) → (bytes : List ℕ) → IsUnjudged mode bytes reason → IfOk result (IsJudged mode problem bytes) }
-    ensures fault { (mode : Mode) → (bytes : List ℕ) → IsUnjudged mode bytes reason → IfErr result (IsFaultOf (solution_fault mode bytes)) }
+    ensures judged { (mode : Mode) → (problem : PlainProblem) → (bytes : List ℕ) → IsUnjudged mode problem.extra_names bytes reason → IfOk result (IsJudged mode problem bytes) }
+    ensures fault { (mode : Mode) → (names : List (List ℕ)) → (bytes : List ℕ) → IsUnjudged mode names bytes reason → IfErr result (IsFaultOf (solution_fault mode names bytes)) }
 {
     match reason {
         Unjudged::SaysFail => Ok(Judgement::SaysFail),
@@ -50,11 +50,11 @@ fn said_fail(reason: Unjudged) -> Result<Judgement, ReadError>
 /// Judges a solution.
 fn judge(setting: Setting, problem: &Problem<'_>, bytes: &[u8]) -> Result<Judgement, ReadError>
     ensures judged { IfOk result (IsJudged setting.mode problem.now bytes.now) }
-    ensures fault { IfErr result (IsFaultOf (solution_fault setting.mode bytes.now)) }
+    ensures fault { IfErr result (IsFaultOf (solution_fault setting.mode problem.now.extra_names bytes.now)) }
 {
     let alloc = setting.alloc;
     let mut room = Room::new(alloc);
-    match proposed_in(setting, bytes, &mut room) {
+    match proposed_in(setting, bytes, &mut room, problem) {
         Ok(proposed) => {
             let solution = solution_of(alloc, proposed, problem)?;
             let referee = Referee::new(alloc, problem, &solution)?;
@@ -71,7 +71,7 @@ pub(crate) fn judge_each(
     solutions: &[Vec<u8>],
 ) -> Result<Vec<Entrant>, Unranked>
     ensures judged { IfOk result (λ ss. AreJudged setting.mode problem.now (map (λ b. b.items) solutions.now) ss.items) }
-    ensures unranked { IfErr result (IsUnranked setting.mode (map (λ b. b.items) solutions.now)) }
+    ensures unranked { IfErr result (IsUnranked setting.mode problem.now (map (λ b. b.items) solutions.now)) }
 {
     let mut entrants = Vec::new(setting.alloc);
     for (index, bytes) in solutions.iter().enumerate() {

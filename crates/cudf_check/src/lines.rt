@@ -6,6 +6,7 @@ mod dimacs;
 mod explanation;
 mod instance;
 mod judged;
+mod listed;
 mod naming;
 mod page;
 mod ranks;

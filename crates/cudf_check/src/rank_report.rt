@@ -1,6 +1,7 @@
 //! Decides which report a problem and its solutions have.
 ghost use Rattle.std.specs.Prelude.{map, option_map};
 ghost use Rattle.cudf_problem.specs.declared.mode.Mode.{Mode};
+ghost use Rattle.cudf_problem.specs.Universe.{PlainProblem};
 ghost use Rattle.cudf_check.specs.RankReport.{rank_report, solutions_report, placed_faults, first_faulty_or};
 ghost use Rattle.cudf_device.specs.Outcomes.{Report};
 ghost use Rattle.cudf_device.specs.Promises.Answering.{Answers};
@@ -27,8 +28,8 @@ fn print_unranked<S: Source, W: Sink>(
     sources: &[S],
     unranked: Unranked,
 ) -> Result<Outcome, AllocError>
-    ensures { (mode : Mode) → (solutions : _) → (report : Report) → IsUnranked mode solutions unranked
-        → Prints W.state paper.old paper.new (first_faulty_or (names_in S.state sources.now) (placed_faults mode solutions) report) result }
+    ensures { (mode : Mode) → (problem : PlainProblem) → (solutions : _) → (report : Report) → IsUnranked mode problem solutions unranked
+        → Prints W.state paper.old paper.new (first_faulty_or (names_in S.state sources.now) (placed_faults mode problem solutions) report) result }
 {
     let place = unranked.place;
     match unranked.error {

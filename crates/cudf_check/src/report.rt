@@ -109,8 +109,8 @@ fn print_unjudged<W: Sink>(
     solution: Document<'_, '_>,
     reason: Unjudged,
 ) -> Result<Outcome, AllocError>
-    ensures { (report : Report) → IsUnjudged setting.mode solution.entry.bytes.now reason
-        → Prints W.state paper.old paper.new (faulty_or (style_for solution.entry) of_solution solution.entry.whose.now (solution_fault setting.mode solution.entry.bytes.now)
+    ensures { (names : List (List ℕ)) → (report : Report) → IsUnjudged setting.mode names solution.entry.bytes.now reason
+        → Prints W.state paper.old paper.new (faulty_or (style_for solution.entry) of_solution solution.entry.whose.now (solution_fault setting.mode names solution.entry.bytes.now)
         (if is_fail solution.entry.bytes.now then alone (codes "solution FAIL") Fail else report)) result }
 {
     match reason {
@@ -162,10 +162,10 @@ fn print_proposed<W: Sink>(
         explain: explains(job),
     };
     let mut room = Room::new(alloc);
-    match proposed_in(setting, document.bytes, &mut room) {
+    match proposed_in(setting, document.bytes, &mut room, problem) {
         Ok(proposed) => {
             let solution = solution_of(alloc, proposed, problem)?;
-            print_solution(paper, alloc, job, inputs.origins, problem, &solution)
+            print_solution(paper, alloc, job, inputs, problem, &solution)
         }
         Err(reason) => print_unjudged(paper, setting, document, reason),
     }
@@ -230,10 +230,10 @@ fn print_refuted<W: Sink>(
 
 /// A problem and a solution, with their files.
 #[derive(Clone, Copy)]
-struct Inputs<'t> {
-    problem: &'t [u8],
-    solution: &'t [u8],
-    origins: Origins<'t>,
+pub(crate) struct Inputs<'t> {
+    pub(crate) problem: &'t [u8],
+    pub(crate) solution: &'t [u8],
+    pub(crate) origins: Origins<'t>,
 }
 
 /// The problem and its solution: the second input is the solution; where there is none, the first is cut.

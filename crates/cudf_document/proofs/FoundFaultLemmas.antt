@@ -14,13 +14,14 @@ use Rattle.cudf_value.specs.Parts.{look_up, trimmed}
 use Rattle.cudf_problem.specs.declared.mode.Mode.{Mode}
 use Rattle.cudf_problem.specs.declared.mode.Mode.TheVariants.{Lenient, Strict}
 use Rattle.cudf_problem.specs.declared.postmark.Postmark.{Postmark}
+use Rattle.cudf_problem.specs.declared.postmark.Postmark.TheVariants.{Package}
 use Rattle.cudf_problem.specs.Documents.{is_empty, with_earlier, postmark, marks_preamble, marks_package, is_request, has_name, line_of, value_of}
 use Rattle.cudf_problem.specs.Ids.{Id, id_of, is_known}
 use Rattle.cudf_problem.specs.Preamble.{declared, declared_by, declared_after}
 use Rattle.cudf_problem.specs.Values.{name_value}
 use Rattle.cudf_document.specs.Faults.{fault_if}
 use Rattle.cudf_document.specs.ProblemFaults.{tests, declares, repeats, property_faults, place_faults, version_property, required_names, lacks_one, missing_faults, problem_misplaces, misplaced_faults, inner_faults, stanza_faults}
-use Rattle.cudf_document.specs.SolutionFaults.{solution_tests, value_faults, values_faults, solution_misplaces, solution_stanza_faults, repeated_pair_faults}
+use Rattle.cudf_document.specs.SolutionFaults.{solution_tests, value_faults, values_faults, is_known_name, undeclared_in_solution, solution_misplaces, solution_stanza_faults, repeated_pair_faults}
 use Rattle.cudf_document.specs.Promises.Laws.{IsFoundAt, AllAreFound, FaultsAreFound}
 use Rattle.cudf_document.specs.Working.Judging.{fails}
 use Rattle.cudf_document.proofs.FoundLemmas.{Within, IsOrdered, IsFound, stanzas_found, properties_found}
@@ -129,10 +130,19 @@ module _ (s : PlainStanza) (ordered : IsOrdered s) where
       by true = in_each value_faults in_value [] s.properties ordered.within
       by false = All-nil (HasFault s)
 
-  in_solution : (mode : Mode) (before : List PlainStanza) → All (HasFault s) (solution_stanza_faults mode s ++ repeated_pair_faults (before, s))
-  in_solution mode before =
-      in_both _ _ (in_both _ _ (in_both _ _ (in_both _ _ (in_if E4 (is_none (postmark s)) s.line (λ h. on_first)) (in_values (postmark s))) in_unversioned)
-      (in_misplaced mode (solution_misplaces (postmark s)) s.properties ordered.within))
+  in_undeclared : (mode : Mode) (names : List (List ℕ)) (mark : Option Postmark) (ps : List PlainProperty) → Within s.line s.last ps
+      → All (HasFault s) (undeclared_in_solution mode names mark ps)
+  in_undeclared Lenient names mark ps w = All-nil (HasFault s)
+  in_undeclared Strict names (Some Package) [] w = All-nil (HasFault s)
+  in_undeclared Strict names (Some Package) (p ∷ ps) w =
+      in_both (fault_if (not (is_known_name names p.name)) p.line E8) _ (in_if E8 (not (is_known_name names p.name)) p.line (λ h. w.0))
+      (in_undeclared Strict names (Some Package) ps w.1)
+  in_undeclared Strict names _ ps w = All-nil (HasFault s)
+
+  in_solution : (mode : Mode) (names : List (List ℕ)) (before : List PlainStanza) → All (HasFault s) (solution_stanza_faults mode names s ++ repeated_pair_faults (before, s))
+  in_solution mode names before =
+      in_both _ _ (in_both _ _ (in_both _ _ (in_both _ _ (in_both _ _ (in_if E4 (is_none (postmark s)) s.line (λ h. on_first)) (in_values (postmark s))) in_unversioned)
+      (in_misplaced mode (solution_misplaces (postmark s)) s.properties ordered.within)) (in_undeclared mode names (postmark s) s.properties ordered.within))
       (in_if E15 (is_known (filter_map id_of before) (id_of s)) (line_of (version_property s)) (on_version (filter_map id_of before)))
 
 -- ---- the law
@@ -155,6 +165,6 @@ faults_are_found source = by (stanzas_of (read_lines source)) (stanzas_found sou
     by : (stanzas : List PlainStanza) → All (IsFound stanzas) (with_earlier [] stanzas) → AllAreFound stanzas
     by stanzas found = record {
       problem = λ mode. for_each (IsFound stanzas) _ (λ x is. all_found stanzas x is (stanza_faults mode x) (in_problem x.1 is.ordered mode x.0)) (with_earlier [] stanzas) found;
-      solution = λ mode. for_each (IsFound stanzas) _ (λ x is. all_found stanzas x is (solution_stanza_faults mode x.1 ++ repeated_pair_faults x) (in_solution x.1 is.ordered mode x.0)) (with_earlier [] stanzas) found;
+      solution = λ mode names. for_each (IsFound stanzas) _ (λ x is. all_found stanzas x is (solution_stanza_faults mode names x.1 ++ repeated_pair_faults x) (in_solution x.1 is.ordered mode names x.0)) (with_earlier [] stanzas) found;
       property = for_each (IsFound stanzas) _ (λ x is. properties_found x.1 is.ordered) (with_earlier [] stanzas) found;
     }

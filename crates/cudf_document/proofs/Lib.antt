@@ -14,11 +14,13 @@ pub mod FoundLemmas
 mod FoundFaultLemmas
 pub mod LawLemmas
 pub mod MisplacedLemmas
+pub mod ExtraLemmas
 mod ModeLemmas
 pub mod SolutionPackageLemmas
 mod PairLemmas
 mod ProposedLemmas
 mod PlacedLemmas
+mod LineLemmas
 mod WalkLemmas
 mod PartsLemmas
 pub mod DetailLemmas

@@ -31,7 +31,7 @@ use Rattle.cudf_problem.proofs.StatusLemmas.{within_universe, unknown_ascend, un
 
 -- ---- pairs
 
-is_id-sym : (x y : Id) → is_id x y ≡ is_id y x
+pub is_id-sym : (x y : Id) → is_id x y ≡ is_id y x
 is_id-sym x y = λ i. bytes_eq-sym x.0 y.0 i && same_numbers i
   where
     same_numbers : nat_eq x.1 y.1 ≡ nat_eq y.1 x.1
@@ -78,13 +78,13 @@ unflagged seen (x ∷ ids) id none = by (is_id id x) refl none (unflagged seen i
         same = sym (list_any-append (is_id x) seen (id ∷ []) ∙ (λ j. is_among seen x || ((is_id-sym x id ∙ is) j || false)) ∙ or-false (is_among seen x))
 
 module _ (seen ids : List Id) (id : Id) (distinct : are_distinct ids ≡ true) (i : ℕ) (found : position (is_id id) ids ≡ Some i) where
-  within : i < length ids
+  pub within : i < length ids
   within = (position-Some (is_id id) ids i id found).0
 
-  there : is_id id (get_or ids i id) ≡ true
+  pub there : is_id id (get_or ids i id) ≡ true
   there = (position-Some (is_id id) ids i id found).1
 
-  apart : (k : ℕ) → k < length ids → k ≢ i → is_id (get_or ids k id) id ≡ false
+  pub apart : (k : ℕ) → k < length ids → k ≢ i → is_id (get_or ids k id) id ≡ false
   apart k lt ne = ap (is_id (get_or ids k id)) (same_pair id (get_or ids i id) there) ∙ by (cases_order k i)
     where
       by : (k ≡ i) ⊎ ((k < i) ⊎ (i < k)) → is_id (get_or ids k id) (get_or ids i id) ≡ false

@@ -11,8 +11,9 @@ use Rattle.cudf_document.specs.Faults.{lesser, least}
 use Rattle.cudf_problem.specs.Ids.{Id}
 use Rattle.cudf_problem.specs.Promises.Statuses.{installed_with, installed_of, installed_stanzas}
 use Rattle.cudf_problem.specs.Promises.Views.{unknown_view}
-use Rattle.cudf_document.specs.SolutionFaults.{solution_stanza_faults, repeated_pairs_faults, solution_faults}
+use Rattle.cudf_document.specs.SolutionFaults.{solution_stanza_faults, names_with, repeated_pairs_faults, solution_faults}
 use Rattle.cudf_problem.specs.Statuses.{installed_id, installed_ids}
+use Rattle.cudf_document.specs.Working.Extras.{AreExtras}
 use Rattle.cudf_document.specs.Working.Pairs.{ArePairs}
 use Rattle.cudf_document.specs.Working.Placed.{pair_of}
 use Rattle.cudf_document.specs.Working.Proposed.{IsRead, GoesOn}
@@ -46,16 +47,23 @@ installed_pairs n (s ∷ stanzas) = by (installed_id s) (installed_pairs (n + 1)
 
 -- ---- one more stanza
 
-pub IsRead-next : (mode : Mode) (old new : Reader) (seen : List PlainStanza) (s : PlainStanza) (fault : Option Fault) (id : Option Id)
-    → IsRead mode seen old
-    → ArePairs mode (seen ++ s ∷ []) new.pairs → fault ≡ least (solution_stanza_faults old.pairs.mode s) → new.first ≡ lesser old.first fault → id ≡ installed_id s → new.number ≡ old.number + 1
+-- once there is a first stanza, the next one declares nothing more
+still_declared : (names : List (List ℕ)) (mode : Mode) (seen : List PlainStanza) (s : PlainStanza)
+    → flat_map (solution_stanza_faults mode (names_with names seen)) seen ≡ flat_map (solution_stanza_faults mode (names_with names (seen ++ s ∷ []))) seen
+still_declared names mode [] s = refl
+still_declared names mode (x ∷ seen) s = refl
+
+pub IsRead-next : (mode : Mode) (names : List (List ℕ)) (old new : Reader) (seen : List PlainStanza) (s : PlainStanza) (fault : Option Fault) (id : Option Id)
+    → IsRead mode names seen old → AreExtras mode names (seen ++ s ∷ []) new.extras
+    → ArePairs mode (seen ++ s ∷ []) new.pairs → fault ≡ least (solution_stanza_faults mode (names_with names (seen ++ s ∷ [])) s) → new.first ≡ lesser old.first fault → id ≡ installed_id s → new.number ≡ old.number + 1
     → map unknown_view new.installed.items ≡ map unknown_view old.installed.items ++ option_to_list (option_map (installed_with new.number s.line) id)
-    → IsRead mode (seen ++ s ∷ []) new
-IsRead-next mode old new seen s fault id so_far pairs_are fault_is lesser_is id_is number_is installed_is =
+    → IsRead mode names (seen ++ s ∷ []) new
+IsRead-next mode names old new seen s fault id so_far extras_are pairs_are fault_is lesser_is id_is number_is installed_is =
     let next : new.number ≡ 1 + length seen = let e = so_far.number_is in omega (arith, e, number_is) in
     record {
-      first_is = lesser_is ∙ faults-push (solution_stanza_faults mode) seen s old.first fault so_far.first_is
-          (fault_is ∙ ap (λ m. least (solution_stanza_faults m s)) so_far.pairs_are.mode_is);
+      first_is = lesser_is ∙ faults-push (solution_stanza_faults mode (names_with names (seen ++ s ∷ []))) seen s old.first fault
+          (so_far.first_is ∙ ap least (still_declared names mode seen s)) fault_is;
+      extras_are = extras_are;
       pairs_are = pairs_are;
       number_is = let m = length_push seen s in omega (arith, next, m);
       installed_are = installed_is
@@ -66,10 +74,10 @@ IsRead-next mode old new seen s fault id so_far pairs_are fault_is lesser_is id_
 -- ---- all of them
 
 -- the first fault is the pairs', the line's or the stanzas'
-pub solution_least : (mode : Mode) (text : PlainText) (r : Reader) (fault : Option Fault)
-    → fault ≡ text.fault → IsRead mode text.stanzas r → lesser r.pairs.first (lesser fault r.first) ≡ least (solution_faults text mode)
+pub solution_least : (mode : Mode) (names : List (List ℕ)) (text : PlainText) (r : Reader) (fault : Option Fault)
+    → fault ≡ text.fault → IsRead mode names text.stanzas r → lesser r.pairs.first (lesser fault r.first) ≡ least (solution_faults text mode names)
 unfolding solution_faults
-solution_least mode text r fault fault_is read =
+solution_least mode names text r fault fault_is read =
     (λ i. lesser (read.pairs_are.first_is i) (lesser (fault_is i) (read.first_is i)))
     ∙ ap (lesser (least pair_faults)) (by text.fault)
     ∙ sym (least-append pair_faults (option_to_list text.fault ++ stanza_faults))
@@ -79,7 +87,7 @@ solution_least mode text r fault fault_is read =
     pair_faults = repeated_pairs_faults mode text.stanzas
 
     stanza_faults : List Fault
-    stanza_faults = flat_map (solution_stanza_faults mode) text.stanzas
+    stanza_faults = flat_map (solution_stanza_faults mode (names_with names text.stanzas)) text.stanzas
 
     by : (f : Option Fault) → lesser f (least stanza_faults) ≡ least (option_to_list f ++ stanza_faults)
     by None = refl
@@ -87,11 +95,11 @@ solution_least mode text r fault fault_is read =
 
 -- ---- read from a cursor
 
-pub GoesOn-next : (mode : Mode) (old new : Reader) (left later text : PlainText) (s : PlainStanza)
-    → GoesOn mode old left text → ◌≡◌ {A = PlainText} left (record later { stanzas = s ∷ later.stanzas })
-    → ((seen : List PlainStanza) → IsRead mode seen old → IsRead mode (seen ++ s ∷ []) new)
-    → GoesOn mode new later text
-GoesOn-next mode old new left later text s goes read takes = record {
+pub GoesOn-next : (mode : Mode) (names : List (List ℕ)) (old new : Reader) (left later text : PlainText) (s : PlainStanza)
+    → GoesOn mode names old left text → ◌≡◌ {A = PlainText} left (record later { stanzas = s ∷ later.stanzas })
+    → ((seen : List PlainStanza) → IsRead mode names seen old → IsRead mode names (seen ++ s ∷ []) new)
+    → GoesOn mode names new later text
+GoesOn-next mode names old new left later text s goes read takes = record {
   seen = goes.seen ++ s ∷ [];
   read = takes goes.seen goes.read;
   whole = (λ i. let t : PlainText = record later { stanzas = append_assoc goes.seen (s ∷ []) later.stanzas i } in t)
@@ -99,17 +107,17 @@ GoesOn-next mode old new left later text s goes read takes = record {
 }
 
 -- the text's first faulty line, and all its stanzas are read
-pub record IsReadWhole (mode : Mode) (r : Reader) (fault : Option Fault) (text : PlainText) : Type 0 where
+pub record IsReadWhole (mode : Mode) (names : List (List ℕ)) (r : Reader) (fault : Option Fault) (text : PlainText) : Type 0 where
   pub fault_is : fault ≡ text.fault
-  pub read : IsRead mode text.stanzas r
+  pub read : IsRead mode names text.stanzas r
 
-pub GoesOn-end : (mode : Mode) (r : Reader) (left text : PlainText) (fault : Option Fault) (lines : ℕ)
-    → GoesOn mode r left text → ◌≡◌ {A = PlainText} left (record { stanzas = []; fault = fault; lines = lines })
-    → IsReadWhole mode r fault text
-GoesOn-end mode r left text fault lines goes read =
+pub GoesOn-end : (mode : Mode) (names : List (List ℕ)) (r : Reader) (left text : PlainText) (fault : Option Fault) (lines : ℕ)
+    → GoesOn mode names r left text → ◌≡◌ {A = PlainText} left (record { stanzas = []; fault = fault; lines = lines })
+    → IsReadWhole mode names r fault text
+GoesOn-end mode names r left text fault lines goes read =
     let end : ◌≡◌ {A = PlainText} (record { stanzas = goes.seen ++ []; fault = fault; lines = lines }) text =
     (λ i. let t : PlainText = record (sym read i) { stanzas = goes.seen ++ (sym read i).stanzas } in t) ∙ goes.whole in
     record {
       fault_is = λ i. (end i).fault;
-      read = subst (λ stanzas. IsRead mode stanzas r) (sym (append-nil goes.seen) ∙ (λ i. (end i).stanzas)) goes.read;
+      read = subst (λ stanzas. IsRead mode names stanzas r) (sym (append-nil goes.seen) ∙ (λ i. (end i).stanzas)) goes.read;
     }

@@ -19,6 +19,7 @@ use Rattle.cudf_problem.specs.declared.postmark.Postmark.{Postmark}
 use Rattle.cudf_problem.specs.Documents.{with_earlier, postmark, is_request, has_name}
 use Rattle.cudf_problem.specs.Ids.{Id, id_of, is_known}
 use Rattle.cudf_problem.specs.Preamble.{is_declarable, declared_after, declared}
+use Rattle.cudf_problem.specs.Universe.{PlainPackage, package_id}
 use Rattle.cudf_document.specs.ProblemFaults.{types_in, required_names}
 use Rattle.cudf_document.specs.declared.details.Format.{Format}
 use Rattle.cudf_document.specs.declared.details.Format.TheVariants.{Gzip, Bzip2, Xz, Zstandard, Utf16}
@@ -138,9 +139,13 @@ first_detail s = option_map (λ p. begins_with p.name) (slice_get s.properties 0
 abbrev pub request_detail : List PlainStanza → Option PlainDetail
 request_detail before = option_map (λ s. request_on s.line) (find is_request before)
 
+-- the first package of this name and version
+abbrev pub stanza_of : List PlainStanza → Id → Option PlainStanza
+stanza_of ss id = find (λ s. is_known (id ∷ []) (id_of s)) ss
+
 -- E11, E15: the first package before it of its name and version
 abbrev pub package_detail : List PlainStanza → Id → Option PlainDetail
-package_detail before (name, version) = option_map (λ s. package_on name version s.line) (find (λ s. is_known ((name, version) ∷ []) (id_of s)) before)
+package_detail before (name, version) = option_map (λ s. package_on name version s.line) (stanza_of before (name, version))
 
 -- E14: the first name that is declared without a default, and that it lacks
 abbrev pub lacking_detail : List PlainStanza → PlainStanza → Option PlainDetail
@@ -177,6 +182,12 @@ stanza_detail E11 line (before, s) = option_and_then (package_detail before) (id
 stanza_detail E14 line (before, s) = lacking_detail before s
 stanza_detail E15 line (before, s) = option_and_then (package_detail before) (id_of s)
 stanza_detail kind line (before, s) = option_and_then (property_detail kind (before, s)) (property_on line s)
+
+-- ---- where a solution has a package of the problem
+
+-- the line of the first of its stanzas that is of the package's name and version
+abbrev pub stanza_line : List PlainStanza → PlainPackage → Option ℕ
+stanza_line ss p = option_map (λ s. s.line) (stanza_of ss (package_id p))
 
 -- ---- what is said of a document, whether it is a problem or a solution
 

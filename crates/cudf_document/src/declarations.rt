@@ -142,6 +142,17 @@ impl<'t> Declarations<'t> {
         Ok(names)
     }
 
+    /// Their names.
+    pub(crate) fn names(&self, alloc: Global) -> Result<Vec<&'t str>, AllocError>
+        ensures { IfOk result (λ names. map (λ name. name.now) names.items ≡ map (λ d. d.name) self.now) }
+    {
+        let mut names = Vec::new(alloc);
+        for declared in self.known.values() {
+            names.push(declared.name())?;
+        }
+        Ok(names)
+    }
+
     /// Adds what a `property` value declares and answers true, or adds nothing where it is a bad
     /// declaration.
     pub(crate) fn add(&mut self, alloc: Global, text: &'t str) -> Result<bool, AllocError>
@@ -235,7 +246,7 @@ impl<'t> Declarations<'t> {
         !(is_reserved(name) || self.is_declared(name))
     }
 
-    fn is_declared(&self, name: &str) -> bool
+    pub(crate) fn is_declared(&self, name: &str) -> bool
         ensures { result ≡ is_declared self.now name.now }
     {
         self.find(name).is_some()

@@ -1,5 +1,5 @@
 //! What follows from the definitions alone. Each law is the contract of a function without effect.
-ghost use Rattle.cudf_document.specs.Promises.Laws.{LeastIsFirst, FaultlessIsSound, FaultsAreFound, StrictAddsTwoKinds};
+ghost use Rattle.cudf_document.specs.Promises.Laws.{LeastIsFirst, FaultlessIsSound, FaultsAreFound, StrictAddsSomeKinds};
 
 /// The fault that a reader answers is one of the document's faults and precedes every other one,
 /// and no other fault does.
@@ -14,10 +14,10 @@ pub fn sound()
 {}
 
 /// Strictly a problem has the faults that it has leniently and some of the kinds E14 and E16, a solution
-/// those and some of the kinds E15 and E16; leniently no stanza has a fault of these kinds. So a document
+/// those and some of the kinds E8, E15 and E16; leniently no stanza has a fault of these kinds. So a document
 /// that has no fault strictly has none leniently.
 pub fn lenient()
-    ensures { StrictAddsTwoKinds }
+    ensures { StrictAddsSomeKinds }
 {}
 
 /// The stanza on the line of a stanza's fault is the one that has the fault, and the property on the line of a

@@ -26,4 +26,5 @@ pub use problem::reading::{first_fault, problem_of};
 pub use proposed::Proposed;
 pub use proposed::reader::proposed_of;
 pub use solution::held::read_solution;
+pub use solution::lines::stanza_lines;
 pub use solution::placed::solution_of;

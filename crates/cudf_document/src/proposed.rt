@@ -1,4 +1,5 @@
 //! What a solution proposes, before it is known of which problem: CUDF 2.0, installations.
+pub(crate) mod extras;
 pub(crate) mod package;
 pub(crate) mod pairs;
 pub(crate) mod reader;

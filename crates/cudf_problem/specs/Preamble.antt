@@ -1,5 +1,5 @@
 -- The extra package properties that a document declares: CUDF 2.0, the preamble.
-use Rattle.std.specs.Prelude.{ℕ, Bool, false, not, ◌||◌, List, [], ◌∷◌, ◌++◌, Option, find, unwrap_or, option_and_then, bytes_eq, codes, if◌then◌else◌}
+use Rattle.std.specs.Prelude.{ℕ, Bool, false, not, ◌||◌, List, [], ◌∷◌, ◌++◌, map, Option, find, unwrap_or, option_and_then, bytes_eq, codes, if◌then◌else◌}
 use Rattle.std.specs.List.{fold, list_any, list_all}
 use Rattle.cudf_text.specs.Stanzas.{PlainProperty, PlainStanza}
 use Rattle.cudf_text.specs.Chars.{trim}
@@ -38,6 +38,10 @@ declared_after before ps = fold (λ ds p. ds ++ added_by ds p) before ps
 abbrev pub declared : List PlainStanza → List PlainDeclaration
 declared [] = []
 declared (s ∷ ss) = if marks_preamble (postmark s) then declared_after [] s.properties else []
+
+-- the names of the extra properties that a document declares
+abbrev pub declared_names : List PlainStanza → List (List ℕ)
+declared_names ss = map (λ d. d.name) (declared ss)
 
 -- ---- recommends
 

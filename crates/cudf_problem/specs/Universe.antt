@@ -11,7 +11,7 @@ use Rattle.cudf_problem.specs.declared.package.Keep.TheVariants.{Nothing}
 use Rattle.cudf_problem.specs.Documents.{value_of, is_request}
 use Rattle.cudf_problem.specs.Ids.{Id, id_of}
 use Rattle.cudf_problem.specs.Values.{truth_value, keep_value}
-use Rattle.cudf_problem.specs.Preamble.{declared, recommends_in, recommends_default}
+use Rattle.cudf_problem.specs.Preamble.{declared, declared_names, recommends_in, recommends_default}
 
 -- ---- packages
 
@@ -72,6 +72,8 @@ pub record PlainProblem : Type 0 where
   pub request : PlainRequest
   -- the declared default of `recommends`
   pub recommends : Option (List (List PlainAtom))
+  -- the names of the extra properties that the preamble declares
+  pub extra_names : List (List ℕ)
 
 unfoldable pub plain_problem : PlainText → PlainProblem
 plain_problem text = record {
@@ -79,6 +81,7 @@ plain_problem text = record {
   -- where there is none, which is a fault, one that asks for nothing
   request = unwrap_or (option_map request_of (find is_request text.stanzas)) (record { line = 0; install = []; remove = []; upgrade = [] });
   recommends = recommends_default (declared text.stanzas);
+  extra_names = declared_names text.stanzas;
 }
 
 -- ---- places

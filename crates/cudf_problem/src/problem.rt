@@ -12,6 +12,7 @@ pub struct Problem<'t> {
     packages: Vec<Package<'t>>,
     request: Request<'t>,
     recommends: Option<Formula<'t>>,
+    extra_names: Vec<&'t str>,
     ids: Ids<'t>,
 }
 
@@ -28,6 +29,7 @@ impl<'t> Model for Problem<'t> {
       packages = map package_view p.packages.items;
       request = request_view p.request;
       recommends = option_map formula_view p.recommends;
+      extra_names = map (λ name. name.now) p.extra_names.items;
     } };
 
     ghost invariant = { λ p. (p.ids ≡ map package_id (map package_view p.packages.items)) × (are_distinct p.ids ≡ true) };
@@ -39,6 +41,7 @@ impl fmt::Debug for Problem<'_> {
             .field("packages", &self.packages)
             .field("request", &self.request)
             .field("recommends", &self.recommends)
+            .field("extra_names", &self.extra_names)
             .finish_non_exhaustive()
     }
 }
@@ -52,11 +55,13 @@ impl<'t> Problem<'t> {
     ghost use Rattle.cudf_problem.specs.Promises.Names.{names_in};
     ghost use Rattle.cudf_problem.specs.Universe.{PlainPackage, package_id};
 
-    /// The problem of these, where `ids` are the names and versions of the packages.
+    /// The problem of these, where `extra_names` are the names that its preamble declares, and `ids` the names and
+    /// versions of the packages.
     pub fn new(
         packages: Vec<Package<'t>>,
         request: Request<'t>,
         recommends: Option<Formula<'t>>,
+        extra_names: Vec<&'t str>,
         ids: Ids<'t>,
     ) -> Self
         requires ids { ids ≡ map package_id (map package_view packages.items) }
@@ -65,12 +70,14 @@ impl<'t> Problem<'t> {
           packages = map package_view packages.entry.items;
           request = request_view request.entry;
           recommends = option_map formula_view recommends.entry;
+          extra_names = map (λ name. name.now) extra_names.entry.items;
         } }
     {
         Problem {
             packages,
             request,
             recommends,
+            extra_names,
             ids,
         }
     }
@@ -101,6 +108,13 @@ impl<'t> Problem<'t> {
         self.packages[place as usize - 1]
             .recommends
             .or(self.recommends)
+    }
+
+    /// The names of the extra properties that the preamble declares, in its order.
+    pub fn extra_names(&self) -> &[&'t str]
+        ensures { map (λ name. name.now) result.now ≡ self.now.extra_names }
+    {
+        self.extra_names.as_slice()
     }
 
     /// The index of the package of this name and version, if the universe has it.

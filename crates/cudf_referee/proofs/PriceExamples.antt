@@ -52,7 +52,7 @@ asked install remove upgrade = record { line = 1; install = install; remove = re
 -- these packages and this request, with the places that were installed and those that are to be
 abbrev proposed : List PlainPackage → PlainRequest → (ℕ → Bool) → (ℕ → Bool) → List PlainUnknown → Proposal
 proposed packages request was is unknown = record {
-  problem = record { packages = packages; request = request; recommends = None };
+  problem = record { packages = packages; request = request; recommends = None; extra_names = [] };
   initial = members was packages;
   proposed = members is packages;
   unknown = unknown;

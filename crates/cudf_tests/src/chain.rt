@@ -107,7 +107,8 @@ fn walk_solution<A: Asks>(
     asks: &A,
 ) -> Answer {
     let mut room = Room::new(alloc);
-    let proposed = proposed_of(alloc, stanzas(alloc, solution, &mut room)?, mode)?;
+    let stanzas = stanzas(alloc, solution, &mut room)?;
+    let proposed = proposed_of(alloc, stanzas, mode, problem)?;
     place(alloc, proposed, problem, asks)
 }
 

@@ -1,7 +1,7 @@
 -- Contracts' view of the files that lines name.
-use Rattle.std.specs.Prelude.{ℕ, Bool, List, [], ◌∷◌, Option, None, Some, option_map}
+use Rattle.std.specs.Prelude.{ℕ, ◌-◌, ◌==◌, Bool, List, [], ◌∷◌, slice_get, Option, None, Some, option_map, option_and_then, if◌then◌else◌}
 use Rattle.cudf_document.specs.Details.{PlainDetail}
-use Rattle.cudf_check.specs.Explanations.{detail_added}
+use Rattle.cudf_check.specs.Explanations.{listed_text, instance_added, detail_added}
 use Rattle.cudf_check.specs.JobStyles.{document_style, named_style, pair_style, refutation_style}
 use Rattle.cudf_check.specs.Naming.{Names, PlainOrigin, PlainOrigins}
 use Rattle.cudf_check.specs.Styles.{Style}
@@ -35,9 +35,16 @@ style_for d = document_style d.explain (option_map origin_view d.origin) d.bytes
 abbrev pub detailed_style : Option PlainOrigin → Option PlainDetail → Style
 detailed_style origin detail = record (named_style origin) { added_to_fault = λ document f. detail_added origin detail }
 
+-- of the package at a place, by the lines of the solution's stanzas of all packages
+abbrev pub line_at : List (Option ℕ) → ℕ → Option ℕ
+line_at lines place = if place == 0 then None else option_and_then (λ n. n) (slice_get lines (place - 1))
+
+abbrev pub listed_by : Option PlainOrigin → List (Option ℕ) → ℕ → List ℕ
+listed_by origin lines place = listed_text origin (line_at lines place)
+
 -- of lines about instances
-abbrev pub instance_style : Bool → PlainOrigins → Style
-instance_style explain origins = pair_style explain origins [] []
+abbrev pub instance_style : Bool → PlainOrigins → List (Option ℕ) → Style
+instance_style explain origins lines = record (pair_style explain origins [] []) { added_to_instance = instance_added explain (λ problem. listed_by origins.solution lines) }
 
 -- and about those of a refutation
 abbrev pub reason_style : Bool → Style

@@ -14,7 +14,7 @@ abbrev pub IsFaultOf : Option Fault → ReadError → Type 0
 IsFaultOf fault (read_error.Fault f) = fault ≡ Some f
 IsFaultOf fault (read_error.Memory e) = Unit {0}
 
--- a solution isn't judged: it says FAIL, or has this fault, or memory was wanting
-abbrev pub IsUnjudged : Mode → List ℕ → Unjudged → Type 0
-IsUnjudged mode bytes SaysFail = (solution_fault mode bytes ≡ None) × (is_fail bytes ≡ true)
-IsUnjudged mode bytes (Unread error) = IsFaultOf (solution_fault mode bytes) error
+-- a solution of a problem that declares these names isn't judged: it says FAIL, or has this fault, or memory was wanting
+abbrev pub IsUnjudged : Mode → List (List ℕ) → List ℕ → Unjudged → Type 0
+IsUnjudged mode names bytes SaysFail = (solution_fault mode names bytes ≡ None) × (is_fail bytes ≡ true)
+IsUnjudged mode names bytes (Unread error) = IsFaultOf (solution_fault mode names bytes) error

@@ -1,12 +1,14 @@
 //! Prints what the problem and the statuses say beside a violated instance.
-ghost use Rattle.std.specs.Prelude.{◌≡◌, ◌++◌, Some, codes, option_and_then, option_map, true};
+ghost use Rattle.std.specs.Prelude.{◌≡◌, ◌++◌, [], Some, codes, option_and_then, option_map, true};
 ghost use Rattle.cudf_problem.specs.Promises.Views.{package_view};
 ghost use Rattle.cudf_referee.specs.Promises.Views.{instance_view};
 ghost use Rattle.cudf_referee.specs.Explanations.{needed_by};
 ghost use Rattle.cudf_check.specs.Explanations.{stanza_text, explained, help_of, lacks_package, named_text, needed_added, needed_text, needer_text, number_text, numbers_added, status_added, unknown_added, would_do_text};
+ghost use Rattle.cudf_check.specs.Working.Named.{listed_by, origin_view};
 ghost use Rattle.cudf_device.specs.Promises.PaperInside.{Says};
 
 use crate::lines::instance::package_at;
+use crate::lines::listed::{Listed, print_listed};
 use cudf_device::{Paper, Sink};
 use cudf_document::Package;
 use cudf_referee::{Aspect, Explainer, Instance, Remedies, What};
@@ -56,21 +58,47 @@ fn lacks_package(instance: &Instance<'_>) -> bool
     }
 }
 
-/// Prints the package of the problem that would help, where the instance lacks one.
+/// Prints the package of the problem that would help, where the instance lacks one, and where the solution has it.
 pub(crate) fn print_help<W: Sink>(
+    paper: &mut Paper<'_, W>,
+    remedies: &Remedies<'_, '_>,
+    listed: Listed<'_>,
+    instance: &Instance<'_>,
+)
+    ensures { Says W.state paper.old paper.new (help_of (listed_by (option_map origin_view listed.entry.origin) listed.entry.lines.now) remedies.now (instance_view instance.now)) }
+{
+    if lacks_package(instance) {
+        let packages = remedies.packages();
+        let before = remedies.was_installed(instance);
+        let named = package_at(packages, before);
+        match named {
+            Some(package) => {
+                print_was_installed(paper, package);
+                print_listed(paper, listed, before);
+            }
+            None => {
+                let does = remedies.would_do(instance);
+                let helper = package_at(packages, does);
+                print_would_do(paper, helper);
+                print_listed(paper, listed, does);
+            }
+        }
+    }
+}
+
+/// The same, where there is no solution.
+pub(crate) fn print_help_alone<W: Sink>(
     paper: &mut Paper<'_, W>,
     remedies: &Remedies<'_, '_>,
     instance: &Instance<'_>,
 )
-    ensures { Says W.state paper.old paper.new (help_of remedies.now (instance_view instance.now)) }
+    ensures { Says W.state paper.old paper.new (help_of (λ place. []) remedies.now (instance_view instance.now)) }
 {
-    if lacks_package(instance) {
-        let packages = remedies.packages();
-        match package_at(packages, remedies.was_installed(instance)) {
-            Some(package) => print_was_installed(paper, package),
-            None => print_would_do(paper, package_at(packages, remedies.would_do(instance))),
-        }
-    }
+    let listed = Listed {
+        origin: None,
+        lines: &[],
+    };
+    print_help(paper, remedies, listed, instance);
 }
 
 /// Prints the first package of a name, or that there is none.
@@ -217,16 +245,18 @@ fn print_met<W: Sink>(paper: &mut Paper<'_, W>, explainer: &Explainer<'_, '_, '_
     print_needed(paper, package_at(packages, met), needer);
 }
 
-/// Prints what the problem and the statuses say of an instance, whose entry the package at this place meets.
+/// Prints what the problem, the statuses and the solution's stanzas say of an instance, whose entry the package at this
+/// place meets.
 pub(crate) fn print_explained<W: Sink>(
     paper: &mut Paper<'_, W>,
     explainer: &Explainer<'_, '_, '_>,
+    listed: Listed<'_>,
     instance: &Instance<'_>,
     met: Option<u64>,
 )
-    ensures { Says W.state paper.old paper.new (explained explainer.now (instance_view instance.now) met) }
+    ensures { Says W.state paper.old paper.new (explained (listed_by (option_map origin_view listed.entry.origin) listed.entry.lines.now) explainer.now (instance_view instance.now) met) }
 {
-    print_help(paper, explainer.remedies(), instance);
+    print_help(paper, explainer.remedies(), listed, instance);
     print_status(paper, explainer, instance);
     print_met(paper, explainer, met);
 }

@@ -1,12 +1,13 @@
 //! The report of a judged solution: what was found, and the verdict.
-ghost use Rattle.std.specs.Prelude.{◌≡◌, IsTrue, false, map, option_map};
+ghost use Rattle.std.specs.Prelude.{◌≡◌, ◌&&◌, not, IsTrue, false, map, option_map};
 ghost use Rattle.std.specs.FinSet as set;
+ghost use Rattle.std.specs.Str.{IsUtf8};
 ghost use Rattle.cudf_problem.specs.Statuses.{is_initial, ascend_above};
 ghost use Rattle.cudf_problem.specs.Promises.Views.{unknown_view};
 ghost use Rattle.cudf_referee.specs.Proposals.{proposal};
 ghost use Rattle.cudf_referee.specs.Solutions.{is_solution};
 ghost use Rattle.cudf_check.specs.Report.{verdict, judged_report, scored_text};
-ghost use Rattle.cudf_check.specs.JobStyles.{explains};
+ghost use Rattle.cudf_check.specs.JobStyles.{explains, pair_style};
 ghost use Rattle.cudf_check.specs.Working.Found.{found_text};
 ghost use Rattle.cudf_check.specs.Working.Named.{instance_style, origins_view};
 ghost use Rattle.cudf_check.specs.Working.Pages.{Ascends};
@@ -17,7 +18,8 @@ use crate::lines::aims::print_aim_lines;
 use crate::lines::page::print_page;
 use crate::lines::score::print_score;
 use crate::lines::scribe::Scribe;
-use crate::naming::Origins;
+use crate::readings::lines_in;
+use crate::report::Inputs;
 use cudf_device::{Outcome, Paper, Sink};
 use cudf_document::{Problem, Solution};
 use cudf_job::Job;
@@ -57,7 +59,7 @@ fn print_counted<W: Sink>(
 fn print_found<W: Sink>(paper: &mut Paper<'_, W>, scribe: &Scribe<'_, '_, '_>, job: &Job)
     requires ascending { Ascends scribe.now.judged }
     requires explained { is_solution scribe.now.judged ≡ false → scribe.now.explain ≡ explains job.now }
-    ensures { Says W.state paper.old paper.new (found_text job.now (instance_style (explains job.now) scribe.entry.now.origins) scribe.entry.now.judged) }
+    ensures { Says W.state paper.old paper.new (found_text job.now (instance_style (explains job.now) scribe.entry.now.origins scribe.entry.now.lines) scribe.entry.now.judged) }
 {
     let referee = scribe.referee();
     match job {
@@ -79,8 +81,8 @@ fn print_judged<W: Sink>(
 ) -> Outcome
     requires ascending { Ascends scribe.now.judged }
     requires explained { is_solution scribe.now.judged ≡ false → scribe.now.explain ≡ explains job.now }
-    ensures text { Says W.state paper.old paper.new (judged_report (found_text job.now (instance_style (explains job.now) scribe.entry.now.origins)) scribe.entry.now.judged).text }
-    ensures outcome { result ≡ (judged_report (found_text job.now (instance_style (explains job.now) scribe.entry.now.origins)) scribe.entry.now.judged).outcome }
+    ensures text { Says W.state paper.old paper.new (judged_report (found_text job.now (instance_style (explains job.now) scribe.entry.now.origins scribe.entry.now.lines)) scribe.entry.now.judged).text }
+    ensures outcome { result ≡ (judged_report (found_text job.now (instance_style (explains job.now) scribe.entry.now.origins scribe.entry.now.lines)) scribe.entry.now.judged).outcome }
 {
     print_found(paper, scribe, job);
     print_verdict(paper, scribe.referee().is_solution())
@@ -91,17 +93,26 @@ pub(crate) fn print_solution<W: Sink>(
     paper: &mut Paper<'_, W>,
     alloc: Global,
     job: &Job,
-    origins: Origins<'_>,
+    inputs: Inputs<'_>,
     problem: &Problem<'_>,
     solution: &Solution<'_>,
 ) -> Result<Outcome, AllocError>
-    requires { IsTrue (ascend_above 0 (map unknown_view solution.now.unknown.items)) }
-    ensures { Prints W.state paper.old paper.new (judged_report (found_text job.now (instance_style (explains job.now) (origins_view origins.entry))) (proposal problem.now (is_initial problem.now) (set.contains solution.now.status)
+    requires utf8 { IsUtf8 inputs.solution.now }
+    requires ascending { IsTrue (ascend_above 0 (map unknown_view solution.now.unknown.items)) }
+    ensures { let style = pair_style (explains job.now) (origins_view inputs.entry.origins) inputs.entry.problem.now inputs.entry.solution.now in
+        Prints W.state paper.old paper.new (judged_report (found_text job.now style) (proposal problem.now (is_initial problem.now) (set.contains solution.now.status)
         (map unknown_view solution.now.unknown.items))) result }
 {
     ascending();
     let referee = Referee::new(alloc, problem, solution)?;
-    print_by(paper, alloc, job, origins, &referee)
+    print_by(paper, alloc, job, inputs, problem, &referee)
+}
+
+/// Whether lines are explained. Where the status is a solution, there is none.
+fn is_explained(job: &Job, is_solution: bool) -> bool
+    ensures { result ≡ (explains job.now && not is_solution) }
+{
+    explains(job) && !is_solution
 }
 
 /// The same, by the referee.
@@ -109,14 +120,18 @@ fn print_by<W: Sink>(
     paper: &mut Paper<'_, W>,
     alloc: Global,
     job: &Job,
-    origins: Origins<'_>,
+    inputs: Inputs<'_>,
+    problem: &Problem<'_>,
     referee: &Referee<'_, '_>,
 ) -> Result<Outcome, AllocError>
-    requires { Ascends referee.now }
-    ensures { Prints W.state paper.old paper.new (judged_report (found_text job.now (instance_style (explains job.now) (origins_view origins.entry))) referee.entry.now) result }
+    requires utf8 { IsUtf8 inputs.solution.now }
+    requires same { referee.now.problem ≡ problem.now }
+    requires ascending { Ascends referee.now }
+    ensures { let style = pair_style (explains job.now) (origins_view inputs.entry.origins) inputs.entry.problem.now inputs.entry.solution.now in
+        Prints W.state paper.old paper.new (judged_report (found_text job.now style) referee.entry.now) result }
 {
-    // Where the status is a solution, there is no line to explain.
-    let explain = explains(job) && !referee.is_solution();
-    let scribe = Scribe::new(alloc, referee, explain, origins)?;
+    let explain = is_explained(job, referee.is_solution());
+    let lines = lines_in(alloc, explain, inputs.solution, problem)?;
+    let scribe = Scribe::new(alloc, referee, explain, inputs.origins, &lines)?;
     Ok(print_judged(paper, &scribe, job))
 }

@@ -36,7 +36,7 @@ fn print_rest<W: Sink>(
     scribe: &Scribe<'_, '_, '_>,
     instances: &mut Instances<'_, '_, '_>,
 )
-    ensures printed { Says W.state paper.old paper.new (flat_map (instance_line (instance_style scribe.entry.now.explain scribe.entry.now.origins) scribe.entry.now.judged) (left instances.old)) }
+    ensures printed { Says W.state paper.old paper.new (flat_map (instance_line (instance_style scribe.entry.now.explain scribe.entry.now.origins scribe.entry.now.lines) scribe.entry.now.judged) (left instances.old)) }
     ensures price { instances.new.steps ≤ instances.old.steps
         + cost_along instances.old.judged instances.old.position (calls (left instances.old) (length (left instances.old))) }
 {
@@ -56,7 +56,7 @@ fn print_first<W: Sink>(
     instances: &mut Instances<'_, '_, '_>,
     limit: u64,
 ) -> Option<Key>
-    ensures printed { Says W.state paper.old paper.new (flat_map (instance_line (instance_style scribe.entry.now.explain scribe.entry.now.origins) scribe.entry.now.judged) (take limit (left instances.old))) }
+    ensures printed { Says W.state paper.old paper.new (flat_map (instance_line (instance_style scribe.entry.now.explain scribe.entry.now.origins scribe.entry.now.lines) scribe.entry.now.judged) (take limit (left instances.old))) }
     ensures end { IsEnded limit (left instances.old) (left instances.new) result (has_failed paper.new) }
     ensures spent { IsSpent limit instances.old instances.new result }
     ensures price { instances.new.steps ≤ instances.old.steps
@@ -109,7 +109,7 @@ pub(crate) fn print_page<'r, 'p, 't, W: Sink>(
     limit: Option<u64>,
 ) -> Instances<'r, 'p, 't>
     requires ascending { Ascends scribe.now.judged }
-    ensures printed { Says W.state paper.old paper.new (check_text (instance_style scribe.entry.now.explain scribe.entry.now.origins) (option_map key_view after) limit scribe.entry.now.judged) }
+    ensures printed { Says W.state paper.old paper.new (check_text (instance_style scribe.entry.now.explain scribe.entry.now.origins scribe.entry.now.lines) (option_map key_view after) limit scribe.entry.now.judged) }
     ensures price { result.steps ≤ page_price scribe.entry.now.judged (option_map key_view after)
         (page_size limit (listed (option_map key_view after) scribe.entry.now.judged)) }
 {

@@ -15,7 +15,7 @@ ghost use Rattle.cudf_device.specs.Promises.PaperInside.{Prints, Says};
 ghost use Rattle.cudf_cnf.specs.Encodings.{IsEncoded};
 ghost use Rattle.cudf_check.specs.Working.Named.{reason_style};
 
-use crate::lines::explanation::print_help;
+use crate::lines::explanation::print_help_alone;
 use crate::lines::instance::{package_at, print_instance, print_meeting};
 use cudf_cnf::laws::ordered;
 use cudf_cnf::{KeyedClauses, encoded};
@@ -160,7 +160,7 @@ impl<'p, 't> ReasonScribe<'p, 't> {
         ensures { Says W.state paper.old paper.new (reason_added self.now.explain self.now.problem (instance_view instance.now)) }
     {
         if let Some(remedies) = &self.remedies {
-            print_help(paper, remedies, instance);
+            print_help_alone(paper, remedies, instance);
         }
     }
 }

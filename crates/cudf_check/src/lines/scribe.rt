@@ -1,18 +1,22 @@
 //! Prints the lines of violated instances, each with what is added to it, where lines are explained.
 use crate::lines::explanation::print_explained;
 use crate::lines::instance::{package_at, print_instance};
+use crate::lines::listed::Listed;
 use crate::naming::Origins;
 use cudf_device::{Paper, Sink};
 use cudf_referee::{Explainer, Instance, Referee};
 use std::alloc::{AllocError, Global};
 use std::marker::Model;
 
-/// Prints what a referee finds. Contracts see what is judged, whether lines are explained, and the files that they name.
+/// Prints what a referee finds. Contracts see what is judged, whether lines are explained, the files that they name, and
+/// the lines of the solution's stanzas.
 #[derive(Drop)]
 pub(crate) struct Scribe<'r, 'p, 't> {
     referee: &'r Referee<'p, 't>,
     explainer: Option<Explainer<'r, 'p, 't>>,
     origins: Origins<'r>,
+    /// For each package of the problem the line of the solution's first stanza of it, where lines are explained.
+    lines: &'r [Option<u64>],
 }
 
 impl<'r, 'p, 't> Model for Scribe<'r, 'p, 't> {
@@ -22,7 +26,7 @@ impl<'r, 'p, 't> Model for Scribe<'r, 'p, 't> {
 
     ghost Value = { Wording };
 
-    ghost view = { λ s. record { judged = s.referee.now; explain = is_some s.explainer; origins = origins_view s.origins } };
+    ghost view = { λ s. record { judged = s.referee.now; explain = is_some s.explainer; origins = origins_view s.origins; lines = s.lines.now } };
 
     ghost invariant = { λ s. IfSome s.explainer (λ e. e ≡ s.referee.now) };
 }
@@ -32,7 +36,7 @@ impl<'r, 'p, 't> Scribe<'r, 'p, 't> {
     ghost use Rattle.cudf_referee.specs.Promises.Views.{instance_view};
     ghost use Rattle.cudf_check.specs.Explanations.{met_added};
     ghost use Rattle.cudf_check.specs.Report.{instance_line};
-    ghost use Rattle.cudf_check.specs.Working.Named.{instance_style, origins_view};
+    ghost use Rattle.cudf_check.specs.Working.Named.{instance_style, listed_by, origins_view};
     ghost use Rattle.cudf_device.specs.Promises.PaperInside.{Says};
 
     /// The scribe of a referee. Memory for what is added to lines is taken here.
@@ -45,14 +49,16 @@ impl<'r, 'p, 't> Scribe<'r, 'p, 't> {
         referee: &'r Referee<'p, 't>,
         explain: bool,
         origins: Origins<'r>,
+        lines: &'r [Option<u64>],
     ) -> Result<Self, AllocError>
-        ensures { IfOk result (λ s. s ≡ record { judged = referee.entry.now; explain = explain; origins = origins_view origins.entry }) }
+        ensures { IfOk result (λ s. s ≡ record { judged = referee.entry.now; explain = explain; origins = origins_view origins.entry; lines = lines.entry.now }) }
     {
         if !explain {
             return Ok(Scribe {
                 referee,
                 explainer: None,
                 origins,
+                lines,
             });
         }
         let explainer = Explainer::new(alloc, referee)?;
@@ -60,6 +66,7 @@ impl<'r, 'p, 't> Scribe<'r, 'p, 't> {
             referee,
             explainer: Some(explainer),
             origins,
+            lines,
         })
     }
 
@@ -72,7 +79,7 @@ impl<'r, 'p, 't> Scribe<'r, 'p, 't> {
 
     /// Prints the line of an instance.
     pub(crate) fn print_line<W: Sink>(&self, paper: &mut Paper<'_, W>, instance: &Instance<'_>)
-        ensures { Says W.state paper.old paper.new (instance_line (instance_style self.now.explain self.now.origins) self.now.judged (instance_view instance.now)) }
+        ensures { Says W.state paper.old paper.new (instance_line (instance_style self.now.explain self.now.origins self.now.lines) self.now.judged (instance_view instance.now)) }
     {
         let referee = self.referee;
         let place = referee.met_by(instance);
@@ -91,10 +98,14 @@ impl<'r, 'p, 't> Scribe<'r, 'p, 't> {
         instance: &Instance<'_>,
         met: Option<u64>,
     )
-        ensures { Says W.state paper.old paper.new (met_added self.now.explain self.now.judged (instance_view instance.now) met) }
+        ensures { Says W.state paper.old paper.new (met_added self.now.explain (listed_by self.now.origins.solution self.now.lines) self.now.judged (instance_view instance.now) met) }
     {
         if let Some(explainer) = &self.explainer {
-            print_explained(paper, explainer, instance, met);
+            let listed = Listed {
+                origin: self.origins.solution,
+                lines: self.lines,
+            };
+            print_explained(paper, explainer, listed, instance, met);
         }
     }
 }

@@ -3,7 +3,7 @@ use Rattle.std.specs.Prelude.{◌≡◌, ◌≢◌, ◌⊎◌, Bool, true, false
 use Rattle.std.specs.List.{All, list_all}
 use Rattle.cudf_text.specs.declared.fault.Fault.{Fault}
 use Rattle.cudf_text.specs.declared.fault.Kind.{Kind}
-use Rattle.cudf_text.specs.declared.fault.Kind.TheVariants.{E14, E15, E16}
+use Rattle.cudf_text.specs.declared.fault.Kind.TheVariants.{E8, E14, E15, E16}
 use Rattle.cudf_text.specs.Stanzas.{PlainStanza, PlainText, plain_text}
 use Rattle.cudf_problem.specs.declared.mode.Mode.{Mode}
 use Rattle.cudf_problem.specs.declared.mode.Mode.TheVariants.{Lenient, Strict}
@@ -45,26 +45,32 @@ is_strict_of_problem _ = false
 
 -- of a solution
 abbrev pub is_strict_of_solution : Kind → Bool
+is_strict_of_solution E8 = true
 is_strict_of_solution E15 = true
 is_strict_of_solution E16 = true
 is_strict_of_solution _ = false
 
--- and of either
+-- and of both
 abbrev pub is_strict : Kind → Bool
-is_strict kind = is_strict_of_problem kind || is_strict_of_solution kind
+is_strict E14 = true
+is_strict E15 = true
+is_strict E16 = true
+is_strict _ = false
 
--- a document's faults in both modes: strictly there are the lenient ones and some of these kinds. Leniently none is of a
--- kind that is reported strictly alone, but for the fault of a line, of which the text itself says what it is
+-- a document's faults in both modes: strictly there are the lenient ones and some of these kinds. Leniently none is of
+-- these, or of a kind that is reported strictly alone, but for the fault of a line, of which the text itself says what it is
 pub record StrictAdds (is_added : Kind → Bool) (line : Option Fault) (lenient strict : List Fault) : Type 0 where
   pub kept : (f : Fault) → Contains lenient f → Contains strict f
   pub added : (f : Fault) → Contains strict f → Contains lenient f ⊎ IsTrue (is_added f.kind)
-  pub lenient_kinds : (f : Fault) → Contains lenient f → (line ≡ Some f) ⊎ (is_strict f.kind ≡ false)
+  pub lenient_kinds : (f : Fault) → Contains lenient f → (line ≡ Some f) ⊎ ((is_added f.kind || is_strict f.kind) ≡ false)
   pub faultless : strict ≡ [] → lenient ≡ []
 
--- strictly a problem has faults of the kinds E14 and E16 besides, and a solution faults of the kinds E15 and E16
-abbrev pub StrictAddsTwoKinds : Type 0
-StrictAddsTwoKinds = (text : PlainText) → StrictAdds is_strict_of_problem text.fault (problem_faults text Lenient) (problem_faults text Strict)
-    × StrictAdds is_strict_of_solution text.fault (solution_faults text Lenient) (solution_faults text Strict)
+-- strictly a problem has faults of the kinds E14 and E16 besides, and a solution, whatever names the problem declares,
+-- faults of the kinds E8, E15 and E16
+abbrev pub StrictAddsSomeKinds : Type 0
+StrictAddsSomeKinds = (text : PlainText) (names : List (List ℕ))
+    → StrictAdds is_strict_of_problem text.fault (problem_faults text Lenient) (problem_faults text Strict)
+    × StrictAdds is_strict_of_solution text.fault (solution_faults text Lenient names) (solution_faults text Strict names)
 
 -- ---- details
 
@@ -76,7 +82,7 @@ IsFoundAt stanzas x f = stanza_on f.line stanzas ≡ Some x
 -- property's line is that property
 pub record AllAreFound (stanzas : List PlainStanza) : Type 0 where
   pub problem : (mode : Mode) → All (λ x. All (IsFoundAt stanzas x) (stanza_faults mode x)) (with_earlier [] stanzas)
-  pub solution : (mode : Mode) → All (λ x. All (IsFoundAt stanzas x) (solution_stanza_faults mode x.1 ++ repeated_pair_faults x)) (with_earlier [] stanzas)
+  pub solution : (mode : Mode) (names : List (List ℕ)) → All (λ x. All (IsFoundAt stanzas x) (solution_stanza_faults mode names x.1 ++ repeated_pair_faults x)) (with_earlier [] stanzas)
   pub property : All (λ x. All (λ y. property_on y.1.line x.1 ≡ Some y) (with_earlier [] x.1.properties)) (with_earlier [] stanzas)
 
 -- so what a document says beside a fault is said of the stanza and of the property that have the fault

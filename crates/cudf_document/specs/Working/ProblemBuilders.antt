@@ -93,4 +93,9 @@ IsListed g = g.ids ≡ first_ids [] (map package_id g.packages)
 
 -- the problem of what was gathered
 abbrev pub problem_of : PlainBuilder → PlainProblem
-problem_of g = record { packages = g.packages; request = unwrap_or g.request no_request; recommends = recommends_default g.declared }
+problem_of g = record {
+  packages = g.packages;
+  request = unwrap_or g.request no_request;
+  recommends = recommends_default g.declared;
+  extra_names = map (λ d. d.name) g.declared;
+}

@@ -106,7 +106,7 @@ fn idents_of<'t>(alloc: Global, kind: &ValueType<'t>) -> Result<SeenNames<'t>, A
 }
 
 /// These names, to be looked up.
-fn names_of<'t>(alloc: Global, words: &[&'t str]) -> Result<SeenNames<'t>, AllocError>
+pub(crate) fn names_of<'t>(alloc: Global, words: &[&'t str]) -> Result<SeenNames<'t>, AllocError>
     ensures { IfOk result (AreWords words.now) }
 {
     let mut names = SeenNames::new(alloc);

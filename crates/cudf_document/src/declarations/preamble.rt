@@ -1,9 +1,9 @@
 //! The preamble: what it declares.
-ghost use Rattle.std.specs.Prelude.{◌≡◌, [], ◌++◌, map, bytes_eq, Some, None, IfOk, OnOk, if◌then◌else◌};
+ghost use Rattle.std.specs.Prelude.{◌≡◌, [], ◌∷◌, ◌++◌, map, bytes_eq, Some, None, IfOk, OnOk, if◌then◌else◌};
 ghost use Rattle.indexmap.specs.IndexSet.{insert_key};
 ghost use Rattle.cudf_text.specs.Promises.Views.{property_view, stanza_view};
 ghost use Rattle.cudf_document.specs.Faults.{least};
-ghost use Rattle.cudf_problem.specs.Preamble.{added_by, declared_after};
+ghost use Rattle.cudf_problem.specs.Preamble.{added_by, declared, declared_after};
 ghost use Rattle.cudf_document.specs.Working.Judging.{properties_faults};
 ghost use Rattle.cudf_document.specs.Working.PackageFields.{fault_on};
 ghost use Rattle.cudf_document.specs.Working.ProblemBuilders.{preamble_kind_after};
@@ -12,6 +12,7 @@ ghost use Rattle.cudf_problem.specs.declared.postmark.Postmark.TheVariants.{Prea
 use crate::declarations::Declarations;
 use crate::fault::lesser;
 use crate::names::SeenNames;
+use crate::postmark::is_preamble;
 use cudf_text::{Fault, Kind, PropertyRef, StanzaRef};
 use std::alloc::{AllocError, Global};
 
@@ -72,8 +73,23 @@ fn fault_unless(is_well: bool, line: u64, kind: Kind) -> Option<Fault>
     }
 }
 
+/// Declares what a document does whose first stanza this is, in place of what was declared before.
+pub(crate) fn declare_first<'t>(
+    alloc: Global,
+    declarations: &mut Declarations<'t>,
+    stanza: &StanzaRef<'t>,
+) -> Result<(), AllocError>
+    ensures { OnOk result (declarations.new ≡ declared (stanza_view stanza.now ∷ [])) }
+{
+    declarations.clear();
+    if is_preamble(stanza) {
+        declare_all(alloc, declarations, &stanza.properties)?;
+    }
+    Ok(())
+}
+
 /// Adds what these properties of a preamble declare, each in its turn; a bad declaration adds nothing.
-pub(crate) fn declare_all<'t>(
+fn declare_all<'t>(
     alloc: Global,
     declarations: &mut Declarations<'t>,
     properties: &[PropertyRef<'t>],

@@ -1,13 +1,12 @@
 //! The stanza that a fault is in, and what is before it.
-ghost use Rattle.std.specs.Prelude.{◌≡◌, [], ◌∷◌, Some, None, option_map, IfOk, OnOk, if◌then◌else◌};
+ghost use Rattle.std.specs.Prelude.{◌≡◌, Some, None, option_map, IfOk, if◌then◌else◌};
 ghost use Rattle.cudf_text.specs.Promises.Views.{stanza_view};
 ghost use Rattle.cudf_problem.specs.Documents.{is_request};
-ghost use Rattle.cudf_problem.specs.Preamble.{declared};
 ghost use Rattle.cudf_document.specs.Working.Details.{nothing_passed, found_in, found_view};
 
 use crate::declarations::Declarations;
-use crate::declarations::preamble::declare_all;
-use crate::postmark::{is_preamble, postmark_of};
+use crate::declarations::preamble::declare_first;
+use crate::postmark::postmark_of;
 use cudf_problem::Postmark;
 use cudf_text::{Next, StanzaRef, Stanzas};
 use std::alloc::{AllocError, Global};
@@ -49,21 +48,6 @@ impl<'t> Passed<'t> {
         self.request = self.request.or(request_line(stanza));
         Ok(())
     }
-}
-
-/// Declares what a document does whose first stanza this is, in place of what was declared before.
-fn declare_first<'t>(
-    alloc: Global,
-    declarations: &mut Declarations<'t>,
-    stanza: &StanzaRef<'t>,
-) -> Result<(), AllocError>
-    ensures { OnOk result (declarations.new ≡ declared (stanza_view stanza.now ∷ [])) }
-{
-    declarations.clear();
-    if is_preamble(stanza) {
-        declare_all(alloc, declarations, &stanza.properties)?;
-    }
-    Ok(())
 }
 
 /// The line of a request.

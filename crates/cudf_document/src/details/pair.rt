@@ -9,9 +9,7 @@ ghost use Rattle.cudf_document.specs.Working.Details.{pair_line};
 
 use crate::details::Detail;
 use crate::details::found::find_stanza;
-use crate::package::identity::Identity;
-use crate::postmark::postmark_of;
-use cudf_problem::Postmark;
+use crate::package::identity::id_of;
 use cudf_text::{Next, Room, StanzaRef, Stanzas};
 use std::alloc::{AllocError, Global};
 
@@ -106,16 +104,6 @@ fn package_if<'t>(stanza: &StanzaRef<'t>, name: &str, version: u64) -> Option<De
                 line: stanza.line,
             })
         }
-        _ => None,
-    }
-}
-
-/// The name and the version of a package, where both are of their types.
-fn id_of<'t>(stanza: &StanzaRef<'t>) -> Option<(&'t str, u64)>
-    ensures { option_map (λ id. (id.0.now, id.1)) result ≡ id_of (stanza_view stanza.now) }
-{
-    match postmark_of(stanza) {
-        Some(Postmark::Package) => Identity::of(stanza).id(),
         _ => None,
     }
 }

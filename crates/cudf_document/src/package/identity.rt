@@ -1,10 +1,13 @@
 //! The name and the version of a package.
-ghost use Rattle.std.specs.Prelude.{◌≡◌, option_copied, codes};
+ghost use Rattle.std.specs.Prelude.{◌≡◌, option_copied, option_map, codes};
 ghost use Rattle.cudf_text.specs.Promises.Views.{stanza_view};
 ghost use Rattle.cudf_problem.specs.Documents.{value_of};
+ghost use Rattle.cudf_problem.specs.Ids.{id_of};
 ghost use Rattle.cudf_problem.specs.Values.{name_value};
 
 use crate::names::first_named;
+use crate::postmark::postmark_of;
+use cudf_problem::Postmark;
 use cudf_text::{StanzaRef, trim};
 use cudf_value::{is_pkgname, read_posint};
 
@@ -47,6 +50,16 @@ impl<'a> Identity<'a> {
         ensures { option_map (λ id. (id.0.now, id.1)) result ≡ known_id self.entry }
     {
         Some((self.name?, self.version?))
+    }
+}
+
+/// The name and the version of a package, where both are of their types.
+pub(crate) fn id_of<'t>(stanza: &StanzaRef<'t>) -> Option<(&'t str, u64)>
+    ensures { option_map (λ id. (id.0.now, id.1)) result ≡ id_of (stanza_view stanza.now) }
+{
+    match postmark_of(stanza) {
+        Some(Postmark::Package) => Identity::of(stanza).id(),
+        _ => None,
     }
 }
 

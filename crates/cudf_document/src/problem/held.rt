@@ -37,7 +37,7 @@ pub fn read_problem<'t, 'a>(
     if let Some(fault) = walk.first {
         return Err(ReadError::Fault(fault));
     }
-    Ok(parts.into_problem(walk))
+    Ok(parts.into_problem(alloc, walk)?)
 }
 
 /// Walks over all stanzas.

@@ -162,12 +162,18 @@ impl<'a> Parts<'a> {
     }
 
     /// The problem, after a walk that found no error.
-    pub(crate) fn into_problem(self, walk: Walk<'a>) -> Problem<'a>
+    pub(crate) fn into_problem(
+        self,
+        alloc: Global,
+        walk: Walk<'a>,
+    ) -> Result<Problem<'a>, AllocError>
         requires { IsReady walk self }
-        ensures { result ≡ problem_of (gathered_of walk.entry self.entry) }
+        ensures { IfOk result (λ problem. problem ≡ problem_of (gathered_of walk.entry self.entry)) }
     {
         let recommends = walk.declarations.recommends_default();
-        Problem::new(self.packages, self.request.unwrap(), recommends, walk.ids)
+        let extra_names = walk.declarations.names(alloc)?;
+        let request = self.request.unwrap();
+        Ok(Problem::new(self.packages, request, recommends, extra_names, walk.ids))
     }
 }
 

@@ -53,5 +53,5 @@ pub fn problem_of<'t>(
     if let Some(fault) = walk.first {
         return Err(ReadError::Fault(fault));
     }
-    Ok(parts.into_problem(walk))
+    Ok(parts.into_problem(alloc, walk)?)
 }

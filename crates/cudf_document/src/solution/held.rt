@@ -18,13 +18,14 @@ use std::alloc::Global;
 
 /// Reads a solution of the problem (CUDF 2.0, installations). Of its packages `package`, `version` and
 /// `installed` count, other stanzas are skipped, and a stanza with `installed: false` takes nothing back
-/// (own). Leniently repeated pairs mean the same pair (own).
+/// (own). Leniently repeated pairs mean the same pair; strictly a property of a package has to be declared,
+/// by the problem or by the solution itself (own).
 ///
 /// The caller sees to it that the text doesn't say `FAIL` (`cudf_text::is_fail`): that proposes no status.
 ///
 /// # Errors
 ///
-/// The solution's first fault, of kind E2, E3, E4, E7, E9 or E12, or strictly E15 or E16, or `Memory`
+/// The solution's first fault, of kind E2, E3, E4, E7, E9 or E12, or strictly E8, E15 or E16, or `Memory`
 /// where a growth is refused.
 pub fn read_solution<'t, 'a, 'p>(
     alloc: Global,
@@ -34,7 +35,7 @@ pub fn read_solution<'t, 'a, 'p>(
 ) -> Result<Solution<'t>, ReadError>
     requires { is_fail text.now.source.now ≡ false }
     // The solution has no fault,
-    ensures sound { IfOk result (λ _. solution_faults (text_view text.now) mode ≡ []) }
+    ensures sound { IfOk result (λ _. solution_faults (text_view text.now) mode problem.now.extra_names ≡ []) }
     // and this is the status that it proposes,
     ensures status { IfOk result (λ s.
         (place : ℕ) → set.contains s.status place
@@ -47,8 +48,8 @@ pub fn read_solution<'t, 'a, 'p>(
     ensures outside { IfOk result (λ s.
         IsTrue (are_outside problem.now (map unknown_view s.unknown.items))) }
     // The fault is the first of its faults.
-    ensures fault { IfErr result (IsFirstFault (solution_faults (text_view text.now) mode)) }
+    ensures fault { IfErr result (IsFirstFault (solution_faults (text_view text.now) mode problem.now.extra_names)) }
 {
-    let proposed = proposed_in(alloc, text, mode)?;
+    let proposed = proposed_in(alloc, text, mode, problem)?;
     Ok(solution_of(alloc, proposed, problem)?)
 }

@@ -22,7 +22,7 @@ fn read_answer<'t>(
     ensures { IfOk result (λ s. IsTrue (ascend_above 0 (map unknown_view s.unknown.items))) }
 {
     let stanzas = stanzas(alloc, answer, room)?;
-    let proposed = proposed_of(alloc, stanzas, Mode::Lenient)?;
+    let proposed = proposed_of(alloc, stanzas, Mode::Lenient, problem)?;
     Ok(solution_of(alloc, proposed, problem)?)
 }
 

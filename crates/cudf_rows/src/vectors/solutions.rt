@@ -26,7 +26,10 @@ fn walked_solution(
 ) -> Result<String, AllocError> {
     let mut room = Room::new(alloc);
     match stanzas(alloc, bytes, &mut room) {
-        Ok(stanzas) => shown_proposed(alloc, problem, proposed_of(alloc, stanzas, mode)),
+        Ok(stanzas) => {
+            let proposed = proposed_of(alloc, stanzas, mode, problem);
+            shown_proposed(alloc, problem, proposed)
+        }
         Err(fault) => fault.to_string(alloc),
     }
 }

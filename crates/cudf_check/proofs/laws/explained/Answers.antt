@@ -2,7 +2,7 @@ use Rattle.std.proofs.Common.{◌++◌, None, codes, option_and_then, refl, ap, 
 use Rattle.cudf_text.specs.Faults.{fault_text}
 use Rattle.cudf_problem.specs.Universe.{package_at}
 use Rattle.cudf_referee.specs.Violations.{met_by}
-use Rattle.cudf_check.specs.Explanations.{instance_added, reason_added}
+use Rattle.cudf_check.specs.Explanations.{reason_added}
 use Rattle.cudf_check.specs.JobStyles.{document_style, pair_style, refutation_style}
 use Rattle.cudf_check.specs.Naming.{named_before, numbered}
 use Rattle.cudf_check.specs.Report.{line, met_text, met_texts}
@@ -12,7 +12,7 @@ use Rattle.cudf_check.proofs.laws.explained.Goals as goal
 pub returns-clause-instances : goal.returns-clause-instances
 returns-clause-instances c origins problem solution s i =
     let text = met_text (pair_style false origins problem solution) i (option_and_then (package_at s.problem) (met_by s.proposed i)) in
-    record { text = text; added = instance_added true s i; plain_is = ap line (append-nil text); explained_is = refl }
+    record { text = text; added = (pair_style true origins problem solution).added_to_instance s i; plain_is = ap line (append-nil text); explained_is = refl }
 
 pub returns-clause-faults : goal.returns-clause-faults
 returns-clause-faults c origin bytes whose f = let text = named_before origin f.line ++ whose ++ numbered origin f.line ++ codes ": " ++ fault_text f.kind in record {

@@ -12,4 +12,4 @@ pub returns-in-Err : goal.returns-in-Err
 returns-in-Err g c =
     let aims = c.args.aims.now in
     let solutions = map (λ b. b.items) c.args.ranked.texts.now in
-    c.print_unranked.ensures c.args.setting.mode solutions (ranked_report aims (names_in g.S.Source.state c.args.ranked.sources.now) (entrants c.args.problem.now solutions)) c.in-Err.ensures.unranked
+    c.print_unranked.ensures c.args.setting.mode c.args.problem.now solutions (ranked_report aims (names_in g.S.Source.state c.args.ranked.sources.now) (entrants c.args.problem.now solutions)) c.in-Err.ensures.unranked

@@ -12,10 +12,10 @@ use Rattle.cudf_check.proofs.JudgingLemmas.{first_is}
 use Rattle.cudf_check.proofs.rank_report.print_unranked.Goals as goal
 
 pub returns-in-Fault : goal.returns-in-Fault
-returns-in-Fault g c = λ mode solutions report is.
+returns-in-Fault g c = λ mode problem solutions report is.
     let place = c.args.unranked.place in
     Prints-as _ _ _ _ _ _
-    (first_is (names_in g.S.Source.state c.args.sources.now) (placed_faults mode solutions) report place c.in-Fault.fault (subst (λ e. IsFaultAt mode solutions place e) c.in-Fault.is is))
+    (first_is (names_in g.S.Source.state c.args.sources.now) (placed_faults mode problem solutions) report place c.in-Fault.fault (subst (λ e. IsFaultAt mode problem solutions place e) c.in-Fault.is is))
     (record {
       said = subst (λ name. Says g.W.Sink.state c.args.paper.now c.print_faulty_solution.new.paper (faulty (named_style (own_file name)) of_solution (entrant_word name place) c.in-Fault.fault).text) c.name_at.ensures
           c.print_faulty_solution.ensures;
@@ -24,4 +24,4 @@ returns-in-Fault g c = λ mode solutions report is.
     })
 
 pub returns-in-Memory : goal.returns-in-Memory
-returns-in-Memory g c = λ mode solutions report is. record { said = tt; answered = tt; untouched = refl }
+returns-in-Memory g c = λ mode problem solutions report is. record { said = tt; answered = tt; untouched = refl }

@@ -12,13 +12,13 @@ pub returns-then-is_fail-clause-unjudged : goal.returns-then-is_fail-clause-unju
 returns-then-is_fail-clause-unjudged c =
     let bytes = c.args.bytes.now in
     let fails : is_fail bytes ≡ true = ap is_fail (sym c.in-Ok.ensures.utf8.1) ∙ sym c.is_fail.ensures ∙ c.if-is_fail.true in
-    (solution_fails c.args.setting.mode bytes c.in-Ok.ensures.utf8.0 fails, fails)
+    (solution_fails c.args.setting.mode c.args.problem.now.extra_names bytes c.in-Ok.ensures.utf8.0 fails, fails)
 
 pub returns-in-Ok-proposed_of-clause-sound : goal.returns-in-Ok-proposed_of-clause-sound
 returns-in-Ok-proposed_of-clause-sound c =
     let bytes = c.args.bytes.now in
     let goes_on : is_fail bytes ≡ false = ap is_fail (sym c.in-Ok.ensures.utf8.1) ∙ sym c.is_fail.ensures ∙ c.if-is_fail.false in
-    sym (solution_read c.args.setting.mode bytes c.new.result c.in-Ok.ensures.utf8.0 goes_on (c.new.ensures ∙ ap plain_text c.in-Ok.ensures.utf8.1))
+    sym (solution_read c.args.setting.mode c.args.problem.now.extra_names bytes c.new.result c.in-Ok.ensures.utf8.0 goes_on (c.new.ensures ∙ ap plain_text c.in-Ok.ensures.utf8.1))
     ∙ ap least c.in-Ok-proposed_of.ensures.sound
 
 pub returns-in-Ok-proposed_of-clause-proposed : goal.returns-in-Ok-proposed_of-clause-proposed
@@ -31,9 +31,9 @@ returns-in-Err-proposed_of-clause-unjudged c =
     let bytes = c.args.bytes.now in
     let text = c.new.result in
     let goes_on : is_fail bytes ≡ false = ap is_fail (sym c.in-Ok.ensures.utf8.1) ∙ sym c.is_fail.ensures ∙ c.if-is_fail.false in
-    first_of (solution_faults text c.args.setting.mode) (solution_fault c.args.setting.mode bytes)
-    (solution_read c.args.setting.mode bytes text c.in-Ok.ensures.utf8.0 goes_on (c.new.ensures ∙ ap plain_text c.in-Ok.ensures.utf8.1))
+    first_of (solution_faults text c.args.setting.mode c.args.problem.now.extra_names) (solution_fault c.args.setting.mode c.args.problem.now.extra_names bytes)
+    (solution_read c.args.setting.mode c.args.problem.now.extra_names bytes text c.in-Ok.ensures.utf8.0 goes_on (c.new.ensures ∙ ap plain_text c.in-Ok.ensures.utf8.1))
     c.in-Err-proposed_of.error c.in-Err-proposed_of.ensures.fault
 
 pub returns-in-Err-clause-unjudged : goal.returns-in-Err-clause-unjudged
-returns-in-Err-clause-unjudged c = solution_unread c.args.setting.mode c.args.bytes.now c.in-Err.fault c.in-Err.ensures.fault.0 c.in-Err.ensures.fault.1
+returns-in-Err-clause-unjudged c = solution_unread c.args.setting.mode c.args.problem.now.extra_names c.args.bytes.now c.in-Err.fault c.in-Err.ensures.fault.0 c.in-Err.ensures.fault.1

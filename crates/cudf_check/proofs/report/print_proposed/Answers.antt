@@ -1,4 +1,4 @@
-use Rattle.std.proofs.Common.{ap, codes, map, if◌then◌else◌, ◌∙◌}
+use Rattle.std.proofs.Common.{ap, codes, map, if◌then◌else◌}
 use Rattle.std.specs.FinSet as set
 use Rattle.cudf_text.specs.Joined.{is_fail}
 use Rattle.cudf_text.specs.Stanzas.{plain_text}
@@ -12,7 +12,7 @@ use Rattle.cudf_check.specs.Report.{alone, faulty_or, judged_report, proposal_of
 use Rattle.cudf_check.specs.Styles.{of_solution}
 use Rattle.cudf_check.specs.Working.Found.{found_text}
 use Rattle.cudf_check.specs.Working.Named.{origins_view}
-use Rattle.cudf_check.proofs.ReadingLemmas.{found_same, put_forward, solution_judged}
+use Rattle.cudf_check.proofs.ReadingLemmas.{put_forward, solution_judged}
 use Rattle.cudf_check.proofs.report.print_proposed.Goals as goal
 
 pub returns-in-Ok : goal.returns-in-Ok
@@ -26,8 +26,7 @@ returns-in-Ok g c =
     let of = c.in_ok-solution-in-Ok.ensures in
     let placed = c.in_ok-solution-in-Ok.solution in
     let s = proposal problem (is_initial problem) (set.contains placed.status) (map unknown_view placed.unknown.items) in
-    Prints-as _ _ _ _ _ _ (ap (λ found. judged_report found s) (found_same job (explains job) (origins_view c.args.inputs.origins) c.args.inputs.problem.now bytes)
-    ∙ solution_judged style c.args.setting.mode (found_text job style) problem bytes s read.sound read.goes_on
+    Prints-as _ _ _ _ _ _ (solution_judged style c.args.setting.mode (found_text job style) problem bytes s read.sound read.goes_on
     (put_forward problem text (set.contains placed.status) (map unknown_view placed.unknown.items) (of.status text.stanzas read.proposed) (of.unknown text.stanzas read.proposed)))
     c.print_solution.ensures
 
@@ -40,6 +39,6 @@ returns g c =
     let bytes = c.args.inputs.solution.now in
     let found = found_text job (pair_style (explains job) origins c.args.inputs.problem.now bytes) in
     let judged = judged_report found (proposal_of problem (plain_text bytes)) in
-    Prints-as _ _ _ _ _ _ (ap (λ explain. faulty_or (document_style explain origins.solution bytes) of_solution (codes "solution") (solution_fault mode bytes)
+    Prints-as _ _ _ _ _ _ (ap (λ explain. faulty_or (document_style explain origins.solution bytes) of_solution (codes "solution") (solution_fault mode problem.extra_names bytes)
     (if is_fail bytes then alone (codes "solution FAIL") Fail else judged)) c.explains.ensures)
-    (c.print_unjudged.ensures judged c.in-Err.ensures.unjudged)
+    (c.print_unjudged.ensures problem.extra_names judged c.in-Err.ensures.unjudged)

@@ -11,4 +11,4 @@ pub returns-in-Check : goal.returns-in-Check
 returns-in-Check g c =
     let s = c.args.scribe.now.judged in
     let none : is_empty (listing s) ≡ true = cc in
-    rw c.in-Check.is (Says-as _ _ _ _ _ (sym (no-page (instance_style c.in-Check.explain c.args.scribe.now.origins) s (option_map key_view c.in-Check.after) c.in-Check.limit none)) (Says-none _ _))
+    rw c.in-Check.is (Says-as _ _ _ _ _ (sym (no-page (instance_style c.in-Check.explain c.args.scribe.now.origins c.args.scribe.now.lines) s (option_map key_view c.in-Check.after) c.in-Check.limit none)) (Says-none _ _))

@@ -18,7 +18,7 @@ loop-turn-preserved g c =
     let i = instance_view c.in-Some.instance in
     let one = step is n i (left c.next.new.self) (sym c.loop-turn.invariant.left_is ∙ c.in-Some.ensures.steps.gives) in
     record {
-      printed = Says-as _ _ _ _ _ (texts-step (instance_line (instance_style c.args.scribe.now.explain c.args.scribe.now.origins) c.args.scribe.now.judged) (take n is) (take (n + 1) is) i one.taken)
+      printed = Says-as _ _ _ _ _ (texts-step (instance_line (instance_style c.args.scribe.now.explain c.args.scribe.now.origins c.args.scribe.now.lines) c.args.scribe.now.judged) (take n is) (take (n + 1) is) i one.taken)
           (c.loop-turn.invariant.printed ▸ c.print_line.ensures);
       left_is = one.left_is;
       taken = one.below;
@@ -32,7 +32,7 @@ returns-then-has_failed-clause-printed g c =
     let n = c.loop-turn.turn in
     let i = instance_view c.in-Some.instance in
     let one = step is n i (left c.next.new.self) (sym c.loop-turn.invariant.left_is ∙ c.in-Some.ensures.steps.gives) in
-    let line = instance_line (instance_style c.args.scribe.now.explain c.args.scribe.now.origins) c.args.scribe.now.judged in
+    let line = instance_line (instance_style c.args.scribe.now.explain c.args.scribe.now.origins c.args.scribe.now.lines) c.args.scribe.now.judged in
     Says-front _ _ _ line is (n + 1) c.args.limit (omega arith) (sym c.has_failed.ensures ∙ c.if-has_failed.true)
     (Says-as _ _ _ _ _ (texts-step line (take n is) (take (n + 1) is) i one.taken) (c.loop-turn.invariant.printed ▸ c.print_line.ensures))
 
@@ -49,7 +49,7 @@ pub returns-in-None-clause-printed : goal.returns-in-None-clause-printed
 returns-in-None-clause-printed g c =
     let is = left c.args.instances.now in
     let whole = take-further c.loop-turn.turn c.args.limit is (omega arith) (sym c.loop-turn.invariant.left_is ∙ c.in-None.ensures.steps.gives.0) in
-    Says-as _ _ _ _ _ (ap (λ js. flat_map (instance_line (instance_style c.args.scribe.now.explain c.args.scribe.now.origins) c.args.scribe.now.judged) js) whole) c.loop-turn.invariant.printed
+    Says-as _ _ _ _ _ (ap (λ js. flat_map (instance_line (instance_style c.args.scribe.now.explain c.args.scribe.now.origins c.args.scribe.now.lines) c.args.scribe.now.judged) js) whole) c.loop-turn.invariant.printed
 
 pub returns-in-None-clause-end : goal.returns-in-None-clause-end
 returns-in-None-clause-end g c =

@@ -11,7 +11,7 @@ use Rattle.cudf_check.proofs.lines.page.print_first.Given as goal
 
 abbrev pub invariant-loop-turn : goal.invariant-loop-turn
 invariant-loop-turn g l = record {
-  printed : Says g.W.Sink.state l.fn.paper l.paper (flat_map (instance_line (instance_style l.scribe.explain l.scribe.origins) l.scribe.judged) (take l.turn (left l.fn.instances)));
+  printed : Says g.W.Sink.state l.fn.paper l.paper (flat_map (instance_line (instance_style l.scribe.explain l.scribe.origins l.scribe.lines) l.scribe.judged) (take l.turn (left l.fn.instances)));
   left_is : left l.instances ≡ drop l.turn (left l.fn.instances);
   taken : l.turn ≤ length (left l.fn.instances);
   spent : HasSpent (take l.turn (left l.fn.instances)) l.fn.instances l.instances;

@@ -14,7 +14,7 @@ use Rattle.cudf_check.proofs.lines.page.print_page.Goals as goal
 pub returns-in_default-clause-printed : goal.returns-in_default-clause-printed
 returns-in_default-clause-printed g c =
     let s = c.args.scribe.now.judged in
-    let style = instance_style c.args.scribe.now.explain c.args.scribe.now.origins in
+    let style = instance_style c.args.scribe.now.explain c.args.scribe.now.origins c.args.scribe.now.lines in
     let after = option_map key_view c.args.after in
     let walk = c.walk_after-instances in
     let is = left_listed s after walk.result walk.ensures.judged walk.ensures.position in
@@ -26,7 +26,7 @@ returns-in_default-clause-printed g c =
 pub returns-in-Some-print_first-clause-printed : goal.returns-in-Some-print_first-clause-printed
 returns-in-Some-print_first-clause-printed g c =
     let s = c.args.scribe.now.judged in
-    let style = instance_style c.args.scribe.now.explain c.args.scribe.now.origins in
+    let style = instance_style c.args.scribe.now.explain c.args.scribe.now.origins c.args.scribe.now.lines in
     let after = option_map key_view c.args.after in
     let walk = c.walk_after-instances in
     let is = left_listed s after walk.result walk.ensures.judged walk.ensures.position in
@@ -53,7 +53,7 @@ returns-in-Some-print_first-clause-price g c =
 pub returns-in-None-clause-printed : goal.returns-in-None-clause-printed
 returns-in-None-clause-printed g c =
     let s = c.args.scribe.now.judged in
-    let style = instance_style c.args.scribe.now.explain c.args.scribe.now.origins in
+    let style = instance_style c.args.scribe.now.explain c.args.scribe.now.origins c.args.scribe.now.lines in
     let after = option_map key_view c.args.after in
     let walk = c.walk_after-instances in
     let is = left_listed s after walk.result walk.ensures.judged walk.ensures.position in

@@ -24,7 +24,7 @@ loop-instance-preserved g c =
     let one = step is taken.number i (left c.next.new.self) (sym taken.left_is ∙ c.in-Some.ensures.steps.gives) in
     record {
       taken = taken-more i _ _ _ taken c.in-Some.ensures.steps;
-      printed = Says-as _ _ _ _ _ (texts-step (instance_line (instance_style c.args.scribe.now.explain c.args.scribe.now.origins) c.args.scribe.now.judged) (take taken.number is) (take (taken.number + 1) is) i one.taken)
+      printed = Says-as _ _ _ _ _ (texts-step (instance_line (instance_style c.args.scribe.now.explain c.args.scribe.now.origins c.args.scribe.now.lines) c.args.scribe.now.judged) (take taken.number is) (take (taken.number + 1) is) i one.taken)
           (c.loop-instance.invariant.printed ▸ c.print_line.ensures);
     }
 
@@ -34,7 +34,7 @@ returns-then-has_failed-clause-printed g c =
     let is = left c.args.instances.now in
     let i = instance_view c.in-Some.instance in
     let one = step is taken.number i (left c.next.new.self) (sym taken.left_is ∙ c.in-Some.ensures.steps.gives) in
-    let line = instance_line (instance_style c.args.scribe.now.explain c.args.scribe.now.origins) c.args.scribe.now.judged in
+    let line = instance_line (instance_style c.args.scribe.now.explain c.args.scribe.now.origins c.args.scribe.now.lines) c.args.scribe.now.judged in
     Says-as _ _ _ _ _ (ap (flat_map line) (take_all (length is) is (omega arith)))
     (Says-front _ _ _ line is (taken.number + 1) (length is) one.below (sym c.has_failed.ensures ∙ c.if-has_failed.true)
     (Says-as _ _ _ _ _ (texts-step line (take taken.number is) (take (taken.number + 1) is) i one.taken) (c.loop-instance.invariant.printed ▸ c.print_line.ensures)))
@@ -53,7 +53,7 @@ returns-clause-printed g c =
     let is = left c.args.instances.now in
     let moves = at_end c.loop-instance.instances c.next.new.self c.next.result c.in_default.is c.next.ensures.steps in
     let whole = take-further taken.number (length is) is taken.within (sym taken.left_is ∙ moves.gives.0) in
-    Says-as _ _ _ _ _ (ap (flat_map (instance_line (instance_style c.args.scribe.now.explain c.args.scribe.now.origins) c.args.scribe.now.judged)) (whole ∙ take_all (length is) is (omega arith))) c.loop-instance.invariant.printed
+    Says-as _ _ _ _ _ (ap (flat_map (instance_line (instance_style c.args.scribe.now.explain c.args.scribe.now.origins c.args.scribe.now.lines) c.args.scribe.now.judged)) (whole ∙ take_all (length is) is (omega arith))) c.loop-instance.invariant.printed
 
 pub returns-clause-price : goal.returns-clause-price
 returns-clause-price g c =

@@ -11,7 +11,7 @@ use Rattle.cudf_check.proofs.lines.page.print_rest.Given as goal
 abbrev pub invariant-loop-instance : goal.invariant-loop-instance
 invariant-loop-instance g l = record {
   taken : HasTaken l.fn.instances l.instances;
-  printed : Says g.W.Sink.state l.fn.paper l.paper (flat_map (instance_line (instance_style l.scribe.explain l.scribe.origins) l.scribe.judged) (take taken.number (left l.fn.instances)));
+  printed : Says g.W.Sink.state l.fn.paper l.paper (flat_map (instance_line (instance_style l.scribe.explain l.scribe.origins l.scribe.lines) l.scribe.judged) (take taken.number (left l.fn.instances)));
 }
 
 abbrev pub decreases-loop-instance : goal.decreases-loop-instance

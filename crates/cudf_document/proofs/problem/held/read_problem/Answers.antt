@@ -15,4 +15,4 @@ returns-clause-sound c = faultless c.args.mode (λ ss. AreParts true ss c.in_ok-
 
 pub returns-clause-problem : goal.returns-clause-problem
 returns-clause-problem c =
-    c.into_problem.ensures ∙ problem_is c.in_ok-walk.parts c.in_ok-walk.walk (text_view c.args.text.now) c.args.mode c.in_ok-walk.ensures c.in_default.is
+    c.in_ok-into_problem.ensures ∙ problem_is c.in_ok-walk.parts c.in_ok-walk.walk (text_view c.args.text.now) c.args.mode c.in_ok-walk.ensures c.in_default.is

@@ -13,4 +13,4 @@ pub returns-clause-sound : goal.returns-clause-sound
 returns-clause-sound c = faultless c.args.mode (λ ss. AreParts true ss c.in_ok-walk.parts) c.in_ok-walk.walk c.args.stanzas c.in_ok-walk.ensures c.in_default.is
 
 pub returns-clause-problem : goal.returns-clause-problem
-returns-clause-problem c = c.into_problem.ensures ∙ problem_is c.in_ok-walk.parts c.in_ok-walk.walk c.args.stanzas c.args.mode c.in_ok-walk.ensures c.in_default.is
+returns-clause-problem c = c.in_ok-into_problem.ensures ∙ problem_is c.in_ok-walk.parts c.in_ok-walk.walk c.args.stanzas c.args.mode c.in_ok-walk.ensures c.in_default.is

@@ -7,7 +7,7 @@ use Rattle.cudf_check.specs.JobStyles.{named_style}
 use Rattle.cudf_check.specs.Naming.{origin_of}
 use Rattle.cudf_check.specs.Report.{met_text}
 use Rattle.cudf_check.specs.Styles.{document_of}
-use Rattle.cudf_check.specs.Working.Named.{origins_view}
+use Rattle.cudf_check.specs.Working.Named.{listed_by, origins_view}
 use Rattle.cudf_device.proofs.PaperLemmas.{Says-as, ◌▸◌}
 use Rattle.cudf_check.proofs.lines.scribe.Scribe.print_line.Goals as goal
 
@@ -20,4 +20,4 @@ returns g c =
     let met = c.package_at-met.ensures s.problem c.packages.ensures ∙ (λ k. option_and_then (package_at (c.self.view_is k).judged.problem) (place k)) in
     let origin = c.of-origin.ensures ∙ ap (λ part. origin_of (origins_view c.self.inside.origins) (document_of part)) c.part.ensures.value ∙ ap (λ w. origin_of w.origins (document_of i.key.part)) c.self.view_is in
     Says-as _ _ _ _ _ (λ k. met_text (named_style (origin k)) i (met k)) c.print_instance.ensures
-    ▸ Says-as _ _ _ _ _ (ap (met_added w.explain w.judged i) place) c.print_added.ensures ▸ c.text.ensures
+    ▸ Says-as _ _ _ _ _ (ap (met_added w.explain (listed_by w.origins.solution w.lines) w.judged i) place) c.print_added.ensures ▸ c.text.ensures

@@ -6,12 +6,12 @@ use Rattle.cudf_document.proofs.ProposedLemmas.{solution_least}
 use Rattle.cudf_document.proofs.proposed.reader.Reader.finish.Goals as goal
 
 pub returns-in-Some-clause-fault : goal.returns-in-Some-clause-fault
-returns-in-Some-clause-fault c = λ mode text fault_is read.
-    sym (solution_least mode text c.args.self c.args.line_fault fault_is read) ∙ sym (c.lesser-2.ensures ∙ ap (lesser c.args.self.pairs.first) c.lesser.ensures) ∙ c.in-Some.is
+returns-in-Some-clause-fault c = λ mode names text fault_is read.
+    sym (solution_least mode names text c.args.self c.args.line_fault fault_is read) ∙ sym (c.lesser-2.ensures ∙ ap (lesser c.args.self.pairs.first) c.lesser.ensures) ∙ c.in-Some.is
 
 pub returns-clause-proposed : goal.returns-clause-proposed
-returns-clause-proposed c = λ mode text fault_is read. record {
-  sound = least-none (solution_faults text mode) (sym (solution_least mode text c.args.self c.args.line_fault fault_is read)
+returns-clause-proposed c = λ mode names text fault_is read. record {
+  sound = least-none (solution_faults text mode names) (sym (solution_least mode names text c.args.self c.args.line_fault fault_is read)
       ∙ sym (c.lesser-2.ensures ∙ ap (lesser c.args.self.pairs.first) c.lesser.ensures) ∙ c.in_default.is);
   installed_are = read.installed_are;
 }
