@@ -5,6 +5,7 @@ pub mod JudgingLemmas
 pub mod MeaningLemmas
 pub mod PageLemmas
 pub mod PagePriceLemmas
+pub mod ProofLemmas
 pub mod ReadingLemmas
 pub mod RunLemmas
 pub mod ShownLemmas

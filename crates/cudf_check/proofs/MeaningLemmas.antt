@@ -179,6 +179,10 @@ refutes law style problem proof = by (checked (length problem.packages) (clauses
 
 -- ---- a run
 
+-- the lines of instances are the same whatever the proof
+whatever_proof : (explain : Bool) (bytes proof text : List ℕ) (problem : PlainProblem) → Refutes (refutation_style explain bytes proof) problem text → Refutes (refutation_style explain bytes []) problem text
+whatever_proof explain bytes proof text problem r = record { reasons = r.reasons; lines = r.lines; violated = r.violated }
+
 report_means : RefutedIsCore → SolutionSatisfies → (job : Job) (mode : Mode) (names : Names) (bytes : List ℕ) (second : Option (List ℕ)) → let r = report job mode names bytes second in
     r.outcome ≡ Yes → Means job bytes r.text
 unfolding report
@@ -191,10 +195,11 @@ report_means refuted_is_core satisfies Cnf mode names bytes second ends =
     answered (Encodes problem) (document_style false None bytes) mode bytes cnf_answer (written (Encodes problem) problem r (λ ended. encodes satisfies problem)) ends
 report_means refuted_is_core satisfies (Refute explain) mode names bytes second ends =
     let problem = plain_problem (plain_text bytes) in
-    let style = refutation_style explain bytes in
     let proof = unwrap_or second [] in
+    let style = refutation_style explain bytes proof in
     let r = proof_report style problem (checked (length problem.packages) (clauses_of (cnf problem)) proof) in
-    answered (Refutes style problem) style mode bytes (refute_answer style proof) (written (Refutes style problem) problem r (refutes refuted_is_core style problem proof)) ends
+    let told = Refutes (refutation_style explain bytes []) problem in
+    answered told style mode bytes (refute_answer style proof) (written told problem r (λ ended. whatever_proof explain bytes proof r.text problem (refutes refuted_is_core style problem proof ended))) ends
 
 pub run_means : RefutedIsCore → SolutionSatisfies → (job : Job) (mode : Mode) (names : Names) (first : Change SourceState) (out : Change SinkState) (bytes : List ℕ) (second : Option (List ℕ)) (result : Result Outcome RunError) → ReadsAll first bytes
     → Answers out.before out.after (report job mode names bytes second) result → IfOk result (λ outcome. outcome ≡ Yes → HasWritten (Means job) first out)

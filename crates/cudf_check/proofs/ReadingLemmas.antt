@@ -36,7 +36,7 @@ use Rattle.cudf_check.specs.Naming.{Names, PlainOrigin, PlainOrigins}
 use Rattle.cudf_check.specs.Report.{alone, check_text, verdict, faulty_or, problem_fault, solution_fault, proposal_of, judged_report, solution_report, inputs_report, proof_report, refute_answer, report, unless_too_large}
 use Rattle.cudf_check.specs.Styles.{Style, of_solution}
 use Rattle.cudf_check.specs.Working.Found.{found_text}
-use Rattle.cudf_check.specs.Working.Named.{instance_style, listed_by, reason_style}
+use Rattle.cudf_check.specs.Working.Named.{instance_style, listed_by, proof_style}
 use Rattle.cudf_check.specs.Working.Unjudged.{IsFaultOf}
 use Rattle.cudf_check.proofs.PageLemmas.{no-page}
 
@@ -163,9 +163,9 @@ pair_of job mode names input solution (inl check) = subst (λ j. judged_inputs j
 pair_of job mode names input solution (inr score) = subst (λ j. judged_inputs j mode names input solution ≡ report j mode names input solution) (sym score.1) refl
 
 -- the same of what is answered of a proof
-pub refuted_same : (explain : Bool) (bytes proof : List ℕ) (problem : PlainProblem) → refute_answer (reason_style explain) proof problem ≡ refute_answer (refutation_style explain bytes) proof problem
+pub refuted_same : (explain : Bool) (bytes proof : List ℕ) (problem : PlainProblem) → refute_answer (proof_style explain proof) proof problem ≡ refute_answer (refutation_style explain bytes proof) proof problem
 refuted_same explain bytes proof problem = ap (unless_too_large problem) (by (checked (length problem.packages) (clauses_of (cnf problem)) proof))
   where
-    by : (answer : PlainAnswer) → proof_report (reason_style explain) problem answer ≡ proof_report (refutation_style explain bytes) problem answer
+    by : (answer : PlainAnswer) → proof_report (proof_style explain proof) problem answer ≡ proof_report (refutation_style explain bytes proof) problem answer
     by (faulty number kind) = refl
     by (refuted core) = refl

@@ -1,5 +1,5 @@
 -- Without explanation and names a job is told plainly.
-use Rattle.std.proofs.Common.{◌≡◌, ◌∙◌, ℕ, Bool, false, List, [], ◌∷◌, Option, Some, None, refl, ap, arith}
+use Rattle.std.proofs.Common.{◌≡◌, ◌∙◌, ℕ, Bool, false, List, [], ◌∷◌, Option, Some, None, unwrap_or, refl, ap, arith}
 use Rattle.std.specs.List.{All}
 use Rattle.cudf_text.specs.Joined.{problem_part, solution_part}
 use Rattle.cudf_text.specs.Stanzas.{plain_text}
@@ -52,4 +52,4 @@ told_plainly (Check after limit explain) mode names input solution is first othe
 told_plainly (Score aims) mode names input solution is first others =
     ap (λ style. styled_report style (Score aims) mode input solution) (plain_inputs names input solution false refl first others)
 told_plainly Cnf mode names input solution is first others = refl
-told_plainly (Refute explain) mode names input solution is first others = λ k. styled_report (refutation_style (is k) input) (Refute explain) mode input solution
+told_plainly (Refute explain) mode names input solution is first others = λ k. styled_report (refutation_style (is k) input (unwrap_or solution [])) (Refute explain) mode input solution

@@ -4,7 +4,7 @@ use Rattle.std.specs.Option.{option_map_or}
 use Rattle.cudf_text.specs.Stanzas.{PlainStanza}
 use Rattle.cudf_document.specs.declared.details.Format.{Format}
 use Rattle.cudf_document.specs.declared.details.Format.TheVariants.{Gzip, Bzip2, Xz, Zstandard, Utf16}
-use Rattle.cudf_document.specs.Details.{stanza_line, PlainDetail, invalid_byte, of_format, byte_order_mark, begins_with, request_on, name_on, undeclared, mistyped, misdeclared, package_on, lacking, misplaced}
+use Rattle.cudf_document.specs.Details.{stanza_line, PlainDetail, invalid_byte, of_format, byte_order_mark, line_text, no_bytes, begins_with, request_on, name_on, undeclared, mistyped, misdeclared, package_on, lacking, misplaced}
 use Rattle.cudf_problem.specs.Documents.{postmark_named}
 use Rattle.cudf_problem.specs.Ids.{Id}
 use Rattle.cudf_problem.specs.Universe.{PlainPackage, PlainProblem, package_at}
@@ -152,6 +152,8 @@ abbrev pub detail_text : Option PlainOrigin → PlainDetail → List ℕ
 detail_text origin (invalid_byte place byte) = codes "byte " ++ decimal place ++ codes " of the line is " ++ byte_digits byte
 detail_text origin (of_format format) = format_text format
 detail_text origin byte_order_mark = codes "it begins with a byte order mark"
+detail_text origin (line_text text) = codes "it is " ++ clipped text
+detail_text origin no_bytes = codes "it is empty"
 detail_text origin (begins_with name) = codes "it begins with " ++ name
 detail_text origin (request_on n) = codes "the request stands on line " ++ decimal (line_in origin n)
 detail_text origin (name_on name n) = name ++ codes " stands on line " ++ decimal (line_in origin n) ++ unparted_added name

@@ -1,5 +1,5 @@
 -- The style that a job asks for by `--explain`, and its readers by their names: own.
-use Rattle.std.specs.Prelude.{ℕ, Bool, false, List, Option, Some, None, if◌then◌else◌}
+use Rattle.std.specs.Prelude.{ℕ, Bool, false, List, [], Option, Some, None, unwrap_or, if◌then◌else◌}
 use Rattle.cudf_text.specs.declared.fault.Fault.{Fault}
 use Rattle.cudf_text.specs.Joined.{problem_part, solution_part}
 use Rattle.cudf_text.specs.Stanzas.{plain_text}
@@ -8,6 +8,7 @@ use Rattle.cudf_job.specs.declared.job.Job.{Job}
 use Rattle.cudf_job.specs.declared.job.Job.TheVariants.{Lint, Check, Score, Cnf, Refute}
 use Rattle.cudf_check.specs.Explanations.{listed_in, instance_added, reason_added, detail_added}
 use Rattle.cudf_check.specs.Naming.{Names, PlainOrigin, PlainOrigins, named_before, numbered, one_file, origin_of, own_file, own_files}
+use Rattle.cudf_check.specs.ProofDetails.{proof_added}
 use Rattle.cudf_check.specs.Styles.{Document, of_problem, of_solution, Style, plainly}
 
 -- the job asks for explained lines
@@ -35,9 +36,9 @@ named_style origin = record plainly { prefix = λ document. named_before origin;
 abbrev pub document_style : Bool → Option PlainOrigin → List ℕ → Style
 document_style explain origin bytes = record (named_style origin) { added_to_fault = λ document f. detail_added origin (detail_if explain bytes f) }
 
--- and so are instances of a refutation of it; no line names a file
-abbrev pub refutation_style : Bool → List ℕ → Style
-refutation_style explain bytes = record (document_style explain None bytes) { added_to_reason = reason_added explain }
+-- and so are instances of a refutation of it, and the fault of a proof of these bytes; no line names a file
+abbrev pub refutation_style : Bool → List ℕ → List ℕ → Style
+refutation_style explain bytes proof = record (document_style explain None bytes) { added_to_reason = reason_added explain; added_to_proof = proof_added explain proof }
 
 -- of a problem and a solution of these bytes, explained or not
 abbrev pub pair_style : Bool → PlainOrigins → List ℕ → List ℕ → Style
@@ -59,4 +60,4 @@ style_of (Lint explain) names input solution = document_style explain (own_file 
 style_of (Check after limit explain) names input solution = inputs_style explain names input solution
 style_of (Score aims) names input solution = inputs_style false names input solution
 style_of Cnf names input solution = document_style false None input
-style_of (Refute explain) names input proof = refutation_style explain input
+style_of (Refute explain) names input proof = refutation_style explain input (unwrap_or proof [])

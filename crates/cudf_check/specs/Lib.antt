@@ -3,6 +3,7 @@ pub mod JobStyles
 pub mod Meanings
 pub mod Naming
 pub mod Promises
+pub mod ProofDetails
 pub mod RankReport
 pub mod Report
 pub mod Runs

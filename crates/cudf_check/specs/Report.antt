@@ -258,7 +258,8 @@ core_text style problem core = flat_map (told_line style problem) (map told_as (
 
 -- what comes of a proof: the line of its first fault, or the core
 abbrev pub proof_report : Style → PlainProblem → lrat.PlainAnswer → Report
-proof_report style problem (lrat.faulty number kind) = alone (codes "proof line " ++ decimal number ++ codes ": " ++ kind_text kind) No
+proof_report style problem (lrat.faulty number kind) =
+    alone (codes "proof line " ++ decimal number ++ codes ": " ++ kind_text kind ++ style.added_to_proof (length (clauses_of (cnf problem))) number kind) No
 proof_report style problem (lrat.refuted core) = record { text = core_text style problem core; outcome = Yes }
 
 abbrev pub refute_answer : Style → List ℕ → PlainProblem → Report

@@ -4,6 +4,7 @@ use Rattle.cudf_text.specs.declared.fault.Fault.{Fault}
 use Rattle.cudf_problem.specs.Universe.{PlainProblem}
 use Rattle.cudf_job.specs.declared.key.Part.{Part}
 use Rattle.cudf_job.specs.declared.key.Part.TheVariants as part
+use Rattle.cudf_lrat.specs.declared.checker.Kind.{Kind}
 use Rattle.cudf_referee.specs.Instances.{PlainInstance}
 use Rattle.cudf_referee.specs.Proposals.{Proposal}
 
@@ -16,10 +17,12 @@ pub record Style : Type 0 where
   -- what is before a line about this line of the document, and what stands for ` line 3`
   pub prefix : Document → ℕ → List ℕ
   pub location : Document → ℕ → List ℕ
-  -- what is added to the line of the document's first fault, of a violated instance, and of an instance of a refutation
+  -- what is added to the line of the document's first fault, of a violated instance, of an instance of a refutation, and of
+  -- a proof's first fault: by the number of the CNF's clauses, the line and the kind
   pub added_to_fault : Document → Fault → List ℕ
   pub added_to_instance : Proposal → PlainInstance → List ℕ
   pub added_to_reason : PlainProblem → PlainInstance → List ℕ
+  pub added_to_proof : ℕ → ℕ → Kind → List ℕ
 
 -- no line names a file or is explained
 abbrev pub plainly : Style
@@ -29,6 +32,7 @@ plainly = record {
   added_to_fault = λ document f. [];
   added_to_instance = λ s i. [];
   added_to_reason = λ problem i. [];
+  added_to_proof = λ clauses n kind. [];
 }
 
 -- the document that an instance of this part is about

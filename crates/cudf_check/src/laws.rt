@@ -1,5 +1,5 @@
 //! What follows from the definitions alone.
-ghost use Rattle.cudf_check.specs.Promises.Laws.{AddsToInstances, AddsToFaults, AddsToReasons};
+ghost use Rattle.cudf_check.specs.Promises.Laws.{AddsToInstances, AddsToFaults, AddsToProofs, AddsToReasons};
 ghost use Rattle.cudf_check.specs.RankReport.{EntrantsHaveOwnPlaces};
 ghost use Rattle.cudf_check.specs.Report.{IsToldPlainly};
 
@@ -16,9 +16,10 @@ pub fn plain()
 {}
 
 /// An explained line is the line without explanation with something added after its text: the line of a violated
-/// instance, of a fault, and of an instance of a refutation.
+/// instance, of a fault, of an instance of a refutation, and of a proof's fault.
 pub fn explained()
     ensures instances { AddsToInstances }
     ensures faults { AddsToFaults }
     ensures reasons { AddsToReasons }
+    ensures proofs { AddsToProofs }
 {}

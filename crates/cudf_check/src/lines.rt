@@ -9,6 +9,7 @@ mod judged;
 mod listed;
 mod naming;
 mod page;
+mod proof;
 mod ranks;
 mod reasons;
 mod score;

@@ -217,7 +217,7 @@ fn print_refuted<W: Sink>(
     proof: &[u8],
     explain: bool,
 ) -> Result<Outcome, AllocError>
-    ensures { let style = refutation_style explain bytes.now in
+    ensures { let style = refutation_style explain bytes.now proof.now in
         Prints W.state paper.old paper.new (problem_report style setting.mode bytes.now (refute_answer style proof.now)) result }
 {
     let mut room = Room::new(setting.alloc);

@@ -1,14 +1,14 @@
 -- What a document says beside its first fault: own.
-use Rattle.std.specs.Prelude.{ℕ, ◌+◌, ◌-◌, ◌==◌, ◌&&◌, nat_eq, nat_le, not, List, [], ◌∷◌, ◌++◌, map, find, take, slice_get, slice_index, Option, Some, None, option_map, option_and_then, unwrap_or, codes, if◌then◌else◌}
+use Rattle.std.specs.Prelude.{ℕ, ◌+◌, ◌-◌, ◌==◌, nat_eq, nat_le, not, List, [], ◌∷◌, ◌++◌, length, map, find, take, slice_get, slice_index, Option, Some, None, option_map, option_and_then, unwrap_or, codes, if◌then◌else◌}
 use Rattle.std.specs.List.{list_any, starts_with, suffix_len}
 use Rattle.std.specs.Option.{option_map_or}
 use Rattle.std.specs.Str.{byte, is_utf8}
 use Rattle.std.specs.Str.Lossy.{utf8_valid_len}
 use Rattle.cudf_text.specs.Chars.{trim}
-use Rattle.cudf_text.specs.Lines.{is_lf}
+use Rattle.cudf_text.specs.Lines.{is_lf, lines}
 use Rattle.cudf_text.specs.declared.fault.Fault.{Fault}
 use Rattle.cudf_text.specs.declared.fault.Kind.{Kind}
-use Rattle.cudf_text.specs.declared.fault.Kind.TheVariants.{E1, E2, E4, E6, E7, E8, E9, E10, E11, E14, E15, E16}
+use Rattle.cudf_text.specs.declared.fault.Kind.TheVariants.{E1, E2, E4, E6, E7, E8, E9, E10, E11, E13, E14, E15, E16}
 use Rattle.cudf_text.specs.Stanzas.{PlainProperty, PlainStanza, PlainText, plain_text}
 use Rattle.cudf_value.specs.Parts.{look_up, parts}
 use Rattle.cudf_value.specs.Misfits.{type_word, misfit}
@@ -32,6 +32,10 @@ pub data PlainDetail : Type 0 where
   of_format : Format → PlainDetail
   -- a byte order mark before the first line
   byte_order_mark : PlainDetail
+  -- the text of a line, without blanks round it
+  line_text : List ℕ → PlainDetail
+  -- the document has no byte
+  no_bytes : PlainDetail
   -- the name of a stanza's first property
   begins_with : List ℕ → PlainDetail
   -- the line of the request
@@ -85,15 +89,30 @@ abbrev pub byte_detail : Kind → List ℕ → Option PlainDetail
 byte_detail E1 bytes = Some (invalid_detail bytes)
 byte_detail kind bytes = None
 
--- ---- byte order marks
+-- ---- lines that can't be read
 
 -- U+FEFF
 abbrev pub mark_bytes : List ℕ
 mark_bytes = 0xEF ∷ 0xBB ∷ 0xBF ∷ []
 
--- E2: the byte order mark, where the line is the first and begins with one
-abbrev pub mark_detail : List ℕ → ℕ → Option PlainDetail
-mark_detail text line = if line == 1 && starts_with nat_eq text mark_bytes then Some byte_order_mark else None
+-- of the line of this number that begins with a byte order mark: the mark, where the line is the first
+abbrev pub marked_detail : ℕ → Option PlainDetail
+marked_detail number = if number == 1 then Some byte_order_mark else None
+
+-- of another: its text, unless that is empty
+abbrev pub shown_detail : List ℕ → Option PlainDetail
+shown_detail text = if length text == 0 then None else Some (line_text text)
+
+abbrev pub line_detail : ℕ → List ℕ → Option PlainDetail
+line_detail number line = if starts_with nat_eq line mark_bytes then marked_detail number else shown_detail (trim line)
+
+-- E2: the text of the line of this number from 1, or the byte order mark
+abbrev pub unread_detail : List ℕ → ℕ → Option PlainDetail
+unread_detail text number = option_and_then (line_detail number) (slice_get (lines text) (number - 1))
+
+-- E13: that there is no byte
+abbrev pub empty_detail : List ℕ → Option PlainDetail
+empty_detail text = if length text == 0 then Some no_bytes else None
 
 -- ---- where the fault is
 
@@ -197,7 +216,8 @@ text_detail text f = option_and_then (stanza_detail f.kind f.line) (stanza_on f.
 
 -- beside any fault of a text
 abbrev pub source_detail : Kind → List ℕ → Fault → Option PlainDetail
-source_detail E2 source f = mark_detail source f.line
+source_detail E2 source f = unread_detail source f.line
+source_detail E13 source f = empty_detail source
 source_detail kind source f = text_detail (plain_text source) f
 
 -- beside any fault of it

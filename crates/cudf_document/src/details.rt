@@ -21,6 +21,12 @@ pub enum Detail<'t> {
     OfFormat(Format),
     /// Of E2 on line 1: it begins with a byte order mark, U+FEFF.
     ByteOrderMark,
+    /// Of E2: the text of the line, unless it begins with a byte order mark. It has no blanks round it, and isn't empty.
+    LineText {
+        text: &'t str,
+    },
+    /// Of E13: the document has no byte.
+    NoBytes,
     /// Of E4: the name of the stanza's first property.
     BeginsWith {
         name: &'t str,

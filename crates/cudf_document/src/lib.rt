@@ -17,6 +17,7 @@ mod request;
 mod solution;
 
 pub use cudf_problem::{Keep, Mode, Package, Problem, Request, Solution, Status, Unknown, initial};
+pub use details::invalid::format_of;
 pub use details::of_fault::detail;
 pub use details::{Detail, Format};
 pub use error::ReadError;

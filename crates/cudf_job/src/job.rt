@@ -8,8 +8,8 @@ pub enum Job {
     /// Say whether the input is a valid problem. The whole input is the problem, also what follows its request, and no
     /// solution is read.
     Lint {
-        /// Whether the cause is added to the line of a fault, as `; nothing declares size` (own): not of the kinds E3, E5,
-        /// E12 and E13, and of E2 only of a byte order mark. All other bytes are as without it.
+        /// Whether the cause is added to the line of a fault, as `; nothing declares size` (own): not of the kinds E3, E5
+        /// and E12, and of E13 only that the problem is empty. All other bytes are as without it.
         explain: bool,
     },
     /// Judge the solution and list the violated instances: those whose keys come after `after`, where
@@ -35,8 +35,9 @@ pub enum Job {
     /// Check a proof, the second input, that the problem has no solution, against the CNF that `Cnf` prints (own). The
     /// whole first input is the problem; without a second one the proof is empty.
     Refute {
-        /// Whether the cause is added to the line of a fault, as for `Lint`, and to that of an instance of depends,
-        /// install or upgrade, as for `Check` (own). All other bytes are as without it.
+        /// Whether the cause is added to the line of a fault, as for `Lint`, to that of an instance of depends,
+        /// install or upgrade, as for `Check`, and to that of a proof's fault (own). All other bytes are as
+        /// without it.
         explain: bool,
     },
 }

@@ -5,6 +5,7 @@ use Rattle.std.specs.List.{count_by, list_all, list_any, onto_first, slice_split
 use Rattle.std.proofs.lemmas.Bool.{eqb-true}
 use Rattle.std.proofs.lemmas.List.{nil_from_length}
 use Rattle.std.proofs.lemmas.List.Splits.{length-slice_split, slice_split_at, slice_split_none}
+use Rattle.cudf_lrat.specs.Details.{is_clause}
 use Rattle.cudf_lrat.specs.Lines.{cut_at_zeros, deletion_of, invalid, is_empty, signed_number, signed_numbers, skipped, step_of}
 use Rattle.cudf_lrat.specs.Working.Numbers.{HasNoZero, after_numbers, with_piece}
 use Rattle.cudf_lrat.specs.declared.reader.Signed.{Signed}
@@ -91,3 +92,18 @@ pub deletion-ended : (numbers : List Signed) (words rest : List (List ℕ)) (end
 deletion-ended numbers words rest true first plain is =
     ap deletion_of (first ∙ ap (λ ws. with_piece numbers (cut_at_zeros ws)) (nil_from_length rest (eqb-true (length rest) 0 (sym is)))) ∙ ap (λ (b : Bool). if b then invalid else skipped) plain
 deletion-ended numbers words rest false first plain is = ap deletion_of first ∙ deletion_more numbers (cut_at_zeros rest) (cut-more rest (sym is))
+
+-- ---- a clause
+
+clause_more : (literals : List Signed) (o : Option (List (List Signed))) → IsMore o → is_clause (with_piece literals o) ≡ false
+clause_more literals None h = refl
+clause_more literals (Some []) h = refl
+clause_more literals (Some ([] ∷ [])) h = absurd h
+clause_more literals (Some ([] ∷ next ∷ pieces)) h = refl
+clause_more literals (Some ((n ∷ ns) ∷ pieces)) h = refl
+
+pub clause-ended : (literals : List Signed) (words rest : List (List ℕ)) (ended : Bool) → cut_at_zeros words ≡ with_piece literals (cut_at_zeros rest) → ended ≡ is_empty rest
+    → ended ≡ is_clause (cut_at_zeros words)
+clause-ended literals words rest true first is =
+    sym (ap is_clause (first ∙ ap (λ ws. with_piece literals (cut_at_zeros ws)) (nil_from_length rest (eqb-true (length rest) 0 (sym is)))))
+clause-ended literals words rest false first is = sym (ap is_clause first ∙ clause_more literals (cut_at_zeros rest) (cut-more rest (sym is)))

@@ -1,5 +1,6 @@
 mod AssignmentLemmas
 mod CutLemmas
+mod DetailLemmas
 mod IndexLemmas
 mod LawLemmas
 mod LineLemmas

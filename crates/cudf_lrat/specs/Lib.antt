@@ -4,5 +4,6 @@ pub mod Kinds
 pub mod Lines
 pub mod Steps
 pub mod Answers
+pub mod Details
 pub mod Laws
 pub mod Working

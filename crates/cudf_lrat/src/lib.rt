@@ -27,11 +27,13 @@ ghost use Rattle.cudf_lrat.specs.Laws.{RefutedIsCore};
 mod assignment;
 mod checker;
 mod cnf;
+mod details;
 mod reader;
 mod steps;
 
 pub use checker::{Answer, Kind, check};
 pub use cnf::{Cnf, Literal};
+pub use details::{Detail, fault_detail};
 
 /// Laws of the definitions that the contracts of this crate cite. The functions do nothing: each
 /// contract is a law, proved for every argument.

@@ -180,7 +180,7 @@ fn read_signed(word: &[u8]) -> Option<Signed>
 }
 
 /// Whether the text has no words.
-fn has_ended(text: &[u8]) -> bool
+pub(crate) fn has_ended(text: &[u8]) -> bool
     ensures { result ≡ is_empty (words_of text.now) }
 {
     next_word(text).is_none()
@@ -195,7 +195,7 @@ pub(crate) fn has_negative(numbers: &[Signed]) -> bool
 
 /// Reads numbers up to a zero into the list, in place of what was there. Gives what follows the
 /// zero, where there is one and all words before it are numbers.
-fn read_numbers<'t>(
+pub(crate) fn read_numbers<'t>(
     text: &'t [u8],
     numbers: &mut Vec<Signed>,
 ) -> Result<Option<&'t [u8]>, AllocError>

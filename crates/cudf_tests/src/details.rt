@@ -218,8 +218,8 @@ const PROPERTIES: [Row; 24] = [
     ),
 ];
 
-/// Bytes that are no text, byte order marks, and what is like them.
-const BYTES: [Row; 17] = [
+/// Bytes that are no text, lines that can't be read, documents without a byte, and what is like them.
+const BYTES: [Row; 25] = [
     (
         b"request: r\n\nx\xC3(\n",
         3,
@@ -270,15 +270,42 @@ const BYTES: [Row; 17] = [
         Kind::E2,
         "Some(ByteOrderMark)",
     ),
-    (b"\xEF\xBB\xBFpreamble:\nx\n", 2, Kind::E2, "None"),
-    (b"\xEF\xBB\xBEpreamble:\n", 1, Kind::E2, "None"),
+    (
+        b"\xEF\xBB\xBFpreamble:\nx\n",
+        2,
+        Kind::E2,
+        "Some(LineText { text: \"x\" })",
+    ),
+    (
+        b"\xEF\xBB\xBC:\n",
+        1,
+        Kind::E2,
+        "Some(LineText { text: \"\u{FEFC}:\" })",
+    ),
+    (b"\xEF\xBB\xBF", 1, Kind::E2, "Some(ByteOrderMark)"),
+    (b"x\n\xEF\xBB\xBFy\n", 2, Kind::E2, "None"),
+    (
+        b"# x\n1 y: \t\r\r\n",
+        2,
+        Kind::E2,
+        "Some(LineText { text: \"1 y: \\t\\r\" })",
+    ),
+    (
+        b"request r",
+        1,
+        Kind::E2,
+        "Some(LineText { text: \"request r\" })",
+    ),
+    (b"x\n \t\r\n", 2, Kind::E2, "None"),
+    (b"x\n", 2, Kind::E2, "None"),
+    (b"", 1, Kind::E13, "Some(NoBytes)"),
+    (b"\n", 1, Kind::E13, "None"),
 ];
 
 /// Kinds of which nothing is reported, and faults that the document hasn't.
-const NOTHING: [Row; 14] = [
+const NOTHING: [Row; 13] = [
     (DECLARED, 9, Kind::E14, "None"),
     (b"request r\n", 1, Kind::E1, "None"),
-    (b"request r\n", 1, Kind::E2, "None"),
     (b" x\nrequest:\n", 1, Kind::E3, "None"),
     (
         b"package: a\nversion: 1\n\npreamble:\n\nrequest:\n",

@@ -21,6 +21,7 @@ pub use fail::is_fail;
 pub use fault::{Fault, Kind};
 pub use joined::cut_joined;
 pub use lending::lend;
+pub use line::first_line;
 pub use reading::read;
 pub use room::Room;
 pub use scan::{is_ident, trim};

@@ -34,8 +34,8 @@ pub(crate) fn line_end(bytes: &[u8]) -> LineEnd
     }
 }
 
-/// The first line of a text, without its end, and what follows it.
-pub(crate) fn first_line(text: &str) -> Option<(&str, &str)>
+/// The first line of a text, without its LF and one CR before it, and what follows it. A text without a byte has none.
+pub fn first_line(text: &str) -> Option<(&str, &str)>
     ensures parts { MatchOption result (lines text.now ≡ []) (λ p. lines text.now ≡ p.0.now ∷ lines p.1.now) }
     ensures shorter { MatchOption result (text.now ≡ []) (λ p. length p.1.now < length text.now) }
 {

@@ -2,11 +2,13 @@
 use Rattle.std.specs.Prelude.{◌≡◌, ℕ, true, false, List, ◌++◌, Option}
 use Rattle.cudf_text.specs.declared.fault.Fault.{Fault}
 use Rattle.cudf_problem.specs.Universe.{PlainProblem}
+use Rattle.cudf_lrat.specs.Answers as lrat
+use Rattle.cudf_lrat.specs.declared.checker.Kind.{Kind}
 use Rattle.cudf_referee.specs.Instances.{PlainInstance}
 use Rattle.cudf_referee.specs.Proposals.{Proposal}
 use Rattle.cudf_check.specs.JobStyles.{document_style, pair_style, refutation_style}
 use Rattle.cudf_check.specs.Naming.{PlainOrigin, PlainOrigins}
-use Rattle.cudf_check.specs.Report.{line, faulty, instance_line, reason_line}
+use Rattle.cudf_check.specs.Report.{line, faulty, instance_line, proof_report, reason_line}
 use Rattle.cudf_check.specs.Styles.{of_problem}
 
 -- the explained line is the plain one with something added after its text
@@ -26,7 +28,12 @@ abbrev pub AddsToFaults : Type 0
 AddsToFaults = (origin : Option PlainOrigin) (bytes whose : List ℕ) (f : Fault)
     → AddsAfter (faulty (document_style false origin bytes) of_problem whose f).text (faulty (document_style true origin bytes) of_problem whose f).text
 
--- and those of a refutation
+-- those of a refutation
 abbrev pub AddsToReasons : Type 0
-AddsToReasons = (bytes : List ℕ) (problem : PlainProblem) (reason : PlainInstance × List ℕ)
-    → AddsAfter (reason_line (refutation_style false bytes) problem reason) (reason_line (refutation_style true bytes) problem reason)
+AddsToReasons = (bytes proof : List ℕ) (problem : PlainProblem) (reason : PlainInstance × List ℕ)
+    → AddsAfter (reason_line (refutation_style false bytes proof) problem reason) (reason_line (refutation_style true bytes proof) problem reason)
+
+-- and those of a proof's fault
+abbrev pub AddsToProofs : Type 0
+AddsToProofs = (bytes proof : List ℕ) (problem : PlainProblem) (number : ℕ) (kind : Kind)
+    → AddsAfter (proof_report (refutation_style false bytes proof) problem (lrat.faulty number kind)).text (proof_report (refutation_style true bytes proof) problem (lrat.faulty number kind)).text

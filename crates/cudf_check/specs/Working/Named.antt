@@ -46,6 +46,10 @@ listed_by origin lines place = listed_text origin (line_at lines place)
 abbrev pub instance_style : Bool → PlainOrigins → List (Option ℕ) → Style
 instance_style explain origins lines = record (pair_style explain origins [] []) { added_to_instance = instance_added explain (λ problem. listed_by origins.solution lines) }
 
--- and about those of a refutation
+-- and about those of a refutation, and the proof's fault
+abbrev pub proof_style : Bool → List ℕ → Style
+proof_style explain proof = refutation_style explain [] proof
+
+-- of the instances the proof says nothing
 abbrev pub reason_style : Bool → Style
-reason_style explain = refutation_style explain []
+reason_style explain = proof_style explain []

@@ -5,6 +5,7 @@ ghost use Rattle.cudf_problem.specs.Documents.{postmark_named};
 ghost use Rattle.cudf_document.specs.Promises.Views.{detail_view};
 ghost use Rattle.cudf_check.specs.Explanations.{entry_added, format_text, value_added, unparted_added, misplaced_text, detail_added, detail_text};
 ghost use Rattle.cudf_check.specs.Naming.{line_in};
+ghost use Rattle.cudf_check.specs.Shown.{clipped};
 ghost use Rattle.cudf_check.specs.Working.Named.{origin_view};
 ghost use Rattle.cudf_device.specs.Promises.PaperInside.{Says};
 
@@ -74,8 +75,16 @@ fn print_invalid<W: Sink>(paper: &mut Paper<'_, W>, place: u64, byte: u8)
     print_byte(paper, byte);
 }
 
+/// Prints the text of a line that isn't what it has to be.
+pub(crate) fn print_line_text<W: Sink>(paper: &mut Paper<'_, W>, text: &str)
+    ensures { Says W.state paper.old paper.new (codes "it is " ++ clipped text.now) }
+{
+    paper.text("it is ");
+    print_clipped(paper, text);
+}
+
 /// What is reported of a file that isn't UTF-8.
-fn format_text(format: Format) -> &'static str
+pub(crate) fn format_text(format: Format) -> &'static str
     ensures { result.now ≡ format_text format }
 {
     match format {
@@ -148,6 +157,8 @@ fn print_detail<W: Sink>(paper: &mut Paper<'_, W>, origin: Option<Origin<'_>>, d
         Detail::InvalidByte { place, byte } => print_invalid(paper, place, byte),
         Detail::OfFormat(format) => paper.text(format_text(format)),
         Detail::ByteOrderMark => paper.text("it begins with a byte order mark"),
+        Detail::LineText { text } => print_line_text(paper, text),
+        Detail::NoBytes => paper.text("it is empty"),
         Detail::BeginsWith { name } => print_texts(paper, "it begins with ", name),
         Detail::RequestOn { line } => {
             print_numbered(paper, "the request stands on line ", line_in(origin, line));

@@ -1,9 +1,8 @@
 //! Prints what comes of a proof: the line of its first fault, or the instances of which no status keeps all.
-ghost use Rattle.std.specs.Prelude.{◌≡◌, ◌≤◌, ◌<◌, ◌++◌, All, IfOk, IsTrue, Some, codes, decimal, length, map, option_map};
+ghost use Rattle.std.specs.Prelude.{◌≡◌, ◌≤◌, ◌<◌, ◌++◌, All, IfOk, IsTrue, Some, codes, length, map, option_map};
 ghost use Rattle.std.specs.List.{flat_map};
 ghost use Rattle.cudf_problem.specs.Promises.Views.{package_view};
 ghost use Rattle.cudf_problem.specs.Universe.{package_at};
-ghost use Rattle.cudf_lrat.specs.Kinds.{kind_text};
 ghost use Rattle.cudf_cnf.specs.Cnf.{cnf};
 ghost use Rattle.cudf_job.specs.Keys.{never_descend};
 ghost use Rattle.cudf_reasons.specs.Laws.{keys_of};
@@ -13,16 +12,17 @@ ghost use Rattle.cudf_device.specs.declared.outcome.Outcome.TheVariants.{Yes};
 ghost use Rattle.cudf_check.specs.Report.{also_text, core_text, line, met_texts, needed, refute_answer, told_line};
 ghost use Rattle.cudf_device.specs.Promises.PaperInside.{Prints, Says};
 ghost use Rattle.cudf_cnf.specs.Encodings.{IsEncoded};
-ghost use Rattle.cudf_check.specs.Working.Named.{reason_style};
+ghost use Rattle.cudf_check.specs.Working.Named.{proof_style, reason_style};
 
 use crate::lines::explanation::print_help_alone;
 use crate::lines::instance::{package_at, print_instance, print_meeting};
+use crate::lines::proof::print_faulty_proof;
 use cudf_cnf::laws::ordered;
 use cudf_cnf::{KeyedClauses, encoded};
 use cudf_device::{Outcome, Paper, Sink};
 use cudf_document::{Package, Problem};
 use cudf_lrat::laws::refuted;
-use cudf_lrat::{Answer, Kind, check};
+use cudf_lrat::{Answer, check};
 use cudf_reasons::{Needed, Reasons, reasons};
 use cudf_referee::{Instance, InstanceFinder, Key, Remedies};
 use std::alloc::{AllocError, Global};
@@ -228,17 +228,6 @@ fn print_reasons<W: Sink>(
     Ok(Outcome::Yes)
 }
 
-/// Prints the line of a proof's first fault.
-fn print_step_fault<W: Sink>(paper: &mut Paper<'_, W>, number: u64, kind: Kind)
-    ensures { Says W.state paper.old paper.new (line (codes "proof line " ++ decimal number ++ codes ": " ++ kind_text kind)) }
-{
-    paper.text("proof line ");
-    paper.number(number);
-    paper.text(": ");
-    paper.text(kind.text());
-    paper.text("\n");
-}
-
 /// Checks a proof that a problem has no solution, and prints what comes of it.
 pub(crate) fn print_proof<W: Sink>(
     paper: &mut Paper<'_, W>,
@@ -247,7 +236,7 @@ pub(crate) fn print_proof<W: Sink>(
     proof: &[u8],
     explain: bool,
 ) -> Result<Outcome, AllocError>
-    ensures { Prints W.state paper.old paper.new (refute_answer (reason_style explain) proof.now problem.now) result }
+    ensures { Prints W.state paper.old paper.new (refute_answer (proof_style explain proof.now) proof.now problem.now) result }
 {
     match encoded(alloc, problem) {
         Ok(Some(clauses)) => print_checked(paper, alloc, problem, &clauses, proof, explain),
@@ -266,14 +255,14 @@ fn print_checked<W: Sink>(
     explain: bool,
 ) -> Result<Outcome, AllocError>
     requires { IsEncoded problem.now (Some clauses.now) }
-    ensures { Prints W.state paper.old paper.new (refute_answer (reason_style explain) proof.now problem.now) result }
+    ensures { Prints W.state paper.old paper.new (refute_answer (proof_style explain proof.now) proof.now problem.now) result }
 {
     refuted();
     ordered();
-    match check(alloc, clauses.cnf(), proof) {
+    let cnf = clauses.cnf();
+    match check(alloc, cnf, proof) {
         Ok(Answer::Faulty { line, kind }) => {
-            print_step_fault(paper, line, kind);
-            Ok(Outcome::No)
+            print_faulty_proof(paper, alloc, cnf, proof, line, kind, explain)
         }
         Ok(Answer::Refuted(numbers)) => print_core(
             paper, alloc, problem, clauses, &numbers, explain,

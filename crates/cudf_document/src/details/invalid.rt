@@ -1,13 +1,15 @@
-//! What is reported of bytes that are no text, and of a text that begins with a byte order mark.
-ghost use Rattle.std.specs.Prelude.{◌≡◌, ◌≤◌, length, Some, option_map, IsUtf8};
-ghost use Rattle.cudf_document.specs.Details.{format_of, first_invalid, invalid_detail, last_line_len, mark_detail};
+//! What is reported of bytes that are no text, of a line that can't be read, and of a text without a byte.
+ghost use Rattle.std.specs.Prelude.{◌≡◌, ◌≤◌, ◌-◌, length, slice_get, Some, option_map, IsUtf8};
+ghost use Rattle.cudf_text.specs.Lines.{lines};
+ghost use Rattle.cudf_document.specs.Details.{empty_detail, format_of, first_invalid, invalid_detail, last_line_len, line_detail, marked_detail, shown_detail, unread_detail};
 ghost use Rattle.cudf_document.specs.Promises.Views.{detail_view};
 
 use crate::details::{Detail, Format};
+use cudf_text::{first_line, trim};
 use std::str;
 
-/// The format of a file whose first bytes these are.
-fn format_of(bytes: &[u8]) -> Option<Format>
+/// The format of a file whose first bytes these are, if it isn't one of UTF-8 (own).
+pub fn format_of(bytes: &[u8]) -> Option<Format>
     ensures { result ≡ format_of bytes.now }
 {
     match bytes {
@@ -56,12 +58,71 @@ pub(crate) fn invalid<'t>(bytes: &[u8]) -> Option<Detail<'t>>
     }
 }
 
-/// What is reported of the line of a text that can't be read: the byte order mark before it.
-pub(crate) fn mark<'t>(text: &str, line: u64) -> Option<Detail<'t>>
-    ensures { option_map detail_view result ≡ mark_detail text.now line }
+/// The line of this number, from 1, without its end.
+fn line_at(text: &str, number: u64) -> Option<&str>
+    ensures { option_map (λ line. line.now) result ≡ slice_get (lines text.now) (number - 1) }
 {
-    if line == 1 && text.as_bytes().starts_with(b"\xEF\xBB\xBF") {
+    let mut rest = text;
+    let mut before = number.saturating_sub(1);
+    while let Some((line, after)) = first_line(rest) {
+        if before == 0 {
+            return Some(line);
+        }
+        before -= 1;
+        rest = after;
+    }
+    None
+}
+
+/// What is reported of the line of this number where it begins with a byte order mark: the mark, on line 1.
+fn marked<'t>(number: u64) -> Option<Detail<'t>>
+    ensures { option_map detail_view result ≡ marked_detail number }
+{
+    if number == 1 {
         Some(Detail::ByteOrderMark)
+    } else {
+        None
+    }
+}
+
+/// What is reported of another line: its text, unless that is empty.
+fn shown(text: &str) -> Option<Detail<'_>>
+    ensures { option_map detail_view result ≡ shown_detail text.now }
+{
+    if text.is_empty() {
+        None
+    } else {
+        Some(Detail::LineText { text })
+    }
+}
+
+/// What is reported of the line of this number.
+fn line_detail(number: u64, line: &str) -> Option<Detail<'_>>
+    ensures { option_map detail_view result ≡ line_detail number line.now }
+{
+    if line.as_bytes().starts_with(b"\xEF\xBB\xBF") {
+        marked(number)
+    } else {
+        shown(trim(line))
+    }
+}
+
+/// What is reported of the line of this number of a text, which can't be read.
+pub(crate) fn unread(text: &str, number: u64) -> Option<Detail<'_>>
+    ensures { option_map detail_view result ≡ unread_detail text.now number }
+{
+    match line_at(text, number) {
+        Some(line) => line_detail(number, line),
+        None => None,
+    }
+}
+
+/// What is reported of a text without a request: that it has no byte.
+pub(crate) fn empty<'t>(text: &str) -> Option<Detail<'t>>
+    ensures { option_map detail_view result ≡ empty_detail text.now }
+{
+    if text.is_empty() {
+        Some(Detail::NoBytes)
     } else {
         None
     }

@@ -7,7 +7,7 @@ ghost use Rattle.cudf_document.specs.Working.Details.{is_of_pair, is_of_stanza};
 
 use crate::details::Detail;
 use crate::details::found::find_stanza;
-use crate::details::invalid::{invalid, mark};
+use crate::details::invalid::{empty, invalid, unread};
 use crate::details::of_stanza::told;
 use crate::details::pair::earlier_package;
 use cudf_text::{Fault, Kind, Room, Stanzas, source_of};
@@ -16,10 +16,10 @@ use std::alloc::{AllocError, Global};
 /// What a document, be it a problem or a solution, says beside this fault of it (own). It may be asked of any
 /// fault, whether or not the document has it.
 ///
-/// `None` is answered of the kinds E3, E5, E12 and E13, for which nothing is read; of E2, unless it is on line 1 and the
-/// document begins with a byte order mark; of E10 where quotes or brackets are wrong; of E1 where the document is
-/// UTF-8, and of other kinds where it isn't; and where the document has nothing of what the kind tells. The document
-/// is read as far as the fault's line, and twice for E11 and E15.
+/// `None` is answered of the kinds E3, E5 and E12, for which nothing is read; of E2 on a line after the first that begins
+/// with a byte order mark; of E10 where quotes or brackets are wrong; of E13 where the document has a byte; of E1 where
+/// the document is UTF-8, and of other kinds where it isn't; and where the document has nothing of what the kind tells.
+/// The document is read as far as the fault's line, and twice for E11 and E15.
 ///
 /// # Errors
 ///
@@ -58,7 +58,8 @@ fn source_detail<'t>(
     ensures { IfOk result (λ d. option_map detail_view d ≡ source_detail fault.kind source.now fault) }
 {
     match fault.kind {
-        Kind::E2 => Ok(mark(source, fault.line)),
+        Kind::E2 => Ok(unread(source, fault.line)),
+        Kind::E13 => Ok(empty(source)),
         _ => text_detail(alloc, source, room, fault),
     }
 }

@@ -12,9 +12,9 @@ pub returns-in-Ok : goal.returns-in-Ok
 returns-in-Ok g c =
     let bytes = c.args.bytes.now in
     let proof = c.args.proof.now in
-    let style = refutation_style c.args.explain bytes in
+    let style = refutation_style c.args.explain bytes proof in
     let read = c.in-Ok.ensures in
     Prints-as _ _ _ _ _ _ (refuted_same c.args.explain bytes proof _ ∙ (λ k. faulty_or style of_problem (codes "problem") (sym read.sound k) (refute_answer style proof (read.problem k)))) c.print_proof.ensures
 
 pub returns : goal.returns
-returns g c = c.print_unsound.ensures (refute_answer (refutation_style c.args.explain c.args.bytes.now) c.args.proof.now (plain_problem (plain_text c.args.bytes.now)))
+returns g c = c.print_unsound.ensures (refute_answer (refutation_style c.args.explain c.args.bytes.now c.args.proof.now) c.args.proof.now (plain_problem (plain_text c.args.bytes.now)))
