@@ -11,14 +11,17 @@ use Rattle.std.proofs.lemmas.List.Sums.{fold-append}
 use Rattle.std.proofs.lemmas.Option.{slice_get_within, get_or_from_slice_get}
 use Rattle.cudf_value.specs.Formulas.{PlainAtom}
 use Rattle.cudf_value.specs.Vpkgs.{PlainVpkg}
+use Rattle.cudf_value.specs.declared.vpkg.Vpkg.{Vpkg}
 use Rattle.cudf_problem.specs.Universe.{PlainPackage}
 use Rattle.cudf_problem.proofs.ListLemmas.{is_some-find}
 use Rattle.cudf_index.specs.Promises.Places.{at}
 use Rattle.cudf_index.specs.Satisfaction.{Placed, members, meets_alone, meets_clause_alone, satisfies}
 use Rattle.cudf_index.specs.Working.Gathering.{given_by, given_of}
-use Rattle.cudf_index.specs.Working.Places.{has, passes_at, Adds, PassesOrAdds, meets_atom_alone}
-use Rattle.cudf_index.specs.Working.Wanted.{ends_in, with_new, with_passing, with_all}
+use Rattle.cudf_index.specs.Working.Places.{has, passes_at, Adds, meets_atom_alone}
+use Rattle.cudf_index.specs.Working.Questions.{will_have, WillAdd, PassesOrAsks}
+use Rattle.cudf_index.specs.Working.Wanted.{passes, ends_in, with_new, with_passing, with_all}
 use Rattle.cudf_index.specs.declared.index.gathered_names.Provision.{Provision}
+use Rattle.cudf_index.specs.declared.index.wanted.Wanted.{Wanted}
 use Rattle.cudf_index.specs.declared.index.wanted.Wanted.TheVariants.{Meeting}
 use Rattle.cudf_index.proofs.MemberLemmas.{members_kept, members_left_out}
 use Rattle.cudf_index.proofs.PlaceLemmas.{has_where}
@@ -34,24 +37,24 @@ or_four false true true d = refl
 or_four false true false d = refl
 or_four false false c d = refl
 
-and_or : (n a b : Bool) → (n && (a || b)) ≡ ((n && a) || (n && b))
+pub and_or : (n a b : Bool) → (n && (a || b)) ≡ ((n && a) || (n && b))
 and_or true a b = refl
 and_or false a b = refl
 
-or_none : (b : Bool) → b ≡ (b || false)
+pub or_none : (b : Bool) → b ≡ (b || false)
 or_none true = refl
 or_none false = refl
 
 module _ {X : Type 0} where
-  any_agree : (p q : X → Bool) → ((x : X) → p x ≡ q x) → (xs : List X) → list_any p xs ≡ list_any q xs
+  pub any_agree : (p q : X → Bool) → ((x : X) → p x ≡ q x) → (xs : List X) → list_any p xs ≡ list_any q xs
   any_agree p q same [] = refl
   any_agree p q same (x ∷ xs) = ap (λ b. b || list_any p xs) (same x) ∙ ap (λ b. q x || b) (any_agree p q same xs)
 
-  any_or : (p q : X → Bool) (xs : List X) → list_any (λ x. p x || q x) xs ≡ (list_any p xs || list_any q xs)
+  pub any_or : (p q : X → Bool) (xs : List X) → list_any (λ x. p x || q x) xs ≡ (list_any p xs || list_any q xs)
   any_or p q [] = refl
   any_or p q (x ∷ xs) = ap (λ b. (p x || q x) || b) (any_or p q xs) ∙ or_four (p x) (q x) (list_any p xs) (list_any q xs)
 
-  any_never : (p : X → Bool) → ((x : X) → p x ≡ false) → (xs : List X) → list_any p xs ≡ false
+  pub any_never : (p : X → Bool) → ((x : X) → p x ≡ false) → (xs : List X) → list_any p xs ≡ false
   any_never p never [] = refl
   any_never p never (x ∷ xs) = ap (λ b. b || list_any p xs) (never x) ∙ any_never p never xs
 
@@ -72,20 +75,16 @@ module _ (p : ℕ) (status : List Placed) where
   passes_never = any_never (λ (q : Placed). (q.0 == p) && false) (λ q. left_out (q.0 == p)) status
 
   -- the places of an atom are added
-  pub atom_added : (old new : List ℕ) (all rest : List PlainAtom) (a : PlainAtom) (target : Bool) → has new p ≡ (has old p || passes_at (meets_atom_alone a) p status) → all ≡ a ∷ rest
-      → (has old p || passes_at (meets_clause_alone all) p status) ≡ target → (has new p || passes_at (meets_clause_alone rest) p status) ≡ target
+  pub atom_added : (old new : Bool) (all rest : List PlainAtom) (a : PlainAtom) (target : Bool) → new ≡ (old || passes_at (meets_atom_alone a) p status) → all ≡ a ∷ rest
+      → (old || passes_at (meets_clause_alone all) p status) ≡ target → (new || passes_at (meets_clause_alone rest) p status) ≡ target
   atom_added old new all rest a target added is told =
       ap (λ b. b || passes_at (meets_clause_alone rest) p status) added
-      ∙ or_assoc (has old p) (passes_at (meets_atom_alone a) p status) (passes_at (meets_clause_alone rest) p status)
-      ∙ ap (λ b. has old p || b) (sym (passes_first a rest)) ∙ ap (λ as'. has old p || passes_at (meets_clause_alone as') p status) (sym is) ∙ told
+      ∙ or_assoc old (passes_at (meets_atom_alone a) p status) (passes_at (meets_clause_alone rest) p status)
+      ∙ ap (λ b. old || b) (sym (passes_first a rest)) ∙ ap (λ as'. old || passes_at (meets_clause_alone as') p status) (sym is) ∙ told
 
-  pub all_added : (old : List ℕ) (all : List PlainAtom) (target : Bool) → all ≡ [] → (has old p || passes_at (meets_clause_alone all) p status) ≡ target → has old p ≡ target
+  pub all_added : (old : Bool) (all : List PlainAtom) (target : Bool) → all ≡ [] → (old || passes_at (meets_clause_alone all) p status) ≡ target → old ≡ target
   all_added old all target is told =
-      last (has old p) ∙ ap (λ b. has old p || b) (sym passes_never) ∙ ap (λ as'. has old p || passes_at (meets_clause_alone as') p status) (sym is) ∙ told
-    where
-      last : (b : Bool) → b ≡ (b || false)
-      last true = refl
-      last false = refl
+      or_none old ∙ ap (λ b. old || b) (sym passes_never) ∙ ap (λ as'. old || passes_at (meets_clause_alone as') p status) (sym is) ∙ told
 
 -- ---- the places of an atom
 
@@ -109,13 +108,13 @@ has_new n p places = by (ends_in n places) refl
     by true ends = there (n == p) refl ends
     by false ends = list_any-append (λ q. q == p) places (n ∷ []) ∙ ap (λ b. has places p || b) (sym (or_none (n == p)))
 
-vpkg_adds : (v : PlainVpkg) (status : List Placed) (places : List ℕ) → Adds (meets_alone v) status places (with_all (Meeting v.bound) places (given_of v.name status))
-vpkg_adds v [] places p = or_none (has places p)
-vpkg_adds v (q ∷ qs) places p =
-    ap (λ xs. has xs p) (fold-append (with_passing (Meeting v.bound)) places (given_by v.name q) (given_of v.name qs))
-    ∙ vpkg_adds v qs (with_all (Meeting v.bound) places (given_by v.name q)) p
-    ∙ ap (λ b. b || passes_at (meets_alone v) p qs) (ap (λ xs. has xs p) (one_wanted (Meeting v.bound) q.0 places (given_by v.name q) (package_places v.name q) ∙ ap (λ b. cond b (with_new places q.0) places) (meeting_tells v q)) ∙ by (meets_alone v q))
-    ∙ or_assoc (has places p) ((q.0 == p) && meets_alone v q) (passes_at (meets_alone v) p qs)
+pub wanted_adds : (w : Wanted) (f : List ℕ) (status : List Placed) (places : List ℕ) → Adds (λ q. list_any (passes w) (given_by f q)) status places (with_all w places (given_of f status))
+wanted_adds w f [] places p = or_none (has places p)
+wanted_adds w f (q ∷ qs) places p =
+    ap (λ xs. has xs p) (fold-append (with_passing w) places (given_by f q) (given_of f qs))
+    ∙ wanted_adds w f qs (with_all w places (given_by f q)) p
+    ∙ ap (λ b. b || passes_at (λ x. list_any (passes w) (given_by f x)) p qs) (ap (λ xs. has xs p) (one_wanted w q.0 places (given_by f q) (package_places f q)) ∙ by (list_any (passes w) (given_by f q)))
+    ∙ or_assoc (has places p) ((q.0 == p) && list_any (passes w) (given_by f q)) (passes_at (λ x. list_any (passes w) (given_by f x)) p qs)
   where
     never : (b : Bool) → false ≡ (b && false)
     never true = refl
@@ -129,10 +128,18 @@ vpkg_adds v (q ∷ qs) places p =
     by true = has_new q.0 p places ∙ ap (λ b. has places p || b) (always (q.0 == p))
     by false = or_none (has places p) ∙ ap (λ b. has places p || b) (never (q.0 == p))
 
+-- where the bound of a vpkg is asked, what is found is its answers
+pub meeting_at : (v : PlainVpkg) (p : ℕ) (status : List Placed) → passes_at (λ q. list_any (passes (Meeting v.bound)) (given_by v.name q)) p status ≡ passes_at (meets_alone v) p status
+meeting_at v p status = any_agree (λ (q : Placed). (q.0 == p) && list_any (passes (Meeting v.bound)) (given_by v.name q)) (λ q. (q.0 == p) && meets_alone v q) (λ q. ap (λ b. (q.0 == p) && b) (meeting_tells v q)) status
+
 -- of a status as it is kept
+pub row_gives : (w : Wanted) (f : List ℕ) (status now : List Placed) (row : List Provision) (old new : List ℕ) → status ≡ now → row ≡ given_of f status → new ≡ with_all w old row → Adds (λ q. list_any (passes w) (given_by f q)) now old new
+row_gives w f status now row old new view kept put p =
+    ap (λ xs. has xs p) (put ∙ ap (with_all w old) kept) ∙ wanted_adds w f status old p ∙ ap (λ s. has old p || passes_at (λ q. list_any (passes w) (given_by f q)) p s) view
+
 pub row_adds : (v : PlainVpkg) (status now : List Placed) (row : List Provision) (old new : List ℕ) → status ≡ now → row ≡ given_of v.name status → new ≡ with_all (Meeting v.bound) old row → Adds (meets_alone v) now old new
 row_adds v status now row old new view kept put p =
-    ap (λ xs. has xs p) (put ∙ ap (with_all (Meeting v.bound) old) kept) ∙ vpkg_adds v status old p ∙ ap (λ s. has old p || passes_at (meets_alone v) p s) view
+    row_gives (Meeting v.bound) v.name status now row old new view kept put p ∙ ap (λ b. has old p || b) (meeting_at v p now)
 
 places_of : (p : ℕ) (status : List Placed) → has (map (λ q. q.0) status) p ≡ passes_at (λ q. true) p status
 places_of p [] = refl
@@ -165,24 +172,19 @@ module _ {A : Type 0} (view : A → PlainPackage) (holds : ℕ → Bool) (xs : L
 
 -- ---- unless a package passes
 
-pub adds_else : (is : Bool) (test : Placed → Bool) (own : ℕ) (status : List Placed) (old new : List ℕ) → is ≡ false → PassesOrAdds is test own status old new → Adds test status old new
-adds_else true test own status old new e put = absurd (true≢false e)
-adds_else false test own status old new e put = put
+pub adds_else : (is : Bool) (test : Placed → Bool) (own : ℕ) (status : List Placed) (old new : List ℕ) (asked asking : List Vpkg) → is ≡ false → PassesOrAsks is test own status old asked new asking → WillAdd test status old asked new asking
+adds_else true test own status old new asked asking e put = absurd (true≢false e)
+adds_else false test own status old new asked asking e put = put
 
-pub passes_then : (is : Bool) (test : Placed → Bool) (own : ℕ) (status : List Placed) (old new : List ℕ) → is ≡ true → PassesOrAdds is test own status old new → passes_at test own status ≡ true
-passes_then true test own status old new e put = put
-passes_then false test own status old new e put = absurd (true≢false (sym e))
+pub passes_then : (is : Bool) (test : Placed → Bool) (own : ℕ) (status : List Placed) (old new : List ℕ) (asked asking : List Vpkg) → is ≡ true → PassesOrAsks is test own status old asked new asking → (will_have old asked status own || passes_at test own status) ≡ true
+passes_then true test own status old new asked asking e put = put
+passes_then false test own status old new asked asking e put = absurd (true≢false (sym e))
 
--- a package that alone satisfies one of the atoms
-pub atom_passes : (p : ℕ) (status : List Placed) (old : List ℕ) (all rest : List PlainAtom) (a : PlainAtom) (target : Bool) → passes_at (meets_atom_alone a) p status ≡ true → all ≡ a ∷ rest
-    → (has old p || passes_at (meets_clause_alone all) p status) ≡ target → true ≡ target
+-- a package that is there, or alone satisfies one of the atoms
+pub atom_passes : (p : ℕ) (status : List Placed) (old : Bool) (all rest : List PlainAtom) (a : PlainAtom) (target : Bool) → (old || passes_at (meets_atom_alone a) p status) ≡ true → all ≡ a ∷ rest
+    → (old || passes_at (meets_clause_alone all) p status) ≡ target → target ≡ true
 atom_passes p status old all rest a target passes is told =
-    sym (always (has old p)) ∙ ap (λ b. has old p || (b || passes_at (meets_clause_alone rest) p status)) (sym passes)
-    ∙ ap (λ b. has old p || b) (sym (passes_first p status a rest)) ∙ ap (λ as'. has old p || passes_at (meets_clause_alone as') p status) (sym is) ∙ told
-  where
-    always : (b : Bool) → (b || true) ≡ true
-    always true = refl
-    always false = refl
+    sym (atom_added p status old true all rest a target (sym passes) is told)
 
 pub places_own : (p : ℕ) (xs : List Placed) → has (map (λ q. q.0) xs) p ≡ list_any (λ (q : Placed). q.0 == p) xs
 places_own p [] = refl

@@ -13,6 +13,7 @@ pub mod VersionLemmas
 pub mod WantedLemmas
 pub mod PlaceLemmas
 pub mod ClauseLemmas
+pub mod QuestionLemmas
 pub mod LeastLemmas
 pub mod KeptLemmas
 pub mod PriceLemmas

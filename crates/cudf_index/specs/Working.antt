@@ -6,6 +6,7 @@ pub mod Gathering
 pub mod FirstPlaces
 pub mod Wanted
 pub mod Places
+pub mod Questions
 pub mod Rows
 pub mod Trees
 pub mod TreeFalls

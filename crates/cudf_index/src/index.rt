@@ -20,6 +20,7 @@ pub(crate) mod metered;
 mod named_trees;
 mod numbers;
 pub(crate) mod providers;
+mod questions;
 mod row;
 mod share;
 mod sorted;

@@ -1,14 +1,16 @@
 //! All packages of a status that alone satisfy a clause, unless a certain one does.
-ghost use Rattle.std.specs.Prelude.{◌≡◌, ◌++◌, ◌==◌, true, false, map, filter, IfOk, OnOk};
+ghost use Rattle.std.specs.Prelude.{◌≡◌, ℕ, ◌++◌, ◌==◌, true, false, map, filter, IfOk, OnOk};
 ghost use Rattle.std.specs.List.{list_any};
 ghost use Rattle.std.specs.List.Sorted.{IsStrictlyIncreasing};
 ghost use Rattle.cudf_value.specs.Promises.Views.{atom_view, clause_view, vpkg_view};
 ghost use Rattle.cudf_index.specs.Promises.Places.{at, places_where};
 ghost use Rattle.cudf_index.specs.Satisfaction.{meets_alone, meets_clause_alone, satisfies};
-ghost use Rattle.cudf_index.specs.Working.Places.{HoldsSame, PassesOrAdds, meets_atom_alone};
+ghost use Rattle.cudf_index.specs.Working.Places.{HoldsSame, PassesOrAdds, has, meets_atom_alone};
+ghost use Rattle.cudf_index.specs.Working.Questions.{AnswersMore, PassesOrAsks, will_have};
 
 use crate::index::Index;
 use crate::index::entries::is_below_one;
+use crate::index::questions::{compare_questions, left_to_ask};
 use crate::index::wanted::{Wanted, put_each};
 use crate::steps::Steps;
 use cudf_value::{Atom, Clause, Vpkg};
@@ -31,43 +33,65 @@ impl<'p, 't> Index<'p, 't> {
         ensures own { IfOk result (λ is. is ≡ list_any (λ q. q.0 == own) (filter (meets_clause_alone (clause_view clause.now)) self.now)) }
         ensures all { IfOk result (λ is. is ≡ false → places.new.items ≡ places_where (meets_clause_alone (clause_view clause.now)) self.now) }
     {
+        let _ = &self.problem;
         places.clear();
-        for atom in clause.atoms() {
-            if self.put_atom_unless_at(&atom, own, places)? {
-                return Ok(true);
-            }
-            make_unique_if_long(places, self.problem.packages().len());
+        let mut questions = Vec::new(*places.allocator());
+        if self.put_or_ask(clause, own, places, &mut questions)? {
+            return Ok(true);
         }
+        self.put_answers(&mut questions, places)?;
         make_unique(places);
         Ok(places.contains(&own))
     }
 
-    /// Puts the places of all packages that alone satisfy the atom among the others, in any order and with repeats. It may
-    /// answer `true` instead where the package at `own` is one of them.
-    fn put_atom_unless_at(
+    /// Puts the places of all packages that alone satisfy the clause among the others, in any order and with repeats, but for
+    /// the answers to the questions that it adds. It may answer `true` instead where the package at `own` is one of them.
+    fn put_or_ask<'c>(
         &self,
-        atom: &Atom<'_>,
+        clause: &Clause<'c>,
         own: u64,
         places: &mut Vec<u64>,
+        questions: &mut Vec<Vpkg<'c>>,
     ) -> Result<bool, AllocError>
-        ensures { IfOk result (λ is. PassesOrAdds is (meets_atom_alone (atom_view atom.now)) own self.now places.old.items places.new.items) }
+        ensures { IfOk result (λ is. PassesOrAsks is (meets_clause_alone (clause_view clause.now)) own self.now places.old.items questions.old.items places.new.items questions.new.items) }
+    {
+        for atom in clause.atoms() {
+            if self.put_or_ask_atom(&atom, own, places, questions)? {
+                return Ok(true);
+            }
+            make_unique_if_long(places, self.problem.packages().len());
+        }
+        Ok(false)
+    }
+
+    /// The same of an atom.
+    fn put_or_ask_atom<'c>(
+        &self,
+        atom: &Atom<'c>,
+        own: u64,
+        places: &mut Vec<u64>,
+        questions: &mut Vec<Vpkg<'c>>,
+    ) -> Result<bool, AllocError>
+        ensures { IfOk result (λ is. PassesOrAsks is (meets_atom_alone (atom_view atom.now)) own self.now places.old.items questions.old.items places.new.items questions.new.items) }
     {
         match atom {
             Atom::Yes => self.put_members_unless_at(own, places),
             Atom::No => Ok(false),
-            Atom::Is(vpkg) => self.put_meeting_unless_at(vpkg, own, places),
+            Atom::Is(vpkg) => self.put_or_ask_vpkg(vpkg, own, places, questions),
         }
     }
 
-    /// The same of a vpkg. Where its name has many provisions the package at `own` is asked first, so that many packages
-    /// that provide and need one name stay linear.
-    fn put_meeting_unless_at(
+    /// The same of a vpkg. It is a question where its name has many provisions, but for the first that has answers: most
+    /// clauses have no other one. Of many provisions the package at `own` is asked first, so that many packages that
+    /// provide and need one name stay linear.
+    fn put_or_ask_vpkg<'c>(
         &self,
-        vpkg: &Vpkg<'_>,
+        vpkg: &Vpkg<'c>,
         own: u64,
         places: &mut Vec<u64>,
+        questions: &mut Vec<Vpkg<'c>>,
     ) -> Result<bool, AllocError>
-        ensures { IfOk result (λ is. PassesOrAdds is (meets_alone (vpkg_view vpkg.now)) own self.now places.old.items places.new.items) }
+        ensures { IfOk result (λ is. PassesOrAsks is (meets_alone (vpkg_view vpkg.now)) own self.now places.old.items questions.old.items places.new.items questions.new.items) }
     {
         let Some(number) = self.given.gathered.names.get_index_of(&vpkg.name) else {
             return Ok(false);
@@ -80,8 +104,46 @@ impl<'p, 't> Index<'p, 't> {
         if self.satisfies_at(vpkg, own) {
             return Ok(true);
         }
-        tree.all(wanted, places)?;
+        if places.is_empty() {
+            tree.all(wanted, places)?;
+            return Ok(false);
+        }
+        questions.push(*vpkg)?;
         Ok(false)
+    }
+
+    /// Puts the answers to the questions among the places, in any order and with repeats. Of a question only what isn't
+    /// there is asked, so that many questions of one name stay linear.
+    fn put_answers(
+        &self,
+        questions: &mut Vec<Vpkg<'_>>,
+        places: &mut Vec<u64>,
+    ) -> Result<(), AllocError>
+        ensures { OnOk result ((place : ℕ) → has places.new.items place ≡ will_have places.old.items questions.old.items self.now place) }
+    {
+        questions.sort_unstable_by(|first, second| compare_questions(first, second));
+        let mut asked = None;
+        for question in questions.iter() {
+            asked = self.put_left(asked, question, places)?;
+        }
+        Ok(())
+    }
+
+    /// Puts what is left of the answers to a question, where `asked` is answered. Answers the question that was asked last.
+    fn put_left<'c>(
+        &self,
+        asked: Option<Vpkg<'c>>,
+        question: &Vpkg<'c>,
+        places: &mut Vec<u64>,
+    ) -> Result<Option<Vpkg<'c>>, AllocError>
+        ensures { IfOk result (λ last. AnswersMore question.now self.now asked.entry places.old.items last places.new.items) }
+    {
+        let Some(wanted) = left_to_ask(asked, question) else {
+            return Ok(asked);
+        };
+        self.given.all(question.name, wanted, places)?;
+        make_unique_if_long(places, self.problem.packages().len());
+        Ok(Some(*question))
     }
 
     /// Whether the package at this place alone satisfies the vpkg.
