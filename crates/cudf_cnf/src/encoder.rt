@@ -160,7 +160,11 @@ fn many_of<'t>(instance: &Instance<'t>) -> Option<Vpkg<'t>>
 }
 
 /// The index of all packages, installed or not.
-fn all_of<'p, 't>(alloc: Global, problem: &'p Problem<'t>) -> Result<Index<'p, 't>, AllocError>
+///
+/// # Errors
+///
+/// `AllocError` where memory for it is refused.
+pub fn all_of<'p, 't>(alloc: Global, problem: &'p Problem<'t>) -> Result<Index<'p, 't>, AllocError>
     ensures { IfOk result (λ all. all ≡ enumerate_from 1 problem.now.packages) }
 {
     let mut flags = Vec::new(alloc);

@@ -12,4 +12,6 @@ mod put;
 mod rules;
 
 pub use clauses::KeyedClauses;
+pub use encoder::all_of;
 pub use encoding::encoded;
+pub use put::{add_places, is_in, is_out};

@@ -28,7 +28,7 @@ impl Scratch {
 }
 
 /// That the package at the place isn't installed.
-pub(crate) fn is_out(place: u64) -> Literal
+pub fn is_out(place: u64) -> Literal
     requires { place < 2 ^ 32 }
     ensures { result ≡ is_out place }
 {
@@ -39,7 +39,7 @@ pub(crate) fn is_out(place: u64) -> Literal
 }
 
 /// That the package at the place is installed.
-pub(crate) fn is_in(place: u64) -> Literal
+pub fn is_in(place: u64) -> Literal
     requires { place < 2 ^ 32 }
     ensures { result ≡ is_in place }
 {
@@ -50,7 +50,11 @@ pub(crate) fn is_in(place: u64) -> Literal
 }
 
 /// Adds that the package at each place is installed.
-fn add_places(literals: &mut Vec<Literal>, places: &[u64]) -> Result<(), AllocError>
+///
+/// # Errors
+///
+/// `AllocError` where memory is refused.
+pub fn add_places(literals: &mut Vec<Literal>, places: &[u64]) -> Result<(), AllocError>
     requires { All (λ n. n < 2 ^ 32) places.now }
     ensures { OnOk result (literals.new.items ≡ literals.old.items ++ map is_in places.now) }
 {

@@ -125,7 +125,28 @@ impl Model for Cnf {
 }
 
 impl Cnf {
+    ghost use Rattle.std.specs.Prelude.{IfSome};
+    ghost use Rattle.cudf_lrat.specs.Lists.{lists_in};
     ghost use Rattle.cudf_lrat.specs.Literals.{IsWithin, clause_at};
+
+    /// Whether all variables of a clause are from 1 to a number.
+    fn is_within(variables: u32, clause: &[Literal]) -> bool
+        ensures { IsTrue result ↔ All (IsWithin variables) clause.now }
+    {
+        clause.iter().all(|literal| 0 < literal.variable && literal.variable <= variables)
+    }
+
+    /// Whether those of all clauses are.
+    fn are_within(variables: u32, clauses: &Lists<Literal>) -> bool
+        ensures { IsTrue result → All (All (IsWithin variables)) (lists_in clauses.now) }
+    {
+        for index in 0..clauses.len() {
+            if !Cnf::is_within(variables, clauses.get(index)) {
+                return false;
+            }
+        }
+        true
+    }
 
     /// Without clauses. Takes no memory.
     pub fn new(alloc: Global, variables: u32) -> Self
@@ -135,6 +156,17 @@ impl Cnf {
             variables,
             clauses: Lists::new(alloc),
         }
+    }
+
+    /// These clauses, over the variables from 1 to a number. `None` where there are more than 4294967295 of them, or one has a
+    /// variable that isn't there.
+    pub fn of(variables: u32, clauses: Lists<Literal>) -> Option<Self>
+        ensures { IfSome result (λ cnf. cnf ≡ record { variables = variables; clauses = lists_in clauses }) }
+    {
+        if clauses.len() > u32::MAX as usize || !Cnf::are_within(variables, &clauses) {
+            return None;
+        }
+        Some(Cnf { variables, clauses })
     }
 
     /// The number of variables.
@@ -163,8 +195,7 @@ impl Cnf {
     pub fn has_variables_of(&self, clause: &[Literal]) -> bool
         ensures { IsTrue result ↔ All (IsWithin self.now.variables) clause.now }
     {
-        let variables = self.variables;
-        clause.iter().all(|literal| 0 < literal.variable && literal.variable <= variables)
+        Cnf::is_within(self.variables, clause)
     }
 
     /// Adds a clause.

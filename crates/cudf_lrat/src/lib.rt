@@ -32,7 +32,7 @@ mod reader;
 mod steps;
 
 pub use checker::{Answer, Kind, check};
-pub use cnf::{Cnf, Literal};
+pub use cnf::{Cnf, Lists, Literal};
 pub use details::{Detail, fault_detail};
 
 /// Laws of the definitions that the contracts of this crate cite. The functions do nothing: each

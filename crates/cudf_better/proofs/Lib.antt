@@ -1,0 +1,9 @@
+mod BetterLemmas
+mod CardinalityLemmas
+mod EncodingLemmas
+mod ItemLemmas
+mod LawLemmas
+mod NamesLemmas
+mod PackageLemmas
+mod PutLemmas
+mod SourceLemmas

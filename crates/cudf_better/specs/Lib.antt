@@ -1,0 +1,5 @@
+pub mod Better
+pub mod Cardinality
+pub mod Encodings
+pub mod Laws
+pub mod Working

@@ -1,0 +1,17 @@
+//! Whether a problem has a better solution, as a CNF: its rules, and that the counts of a status compare better than given ones;
+//! the laws that tie it to solutions.
+#![tactic(auto)]
+
+mod constraint;
+mod definitions;
+mod encoding;
+mod formulas;
+mod items;
+pub mod laws;
+mod names;
+mod network;
+mod packages;
+mod sorted;
+mod source;
+
+pub use encoding::encoded;
