@@ -7,6 +7,3 @@ pub returns-in-Ok : goal.returns-in-Ok
 returns-in-Ok c = λ utf8 told.
     IfOk-weaker c.stanza_lines.result _ _ (λ lines is. is ∙ ap (λ text. map (stanza_line text.stanzas) c.args.problem.now.packages) c.in-Ok.ensures.utf8.1)
     c.stanza_lines.ensures
-
-pub returns-in-Err : goal.returns-in-Err
-returns-in-Err c = λ utf8 told. absurd (c.in-Err.ensures.fault.0 utf8)
