@@ -2,7 +2,7 @@
 
 usage: calls PROBLEM SOLUTION COUNT
 
-Prints the nanoseconds that COUNT calls of cudf_check_check took, each with a buffer that is there already. */
+Prints the nanoseconds that COUNT calls of `check` took, each with a buffer that is there already. */
 #define _POSIX_C_SOURCE 199309L
 #include "cudf_check.h"
 
@@ -38,13 +38,13 @@ int main(int count, char **words)
         return EXIT_FAILURE;
     read_text(words[1], &problem);
     read_text(words[2], &solution);
+    const cudf_check_text check = cudf_check_word("check");
+    const cudf_check_document documents[] = {cudf_check_document_of(problem.bytes, problem.length),
+                                             cudf_check_document_of(solution.bytes, solution.length)};
     long long begun = now();
-    for (long left = strtol(words[3], NULL, 10); left > 0; left--) {
-        uint8_t status = cudf_check_check(false, false, problem.bytes, problem.length, solution.bytes, solution.length, NULL,
-                                          0, 0, report.bytes, sizeof report.bytes, &report.length);
-        if (status != CUDF_CHECK_NO)
+    for (long left = strtol(words[3], NULL, 10); left > 0; left--)
+        if (cudf_check_run(&check, 1, documents, 2, report.bytes, sizeof report.bytes, &report.length) != CUDF_CHECK_NO)
             return EXIT_FAILURE;
-    }
     printf("%lld\n", now() - begun);
     return EXIT_SUCCESS;
 }

@@ -6,7 +6,7 @@ import struct
 
 from common import contents, section, unescaped
 
-# the calls as library.c numbers them, each with its arguments after the documents as Python's functions have them
+# the commands, each with its arguments after the documents as Python's functions have them
 CALLS = {
     "lint": ("strict", "explain"), "check": ("word", "limit", "strict", "explain"), "score": ("word", "strict"),
     "rank": ("word", "strict"), "cnf": ("strict",), "refute": ("strict", "explain"),
@@ -32,7 +32,8 @@ DOCUMENTS = {
 class Request:
     """A call: the texts are the problem and the solutions or the proof, the word is a key or a list.
 
-    A text is bytes, or one of the other kinds with a length. If the buffer is null it has no room.
+    A text is bytes, or one of the other kinds with a length; so are the words in `more`. If the buffer is null it has no
+    room. Texts beyond the last name have none.
     """
 
     call: str
@@ -41,22 +42,27 @@ class Request:
     limit: int = 0
     strict: bool = False
     explain: bool = False
+    more: tuple = ()
+    names: tuple = ()
     room: int = 1024
     is_null: bool = False
 
+    def options(self):
+        """The words after the command."""
+        words = [(b"--after=" if self.call == "check" else b"--criteria=") + self.word] if self.word else []
+        words += [b"--limit=%d" % self.limit] * bool(self.limit)
+        return [*words, *[b"--strict"] * self.strict, *[b"--explain"] * self.explain, *self.more]
+
     def words(self, files):
         """The program's arguments for the same, with these files."""
-        option = b"--after=" if self.call == "check" else b"--criteria="
-        words = [option + self.word] if self.word and isinstance(self.word, bytes) else []
-        words += [f"--limit={self.limit}"] * bool(self.limit)
-        return [self.call, *files, *words] + ["--strict"] * self.strict + ["--explain"] * self.explain
+        return [self.call, *files, *self.options()]
 
     def written(self):
         """The request as the driver reads it."""
-        texts = (*self.texts, self.word) if "word" in CALLS[self.call] else self.texts
-        numbers = self.strict, self.explain, self.limit, self.is_null, self.room, len(texts)
-        written = struct.pack("7Q", list(CALLS).index(self.call), *numbers)
-        for text in texts:
+        words = [self.call.encode()] * bool(self.call) + self.options()
+        names = (*self.names, *[b""] * (len(self.texts) - len(self.names)))
+        written = struct.pack("4Q", self.is_null, self.room, len(words), len(self.texts))
+        for text in (*words, *self.texts, *names):
             kind, length = ("written", len(text)) if isinstance(text, bytes) else text
             written += struct.pack("2Q", KINDS.index(kind), length) + (text if kind == "written" else b"")
         return written
@@ -78,22 +84,22 @@ def answers(output):
 
 def request_of(call, *words):
     """The request of the words of a call in the table."""
-    texts, more = [], {}
+    texts, names, line, more = [], [], [], {}
     for word in words:
         option, _, value = word.rpartition("=")
         kind, _, number = value.partition(":")
         text = (kind, int(number)) if kind in KINDS else None
         if option == "--room" and text:
             more.update(room=text[1], is_null=True)
-        elif option in ("--room", "--limit"):
-            more[option[2:]] = int(value)
-        elif option:
-            more["word"] = text or unescaped(value)
-        elif value.startswith("--"):
-            more[value[2:]] = True
+        elif option == "--room":
+            more["room"] = int(value)
+        elif option in ("--name", "--word"):
+            (names if option == "--name" else line).append(text or unescaped(value))
+        elif word.startswith("-"):
+            line.append(unescaped(word))
         else:
             texts.append(text or (DOCUMENTS[value] if value in DOCUMENTS else contents("examples", value)))
-    return Request(call, tuple(texts), **more)
+    return Request(call.replace("none", ""), tuple(texts), more=tuple(line), names=tuple(names), **more)
 
 
 def table(title):

@@ -2,12 +2,11 @@
 
 usage: library FILE [peak | THREADS CALLS STACK]
 
-FILE has requests, one after the other, in numbers of 64 bits as the machine has them: which call it is (0 lint, 1
-check, 2 score, 3 rank, 4 cnf, 5 refute), whether it is strict, whether lines are explained, the limit, whether the
-buffer is null, its room, how many texts there are, and then the texts, each a kind, a length and, if it is WRITTEN,
-bytes. The problem comes first, then the solutions or the proof, and last the key or the list, if the call has one. A
-text of ZEROES has that many bytes 0. Of NOTHING the pointer is null, of CLAIMED there is one byte, whatever the length.
-Of UNREADABLE there are all bytes, and a read of any ends the process.
+FILE has requests, one after the other, in numbers of 64 bits as the machine has them: whether the buffer is null, its
+room, how many words and documents there are, and then the words, the documents and their names, each a kind, a length
+and, if it is WRITTEN, bytes. A text of ZEROES has that many bytes 0. Of NOTHING the pointer is null, of CLAIMED there is
+one byte, whatever the length. Of UNREADABLE there are all bytes, and a read of any ends the process. Where there are no
+words or no documents, the array is null, and the call is given a count of three.
 
 For each request its answer is written in the same way: the status, the length that the call returned, and the buffer
 with GUARD bytes after its room, or nothing if it is null. All its bytes were PATTERN before the call.
@@ -22,13 +21,13 @@ The status is 70 if FILE can't be opened, or if memory for a request is refused 
 #include "cudf_check.h"
 
 #include <pthread.h>
+#include <stdbool.h>
 #include <stdio.h>
 #include <stdlib.h>
 #include <string.h>
 #include <sys/mman.h>
 
 enum { WRITTEN, ZEROES, NOTHING, CLAIMED, UNREADABLE };
-enum { LINT, CHECK, SCORE, RANK, CNF, REFUTE };
 enum { GUARD = 64, PATTERN = 0xa5, REFUSED = 70 };
 
 struct text {
@@ -38,9 +37,10 @@ struct text {
 };
 
 struct request {
-    uint64_t call, strict, explain, limit, is_null, room, count;
-    struct text *texts;
-    cudf_check_text *solutions;
+    uint64_t is_null, room, word_count, count;
+    struct text *texts; /* words, documents, names */
+    cudf_check_text *words;
+    cudf_check_document *documents;
 };
 
 /* What a call left. The buffer has GUARD bytes more than the room that the call was given. */
@@ -88,29 +88,36 @@ static void read_text(FILE *file, struct text *text)
         abort();
 }
 
+static cudf_check_text text_of(const struct text *text)
+{
+    return cudf_check_text_of(text->bytes, text->length);
+}
+
 static bool read_request(FILE *file, struct request *request)
 {
-    if (!read_number(file, &request->call))
+    if (!read_number(file, &request->is_null))
         return false;
-    if (!read_number(file, &request->strict) || !read_number(file, &request->explain)
-        || !read_number(file, &request->limit) || !read_number(file, &request->is_null)
-        || !read_number(file, &request->room) || !read_number(file, &request->count))
+    if (!read_number(file, &request->room) || !read_number(file, &request->word_count) || !read_number(file, &request->count))
         abort();
-    request->texts = taken(request->count * sizeof *request->texts);
-    for (uint64_t at = 0; at < request->count; at++)
+    size_t texts = request->word_count + 2 * request->count;
+    request->texts = taken(texts * sizeof *request->texts);
+    for (size_t at = 0; at < texts; at++)
         read_text(file, &request->texts[at]);
-    request->solutions = NULL;
-    if (request->call == RANK && request->count > 2) {
-        request->solutions = taken((request->count - 2) * sizeof *request->solutions);
-        for (uint64_t at = 0; at < request->count - 2; at++)
-            request->solutions[at] = cudf_check_text_of(request->texts[at + 1].bytes, request->texts[at + 1].length);
+    const struct text *documents = request->texts + request->word_count, *names = documents + request->count;
+    request->words = request->word_count ? taken(request->word_count * sizeof *request->words) : NULL;
+    for (size_t at = 0; at < request->word_count; at++)
+        request->words[at] = text_of(&request->texts[at]);
+    request->documents = request->count ? taken(request->count * sizeof *request->documents) : NULL;
+    for (size_t at = 0; at < request->count; at++) {
+        request->documents[at].text = text_of(&documents[at]);
+        request->documents[at].name = text_of(&names[at]);
     }
     return true;
 }
 
 static void drop_request(struct request *request)
 {
-    for (uint64_t at = 0; at < request->count; at++) {
+    for (uint64_t at = 0; at < request->word_count + 2 * request->count; at++) {
         const struct text *text = &request->texts[at];
         if (text->kind == UNREADABLE)
             munmap(text->bytes, text->length);
@@ -118,49 +125,20 @@ static void drop_request(struct request *request)
             free(text->bytes);
     }
     free(request->texts);
-    free(request->solutions);
+    free(request->words);
+    free(request->documents);
 }
 
 static void call(const struct request *request, struct answer *answer)
 {
-    const struct text *problem = request->texts, *solution = problem + 1, *words = problem + request->count - 1;
-    bool strict = request->strict, explain = request->explain;
     size_t room = request->room;
     answer->size = request->is_null ? 0 : room + GUARD;
     answer->buffer = request->is_null ? NULL : taken(answer->size);
     answer->length = SIZE_MAX;
     if (answer->buffer)
         memset(answer->buffer, PATTERN, answer->size);
-    switch (request->call) {
-    case LINT:
-        answer->status = cudf_check_lint(strict, explain, problem->bytes, problem->length, answer->buffer, room,
-                                         &answer->length);
-        break;
-    case CHECK:
-        answer->status = cudf_check_check(strict, explain, problem->bytes, problem->length, solution->bytes,
-                                          solution->length, words->bytes, words->length, request->limit,
-                                          answer->buffer, room, &answer->length);
-        break;
-    case SCORE:
-        answer->status = cudf_check_score(strict, problem->bytes, problem->length, solution->bytes, solution->length,
-                                          words->bytes, words->length, answer->buffer, room, &answer->length);
-        break;
-    case RANK:
-        /* without solutions the array is null, and the call is given a count of three */
-        answer->status = cudf_check_rank(strict, problem->bytes, problem->length, request->solutions,
-                                         request->solutions ? request->count - 2 : 3, words->bytes, words->length,
-                                         answer->buffer, room, &answer->length);
-        break;
-    case CNF:
-        answer->status = cudf_check_cnf(strict, problem->bytes, problem->length, answer->buffer, room, &answer->length);
-        break;
-    case REFUTE:
-        answer->status = cudf_check_refute(strict, explain, problem->bytes, problem->length, solution->bytes,
-                                           solution->length, answer->buffer, room, &answer->length);
-        break;
-    default:
-        abort();
-    }
+    answer->status = cudf_check_run(request->words, request->words ? request->word_count : 3, request->documents,
+                                    request->documents ? request->count : 3, answer->buffer, room, &answer->length);
 }
 
 static void write_answer(const struct answer *answer)

@@ -6,11 +6,12 @@ usage: library.py PROGRAM LIBRARY_FOLDER
 LIBRARY_FOLDER has libcudf_check.a and libcudf_check.so.1.
 
 - The examples in C, C++, Python and OCaml print embedding/expected.txt, and docs/EMBEDDING.md shows parts of them. Each
-  caller reports wrong keys and lists, and documents that are too long.
+  caller reports wrong words, and documents that are too long.
 - python.txt: the values that Python gives, its errors, and its forms of documents.
-- 500 random problems with solutions and proofs, by all calls: through C and Python the status and the report are the
-  program's, Python's values say the same, and for a wrong key or list Python raises the program's text.
+- 500 random problems with solutions and proofs, by all commands: through C and Python the status and the report or message
+  are the program's, Python's values say the same, and for a wrong key or list Python raises the program's text.
 - calls.txt: what no command line can ask for; null pointers; buffers of each length; each growth of memory refused.
+- The header's numbers are its version's.
 - A report of a million lines, which takes no memory; 10,000 calls by eight threads, also under sanitizers.
 
 What needs a tool that isn't installed is left out. For Linux and glibc.
@@ -36,7 +37,7 @@ from second.cnf import Rules
 from second.lrat import Prover
 
 STATIC, SHARED = "libcudf_check.a", "libcudf_check.so.1"
-EXAMPLE, MISUSED = contents("embedding/expected.txt"), b"444555"
+EXAMPLE, MISUSED = contents("embedding/expected.txt"), b"4error:" * 3 + b"555"
 WARNINGS = "-O1 -Wall -Wextra -pedantic -Werror"
 OCAML = (
     "-w +a-4-9-40..42-70 -warn-error +a -ccopt -Wall -ccopt -Wextra -ccopt -Werror -I ocaml "
@@ -84,8 +85,10 @@ def compiled(trial):
 
 
 def shown(trial):
-    """The example in Python, which finds the library by its file or name; and what docs/EMBEDDING.md shows of all."""
+    """The example in Python, which finds the library by its file or name; what docs/EMBEDDING.md shows; the version."""
     (library,) = trial.more
+    numbers = re.findall(r"^#define CUDF_CHECK_VERSION\w* \"?([\d.]+)", read("include/cudf_check.h"), re.M)
+    yield "the header's version", int(numbers[1]), int("".join(f"{int(part):02}" for part in numbers[0].split(".")))
     for how in ({"CUDF_CHECK_LIBRARY": f"{library}/{SHARED}"}, {"LD_LIBRARY_PATH": library}):
         printed = run([sys.executable, f"{ROOT}/embedding/python/example.py"], trial.folder, **how)
         yield f"example.py, {how}", printed, (0, EXAMPLE, b"")
@@ -116,11 +119,28 @@ def python(trial):
         yield f"python.txt: {example.source}", "".join(wrong), ""
 
 
+def arguments(words):
+    """The words as a command line has them: a null pointer is an empty word."""
+    return [b"" if isinstance(word, tuple) else word for word in words]
+
+
 def asked(trial, request):
-    """The program's status, its report and its error. A null pointer is an empty file."""
+    """The request with the files as names, and the program's status and what it prints. A null pointer is an empty file."""
     texts = [text if isinstance(text, bytes) else b"" for text in request.texts]
     files = [write(trial.folder, f"text{at}", text) for at, text in enumerate(texts)]
-    return run([trial.program, *request.words(files)])
+    status, report, message = run([trial.program, *arguments(request.words(files))])
+    names = tuple(map(str.encode, files)) if b"-H" in request.more else request.names
+    return dataclasses.replace(request, names=names), status, message if status == USAGE else report
+
+
+def refused(trial, request):
+    """The program's message for the words that the library makes of a request, or None if one can't be an argument."""
+    names = [*request.names, *[b""] * (len(request.texts) - len(request.names))]
+    words = [request.call] * bool(request.call) + request.options() + [b"--"] * bool(names) + names
+    if any(b"\0" in word for word in words if isinstance(word, bytes)):
+        return None
+    status, _, message = run([trial.program, *arguments(words)])
+    return message if status == USAGE else b""
 
 
 def random_requests(number):
@@ -142,6 +162,8 @@ def random_requests(number):
         yield Request(call, texts, *more, strict=strict)
         yield Request(call, texts, *more, strict=strict, explain=True)
     # an empty list is none
+    for call, texts, *more in (("lint", (problem,)), ("check", pair), ("score", pair), ("rank", pair, b"-new")):
+        yield Request(call, texts, *more, strict=strict, more=(b"-H",))
     for call, texts, *more in (
         ("score", pair), ("score", pair, inputs.aims().encode()),
         ("rank", (problem, *solutions), inputs.aims().encode() or b"-new"), ("cnf", (problem,)), ("cnf", (small,)),
@@ -154,27 +176,26 @@ def beside(trial):
     module, rows = python_module(trial), []
     for number in range(1, PAIRS + 1):
         for request in random_requests(number):
-            status, report, error = asked(trial, request)
-            rows.append((f"pair {number}: {request}", request, status, report))
-            yield from through_python(module, *rows[-1], error.decode())
+            rows.append((f"pair {number}: {request}", *asked(trial, request)))
+            if not request.more:
+                yield from through_python(module, *rows[-1])
     statuses = {status for *_, status, _ in rows}
     yield "statuses that never came", {YES, NO, FAULTY, FAIL, USAGE} - statuses, set()
     if trial.has("calls through C", CC):
         yield from through_drivers(trial, rows)
 
 
-def through_python(module, name, request, status, report, printed):
-    """What Python gives; for a wrong key or list that is the program's error, with the word as Python has it."""
+def through_python(module, name, request, status, report):
+    """What Python gives; for a wrong key or list that is the program's error."""
     problem, *others = request.texts
     others = [others] if request.call == "rank" else others
-    values = {**vars(request), "limit": request.limit or None}
+    values = {**vars(request), "word": request.word.decode() or None, "limit": request.limit or None}
     try:
         answer = getattr(module, request.call)(problem, *others, *(values[it] for it in CALLS[request.call]))
         lines = "".join(f"{line}\n" for line in lines_of(request, answer))
     except ValueError as error:
-        found = re.search(r"' for '--(\w+)[^']*'(: .*?)\n\n", printed)
-        text = f"invalid value {request.word.decode()!r} for '{found[1]}'{found[2]}" if found else printed
-        yield f"Python, {name}", (type(error), str(error)), (ValueError, text)
+        wanted = report.decode().partition("\n\nUsage: ")[0]
+        yield f"Python, {name}", (type(error), f"error: {error}"), (ValueError, wanted)
     else:
         yield f"Python, {name}", (answer.status, answer.report.encode()), (status, report)
         yield f"Python's values, {name}", lines, report.decode()
@@ -234,16 +255,20 @@ def through_drivers(trial, rows):
         room = (len(report) + 100, len(report) + 1, len(report), max(0, len(report) - 1), len(report) // 2)[at % 5]
         random_rows.append((f"C, {name}", dataclasses.replace(request, room=room), status, report))
     null, usual = (
-        [(name, request, *asked(trial, request)[:2]) for name, request in table(title)]
+        [(name, *asked(trial, request)) for name, request in table(title)]
         for title in ("with null pointers", "with each buffer and each growth")
     )
     cut = [
         (f"{name}, cut at {room}", dataclasses.replace(request, room=max(room, 0), is_null=room < 0), status, report)
         for name, request, status, report in usual for room in range(-1, len(report) + 2)
     ]
+    told = [
+        (name, request, status, report or refused(trial, request) if status == USAGE else report)
+        for name, request, status, report in table("with reports")
+    ]
     yield from through_c(trial, drivers[0], random_rows)
     for path in drivers:
-        yield from through_c(trial, path, [*table("with reports"), *null, *cut])
+        yield from through_c(trial, path, [*told, *null, *cut])
     yield from without_room(trial, drivers[0])
     if trial.has("refused growths", "gcc"):
         yield from refused_growths(trial, drivers[0], usual)
@@ -269,8 +294,11 @@ def through_c(trial, path, rows):
     yield f"{path}: its end", (status, errors), (0, b"")
     given = list(answers(output))
     yield f"{path}: answers", len(given), len(rows)
-    for (name, request, *report), left in zip(rows, given):
-        yield name, left, request.left(*report)
+    for (name, request, status, report), left in zip(rows, given):
+        if report is None:
+            yield name, left[0], status
+        else:
+            yield name, left, request.left(status, report)
 
 
 def without_room(trial, path):

@@ -35,7 +35,8 @@ MADE_OF = ("embedding", "CHANGELOG.md", "Makefile", "completions", "cudf_check.1
 # where Debian has what is elsewhere below another prefix
 MOVED = {
     "lib/": "lib/x86_64-linux-gnu/", "share/man/man1/cudf_check.1": "share/man/man1/cudf_check.1.gz",
-    "share/zsh/site-functions": "share/zsh/vendor-completions", "share/doc/cudf_check": f"share/doc/{DEBIAN}/docs",
+    "share/zsh/site-functions": "share/zsh/vendor-completions", "share/doc/cudf_check/examples": f"share/doc/{DEBIAN}/examples",
+    "share/doc/cudf_check": f"share/doc/{DEBIAN}/docs",
 }
 # a path that no file of the system's own has
 OF_A_BUILD = re.compile(rb"/(?:home|root|work|tmp|build|opt|mnt|srv)/[\w.-]+")
@@ -73,11 +74,12 @@ def files(trial):
         set(section("packages.txt", f"files of the {what}").split()) for what in ("program", "library", "pages")
     )
     scripts = [os.path.basename(name) for name in sources("examples/competition") if name.endswith(".sh")]
+    pages |= {f"share/doc/cudf_check/{name}" for name in sources("examples")}
     program |= pages | {f"share/cudf_check/competition/{name}" for name in scripts}
     library |= pages | {f"share/cudf_check/{name}" for name in sources("embedding")}
     debian = {f"usr/share/doc/{DEBIAN}/{name}" for name in sources(*PACKED) | {LINK, "copyright", "changelog.gz"}}
     for name in program | library:
-        (old,) = [it for it in MOVED if name.startswith(it)] or [""]
+        old = next((it for it in MOVED if name.startswith(it)), "")
         debian.add("usr/" + MOVED.get(old, "") + name.removeprefix(old))
     both = program | library
     # for the commands of packages.txt
@@ -143,7 +145,7 @@ def tarball(trial, path, time, wanted):
         names = yield from entries(trial, "the tarball", tar, time)
         ordered = [name.split("/") for name in tar.getnames()]
     yield "the tarball's order, name and time", (ordered, contents(path)[3:8]), (sorted(ordered), bytes(5))
-    wanted = {name.replace("share/doc/cudf_check", "docs") for name in wanted} | sources(*PACKED) | {LINK}
+    wanted = {name.replace("share/doc/cudf_check/examples", "examples").replace("share/doc/cudf_check", "docs") for name in wanted} | sources(*PACKED) | {LINK}
     yield "the tarball's files", names, {f"{TARBALL}/{name}" for name in wanted}
     tree = {"TREE": trial.place("root"), "BIN": f"{TARBALL}/bin/cudf_check", "DOC": TARBALL}
     tree.update(SO=f"{TARBALL}/lib/libcudf_check.so.1", PKG_CONFIG_PATH=trial.place(f"root/{TARBALL}/lib/pkgconfig"))

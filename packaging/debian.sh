@@ -10,12 +10,13 @@ DESTDIR=$root PREFIX=/usr LIBDIR=lib/x86_64-linux-gnu packaging/install.sh insta
 install -d "$doc"
 # where README links to them
 mv "$root/usr/share/doc/cudf_check" "$doc/docs"
+mv "$doc/docs/examples" "$doc"
 # where Debian's zsh looks for what packages bring
 mv "$root/usr/share/zsh/site-functions" "$root/usr/share/zsh/vendor-completions"
 gzip -9n "$root/usr/share/man/man1/cudf_check.1"
 gzip -9nc CHANGELOG.md > "$doc/changelog.gz"
 install -m 644 packaging/copyright "$doc/copyright"
-copy_sources "$doc" README.md examples
+copy_sources "$doc" README.md
 ln -s ../../cudf_check/embedding "$doc/embedding"
 
 # the least version of the C library that has all that is called

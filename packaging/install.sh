@@ -35,8 +35,8 @@ place_library() {
         place 644 "$LIBRARY/$name" "$LIBDIR/$name"
     done
     for name in expected.txt c/example.c cpp/cudf_check.hpp cpp/example.cpp ocaml/cudf_check.ml ocaml/cudf_check.mli \
-        ocaml/cudf_check_stubs.c ocaml/dune ocaml/dune-project ocaml/example.ml python/cudf_check.py python/example.py \
-        python/pyproject.toml; do
+        ocaml/cudf_check_stubs.c ocaml/dune ocaml/dune-project ocaml/example.ml python/cudf_check/__init__.py \
+        python/cudf_check/py.typed python/example.py python/pyproject.toml; do
         place 644 "embedding/$name" "$callers/$name"
     done
 }
@@ -44,6 +44,10 @@ place_library() {
 place_pages() {
     for name in $PAGES; do
         place 644 "docs/$name.md" "$doc/$name.md"
+    done
+    # what the pages try; built.sh says why git is asked
+    for name in $(git ls-files -- examples 2> /dev/null || find examples -type f); do
+        place 644 "$name" "$doc/$name"
     done
 }
 

@@ -11,9 +11,10 @@ top=$scratch/$name
 DESTDIR=$scratch/ PREFIX=$name LIBDIR=lib packaging/install.sh install
 mv "$top/share/doc/cudf_check" "$top/docs"
 rmdir "$top/share/doc"
+mv "$top/docs/examples" "$top"
 # finds the library wherever this is unpacked
 cp "$LIBRARY/pkgconfig/cudf_check.pc" "$top/lib/pkgconfig"
-copy_sources "$top" README.md examples
+copy_sources "$top" README.md
 ln -s share/cudf_check/embedding "$top/embedding"
 tar -cf - -C "$scratch" --format=ustar --sort=name --mtime="@$time" --owner=0 --group=0 --numeric-owner \
     --mode=u=rwX,go=rX "$name" | gzip -9n > "$DIST/$name.tar.gz"

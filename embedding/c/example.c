@@ -6,6 +6,7 @@
  */
 #include "cudf_check.h"
 
+#include <stdbool.h>
 #include <stdio.h>
 #include <stdlib.h>
 #include <string.h>
@@ -31,12 +32,6 @@ static const char proof[] = "3 0 2 1 0\n";
 
 enum { PACKAGES = 10000, LINES = 1000 };
 
-/* The report of the last call with a NUL after it, in a buffer that serves all calls. */
-struct report {
-    char *text;
-    size_t length, room;
-};
-
 static void *ample(void *memory)
 {
     if (!memory) {
@@ -46,16 +41,53 @@ static void *ample(void *memory)
     return memory;
 }
 
-/* Whether the last call gave its whole report. Else there is now room for it, and the same call has to be made again. */
-static bool is_whole(struct report *report)
+/* What a call left: its status, and its text with a NUL after it, which is to be freed. */
+struct answer {
+    int status;
+    char *text;
+    size_t length;
+};
+
+#define LIST(...) ((const char *[]){__VA_ARGS__, NULL})
+enum { MOST = 8, ROOM = 1 << 16 };
+
+/* Makes a call with a buffer for its text, and again with a larger one if that was too small. */
+static struct answer run(const char *const *words, const char *const *texts)
 {
-    bool is_whole = report->text && report->length <= report->room;
-    if (!is_whole) {
-        report->room = report->length;
-        report->text = ample(realloc(report->text, report->room + 1));
+    cudf_check_text line[MOST];
+    cudf_check_document documents[MOST];
+    size_t word_count = 0, document_count = 0, room = ROOM;
+    struct answer answer = {0, ample(malloc(room + 1)), 0};
+    for (; words[word_count]; word_count++)
+        line[word_count] = cudf_check_word(words[word_count]);
+    for (; texts[document_count]; document_count++)
+        documents[document_count] = cudf_check_document_of(texts[document_count], strlen(texts[document_count]));
+
+    answer.status = cudf_check_run(line, word_count, documents, document_count, answer.text, room, &answer.length);
+    if (answer.length > room) {
+        room = answer.length;
+        answer.text = ample(realloc(answer.text, room + 1));
+        answer.status = cudf_check_run(line, word_count, documents, document_count, answer.text, room, &answer.length);
     }
-    report->text[report->length] = '\0';
-    return is_whole;
+    answer.text[answer.length] = '\0';
+    return answer;
+}
+
+static void print(const char *job, const char *const *words, const char *const *texts)
+{
+    struct answer answer = run(words, texts);
+    printf("\n%s: status %d\n%s", job, answer.status, answer.text);
+    free(answer.text);
+}
+
+static void print_fault(const char *job, const char *const *words, const char *const *texts)
+{
+    char whose[16], kind[8], text[64];
+    unsigned long line;
+    struct answer answer = run(words, texts);
+    if (sscanf(answer.text, "%15s line %lu: %7s %63[^\n]", whose, &line, kind, text) == 4)
+        printf("\n%s: status %d, %s on line %lu of the %s: %s\n", job, answer.status, kind, line, whose, text);
+    free(answer.text);
 }
 
 /* A problem of packages that are installed and need what isn't there. As its own answer it is no solution. */
@@ -69,101 +101,43 @@ static char *broken(int count)
     return text;
 }
 
-static void check_page(const char *text, const char *after, uint64_t limit, struct report *report)
-{
-    do
-        cudf_check_check(false, false, text, strlen(text), text, strlen(text), after, strlen(after), limit,
-                         (uint8_t *)report->text, report->room, &report->length);
-    while (!is_whole(report));
-}
-
 /* Whether the pages of a listing, without the ends of all but the last of them, are the whole report. */
 static bool is_whole_by_pages(const char *text, int *pages)
 {
     static const char more[] = "\nmore after ";
-    struct report whole = {0}, page = {0};
-    char after[64] = "";
-    bool is_same = true;
-    check_page(text, "", 0, &whole);
+    struct answer whole = run(LIST("check"), LIST(text, text));
+    char limit[32], after[64] = "";
     const char *rest = whole.text, *end;
+    bool is_same = true;
+    snprintf(limit, sizeof limit, "--limit=%d", LINES);
     *pages = 0;
     do {
-        check_page(text, after, LINES, &page);
+        struct answer page = run(*after ? LIST("check", limit, after) : LIST("check", limit), LIST(text, text));
         ++*pages;
         end = strstr(page.text, more);
         size_t shown = end ? (size_t)(end + 1 - page.text) : page.length;
         is_same = is_same && strncmp(rest, page.text, shown) == 0;
         rest += is_same ? shown : 0;
-        /* the next call writes over the page, so the key is copied */
         if (end)
-            sscanf(end + strlen(more), "%63s", after);
+            snprintf(after, sizeof after, "--after=%.*s", (int)strcspn(end + strlen(more), "\n"), end + strlen(more));
+        free(page.text);
     } while (end);
     is_same = is_same && *rest == '\0';
     free(whole.text);
-    free(page.text);
     return is_same;
-}
-
-static void refute(struct report *report)
-{
-    uint8_t status;
-    do
-        status = cudf_check_cnf(false, unsolvable, strlen(unsolvable), (uint8_t *)report->text, report->room,
-                                &report->length);
-    while (!is_whole(report));
-    printf("\ncnf: status %d\n%s", status, report->text);
-
-    do
-        status = cudf_check_refute(false, false, unsolvable, strlen(unsolvable), proof, strlen(proof),
-                                   (uint8_t *)report->text, report->room, &report->length);
-    while (!is_whole(report));
-    printf("\nrefute: status %d\n%s", status, report->text);
 }
 
 int main(void)
 {
-    struct report report = {0};
-    uint8_t status;
-
-    do
-        cudf_check_version((uint8_t *)report.text, report.room, &report.length);
-    while (!is_whole(&report));
-    printf("cudf_check %s\n", report.text);
-
-    do
-        status = cudf_check_check(false, true, problem, strlen(problem), old_wheel, strlen(old_wheel), NULL, 0, 0,
-                                  (uint8_t *)report.text, report.room, &report.length);
-    while (!is_whole(&report));
-    printf("\ncheck: status %d\n%s", status, report.text);
-
-    char whose[16], kind[8], text[64];
-    unsigned long line;
-    do
-        status = cudf_check_lint(false, true, faulty, strlen(faulty), (uint8_t *)report.text, report.room,
-                                 &report.length);
-    while (!is_whole(&report));
-    if (sscanf(report.text, "%15s line %lu: %7s %63[^\n]", whose, &line, kind, text) == 4)
-        printf("\nlint: status %d, %s on line %lu of the %s: %s\n", status, kind, line, whose, text);
-
-    do
-        status = cudf_check_score(false, problem, strlen(problem), new_wheel, strlen(new_wheel), NULL, 0,
-                                  (uint8_t *)report.text, report.room, &report.length);
-    while (!is_whole(&report));
-    printf("\nscore: status %d\n%s", status, report.text);
-
-    const char criteria[] = "-changed,-touched";
-    const cudf_check_text answers[] = {
-        cudf_check_text_of(old_wheel, strlen(old_wheel)),
-        cudf_check_text_of(both_wheels, strlen(both_wheels)),
-        cudf_check_text_of(new_wheel, strlen(new_wheel)),
-    };
-    do
-        status = cudf_check_rank(false, problem, strlen(problem), answers, sizeof answers / sizeof *answers, criteria,
-                                 strlen(criteria), (uint8_t *)report.text, report.room, &report.length);
-    while (!is_whole(&report));
-    printf("\nrank: status %d\n%s", status, report.text);
-    refute(&report);
-    free(report.text);
+    struct answer version = run(LIST("--version"), LIST(NULL));
+    fputs(version.text, stdout);
+    free(version.text);
+    print("check", LIST("check", "--explain"), LIST(problem, old_wheel));
+    print_fault("lint", LIST("lint", "--explain"), LIST(faulty));
+    print("score", LIST("score"), LIST(problem, new_wheel));
+    print("rank", LIST("rank", "--criteria=-changed,-touched"), LIST(problem, old_wheel, both_wheels, new_wheel));
+    print("cnf", LIST("cnf"), LIST(unsolvable));
+    print("refute", LIST("refute"), LIST(unsolvable, proof));
 
     char *many = broken(PACKAGES);
     int pages;

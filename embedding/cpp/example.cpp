@@ -9,6 +9,7 @@
 #include <string>
 #include <string_view>
 #include <utility>
+#include <vector>
 
 namespace {
 
@@ -108,15 +109,18 @@ std::string broken(int count)
 std::pair<std::string, int> by_pages(const std::string &text)
 {
     constexpr std::string_view more = "\nmore after ";
+    const std::string limit = "--limit=" + std::to_string(lines);
+    std::vector<std::string_view> words = {"check", limit};
     std::string together, after;
     for (int pages = 1;; pages++) {
-        const std::string page = cudf_check::check(text, text, after, lines).report;
+        const std::string page = cudf_check::run(words, {text, text}).report;
         const std::size_t end = page.find(more);
         if (end == page.npos)
             return {together + page, pages};
         together += page.substr(0, end + 1);
         const std::size_t key = end + more.size();
-        after = page.substr(key, page.find('\n', key) - key);
+        after = "--after=" + page.substr(key, page.find('\n', key) - key);
+        words = {"check", limit, after};
     }
 }
 
@@ -124,18 +128,17 @@ std::pair<std::string, int> by_pages(const std::string &text)
 
 int main()
 {
-    std::cout << "cudf_check " << cudf_check::version() << '\n';
-    const bool strict = false, explain = true;
-    print("check", cudf_check::check(problem, old_wheel, {}, 0, strict, explain));
-    print_fault("lint", cudf_check::lint(faulty, strict, explain));
-    print("score", cudf_check::score(problem, new_wheel));
-    print("rank", cudf_check::rank(problem, {old_wheel, both_wheels, new_wheel}, "-changed,-touched"));
-    print("cnf", cudf_check::cnf(unsolvable));
-    print("refute", cudf_check::refute(unsolvable, proof));
+    std::cout << cudf_check::run({"--version"}, {}).report;
+    print("check", cudf_check::run({"check", "--explain"}, {problem, old_wheel}));
+    print_fault("lint", cudf_check::run({"lint", "--explain"}, {faulty}));
+    print("score", cudf_check::run({"score"}, {problem, new_wheel}));
+    print("rank", cudf_check::run({"rank", "--criteria=-changed,-touched"}, {problem, old_wheel, both_wheels, new_wheel}));
+    print("cnf", cudf_check::run({"cnf"}, {unsolvable}));
+    print("refute", cudf_check::run({"refute"}, {unsolvable, proof}));
 
     const std::string many = broken(packages);
     const auto [together, pages] = by_pages(many);
+    const bool is_same = together == cudf_check::run({"check"}, {many, many}).report;
     std::cout << "\npages: " << pages << " of at most " << lines << " lines, which together "
-              << (together == cudf_check::check(many, many).report ? "are" : "aren't") << " the report of " << packages
-              << '\n';
+              << (is_same ? "are" : "aren't") << " the report of " << packages << '\n';
 }

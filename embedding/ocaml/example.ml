@@ -78,23 +78,25 @@ let more_after line =
 let lines_of report = String.split_on_char '\n' report
 
 (* The lines of each page of a listing, without the ends of all but the last of them. *)
-let rec pages_of ?after text =
-  let page = lines_of (Cudf_check.check ?after ~limit:lines text text).report in
+let rec pages_of ?(after = []) text =
+  let words = [ "check"; Printf.sprintf "--limit=%d" lines ] @ after in
+  let page = lines_of (Cudf_check.run words [ text; text ]).report in
   match List.find_map more_after page with
   | None -> [ page ]
-  | Some key -> List.filteri (fun at _ -> at < lines) page :: pages_of ~after:key text
+  | Some key -> List.filteri (fun at _ -> at < lines) page :: pages_of ~after:[ "--after=" ^ key ] text
 
 let () =
-  Printf.printf "cudf_check %s\n" (Cudf_check.version ());
-  print "check" (Cudf_check.check ~explain:true problem old_wheel);
-  print_fault "lint" (Cudf_check.lint ~explain:true faulty);
-  print "score" (Cudf_check.score problem new_wheel);
-  print "rank" (Cudf_check.rank ~criteria:"-changed,-touched" problem [ old_wheel; both_wheels; new_wheel ]);
-  print "cnf" (Cudf_check.cnf unsolvable);
-  print "refute" (Cudf_check.refute unsolvable proof);
+  print_string (Cudf_check.run [ "--version" ] []).report;
+  print "check" (Cudf_check.run [ "check"; "--explain" ] [ problem; old_wheel ]);
+  print_fault "lint" (Cudf_check.run [ "lint"; "--explain" ] [ faulty ]);
+  print "score" (Cudf_check.run [ "score" ] [ problem; new_wheel ]);
+  print "rank"
+    (Cudf_check.run [ "rank"; "--criteria=-changed,-touched" ] [ problem; old_wheel; both_wheels; new_wheel ]);
+  print "cnf" (Cudf_check.run [ "cnf" ] [ unsolvable ]);
+  print "refute" (Cudf_check.run [ "refute" ] [ unsolvable; proof ]);
   let many = broken packages in
   let pages = pages_of many in
-  let is_same = List.concat pages = lines_of (Cudf_check.check many many).report in
+  let is_same = List.concat pages = lines_of (Cudf_check.run [ "check" ] [ many; many ]).report in
   Printf.printf "\npages: %d of at most %d lines, which together %s the report of %d\n" (List.length pages) lines
     (if is_same then "are" else "aren't")
     packages

@@ -1,29 +1,36 @@
--- What a call answers of a report that was made, or wasn't.
-use Rattle.std.proofs.Common.{◌≡◌, ◌⊎◌, inl, inr, ◌∙◌, ℕ, List, Result, Ok, Err, ap}
-use Rattle.std.specs.List.{All}
-use Rattle.cudf_device.specs.Readers.{OfOne}
+-- What a call answers: of words that ask for no order, and of a report that was written, or wasn't.
+use Rattle.std.proofs.Common.{◌≡◌, ◌⊎◌, inl, inr, ◌∙◌, ◌++◌, ℕ, List, [], ◌∷◌, codes, refl, sym, ap, append-nil, append_assoc, Global}
+use Rattle.std_alloc.specs.declared.string.String.{String}
+use Rattle.cudf_command_line.specs.Usage.{usage_status}
+use Rattle.cudf_command_line.specs.declared.usage.Usage.{Usage}
+use Rattle.cudf_command_line.specs.declared.usage.Usage.TheVariants.{Told, Mistake, Refused, Memory}
 use Rattle.cudf_device.specs.Outcomes.{Report, outcome_status}
-use Rattle.cudf_calls.specs.Calls.{Answers, IsLong, IsShort, left}
-use Rattle.cudf_calls.specs.Working.Made.{IsLeft, IsTold, IsUnmade}
-use Rattle.cudf_calls.specs.Working.Stops.{stop_status}
-use Rattle.cudf_calls.specs.declared.made.Made.{Made}
-use Rattle.cudf_calls.specs.declared.stop.Stop.{Stop}
-use Rattle.cudf_calls.specs.declared.stop.Stop.TheVariants.{TooLong, Memory}
+use Rattle.cudf_device.specs.declared.outcome.Outcome.{Outcome}
+use Rattle.cudf_calls.specs.Calls.{BreaksOff, Explains, Left, Reports, Says, left, line_of, names_of}
+use Rattle.cudf_calls.specs.Working.Fronts.{IsWritten}
+use Rattle.cudf_calls.specs.declared.Input.{Input}
+use Rattle.cudf_calls.specs.declared.front.Front.{Front}
 use Rattle.cudf_calls.proofs.RoomLemmas.{over-is}
 
-module _ (documents : List (List ℕ)) (answer : Report) (old new : List ℕ) (told status : ℕ) where
-  stopped : (stop : Stop) → IsUnmade documents old new stop → told ≡ 0 → status ≡ stop_status stop
-      → ((stop ≡ TooLong) × OfOne IsLong documents) ⊎ ((stop ≡ Memory) × All IsShort documents) → Answers documents answer (left old new told status)
-  stopped stop unmade none is (inl long) = inl (long.1, record { status_is = is ∙ ap stop_status long.0; length_is = none; kept = unmade.kept })
-  stopped stop unmade none is (inr short) = inr (short.1, inr (record { status_is = is ∙ ap stop_status short.0; length_is = none; kept = unmade.kept }))
+-- words that ask for neither help nor the version
+pub says : (usage : Usage) (call : Left) → ((text : String Global) → usage ≡ Told text → ⊥) → ((usage_status usage ≡ 4) × Explains 4 call) ⊎ BreaksOff 6 call → Says usage call
+says (Told text) call other is = absurd (other text refl)
+says (Mistake topic text) call other is = is
+says (Refused topic refusal) call other is = is
+says Memory call other is = is
 
-  pub answers : (result : Result Made Stop) → IsLeft documents answer old new result → IsTold result told status → Answers documents answer (left old new told status)
-  answers (Ok made) is tells =
-      inr (
-        is.short,
-        inl (record {
-          status_is = tells.1 ∙ ap outcome_status is.outcome_is;
-          shows = record { length_is = tells.0 ∙ is.length_is; shown = is.shown ∙ over-is old answer.text };
-        }),
-      )
-  answers (Err stop) is tells = stopped stop is tells.0 tells.1 is.why
+-- the report was written to a front of the caller's buffer
+pub reports : (answer : Report) (old new : Front) (outcome : Outcome) (status : ℕ) → IsWritten answer old new outcome → status ≡ outcome_status outcome
+    → Reports answer (left old.room.now new.room.now new.length status)
+reports answer old new outcome status is tells = inl (record {
+  status_is = tells ∙ ap outcome_status is.outcome_is;
+  shows = record { length_is = is.length_is; shown = is.shown ∙ over-is old.room.now answer.text };
+})
+
+-- the command line: the name, the words, the dashes, the names
+pub with_names : (words : List (List ℕ)) (first : Input) (others : List Input)
+    → ((codes "cudf_check" ∷ [] ++ words) ++ codes "--" ∷ []) ++ names_of (first ∷ others) ≡ line_of words (first ∷ others)
+with_names words first others = append_assoc (codes "cudf_check" ∷ [] ++ words) (codes "--" ∷ []) (names_of (first ∷ others))
+
+pub without_names : (words : List (List ℕ)) → (codes "cudf_check" ∷ [] ++ words) ++ [] ≡ line_of words []
+without_names words = append-nil (codes "cudf_check" ∷ words)

@@ -1,68 +1,96 @@
 -- What became of documents in memory that a run has read.
-use Rattle.std.proofs.Common.{◌≡◌, ◌++◌, ℕ, List, [], ◌∷◌, Option, None, Some, Result, Ok, map, length, suc, refl, sym, ap, ◌∙◌, arith, append-nil}
-use Rattle.std.proofs.lemmas.List.Elements.{All-head, All-tail}
-use Rattle.std.specs.List.{All, AllZip}
+use Rattle.std.proofs.Common.{◌≡◌, ◌++◌, ℕ, Bool, List, [], ◌∷◌, map, length, take, suc, refl, sym, ap, ◌∙◌, subst, arith, append-nil}
+use Rattle.std.specs.List.{AllZip}
+use Rattle.cudf_check.specs.Naming.{names_of as reader_names}
+use Rattle.cudf_check.specs.Report.{report}
+use Rattle.cudf_command_line.specs.declared.command.Work.{Work}
+use Rattle.cudf_command_line.specs.declared.command.Work.TheVariants.{Run, Rank}
 use Rattle.cudf_device.specs.Device.{SourceState}
-use Rattle.cudf_device.specs.declared.device.Trouble.{Trouble}
-use Rattle.cudf_device.specs.Readers.{LeavesBehind, Change, change, ReadsAll, changes}
-use Rattle.cudf_check.specs.Naming.{names_of}
-use Rattle.cudf_calls.specs.Calls.{nameless}
-use Rattle.cudf_calls.specs.Working.Documents.{IsNew, IsUnread, document_state}
-use Rattle.cudf_calls.specs.Working.Given.{given_before}
+use Rattle.cudf_device.specs.Readers.{Change, change, ReadsAll, changes}
+use Rattle.cudf_job.specs.declared.job.Job.TheVariants.{Lint, Check, Score, Cnf, Refute}
+use Rattle.cudf_problem.specs.declared.mode.Mode.{Mode}
+use Rattle.cudf_calls.specs.Calls.{label, labels, texts_of, work_report}
+use Rattle.cudf_calls.specs.Working.Documents.{IsNew, document_state}
+use Rattle.cudf_calls.specs.Working.Orders.{read_by, read_of}
+use Rattle.cudf_calls.specs.declared.Input.{Input}
 use Rattle.cudf_calls.specs.declared.document.Document.{Document}
 
--- a reader of this text without a name: what was read of it is the text
-pub record OfDocument (text : List ℕ) (reader : Change SourceState) : Type 0 where
-  pub whole : (bytes : List ℕ) → ReadsAll reader bytes → bytes ≡ text
-  pub nameless : reader.before.name ≡ None
+module _ (names_files : Bool) where
+  -- a reader of this input: what was read of it is the text, and its name is the input's
+  pub record OfInput (input : Input) (reader : Change SourceState) : Type 0 where
+    pub whole : (bytes : List ℕ) → ReadsAll reader bytes → bytes ≡ input.text.now
+    pub named : reader.before.name ≡ label names_files input.name.now
 
--- a document of which nothing was read, and what it is then
-pub of_read : (text : List ℕ) (old : Document) (rest : List ℕ) (calls failures ends given : ℕ) (last : Option (Result ℕ Trouble)) → IsUnread text old
-    → OfDocument text (record { before = document_state old; after = record { name = None; remaining = Some rest; calls = calls; failures = failures; ends = ends; given = given; last = last } })
-of_read text old rest calls failures ends given last unread = record {
-  whole = λ bytes read. sym (append-nil bytes) ∙ ap (λ left. bytes ++ left) (sym read.at_end) ∙ sym read.consumed ∙ unread.rest;
-  nameless = refl;
-}
+  pub of_document : (input : Input) (old new : Document) → IsNew names_files input old → OfInput input (change document_state old new)
+  of_document input old new is = record {
+    whole = λ bytes read. sym (append-nil bytes) ∙ ap (λ left. bytes ++ left) (sym read.at_end) ∙ sym read.consumed ∙ is.unread.rest;
+    named = is.named;
+  }
 
-pub of_document : (text : List ℕ) (old new : Document) → IsUnread text old → OfDocument text (change document_state old new)
-of_document text old new unread = of_read text old new.rest.now new.calls 0 new.ends (given_before new.rest.now) (Some (Ok new.last)) unread
+  -- the same of documents in a row
+  pub of_documents : (inputs : List Input) (olds news : List Document) → length news ≡ length olds → AllZip (IsNew names_files) inputs olds
+      → AllZip OfInput inputs (changes document_state olds news)
+  of_documents [] [] news same are = tt
+  of_documents [] (old ∷ olds) news same are = absurd are
+  of_documents (input ∷ inputs) [] news same are = absurd are
+  of_documents (input ∷ inputs) (old ∷ olds) [] same are = absurd (omega (arith, same))
+  of_documents (input ∷ inputs) (old ∷ olds) (new ∷ news) same are = (of_document input old new are.0, of_documents inputs olds news (omega (arith, same)) are.1)
 
--- as many are returned as were lent
-same_length : {D : Type 0} (P : D → D → Type 0) (olds news : List D) → LeavesBehind P olds news → length news ≡ length olds
-same_length P [] [] m = refl
-same_length P [] (new ∷ news) m = absurd m
-same_length P (old ∷ olds) [] m = absurd m
-same_length P (old ∷ olds) (new ∷ news) m = ap suc (same_length P olds news m.1)
+  -- ---- inputs of which each has its reader
 
--- the same of documents in a row
-pub of_documents : (P : Document → Document → Type 0) (olds news : List Document) → LeavesBehind P olds news → All IsNew olds
-    → AllZip OfDocument (map (λ d. d.rest.now) olds) (changes document_state olds news)
-of_documents P olds news behind new = go olds news (same_length P olds news behind) new
-  where
-    go : (olds news : List Document) → length news ≡ length olds → All IsNew olds → AllZip OfDocument (map (λ d. d.rest.now) olds) (changes document_state olds news)
-    go [] news same new = tt
-    go (old ∷ olds) [] same new = absurd (omega (arith, same))
-    go (old ∷ olds) (now ∷ news) same new = (of_document old.rest.now old now (All-head IsNew old olds new), go olds news (omega (arith, same)) (All-tail IsNew old olds new))
+  pub all_whole : (inputs : List Input) (readers : List (Change SourceState)) (read : List (List ℕ)) → AllZip OfInput inputs readers → AllZip ReadsAll readers read → read ≡ texts_of inputs
+  all_whole [] [] [] each all = refl
+  all_whole [] [] (b ∷ read) each all = absurd all
+  all_whole [] (r ∷ readers) read each all = absurd each
+  all_whole (i ∷ inputs) [] read each all = absurd each
+  all_whole (i ∷ inputs) (r ∷ readers) [] each all = absurd all
+  all_whole (i ∷ inputs) (r ∷ readers) (b ∷ read) each all =
+      ap (λ x. x ∷ read) (each.0.whole b all.0) ∙ ap (λ xs. i.text.now ∷ xs) (all_whole inputs readers read each.1 all.1)
 
--- ---- documents of which each has its reader
+  pub are_named : (first : Input) (reader : Change SourceState) (inputs : List Input) (readers : List (Change SourceState)) → OfInput first reader → AllZip OfInput inputs readers
+      → reader_names reader readers ≡ labels names_files first inputs
+  are_named first reader inputs readers of_first of_others = λ k. record { first = of_first.named k; others = go inputs readers of_others k }
+    where
+      go : (inputs : List Input) (readers : List (Change SourceState)) → AllZip OfInput inputs readers → map (λ r. r.before.name) readers ≡ map (λ i. label names_files i.name.now) inputs
+      go [] [] all = refl
+      go [] (r ∷ readers) all = absurd all
+      go (i ∷ inputs) [] all = absurd all
+      go (i ∷ inputs) (r ∷ readers) all = λ k. all.0.named k ∷ go inputs readers all.1 k
 
-pub all_whole : (texts : List (List ℕ)) (readers : List (Change SourceState)) (read : List (List ℕ)) → AllZip OfDocument texts readers → AllZip ReadsAll readers read → read ≡ texts
-all_whole [] [] [] each all = refl
-all_whole [] [] (b ∷ read) each all = absurd all
-all_whole [] (r ∷ readers) read each all = absurd each
-all_whole (t ∷ texts) [] read each all = absurd each
-all_whole (t ∷ texts) (r ∷ readers) [] each all = absurd all
-all_whole (t ∷ texts) (r ∷ readers) (b ∷ read) each all =
-    ap (λ x. x ∷ read) (each.0.whole b all.0) ∙ ap (λ xs. t ∷ xs) (all_whole texts readers read each.1 all.1)
+  -- ---- what some work reads
 
--- ---- names
+  first_of : (inputs : List Input) (readers : List (Change SourceState)) → AllZip OfInput inputs readers → AllZip OfInput (take 1 inputs) (take 1 readers)
+  first_of [] [] each = tt
+  first_of [] (r ∷ readers) each = absurd each
+  first_of (i ∷ inputs) [] each = absurd each
+  first_of (i ∷ inputs) (r ∷ readers) each = (each.0, tt)
 
-pub are_nameless : (text : List ℕ) (first : Change SourceState) (texts : List (List ℕ)) (readers : List (Change SourceState)) → OfDocument text first → AllZip OfDocument texts readers
-    → names_of first readers ≡ nameless texts
-are_nameless text first texts readers of_first of_others = λ k. record { first = of_first.nameless k; others = go texts readers of_others k }
-  where
-    go : (texts : List (List ℕ)) (readers : List (Change SourceState)) → AllZip OfDocument texts readers → map (λ r. r.before.name) readers ≡ map (λ text. None) texts
-    go [] [] all = refl
-    go [] (r ∷ readers) all = absurd all
-    go (t ∷ texts) [] all = absurd all
-    go (t ∷ texts) (r ∷ readers) all = λ k. all.0.nameless k ∷ go texts readers all.1 k
+  pub of_read : (work : Work) (inputs : List Input) (readers : List (Change SourceState)) → AllZip OfInput inputs readers → AllZip OfInput (read_of work inputs) (read_by work readers)
+  of_read (Rank aims) inputs readers each = each
+  of_read (Run (Lint explain)) inputs readers each = tt
+  of_read (Run Cnf) inputs readers each = tt
+  of_read (Run (Check after limit explain)) inputs readers each = first_of inputs readers each
+  of_read (Run (Score aims)) inputs readers each = first_of inputs readers each
+  of_read (Run (Refute explain)) inputs readers each = first_of inputs readers each
+
+  -- inputs that aren't read change nothing in the report
+  pub same_report : (work : Work) (mode : Mode) (first : Input) (inputs : List Input)
+      → work_report work mode (labels names_files first (read_of work inputs)) first.text.now (texts_of (read_of work inputs))
+      ≡ work_report work mode (labels names_files first inputs) first.text.now (texts_of inputs)
+  unfolding report
+  same_report (Rank aims) mode first inputs = refl
+  same_report (Run (Lint explain)) mode first [] = refl
+  same_report (Run (Lint explain)) mode first (i ∷ inputs) = refl
+  same_report (Run Cnf) mode first [] = refl
+  same_report (Run Cnf) mode first (i ∷ inputs) = refl
+  same_report (Run (Check after limit explain)) mode first [] = refl
+  same_report (Run (Check after limit explain)) mode first (i ∷ inputs) = refl
+  same_report (Run (Score aims)) mode first [] = refl
+  same_report (Run (Score aims)) mode first (i ∷ inputs) = refl
+  same_report (Run (Refute explain)) mode first [] = refl
+  same_report (Run (Refute explain)) mode first (i ∷ inputs) = refl
+
+  -- documents as they are lent and returned
+  pub of_others : (inputs : List Input) (lent olds news : List Document) → olds ≡ lent → AllZip (IsNew names_files) inputs lent → length news ≡ length olds
+      → AllZip OfInput inputs (changes document_state olds news)
+  of_others inputs lent olds news value are same = of_documents inputs olds news same (subst (λ ds. AllZip (IsNew names_files) inputs ds) (sym value) are)

@@ -1,5 +1,5 @@
 mod CallLemmas
 mod DocumentLemmas
-mod LengthLemmas
+mod ElementLemmas
 mod ReadLemmas
 mod RoomLemmas

@@ -1,27 +1,25 @@
 -- A run on documents in memory writes their report to a front, or nothing.
-use Rattle.std.proofs.Common.{◌≡◌, ◌<◌, ◌++◌, ◌∷◌, ℕ, List, [], map, length, min, Result, Ok, Err, IsErr, IsErrAnd, MatchResult, refl, sym, ap, ◌∙◌, subst, arith}
-use Rattle.std.specs.List.{All, AllZip}
+use Rattle.std.proofs.Common.{◌≡◌, ◌<◌, ◌++◌, ◌∷◌, ℕ, List, [], length, min, Result, Ok, Err, IsErr, IsErrAnd, MatchResult, refl, sym, ap, ◌∙◌, subst, arith}
+use Rattle.std.specs.List.{AllZip}
 use Rattle.std.specs.Io.KnownBytes.{Appends, Keeps}
+use Rattle.cudf_check.specs.Naming.{names_of as reader_names}
+use Rattle.cudf_check.specs.Runs.{Runs}
+use Rattle.cudf_command_line.specs.declared.command.Order.{Order}
 use Rattle.cudf_device.specs.Device.{SourceState}
-use Rattle.cudf_device.specs.Readers.{LeavesBehind, Change, change, changes}
-use Rattle.cudf_check.specs.Naming.{Names}
 use Rattle.cudf_device.specs.Outcomes.{Report}
-use Rattle.cudf_check.specs.Runs.{Runs, read_for}
+use Rattle.cudf_device.specs.Readers.{Change, change}
 use Rattle.cudf_device.specs.declared.outcome.Outcome.{Outcome}
 use Rattle.cudf_device.specs.declared.outcome.RunError.{RunError}
 use Rattle.cudf_device.specs.declared.outcome.RunError.TheVariants as errors
-use Rattle.cudf_job.specs.declared.job.Job.{Job}
-use Rattle.cudf_job.specs.declared.job.Job.TheVariants.{Lint, Check, Score, Cnf, Refute}
-use Rattle.cudf_calls.specs.Calls.{nameless}
-use Rattle.cudf_calls.specs.Working.Documents.{IsNew, document_state}
+use Rattle.cudf_calls.specs.Calls.{labels, texts_of, work_report}
 use Rattle.cudf_calls.specs.Working.Fronts.{front_state, IsUnwritten, IsWritten}
-use Rattle.cudf_calls.specs.Working.Made.{Judges}
+use Rattle.cudf_calls.specs.Working.Orders.{read_by, read_of}
 use Rattle.cudf_calls.specs.Working.Rooms.{over}
-use Rattle.cudf_calls.specs.declared.document.Document.{Document}
+use Rattle.cudf_calls.specs.declared.Input.{Input}
 use Rattle.cudf_calls.specs.declared.front.Front.{Front}
 use Rattle.cudf_calls.specs.declared.stop.Stop.{Stop}
 use Rattle.cudf_calls.specs.declared.stop.Stop.TheVariants.{Memory}
-use Rattle.cudf_calls.proofs.DocumentLemmas.{OfDocument, of_documents, all_whole, are_nameless}
+use Rattle.cudf_calls.proofs.DocumentLemmas.{OfInput, all_whole, are_named, of_read, same_report}
 use Rattle.cudf_calls.proofs.RoomLemmas.{over-none, taken, untaken}
 
 -- ---- fronts
@@ -56,59 +54,45 @@ module _ (old new : Front) where
 
 -- ---- runs
 
-module _ (whole : Names → List ℕ → List (List ℕ) → Report) (problem : List ℕ) (others : List (List ℕ)) (first : Change SourceState)
-    (readers : List (Change SourceState)) (old new : Front) (of_first : OfDocument problem first) (of_others : AllZip OfDocument others readers) where
-  module _ (outcome : Outcome) (runs : Runs whole first readers (change front_state old new) (Ok outcome)) where
-    done : Appends (front_state old).contents (front_state new).contents (whole (nameless others) problem others).text × (outcome ≡ (whole (nameless others) problem others).outcome)
+module _ (order : Order) (first : Input) (others : List Input) (reader : Change SourceState) (readers : List (Change SourceState)) (old new : Front)
+    (of_first : OfInput order.names_files first reader) (of_others : AllZip (OfInput order.names_files) others readers) where
+  abbrev answer : Report
+  answer = work_report order.work order.mode (labels order.names_files first others) first.text.now (texts_of others)
+
+  module _ (outcome : Outcome) (runs : Runs (work_report order.work order.mode) reader (read_by order.work readers) (change front_state old new) (Ok outcome)) where
+    done : Appends (front_state old).contents (front_state new).contents answer.text × (outcome ≡ answer.outcome)
     done =
         let read = runs.done in
-        let texts = all_whole others readers read.texts of_others read.others_read in
-        let text = of_first.whole read.text read.first_read in
-        let names = are_nameless problem first others readers of_first of_others in
-        subst (λ r. Appends (front_state old).contents (front_state new).contents r.text × (outcome ≡ r.outcome)) ((λ k. whole (names k) (text k) (texts k))) read.holds
+        let inputs = read_of order.work others in
+        let each = of_read order.names_files order.work others readers of_others in
+        let texts : read.texts ≡ texts_of inputs = all_whole order.names_files inputs (read_by order.work readers) read.texts each read.others_read in
+        let text : read.text ≡ first.text.now = of_first.whole read.text read.first_read in
+        let names : reader_names reader (read_by order.work readers) ≡ labels order.names_files first inputs
+        = are_named order.names_files first reader inputs (read_by order.work readers) of_first each in
+        let report : work_report order.work order.mode (reader_names reader (read_by order.work readers)) read.text read.texts ≡ answer
+        = (λ k. work_report order.work order.mode (names k) (text k) (texts k)) ∙ same_report order.names_files order.work order.mode first others in
+        subst (λ r. Appends (front_state old).contents (front_state new).contents r.text × (outcome ≡ r.outcome)) report read.holds
 
     pub run_named : new.room.ghost_name ≡ old.room.ghost_name
-    run_named = front_named old new (whole (nameless others) problem others).text done.0
+    run_named = front_named old new answer.text done.0
 
-    pub run_written : old.seen.now.report ≡ [] → IsWritten (whole (nameless others) problem others) old new outcome
-    run_written none = let shown = front_shows old new (whole (nameless others) problem others).text done.0 none in record { outcome_is = done.1; length_is = shown.0; shown = shown.1 }
+    pub run_written : old.seen.now.report ≡ [] → IsWritten answer old new outcome
+    run_written none = let shown = front_shows old new answer.text done.0 none in record { outcome_is = done.1; length_is = shown.0; shown = shown.1 }
 
   -- nothing was written: no write failed
-  same : (error : RunError) → Runs whole first readers (change front_state old new) (Err error) → Keeps (front_state old).contents (front_state new).contents
+  same : (error : RunError) → Runs (work_report order.work order.mode) reader (read_by order.work readers) (change front_state old new) (Err error)
+      → Keeps (front_state old).contents (front_state new).contents
   same errors.Read runs = runs.untouched (λ is. absurd (cc is))
   same errors.TooLong runs = runs.untouched (λ is. absurd (cc is))
   same errors.Write runs = let failed : 0 < 0 = runs.write.0 refl in absurd (omega (arith, failed))
   same errors.Memory runs = runs.untouched (λ is. absurd (cc is))
 
-  pub run_named-ended : (error : RunError) → Runs whole first readers (change front_state old new) (Err error) → new.room.ghost_name ≡ old.room.ghost_name
+  pub run_named-ended : (error : RunError) → Runs (work_report order.work order.mode) reader (read_by order.work readers) (change front_state old new) (Err error)
+      → new.room.ghost_name ≡ old.room.ghost_name
   run_named-ended error runs = front_named-same old new (same error runs)
 
   -- a call ends as its run did
-  pub run_ended : (error : RunError) (result : Result Outcome Stop) → Runs whole first readers (change front_state old new) (Err error)
-      → IsErr result × IsErrAnd result (λ stop. stop ≡ Memory)
-      → MatchResult result (IsWritten (whole (nameless others) problem others) old new) (IsUnwritten old new)
+  pub run_ended : (error : RunError) (result : Result Outcome Stop) → Runs (work_report order.work order.mode) reader (read_by order.work readers) (change front_state old new) (Err error)
+      → IsErr result × IsErrAnd result (λ stop. stop ≡ Memory) → MatchResult result (IsWritten answer old new) (IsUnwritten old new)
   run_ended error (Ok outcome) runs is = absurd (cc is.0)
   run_ended error (Err stop) runs is = record { why = is.1; kept = front_kept old new (same error runs) }
-
--- ---- what a job reads beside its first input
-
-pub of_none : (job : Job) → AllZip OfDocument [] (read_for job [])
-of_none (Lint explain) = tt
-of_none (Check after limit explain) = tt
-of_none (Score aims) = tt
-of_none Cnf = tt
-of_none (Refute explain) = tt
-
-pub of_one : (job : Job) (text : List ℕ) (reader : Change SourceState) → Judges job → OfDocument text reader → AllZip OfDocument (text ∷ []) (read_for job (reader ∷ []))
-of_one (Lint explain) text reader judges is = absurd judges
-of_one (Check after limit explain) text reader judges is = (is, tt)
-of_one (Score aims) text reader judges is = (is, tt)
-of_one Cnf text reader judges is = absurd judges
-of_one (Refute explain) text reader judges is = (is, tt)
-
--- the documents of a ranking, as their readers are returned
-pub of_others : (texts : List (List ℕ)) (lent olds news : List Document) (P : Document → Document → Type 0) → olds ≡ lent → map (λ d. d.rest.now) lent ≡ texts → All IsNew lent
-    → LeavesBehind P olds news → AllZip OfDocument texts (changes document_state olds news)
-of_others texts lent olds news P value is new behind =
-    subst (λ ts. AllZip OfDocument ts (changes document_state olds news)) (ap (map (λ d. d.rest.now)) value ∙ is)
-    (of_documents P olds news behind (subst (All IsNew) (sym value) new))

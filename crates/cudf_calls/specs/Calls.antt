@@ -1,15 +1,23 @@
 -- What a call of the library leaves. Own.
-use Rattle.std.specs.Prelude.{◌≡◌, ◌<◌, ◌≤◌, ◌⊎◌, ◌++◌, ℕ, List, length, map, min, take, drop, Bool, None, if◌then◌else◌}
+use Rattle.std.specs.Prelude.{◌≡◌, ◌≢◌, ◌<◌, ◌≤◌, ◌⊎◌, ◌++◌, ℕ, List, [], ◌∷◌, length, map, min, take, drop, codes, string_bytes, Bool, Option, Some, None, if◌then◌else◌}
 use Rattle.std.specs.List.{All}
+use Rattle.std.specs.Str.{IsUtf8}
 use Rattle.cudf_check.specs.Naming.{Names}
+use Rattle.cudf_check.specs.RankReport.{rank_report}
+use Rattle.cudf_check.specs.Runs.{job_report}
+use Rattle.cudf_command_line.specs.Orders.{IsAskedFor, IsUnasked}
+use Rattle.cudf_command_line.specs.Usage.{usage_status}
+use Rattle.cudf_command_line.specs.declared.command.Order.{Order}
+use Rattle.cudf_command_line.specs.declared.command.Work.{Work}
+use Rattle.cudf_command_line.specs.declared.command.Work.TheVariants.{Run, Rank}
+use Rattle.cudf_command_line.specs.declared.usage.Usage.{Usage}
+use Rattle.cudf_command_line.specs.declared.usage.Usage.TheVariants.{Told, Mistake, Refused, Memory}
 use Rattle.cudf_device.specs.Outcomes.{outcome_status, Report}
 use Rattle.cudf_device.specs.Readers.{OfOne, most_bytes}
 use Rattle.cudf_problem.specs.declared.mode.Mode.{Mode}
-use Rattle.cudf_problem.specs.declared.mode.Mode.TheVariants.{Lenient, Strict}
+use Rattle.cudf_calls.specs.declared.Input.{Input}
 
--- documents are read strictly where the caller says so
-abbrev pub mode_of : Bool → Mode
-mode_of strict = if strict then Strict else Lenient
+-- ---- what is left
 
 -- what a call leaves: the bytes of the caller's buffer before and after it, the length that it tells, and its status
 pub record Left : Type 0 where
@@ -31,15 +39,19 @@ pub record Tells (answer : Report) (call : Left) : Type 0 where
   pub status_is : call.status ≡ outcome_status answer.outcome
   pub shows : Shows answer.text call
 
--- there is no report, but this status: no length is reported, and the buffer is as before
+-- some message is shown, and this status answered
+pub record Explains (status : ℕ) (call : Left) : Type 0 where
+  pub message : List ℕ
+  pub status_is : call.status ≡ status
+  pub shows : Shows message call
+
+-- there is no text, but this status: no length is reported, and the buffer is as before
 pub record BreaksOff (status : ℕ) (call : Left) : Type 0 where
   pub status_is : call.status ≡ status
   pub length_is : call.told ≡ 0
   pub kept : call.new ≡ call.old
 
--- documents in memory have no names
-abbrev pub nameless : List (List ℕ) → Names
-nameless others = record { first = None; others = map (λ text. None) others }
+-- ---- documents
 
 -- a document is as long as a run reads
 abbrev pub IsShort : List ℕ → Type 0
@@ -49,15 +61,68 @@ IsShort text = length text ≤ most_bytes
 abbrev pub IsLong : List ℕ → Type 0
 IsLong text = most_bytes < length text
 
--- 5 where a document is too long; else the report on them, or 6 where memory ran out
+-- the report is told, or memory ran out
+abbrev pub Reports : Report → Left → Type 0
+Reports answer call = Tells answer call ⊎ BreaksOff 6 call
+
+-- 5 where a document is too long; else the report on them
 abbrev pub Answers : List (List ℕ) → Report → Left → Type 0
-Answers documents answer call = (OfOne IsLong documents × BreaksOff 5 call) ⊎ (All IsShort documents × (Tells answer call ⊎ BreaksOff 6 call))
+Answers documents answer call = (OfOne IsLong documents × BreaksOff 5 call) ⊎ (All IsShort documents × Reports answer call)
 
--- 4 where the call's words ask for nothing, whatever the documents are; else the answer to what they ask for
-abbrev pub AnswersAsked : {A : Type 0} → (A → Type 0) → Type 0 → List (List ℕ) → (A → Report) → Left → Type 0
-AnswersAsked {A = A} IsAsked IsNothing documents answer call =
-    (IsNothing × BreaksOff 4 call) ⊎ ((asked : A) × IsAsked asked × Answers documents (answer asked) call)
+-- their texts and their names
+abbrev pub texts_of : List Input → List (List ℕ)
+texts_of documents = map (λ document. document.text.now) documents
 
--- the same of words that are read into memory: where that runs out, 6, before it is known what they ask for
-abbrev pub AnswersRead : {A : Type 0} → (A → Type 0) → Type 0 → List (List ℕ) → (A → Report) → Left → Type 0
-AnswersRead IsAsked IsNothing documents answer call = AnswersAsked IsAsked IsNothing documents answer call ⊎ BreaksOff 6 call
+abbrev pub names_of : List Input → List (List ℕ)
+names_of documents = map (λ document. document.name.now) documents
+
+-- how lines name a document, where they name files: not at all, if its name is empty
+abbrev pub label : Bool → List ℕ → Option (List ℕ)
+label names_files [] = None
+label names_files (byte ∷ name) = if names_files then Some (byte ∷ name) else None
+
+abbrev pub labels : Bool → Input → List Input → Names
+labels names_files first others = record { first = label names_files first.name.now; others = map (λ document. label names_files document.name.now) others }
+
+-- ---- words
+
+-- the program's command line: its own name, the words, and behind `--` the names of the documents
+abbrev pub line_of : List (List ℕ) → List Input → List (List ℕ)
+line_of words [] = codes "cudf_check" ∷ words
+line_of words (first ∷ others) = codes "cudf_check" ∷ words ++ codes "--" ∷ names_of (first ∷ others)
+
+-- a word isn't UTF-8
+abbrev pub IsNoText : List ℕ → Type 0
+IsNoText word = IsUtf8 word → ⊥
+
+-- ---- calls
+
+-- the report of some work on documents of these names and texts; a run is on the first solution, where there is one
+abbrev pub work_report : Work → Mode → Names → List ℕ → List (List ℕ) → Report
+work_report (Run job) mode = job_report job mode
+work_report (Rank aims) mode = rank_report aims.items mode
+
+-- what an order does on documents, of which there has to be one for each of its files: else a word names a file, and the status is 4
+abbrev pub Does : Order → List Input → Left → Type 0
+Does order [] call = Explains 4 call
+Does order (first ∷ others) call =
+    ((length others ≢ length order.solutions.items) × Explains 4 call)
+    ⊎ ((length others ≡ length order.solutions.items)
+    × Answers (texts_of (first ∷ others)) (work_report order.work order.mode (labels order.names_files first others) first.text.now (texts_of others)) call)
+
+-- what is told of words that ask for no order: help and the version; a message with status 4; or that memory ran out
+abbrev pub Says : Usage → Left → Type 0
+Says (Told text) call = ((call.status ≡ 0) × Shows (string_bytes text) call)
+Says usage call = ((usage_status usage ≡ 4) × Explains 4 call) ⊎ BreaksOff 6 call
+
+-- what is done with the words of a command line
+abbrev pub Follows : List (List ℕ) → List Input → Left → Type 0
+Follows line documents call =
+    ((order : Order) × IsAskedFor line order × Does order documents call)
+    ⊎ ((usage : Usage) × IsUnasked line usage × Says usage call)
+
+-- what a call does: what its words ask the program for; they are refused where one isn't UTF-8; or memory ran out before
+abbrev pub Runs : List (List ℕ) → List Input → Left → Type 0
+Runs words documents call =
+    Follows (line_of words documents) documents call
+    ⊎ (((OfOne IsNoText words ⊎ OfOne IsNoText (names_of documents)) × Explains 4 call) ⊎ BreaksOff 6 call)

@@ -2,6 +2,5 @@ pub mod Bytes
 pub mod Documents
 pub mod Fronts
 pub mod Given
-pub mod Made
+pub mod Orders
 pub mod Rooms
-pub mod Stops

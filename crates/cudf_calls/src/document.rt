@@ -10,6 +10,8 @@ use cudf_index::Steps;
 #[derive(Drop)]
 pub(crate) struct Document<'t> {
     pub(crate) rest: &'t [u8],
+    /// Its name, where lines name it.
+    pub(crate) name: Option<&'t str>,
     pub(crate) calls: Steps,
     pub(crate) ends: Steps,
     /// How many bytes the last call gave.
@@ -19,17 +21,19 @@ pub(crate) struct Document<'t> {
 }
 
 impl<'t> Document<'t> {
-    ghost use Rattle.std.specs.Prelude.{◌≡◌};
+    ghost use Rattle.std.specs.Prelude.{◌≡◌, option_map};
     ghost use Rattle.cudf_calls.specs.Working.Documents.{IsUnread};
 
-    /// A document of which nothing was read.
-    pub(crate) fn new(text: &'t [u8]) -> Document<'t>
-        ensures { IsUnread text.now result }
+    /// A document of which nothing was read, under this name, if any.
+    pub(crate) fn new(text: &'t [u8], name: Option<&'t str>) -> Document<'t>
+        ensures unread { IsUnread text.now result }
+        ensures name { option_map (λ n. n.now) result.name ≡ option_map (λ n. n.now) name.entry }
     {
         let mut calls = Steps::new();
         calls.grow_by(usize::MAX - text.len());
         Document {
             rest: text,
+            name,
             calls,
             ends: Steps::new(),
             last: 0,
@@ -43,7 +47,7 @@ impl<'t> Source for Document<'t> {
     ghost state = { document_state };
 
     fn name(&self) -> Option<&str> {
-        None
+        self.name
     }
 
     fn read(&mut self, buffer: &mut [u8]) -> Result<usize, Trouble> {

@@ -1,13 +1,15 @@
 -- A document in memory as a run sees it, for proofs.
-use Rattle.std.specs.Prelude.{◌≡◌, ℕ, List, None, Some, Ok}
+use Rattle.std.specs.Prelude.{◌≡◌, ℕ, List, Bool, Some, Ok, option_map}
 use Rattle.cudf_device.specs.Device.{SourceState}
+use Rattle.cudf_calls.specs.Calls.{label}
 use Rattle.cudf_calls.specs.Working.Given.{given_before}
+use Rattle.cudf_calls.specs.declared.Input.{Input}
 use Rattle.cudf_calls.specs.declared.document.Document.{Document}
 
 -- it has the rest of its text left, and never fails
 abbrev pub document_state : Document → SourceState
 document_state d = record {
-  name = None;
+  name = option_map (λ n. n.now) d.name;
   remaining = Some d.rest.now;
   calls = d.calls;
   failures = 0;
@@ -22,6 +24,7 @@ pub record IsUnread (text : List ℕ) (d : Document) : Type 0 where
   pub calls : d.calls ≡ given_before text
   pub ends : d.ends ≡ 0
 
--- nothing of it was read
-abbrev pub IsNew : Document → Type 0
-IsNew d = IsUnread d.rest.now d
+-- it is of this input, under its name where lines name files, and nothing of it was read
+pub record IsNew (names_files : Bool) (input : Input) (d : Document) : Type 0 where
+  pub unread : IsUnread input.text.now d
+  pub named : option_map (λ n. n.now) d.name ≡ label names_files input.name.now

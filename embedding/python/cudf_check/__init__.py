@@ -1,7 +1,8 @@
 """cudf_check for Python: checks answers to CUDF 2.0 upgrade problems, through the library for C.
 
 `lint`, `check`, `score`, `rank`, `cnf` and `refute` return the report of the program's command of that name, its status,
-and what it says as values; docs/FORMAT.md and docs/RULES.md of cudf_check describe the reports.
+and what it says as values; `run` takes any words of the command line. docs/FORMAT.md and docs/RULES.md of cudf_check
+describe the reports.
 
 A document is a text or a file. Texts are `str`, encoded as UTF-8, or buffers: `bytes`, `bytearray`, `memoryview`, `mmap`. A
 buffer isn't copied unless it is read-only and not `bytes`; it must not change during the call. An `os.PathLike`, such as
@@ -9,11 +10,13 @@ buffer isn't copied unless it is read-only and not `bytes`; it must not change d
 
 Errors of documents are reported. An exception means that there is no report:
 
-- `ValueError`: the key, the limit or the list of criteria is invalid. The text is the program's.
+- `ValueError`: the key, the limit or the list of criteria is invalid. The text is the first line of the program's.
 - `TooLong`, a `ValueError`: a document is longer than 256 MiB, or the CNF has more than 4294967295 clauses.
 - `MemoryError`: out of memory.
 - `UnicodeEncodeError`, a `ValueError`: a `str` can't be encoded.
 - `OSError`: a file can't be read. `TypeError`: not a document.
+
+Where a document is malformed, a `str` that is the name of a file brings a warning: it wasn't opened.
 
 The library is the file named by the environment variable CUDF_CHECK_LIBRARY, or otherwise `libcudf_check.so.1`. For
 Python 3.8 and later, with only the standard library.
@@ -25,11 +28,13 @@ import enum
 import mmap
 import os
 import re
+import warnings
 from dataclasses import dataclass
 from typing import Dict, Iterable, List, Optional, Tuple, Union
 
-Text = Union[str, bytes]
-Document = Union[Text, bytearray, memoryview, mmap.mmap, "os.PathLike[str]", "os.PathLike[bytes]"]
+__version__ = "1.0.0"
+
+Document = Union[str, bytes, bytearray, memoryview, mmap.mmap, "os.PathLike[str]", "os.PathLike[bytes]"]
 
 
 class TooLong(ValueError):
@@ -176,62 +181,73 @@ class Refuted:
 # ---- the calls
 
 
+def run(words: Iterable[str], documents: Iterable[Document] = (), names: Iterable[str] = ()) -> Tuple[int, str]:
+    """What the program does for these words, such as `["check", "--explain"]`, with the documents in place of its files:
+    its exit status, and its report, or with status 4 its message. Lines begin with the documents' names if `-H` is given."""
+    line = [(word, len(word)) for word in (str(it).encode() for it in words)]
+    held = [_sized(document) for document in documents]
+    texts = [(it if isinstance(it, bytes) else ctypes.addressof(it), length) for it, length in held]
+    named = [(name, len(name)) for name in (str(it).encode() for it in names)]
+    given = zip(texts, named + [(b"", 0)] * (len(texts) - len(named)))
+    return _call((_Text * len(line))(*line), len(line), (_Document * len(texts))(*given), len(texts))
+
+
 def lint(problem: Document, strict: bool = False, explain: bool = False) -> Linted:
     """Whether a problem is valid, or its first error."""
-    code, report = _call(_library.cudf_check_lint, strict, explain, *_sized(problem))
-    return Linted(_status(code), report, _fault(report))
+    status, report = _asked(["lint"], [problem], strict, explain)
+    return Linted(status, report, _fault(report))
 
 
 def check(
-    problem: Document, solution: Document, after: Optional[Text] = None, limit: Optional[int] = None, strict: bool = False,
+    problem: Document, solution: Document, after: Optional[str] = None, limit: Optional[int] = None, strict: bool = False,
     explain: bool = False,
 ) -> Checked:
     """What is wrong with a solution: the violations after the key `after`, at most `limit` of them, and the verdict."""
-    if limit is not None and not 1 <= limit < 2**64:
-        raise _invalid("limit", str(limit))
-    call = _library.cudf_check_check
-    code, report = _call(call, strict, explain, *_sized(problem), *_sized(solution), *_sized(after or b""), limit or 0)
-    status, fault, lines = _status(code, "after", after), _fault(report), _lines(report)
+    page = [] if after is None else [f"--after={after}"]
+    page += [] if limit is None else [f"--limit={limit}"]
+    status, report = _asked(["check", *page], [problem, solution], strict, explain)
+    fault, lines = _fault(report), _lines(report)
     more = [line[len(_MORE):] for line in lines if line.startswith(_MORE)]
     violations = [] if fault else [_violation(line) for line in lines if not line.startswith((_MORE, _VERDICT))]
-    return Checked(status, report, fault, violations, more[0] if more else None, _verdict(status))
+    return Checked(status, report, fault, violations, more[0] if more else None, _VERDICTS.get(status))
 
 
-def score(problem: Document, solution: Document, criteria: Optional[Text] = None, strict: bool = False) -> Scored:
+def score(problem: Document, solution: Document, criteria: Optional[str] = None, strict: bool = False) -> Scored:
     """What a solution changes and lacks: the counts of a list, such as `-removed,-changed`, or of the MISC competition."""
-    call = _library.cudf_check_score
-    code, report = _call(call, strict, *_sized(problem), *_sized(solution), *_sized(criteria or b""))
-    status, fault = _status(code, "criteria", criteria), _fault(report)
+    listed = [] if criteria is None else [f"--criteria={criteria}"]
+    status, report = _asked(["score", *listed], [problem, solution], strict)
+    fault = _fault(report)
     lines = [] if fault else [line.split(" ") for line in _lines(report) if not line.startswith(_VERDICT)]
     vectors = {name: tuple(map(int, numbers)) for name, *numbers in lines if name in _TRACKS}
     counts = {name.lstrip("-+"): int(numbers[0]) for name, *numbers in lines if name not in _TRACKS}
-    return Scored(status, report, fault, counts, vectors, _verdict(status))
+    return Scored(status, report, fault, counts, vectors, _VERDICTS.get(status))
 
 
-def rank(problem: Document, solutions: Iterable[Document], criteria: Text, strict: bool = False) -> Ranked:
-    """Ranks solutions by a list, the best first. With an empty list they keep their order."""
-    code, report = _call_rank(strict, problem, solutions, criteria)
-    status, fault = _status(code, "criteria", criteria), _fault(report)
+def rank(problem: Document, solutions: Iterable[Document], criteria: str, strict: bool = False) -> Ranked:
+    """Ranks solutions, of which there is at least one, by a list, the best first."""
+    if isinstance(solutions, (str, bytes, bytearray, memoryview, mmap.mmap, os.PathLike)):
+        raise TypeError("solutions is one document, and has to be a list of documents")
+    status, report = _asked(["rank", f"--criteria={criteria}"], [problem, *solutions], strict)
+    fault = _fault(report)
     return Ranked(status, report, fault, [] if fault else [_rank(line) for line in _lines(report)])
 
 
 def cnf(problem: Document, strict: bool = False) -> Encoded:
     """The rules of a problem as a CNF, for a SAT solver."""
-    code, report = _call(_library.cudf_check_cnf, strict, *_sized(problem))
-    return Encoded(_status(code), report, _fault(report))
+    status, report = _asked(["cnf"], [problem], strict)
+    return Encoded(status, report, _fault(report))
 
 
 def refute(problem: Document, proof: Document, strict: bool = False, explain: bool = False) -> Refuted:
     """Whether a proof, in LRAT's text form, shows that a problem has no solution, and why it has none."""
-    code, report = _call(_library.cudf_check_refute, strict, explain, *_sized(problem), *_sized(proof))
-    status = _status(code)
+    status, report = _asked(["refute"], [problem, proof], strict, explain)
     reasons = [_violation(line) for line in _lines(report)[:-1]] if status == Status.YES else []
     return Refuted(status, report, _fault(report), _proof_fault(report), reasons)
 
 
 def version() -> str:
     """The library's version."""
-    return _call(_library.cudf_check_version)[1]
+    return run(["--version"])[1].split()[1]
 
 
 # ---- the lines of a report, as in docs/FORMAT.md
@@ -286,10 +302,6 @@ def _rank(line: str) -> Rank:
     return Rank(int(at), int(place), verdict, counts)
 
 
-def _verdict(status: Status) -> Optional[str]:
-    return _VERDICTS.get(status)
-
-
 # ---- the library
 
 
@@ -297,31 +309,22 @@ class _Text(ctypes.Structure):
     _fields_ = [("bytes", ctypes.c_char_p), ("length", ctypes.c_size_t)]
 
 
-_SIZED = [ctypes.c_char_p, ctypes.c_size_t]
-_REPORT = [ctypes.c_void_p, ctypes.c_size_t, ctypes.POINTER(ctypes.c_size_t)]
-_ROOM, _LONGEST = 4096, 268435456
+class _Document(ctypes.Structure):
+    _fields_ = [("text", _Text), ("name", _Text)]
+
+
+_ROOM, _LONGEST = 1 << 16, 268435456
 _USAGE, _UNREAD, _MEMORY = 4, 5, 6
-_FORMS = {
-    "after": "a key is written as in a report, such as p1.depends.2",
-    "limit": "not a number from 1 to 18446744073709551615",
-    "criteria": "a list is written without blanks, as -removed,+new, of removed, new, changed, notuptodate, "
-    "unsat_recommends and touched, each after - or +",
-}
 
 
 def _opened(name: str) -> ctypes.CDLL:
-    library = ctypes.CDLL(name)
-    rank_texts = [ctypes.POINTER(_Text), ctypes.c_size_t]
-    for call, arguments in (
-        (library.cudf_check_lint, [ctypes.c_bool] * 2 + _SIZED),
-        (library.cudf_check_check, [ctypes.c_bool] * 2 + _SIZED * 3 + [ctypes.c_uint64]),
-        (library.cudf_check_score, [ctypes.c_bool] + _SIZED * 3),
-        (library.cudf_check_rank, [ctypes.c_bool] + _SIZED + rank_texts + _SIZED),
-        (library.cudf_check_cnf, [ctypes.c_bool] + _SIZED),
-        (library.cudf_check_refute, [ctypes.c_bool] * 2 + _SIZED * 2),
-    ):
-        call.argtypes, call.restype = arguments + _REPORT, ctypes.c_uint8
-    library.cudf_check_version.argtypes, library.cudf_check_version.restype = _REPORT, None
+    try:
+        library = ctypes.CDLL(name)
+    except OSError as error:
+        raise OSError(f"{error}; the variable CUDF_CHECK_LIBRARY can name the library's file") from None
+    given = [kind for it in (_Text, _Document) for kind in (ctypes.POINTER(it), ctypes.c_size_t)]
+    library.cudf_check_run.argtypes = [*given, ctypes.c_void_p, ctypes.c_size_t, ctypes.POINTER(ctypes.c_size_t)]
+    library.cudf_check_run.restype = ctypes.c_uint8
     return library
 
 
@@ -337,7 +340,10 @@ def _sized(document: Document) -> Tuple[Union[bytes, ctypes.Array], int]:
         document = document.encode()
     if isinstance(document, bytes):
         return document, len(document)
-    view = memoryview(document)
+    try:
+        view = memoryview(document)
+    except TypeError:
+        raise TypeError(f"neither a text nor a file: {document!r}") from None
     try:
         text = (ctypes.c_char * view.nbytes).from_buffer(view) if view.nbytes else b""
     except TypeError:  # it is read-only, or in pieces
@@ -345,38 +351,30 @@ def _sized(document: Document) -> Tuple[Union[bytes, ctypes.Array], int]:
     return text, view.nbytes
 
 
-def _call(function, *arguments) -> Tuple[int, str]:
+def _call(*arguments) -> Tuple[int, str]:
     """Makes a call with a buffer for its report, and again with a larger one if that was too small."""
     room, length = _ROOM, ctypes.c_size_t()
     while True:
         report = ctypes.create_string_buffer(room)
-        status = function(*arguments, report, room, ctypes.byref(length))
+        status = _library.cudf_check_run(*arguments, report, room, ctypes.byref(length))
         if length.value <= room:
             return status, ctypes.string_at(report, length.value).decode()
         room = length.value
 
 
-def _call_rank(strict: bool, problem: Document, solutions: Iterable[Document], criteria: Text) -> Tuple[int, str]:
-    held = [_sized(solution) for solution in solutions]
-    texts = (_Text * len(held))()
-    for entry, (text, length) in zip(texts, held):
-        entry.bytes, entry.length = text if isinstance(text, bytes) else ctypes.addressof(text), length
-    return _call(_library.cudf_check_rank, strict, *_sized(problem), texts, len(held), *_sized(criteria))
+def _asked(words: List[str], documents: List[Document], strict: bool, explain: bool = False) -> Tuple[Status, str]:
+    """The status and the report of a command.
 
-
-def _status(code: int, argument: str = "", word: Optional[Text] = None) -> Status:
-    """The status of a call that had a report. The argument, with its word, is the one that may be invalid.
-
-    This is asked where no array over a buffer is left: an exception would keep it, and an `mmap` couldn't be closed.
+    Exceptions are raised where no array over a buffer is left: they would keep it, and an `mmap` couldn't be closed.
     """
+    code, text = run([*words, *["--strict"] * strict, *["--explain"] * explain], documents)
     if code == _USAGE:
-        raise _invalid(argument, word if isinstance(word, str) else bytes(word).decode(errors="replace"))
+        raise ValueError(text.split("\n\nUsage: ")[0][len("error: "):])
     if code == _UNREAD:
         raise TooLong(f"a document is longer than {_LONGEST} bytes, or a CNF has more than 4294967295 clauses")
     if code == _MEMORY:
         raise MemoryError("there is not enough memory")
-    return Status(code)
-
-
-def _invalid(argument: str, word: str) -> ValueError:
-    return ValueError(f"invalid value {word!r} for '{argument}': {_FORMS[argument]}")
+    for document in documents if code == Status.FAULTY else ():
+        if isinstance(document, str) and "\n" not in document and os.path.isfile(document):
+            warnings.warn(f"{document!r} is a document's text; pathlib.Path({document!r}) would be the file", stacklevel=3)
+    return Status(code), text

@@ -1,0 +1,185 @@
+//! What the words ask for, on documents in memory.
+ghost use Rattle.std.specs.Prelude.{◌≡◌, [], ◌∷◌, IfOk, MatchResult, map, option_map, string_bytes};
+ghost use Rattle.std.specs.List.{All, AllZip};
+ghost use Rattle.std.specs.Str.{IsUtf8};
+ghost use Rattle.cudf_check.specs.Runs.{Runs, job_report, read_for};
+ghost use Rattle.cudf_command_line.specs.Orders.{IsAskedFor, IsUnasked};
+ghost use Rattle.cudf_command_line.specs.declared.command.Order.{Order};
+ghost use Rattle.cudf_command_line.specs.declared.usage.Usage.{Usage};
+ghost use Rattle.cudf_device.specs.Readers.{change, changes};
+ghost use Rattle.cudf_calls.specs.Calls.{Does, Follows, Reports, label, labels, left, names_of, texts_of, work_report};
+ghost use Rattle.cudf_calls.specs.Working.Documents.{IsNew};
+ghost use Rattle.cudf_calls.specs.Working.Fronts.{IsUnwritten, IsWritten};
+ghost use Rattle.cudf_calls.specs.Working.Orders.{read_by};
+
+use crate::Input;
+use crate::document::Document;
+use crate::front::{Front, Seen};
+use crate::lengths::are_short;
+use crate::stop::Stop;
+use crate::told::{explain, refuse, show};
+use cudf_check::{Job, Mode, Outcome, RunError, Sink, Source, rank, run};
+use cudf_command_line::command::command;
+use cudf_command_line::{Order, Work};
+use std::alloc::{AllocError, Global};
+
+/// Does what these words of a command line ask for.
+pub(crate) fn obey(
+    alloc: Global,
+    line: &[String],
+    documents: &[Input<'_>],
+    room: &mut [u8],
+    length: &mut usize,
+) -> u8
+    requires { All IsUtf8 (names_of documents.now) }
+
+    ensures { Follows (map (λ word. string_bytes word) line.now) documents.now (left room.old room.new length.new result) }
+{
+    match command(alloc, line) {
+        Ok(order) => carry_out(alloc, &order, documents, room, length),
+        Err(usage) => explain(alloc, &usage, room, length),
+    }
+}
+
+/// Does the work of an order, if there are as many documents as files.
+fn carry_out(
+    alloc: Global,
+    order: &Order<'_>,
+    documents: &[Input<'_>],
+    room: &mut [u8],
+    length: &mut usize,
+) -> u8
+    requires { All IsUtf8 (names_of documents.now) }
+
+    ensures { Does order.now documents.now (left room.old room.new length.new result) }
+{
+    let message = b"error: a word names a file, in place of which a document is given\n";
+    let Some((first, others)) = documents.split_first() else {
+        return show(4, message, room, length);
+    };
+    if others.len() != order.solutions.len() {
+        return show(4, message, room, length);
+    }
+    if !are_short(documents) {
+        return refuse(5, length);
+    }
+    report(alloc, order, first, others, room, length)
+}
+
+/// The report of an order on documents that aren't too long.
+fn report<'t>(
+    alloc: Global,
+    order: &Order<'_>,
+    first: &Input<'t>,
+    others: &[Input<'t>],
+    room: &mut [u8],
+    length: &mut usize,
+) -> u8
+    requires { All IsUtf8 (names_of (first.now ∷ others.now)) }
+
+    ensures { Reports (work_report order.now.work order.now.mode (labels order.now.names_files first.now others.now) first.now.text.now (texts_of others.now)) (left room.old room.new length.new result) }
+{
+    let mut seen = Seen::of(room);
+    let mut out = Front::new(room, &mut seen);
+    match write(alloc, order, first, others, &mut out) {
+        Ok(outcome) => {
+            *length = out.length();
+            outcome.status()
+        }
+        Err(_) => refuse(6, length),
+    }
+}
+
+/// Writes that report.
+fn write<'t>(
+    alloc: Global,
+    order: &Order<'_>,
+    first: &Input<'t>,
+    others: &[Input<'t>],
+    out: &mut Front<'_>,
+) -> Result<Outcome, Stop>
+    requires report { out.old.seen.now.report ≡ [] }
+    requires names { All IsUtf8 (names_of (first.now ∷ others.now)) }
+
+    ensures same_reference { out.new.room.ghost_name ≡ out.old.room.ghost_name }
+    ensures written { MatchResult result
+        (IsWritten (work_report order.now.work order.now.mode (labels order.now.names_files first.now others.now) first.now.text.now (texts_of others.now)) out.old out.new)
+        (IsUnwritten out.old out.new) }
+{
+    let names_files = order.names_files;
+    let mut problem = document(names_files, first);
+    let mut solutions = documents(alloc, names_files, others)?;
+    let outcome = perform(alloc, order, &mut problem, &mut solutions, out)?;
+    Ok(outcome)
+}
+
+/// A document for each input.
+fn documents<'t>(
+    alloc: Global,
+    names_files: bool,
+    inputs: &[Input<'t>],
+) -> Result<Vec<Document<'t>>, AllocError>
+    ensures { IfOk result (λ documents. All IsUtf8 (names_of inputs.now) → AllZip (IsNew names_files) inputs.now documents.items) }
+{
+    let mut documents = Vec::new(alloc);
+    for input in inputs {
+        documents.push(document(names_files, input))?;
+    }
+    Ok(documents)
+}
+
+/// The document of an input, of which nothing was read.
+fn document<'t>(names_files: bool, input: &Input<'t>) -> Document<'t>
+    ensures { IsUtf8 input.now.name.now → IsNew names_files input.now result }
+{
+    Document::new(input.text, label(names_files, input.name))
+}
+
+/// How lines name a document, where they name files. A name that isn't UTF-8 was refused before.
+fn label(names_files: bool, name: &[u8]) -> Option<&str>
+    ensures { IsUtf8 name.entry.now → option_map (λ n. n.now) result ≡ label names_files name.entry.now }
+{
+    if names_files && !name.is_empty() {
+        match str::from_utf8(name) {
+            Ok(name) => Some(name),
+            Err(_) => None,
+        }
+    } else {
+        None
+    }
+}
+
+/// Does the work of an order on its documents: a run is on the first of the solutions, where there is one.
+fn perform<D: Source, W: Sink>(
+    alloc: Global,
+    order: &Order<'_>,
+    problem: &mut D,
+    solutions: &mut [D],
+    out: &mut W,
+) -> Result<Outcome, RunError>
+    ensures { Runs (work_report order.now.work order.now.mode) (change D.state problem.old problem.new)
+        (read_by order.now.work (changes D.state solutions.old solutions.new)) (change W.state out.old out.new) result }
+{
+    match &order.work {
+        Work::Rank(aims) => rank(alloc, aims, order.mode, problem, solutions, out),
+        Work::Run(job) => match solutions.first_mut() {
+            Some(solution) => run_on(alloc, job, order.mode, problem, solution, out),
+            None => run::<_, Document<'static>, _>(alloc, job, order.mode, problem, None, out),
+        },
+    }
+}
+
+/// A run on a problem and a solution.
+fn run_on<D: Source, W: Sink>(
+    alloc: Global,
+    job: &Job,
+    mode: Mode,
+    problem: &mut D,
+    solution: &mut D,
+    out: &mut W,
+) -> Result<Outcome, RunError>
+    ensures { Runs (job_report job.now mode) (change D.state problem.old problem.new)
+        (read_for job.now (change D.state solution.old solution.new ∷ [])) (change W.state out.old out.new) result }
+{
+    run(alloc, job, mode, problem, Some(solution), out)
+}
