@@ -1,5 +1,5 @@
 -- What became of documents in memory that a run has read.
-use Rattle.std.proofs.Common.{◌≡◌, ◌++◌, ℕ, Bool, List, [], ◌∷◌, map, length, take, suc, refl, sym, ap, ◌∙◌, subst, arith, append-nil}
+use Rattle.std.proofs.Common.{◌≡◌, ◌++◌, ℕ, Bool, List, [], ◌∷◌, map, length, take, refl, sym, ap, ◌∙◌, subst, arith, append-nil}
 use Rattle.std.specs.List.{AllZip}
 use Rattle.cudf_check.specs.Naming.{names_of as reader_names}
 use Rattle.cudf_check.specs.Report.{report}

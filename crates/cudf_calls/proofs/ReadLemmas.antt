@@ -1,5 +1,5 @@
 -- A run on documents in memory writes their report to a front, or nothing.
-use Rattle.std.proofs.Common.{◌≡◌, ◌<◌, ◌++◌, ◌∷◌, ℕ, List, [], length, min, Result, Ok, Err, IsErr, IsErrAnd, MatchResult, refl, sym, ap, ◌∙◌, subst, arith}
+use Rattle.std.proofs.Common.{◌≡◌, ◌<◌, ◌++◌, ℕ, List, [], length, min, Result, Ok, Err, IsErr, IsErrAnd, MatchResult, refl, sym, ap, ◌∙◌, subst, arith}
 use Rattle.std.specs.List.{AllZip}
 use Rattle.std.specs.Io.KnownBytes.{Appends, Keeps}
 use Rattle.cudf_check.specs.Naming.{names_of as reader_names}

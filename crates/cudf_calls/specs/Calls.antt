@@ -11,7 +11,7 @@ use Rattle.cudf_command_line.specs.declared.command.Order.{Order}
 use Rattle.cudf_command_line.specs.declared.command.Work.{Work}
 use Rattle.cudf_command_line.specs.declared.command.Work.TheVariants.{Run, Rank}
 use Rattle.cudf_command_line.specs.declared.usage.Usage.{Usage}
-use Rattle.cudf_command_line.specs.declared.usage.Usage.TheVariants.{Told, Mistake, Refused, Memory}
+use Rattle.cudf_command_line.specs.declared.usage.Usage.TheVariants.{Told}
 use Rattle.cudf_device.specs.Outcomes.{outcome_status, Report}
 use Rattle.cudf_device.specs.Readers.{OfOne, most_bytes}
 use Rattle.cudf_problem.specs.declared.mode.Mode.{Mode}

@@ -1,4 +1,3 @@
-use Rattle.std.proofs.Common.{◌∷◌}
 use Rattle.std.proofs.lemmas.List.Elements.{All-head, All-tail}
 use Rattle.std.specs.Str.{IsUtf8}
 use Rattle.cudf_calls.specs.Calls.{names_of}
@@ -11,7 +10,7 @@ returns-in_err-outcome-clause-same_reference c =
     let order = c.args.order.now in
     let first = c.args.first.now in
     let others = c.args.others.now in
-    let problem = of_document order.names_files first c.document.result c.perform.new.problem (c.document.ensures (All-head IsUtf8 first.name.now (names_of others) c.requires.names)) in
+    let problem = of_document order.names_files first c.document-problem.result c.perform.new.problem (c.document-problem.ensures (All-head IsUtf8 first.name.now (names_of others) c.requires.names)) in
     let solutions = of_others order.names_files others _ _ c.perform.new.solutions c.deref_mut.ensures.value (c.in_ok-solutions.ensures (All-tail IsUtf8 first.name.now (names_of others) c.requires.names)) c.perform.auto.solutions in
     run_named-ended order first others _ _ c.args.out.now c.perform.new.out problem solutions _ c.in_err-outcome.ensures
 
@@ -20,7 +19,7 @@ returns-in_err-outcome-clause-written c =
     let order = c.args.order.now in
     let first = c.args.first.now in
     let others = c.args.others.now in
-    let problem = of_document order.names_files first c.document.result c.perform.new.problem (c.document.ensures (All-head IsUtf8 first.name.now (names_of others) c.requires.names)) in
+    let problem = of_document order.names_files first c.document-problem.result c.perform.new.problem (c.document-problem.ensures (All-head IsUtf8 first.name.now (names_of others) c.requires.names)) in
     let solutions = of_others order.names_files others _ _ c.perform.new.solutions c.deref_mut.ensures.value (c.in_ok-solutions.ensures (All-tail IsUtf8 first.name.now (names_of others) c.requires.names)) c.perform.auto.solutions in
     run_ended order first others _ _ c.args.out.now c.perform.new.out problem solutions _ c.from_residual-in_err-outcome.result c.in_err-outcome.ensures c.from_residual-in_err-outcome.ensures
 
@@ -29,7 +28,7 @@ returns-clause-same_reference c =
     let order = c.args.order.now in
     let first = c.args.first.now in
     let others = c.args.others.now in
-    let problem = of_document order.names_files first c.document.result c.perform.new.problem (c.document.ensures (All-head IsUtf8 first.name.now (names_of others) c.requires.names)) in
+    let problem = of_document order.names_files first c.document-problem.result c.perform.new.problem (c.document-problem.ensures (All-head IsUtf8 first.name.now (names_of others) c.requires.names)) in
     let solutions = of_others order.names_files others _ _ c.perform.new.solutions c.deref_mut.ensures.value (c.in_ok-solutions.ensures (All-tail IsUtf8 first.name.now (names_of others) c.requires.names)) c.perform.auto.solutions in
     run_named order first others _ _ c.args.out.now c.perform.new.out problem solutions _ c.in_ok-outcome.ensures
 
@@ -38,6 +37,6 @@ returns-clause-written c =
     let order = c.args.order.now in
     let first = c.args.first.now in
     let others = c.args.others.now in
-    let problem = of_document order.names_files first c.document.result c.perform.new.problem (c.document.ensures (All-head IsUtf8 first.name.now (names_of others) c.requires.names)) in
+    let problem = of_document order.names_files first c.document-problem.result c.perform.new.problem (c.document-problem.ensures (All-head IsUtf8 first.name.now (names_of others) c.requires.names)) in
     let solutions = of_others order.names_files others _ _ c.perform.new.solutions c.deref_mut.ensures.value (c.in_ok-solutions.ensures (All-tail IsUtf8 first.name.now (names_of others) c.requires.names)) c.perform.auto.solutions in
     run_written order first others _ _ c.args.out.now c.perform.new.out problem solutions _ c.in_ok-outcome.ensures c.requires.report

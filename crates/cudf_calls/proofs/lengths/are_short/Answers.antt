@@ -1,4 +1,4 @@
-use Rattle.std.proofs.Common.{add-one, map, subst}
+use Rattle.std.proofs.Common.{add-one, subst}
 use Rattle.std.proofs.lemmas.List.{take_all}
 use Rattle.std.specs.List.{All}
 use Rattle.cudf_calls.specs.Calls.{IsLong, IsShort, texts_of}
