@@ -58,7 +58,7 @@ impl Asks for Debugged {
         shows(
             alloc,
             problem,
-            "Problem { packages: [], request: Request { line: 1, install: VpkgList { text: \"a\" }, remove: VpkgList { text: \"\" }, upgrade: VpkgList { text: \"\" } }, recommends: None, .. }",
+            "Problem { packages: [], request: Request { line: 1, install: VpkgList { text: \"a\" }, remove: VpkgList { text: \"\" }, upgrade: VpkgList { text: \"\" } }, recommends: None, extra_names: [], .. }",
         )
     }
 }
