@@ -139,7 +139,9 @@ def refused(trial, request):
     words = [request.call] * bool(request.call) + request.options() + [b"--"] * bool(names) + names
     if any(b"\0" in word for word in words if isinstance(word, bytes)):
         return None
-    status, _, message = run([trial.program, *arguments(words)])
+    # a message may have the name by which the program was called
+    status, _, message = common.run(
+        ["cudf_check", *arguments(words)], cwd=ROOT, env=common.ENVIRONMENT, executable=trial.program)
     return message if status == USAGE else b""
 
 

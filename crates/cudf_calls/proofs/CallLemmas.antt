@@ -1,5 +1,5 @@
 -- What a call answers: of words that ask for no order, and of a report that was written, or wasn't.
-use Rattle.std.proofs.Common.{◌≡◌, ◌<◌, ◌⊎◌, inl, inr, ◌∙◌, ◌++◌, ℕ, Bool, true, false, List, [], ◌∷◌, Some, None, length, take, drop, codes, refl, sym, ap, subst, append-nil, append_assoc, arith, vec_len, String, Global}
+use Rattle.std.proofs.Common.{◌≡◌, ◌⊎◌, inl, inr, ◌∙◌, ◌++◌, ℕ, List, [], ◌∷◌, length, take, drop, codes, refl, sym, ap, subst, arith, vec_len, String, Global}
 use Rattle.std.specs.List.{All}
 use Rattle.std.specs.Str.{IsUtf8}
 use Rattle.cudf_command_line.specs.Usage.{usage_status}
@@ -9,7 +9,7 @@ use Rattle.cudf_command_line.specs.declared.usage.Usage.TheVariants.{Told, Mista
 use Rattle.cudf_device.specs.Outcomes.{Report, outcome_status}
 use Rattle.cudf_device.specs.Readers.{OfOne}
 use Rattle.cudf_device.specs.declared.outcome.Outcome.{Outcome}
-use Rattle.cudf_calls.specs.Calls.{BreaksOff, Does, Explains, IsLong, IsShort, Left, Reports, Says, Shows, label, labels, left, line_of, names_of, texts_of, work_report}
+use Rattle.cudf_calls.specs.Calls.{BreaksOff, Does, Explains, IsLong, IsShort, Left, Reports, Says, Shows, labels, left, texts_of, work_report}
 use Rattle.cudf_calls.specs.Working.Fronts.{IsWritten}
 use Rattle.cudf_calls.specs.declared.Input.{Input}
 use Rattle.cudf_calls.specs.declared.front.Front.{Front}
@@ -60,30 +60,9 @@ module _ (order : Order) (documents : List Input) (first : Input) (others : List
   pub does_report : length others ≡ files → All IsShort (texts_of documents) → Reports answer call → Does order documents call
   does_report same short is = done (inr (same ∙ many ∙ each, inr (subst (λ ds. All IsShort (texts_of ds)) are short, is)))
 
--- ---- how lines name a document
+-- ---- the words of the command line
 
-pub labelled : (names_files : Bool) (name : List ℕ) → names_files ≡ true → (length name ≡ 0 → ⊥) → Some name ≡ label names_files name
-labelled names_files [] on some = absurd (some refl)
-labelled names_files (byte ∷ name) on some = rw on refl
-
-pub unlabelled : (names_files : Bool) (name : List ℕ) → (names_files ≡ false) ⊎ (length name ≡ 0) → None ≡ label names_files name
-unlabelled names_files [] is = refl
-unlabelled names_files (byte ∷ name) (inl off) = rw off refl
-unlabelled names_files (byte ∷ name) (inr none) = absurd (omega (arith, none))
-
--- ---- the command line: the name, the words, the dashes, the names
-
-pub with_names : (words : List (List ℕ)) (documents : List Input) → 0 < length documents
-    → ((codes "cudf_check" ∷ [] ++ words) ++ codes "--" ∷ []) ++ names_of documents ≡ line_of words documents
-with_names words [] some = absurd (omega (arith, some))
-with_names words (first ∷ others) some = append_assoc (codes "cudf_check" ∷ [] ++ words) (codes "--" ∷ []) (names_of (first ∷ others))
-
-pub without_names : (words : List (List ℕ)) (documents : List Input) → length documents ≡ 0
-    → (codes "cudf_check" ∷ [] ++ words) ++ names_of documents ≡ line_of words documents
-without_names words [] none = append-nil (codes "cudf_check" ∷ words)
-without_names words (first ∷ others) none = absurd (omega (arith, none))
-
--- a word of it is refused, or memory ran out
+-- a word is refused, or memory ran out
 pub refused_so : {A B : Type 0} (stop : Stop) → (A → B) → (stop ≡ stops.Memory) ⊎ ((stop ≡ stops.Refused) × A) → (stop ≡ stops.Memory) ⊎ ((stop ≡ stops.Refused) × B)
 refused_so stop more (inl out) = inl out
 refused_so stop more (inr refused) = inr (refused.0, more refused.1)
