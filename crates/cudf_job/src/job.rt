@@ -5,14 +5,13 @@ use crate::key::Key;
 /// One run's task.
 #[derive(Clone, PartialEq, Eq, Drop)]
 pub enum Job {
-    /// Say whether the input is a valid problem. The whole input is the problem, also what follows its request, and no
-    /// solution is read.
+    /// Say whether the first input is a valid problem. All of it is the problem, also what follows its request.
     Lint {
         /// Whether the cause is added to the line of a fault, as `; nothing declares size` (own): not of the kinds E3, E5
         /// and E12, and of E13 only that the problem is empty. All other bytes are as without it.
         explain: bool,
     },
-    /// Judge the solution and list the violated instances: those whose keys come after `after`, where
+    /// Judge the solution, the second input, and list the violated instances: those whose keys come after `after`, where
     /// it is given, and at most `limit` of them; with 0 the page is empty. The verdict is of all instances.
     Check {
         after: Option<Key>,
@@ -29,9 +28,19 @@ pub enum Job {
     Score {
         aims: Option<Vec<Aim>>,
     },
-    /// Print the rules of the problem as a CNF in DIMACS, for a SAT solver (own). The whole input is the problem, and no
-    /// second input is read.
+    /// Judge several solutions and rank them by these aims, the best first (own). The whole first input is the problem, and
+    /// each other one a solution.
+    Rank {
+        aims: Vec<Aim>,
+    },
+    /// Print the rules of the problem as a CNF in DIMACS, for a SAT solver (own). The whole first input is the problem.
     Cnf,
+    /// Judge the solution, the second input, and print a CNF that can be satisfied where some solution compares better by
+    /// these aims: that of `Cnf`, with more variables and clauses after its own (own). The whole first input is the
+    /// problem; without a second one the solution is empty.
+    CnfBetter {
+        aims: Vec<Aim>,
+    },
     /// Check a proof, the second input, that the problem has no solution, against the CNF that `Cnf` prints (own). The
     /// whole first input is the problem; without a second one the proof is empty.
     Refute {
@@ -39,5 +48,11 @@ pub enum Job {
         /// install or upgrade, as for `Check`, and to that of a proof's fault (own). All other bytes are as
         /// without it.
         explain: bool,
+    },
+    /// Judge the solution, the third input, and check a proof, the second one, that no solution compares better by these
+    /// aims, against the CNF that `CnfBetter` prints (own). The whole first input is the problem; without a second or a
+    /// third one the proof or the solution is empty.
+    RefuteBetter {
+        aims: Vec<Aim>,
     },
 }
