@@ -33,7 +33,7 @@ use Rattle.cudf_referee.specs.Proposals.{Proposal, holds_place, proposal, recomm
 
 -- ---- truth values
 
-or_false : (a : Bool) → (a || false) ≡ a
+pub or_false : (a : Bool) → (a || false) ≡ a
 or_false true = refl
 or_false false = refl
 
@@ -41,12 +41,12 @@ and_true : (a : Bool) → (a && true) ≡ a
 and_true true = refl
 and_true false = refl
 
-and_swap : (a b : Bool) → (a && b) ≡ (b && a)
+pub and_swap : (a b : Bool) → (a && b) ≡ (b && a)
 and_swap true b = sym (and_true b)
 and_swap false true = refl
 and_swap false false = refl
 
-any_same : {A : Type 0} (p q : A → Bool) → ((x : A) → p x ≡ q x) → (xs : List A) → list_any p xs ≡ list_any q xs
+pub any_same : {A : Type 0} (p q : A → Bool) → ((x : A) → p x ≡ q x) → (xs : List A) → list_any p xs ≡ list_any q xs
 any_same p q same xs = ap (λ test. list_any test xs) (λ i x. same x i)
 
 any_and : {A : Type 0} (b : Bool) (p : A → Bool) (xs : List A) → list_any (λ x. p x && b) xs ≡ (list_any p xs && b)

@@ -13,7 +13,7 @@ use Rattle.cudf_lrat.specs.declared.cnf.Literal.{Literal}
 use Rattle.cudf_lrat.specs.Literals.{Assignment, SatisfiesAll, is_satisfied_by, is_true_in}
 use Rattle.cudf_lrat.specs.Steps.{negated}
 use Rattle.cudf_cnf.specs.Cnf.{is_in, is_out}
-use Rattle.cudf_better.specs.Cardinality.{AtMost, Dnf, Network, clauses_from, compared, added, at_least, both_of, counter, evens, lexicographic_clauses, defining_clauses, joined, merged, sorted, strict_of, sum_definition}
+use Rattle.cudf_better.specs.Cardinality.{AtMost, Dnf, Network, clauses_from, compared, added, at_least, both_of, counter, evens, lexicographic_clauses, defining_clauses, joined, merged, output_count, sorted, strict_of, sum_definition}
 use Rattle.cudf_better.specs.Laws.{AreBelow, LessSatisfies, are_less, count, holds}
 
 -- ---- what outputs say
@@ -385,7 +385,7 @@ bounds_satisfied t next strict [] e h = one t strict [] (or_none (is_satisfied_b
 bounds_satisfied t next strict (constraint ∷ constraints) e h =
     let c = counter next constraint in
     let own = evaluates_left t next c.definitions (definitions_of (next + length c.definitions) constraints) e in
-    let u = under_sorted t (constraint.bound + 1) 32 next constraint.formulas own in
+    let u = under_sorted t (output_count constraint) 32 next constraint.formulas own in
     and_then t (clauses_from next c.definitions ++ map (λ variable. strict ++ is_out variable ∷ []) (drop constraint.bound c.outputs))
     (option_map_or (λ own. lexicographic_clauses (next + length c.definitions) (strict ++ own) constraints) (strict_of constraint.bound c.outputs) [])
     (and_then t (clauses_from next c.definitions) (map (λ variable. strict ++ is_out variable ∷ []) (drop constraint.bound c.outputs)) (definitions_satisfied t next c.definitions own)
@@ -532,7 +532,7 @@ steady_sums : (n : ℕ) (xs ys : List ℕ) → Within n xs → Within n ys → (
 steady_sums n xs ys h k zero next s le = tt
 steady_sums n xs ys h k (suc m) next s le = (steady_definition_more n next (sum_definition xs ys s) le (steady_sum n xs ys h k s), steady_sums n xs ys h k m (next + 1) (s + 1) (omega arith))
 
-length_sums : (xs ys : List ℕ) (m s : ℕ) → length (map (sum_definition xs ys) (range_with_len s m)) ≡ m
+pub length_sums : (xs ys : List ℕ) (m s : ℕ) → length (map (sum_definition xs ys) (range_with_len s m)) ≡ m
 length_sums xs ys zero s = refl
 length_sums xs ys (suc m) s = ap suc (length_sums xs ys m (s + 1))
 
@@ -629,7 +629,7 @@ steady_bounds : (next : ℕ) (constraints : List AtMost) → BoundsSteady next c
 steady_bounds next [] h = tt
 steady_bounds next (constraint ∷ constraints) h =
     let c = counter next constraint in
-    steady_append next c.definitions (definitions_of (next + length c.definitions) constraints) (sound_sorted (constraint.bound + 1) 32 next constraint.formulas h.0).0
+    steady_append next c.definitions (definitions_of (next + length c.definitions) constraints) (sound_sorted (output_count constraint) 32 next constraint.formulas h.0).0
     (steady_bounds (next + length c.definitions) constraints (bounds_more next (next + length c.definitions) constraints (omega arith) h.1))
 
 all_true_same : (next : ℕ) (t u : Assignment) → ((variable : ℕ) → variable < next → t variable ≡ u variable) → (term : List Literal) → All (λ l. l.variable < next) term

@@ -1,44 +1,44 @@
 -- The clauses that a status compares better than some counts, in memory.
-use Rattle.std.proofs.Common.{◌≡◌, ℕ, ◌+◌, ◌-◌, ◌<◌, ◌≤◌, ◌^◌, Bool, true, false, not, ◌||◌, cond, List, [], ◌∷◌, ◌++◌, length, get_or, map, take, refl, sym, subst, ap, ◌∙◌, arith}
-use Rattle.std.specs.Prelude.{IfOk, Option, Some, None, Result, Ok, Err, nat_lt}
-use Rattle.std.specs.Option.{option_map_or}
+use Rattle.std.proofs.Common.{◌≡◌, inl, inr, ℕ, ◌+◌, ◌-◌, ◌<◌, ◌≤◌, Bool, true, false, not, ◌||◌, cond, List, [], ◌∷◌, ◌++◌, length, get_or, map, take, refl, sym, subst, ap, ◌∙◌, arith}
+use Rattle.std.specs.Prelude.{IfOk, IfSome, Option, Some, None, Result, Ok, Err, nat_lt}
 use Rattle.std.proofs.lemmas.Bool.Decides.{nat_tests}
 use Rattle.std.proofs.lemmas.Grind.{common_steps}
+use Rattle.std.specs.List.{list_any}
+use Rattle.std.proofs.lemmas.List.Folds.{list_any-append}
 use Rattle.std.proofs.lemmas.List.{length-append, length-map, map-append, take_more}
-use Rattle.std.proofs.lemmas.List.Elements.{All-append, All-cons, All-nil}
 use Rattle.cudf_problem.specs.Universe.{PlainProblem}
 use Rattle.cudf_job.specs.declared.aims.Aim.{Aim}
 use Rattle.cudf_job.specs.declared.aims.Sign.{Sign}
 use Rattle.cudf_job.specs.declared.aims.Sign.TheVariants.{Least, Most}
 use Rattle.cudf_job.specs.Aims.{count_of}
 use Rattle.cudf_job.specs.declared.criteria.Criteria.{Criteria}
-use Rattle.cudf_lrat.specs.declared.cnf.Literal.{Literal}
 use Rattle.cudf_lrat.specs.Literals.{PlainCnf}
 use Rattle.cudf_cnf.specs.Cnf.{Keyed, clauses_of, cnf, is_too_large as is_cnf_too_large}
 use Rattle.cudf_better.specs.declared.constraint.Constraint.{Constraint}
 use Rattle.cudf_better.specs.Better.{Item, better_clauses, constraint_by, constraints, counts_true, false_dnf, items, true_dnf}
-use Rattle.cudf_better.specs.Cardinality.{AtMost, Dnf, counter, lexicographic_clauses, next_variable, strict_of}
-use Rattle.cudf_better.specs.Encodings.{IsEncoded, is_too_large, variables}
+use Rattle.cudf_better.specs.Cardinality.{lexicographic_clauses, next_variable}
+use Rattle.cudf_better.specs.Encodings.{IsEncoded, has_too_many, is_too_large, variables}
 use Rattle.cudf_better.specs.Working.Constraints.{AreConstraints, IsConstraint}
-use Rattle.cudf_better.specs.Working.Definitions.{IsMade, PlainDefinitions, at_most, formulas_of}
+use Rattle.cudf_better.specs.Working.Definitions.{IsMade, PlainDefinitions, Reaches, at_most, formulas_of, with_constraints}
+use Rattle.cudf_better.proofs.PutLemmas.{next_least}
 
 -- ---- sizes
 
-next_least : (next : ℕ) (cs : List AtMost) → next ≤ next_variable next cs
-unfolding next_variable
-next_least next [] = omega arith
-next_least next (c ∷ cs) = by (strict_of c.bound (counter next c).outputs) (next_least (next + length (counter next c).definitions) cs)
-  where
-    by : (o : Option (List Literal)) → next + length (counter next c).definitions ≤ next_variable (next + length (counter next c).definitions) cs
-        → next ≤ option_map_or (λ own. next_variable (next + length (counter next c).definitions) cs) o (next + length (counter next c).definitions)
-    by None h = omega arith
-    by (Some own) h = omega arith
+large : (v n p c : ℕ) (r : Bool) → p ≤ v → c ≤ n → (nat_lt 4294967295 p || nat_lt 4294967295 c) ≡ true → (nat_lt 2147483647 v || (nat_lt 4294967295 n || r)) ≡ true
+large v n p c r a b h = grind (arith, common_steps, nat_tests)
 
-large : (v n p c : ℕ) → p ≤ v → c ≤ n → (nat_lt 4294967295 p || nat_lt 4294967295 c) ≡ true → (nat_lt 2147483647 v || nat_lt 4294967295 n) ≡ true
-large v n p c a b h = grind (arith, common_steps, nat_tests)
+-- all items fit
+without_items : (a b r : Bool) → r ≡ false → (a || (b || r)) ≡ (a || b)
+without_items a b true e = cc
+without_items true b false e = refl
+without_items false true false e = refl
+without_items false false false e = refl
 
-large_packages : (v n p : ℕ) → p ≤ v → 2147483647 < p → (nat_lt 2147483647 v || nat_lt 4294967295 n) ≡ true
-large_packages v n p a h = grind (arith, common_steps, nat_tests)
+many_variables : (v n : ℕ) (r : Bool) → 2147483647 < v → (nat_lt 2147483647 v || (nat_lt 4294967295 n || r)) ≡ true
+many_variables v n r h = grind (arith, common_steps, nat_tests)
+
+not_many : (v n : ℕ) → 2147483647 < v → (nat_lt 2147483647 v || nat_lt 4294967295 n) ≡ false → ⊥
+not_many v n h e = grind (arith, common_steps, nat_tests)
 
 module _ (problem : PlainProblem) (counts : Criteria) (aims : List Aim) where
   has_packages : length problem.packages ≤ variables problem counts aims
@@ -53,20 +53,37 @@ module _ (problem : PlainProblem) (counts : Criteria) (aims : List Aim) where
   )
 
   pub many_packages : 2147483647 < length problem.packages → is_too_large problem counts aims ≡ true
-  many_packages h = large_packages (variables problem counts aims) (length (better_clauses problem counts aims)) (length problem.packages) has_packages h
+  many_packages h = let all = has_packages in many_variables (variables problem counts aims) (length (better_clauses problem counts aims)) (list_any (has_too_many problem) aims) (omega (arith, h))
 
   pub many_rules : is_cnf_too_large problem ≡ true → is_too_large problem counts aims ≡ true
-  many_rules h = large (variables problem counts aims) (length (better_clauses problem counts aims)) (length problem.packages) (length (cnf problem)) has_packages has_rules h
+  many_rules h = large (variables problem counts aims) (length (better_clauses problem counts aims)) (length problem.packages) (length (cnf problem)) (list_any (has_too_many problem) aims) has_packages has_rules h
 
-  pub made_is : (d : PlainDefinitions) (result : Option PlainCnf) → d.next ≡ next_variable (length problem.packages + 1) (constraints problem counts aims)
-      → d.clauses ≡ clauses_of (cnf problem) ++ lexicographic_clauses (length problem.packages + 1) [] (constraints problem counts aims) → IsMade d result → IsEncoded problem counts aims result
+  made_is : (whole d : PlainDefinitions) (result : Option PlainCnf) → list_any (has_too_many problem) aims ≡ false → Reaches whole d → whole ≡ with_constraints (record { next = length problem.packages + 1; clauses = clauses_of (cnf problem) }) [] (constraints problem counts aims)
+      → IsMade d result → IsEncoded problem counts aims result
   unfolding better_clauses
-  made_is d result next clauses made = subst (λ (d : PlainDefinitions). IsMade d result) (λ i. record { next = next i; clauses = clauses i }) made
+  made_is whole d result few (inl same) is made = exact result (subst (λ (d : PlainDefinitions). IsMade d result) (same ∙ is) made)
+    where
+      small : is_too_large problem counts aims ≡ (nat_lt 2147483647 (variables problem counts aims) || nat_lt 4294967295 (length (better_clauses problem counts aims)))
+      small = without_items (nat_lt 2147483647 (variables problem counts aims)) (nat_lt 4294967295 (length (better_clauses problem counts aims))) (list_any (has_too_many problem) aims) few
 
-  pub made_ok : {E : Type 0} (d : PlainDefinitions) (r : Result (Option PlainCnf) E) → d.next ≡ next_variable (length problem.packages + 1) (constraints problem counts aims)
-      → d.clauses ≡ clauses_of (cnf problem) ++ lexicographic_clauses (length problem.packages + 1) [] (constraints problem counts aims) → IfOk r (IsMade d) → IfOk r (IsEncoded problem counts aims)
-  made_ok d (Ok made) next clauses h = made_is d made next clauses h
-  made_ok d (Err e) next clauses h = h
+      exact : (result : Option PlainCnf) → IsMade (record { next = next_variable (length problem.packages + 1) (constraints problem counts aims); clauses = better_clauses problem counts aims }) result → IsEncoded problem counts aims result
+      exact None made = small ∙ made
+      exact (Some held) made = (small ∙ made.0, made.1)
+  made_is whole d None few (inr many) is made = let number = ap (λ (d : PlainDefinitions). d.next) is in many_variables (variables problem counts aims) (length (better_clauses problem counts aims)) (list_any (has_too_many problem) aims) (omega (arith, many.0))
+  made_is whole d (Some cnf) few (inr many) is made = absurd (not_many (d.next - 1) (length d.clauses) (omega (arith, many.1)) made.0)
+
+  pub made_ok : {E : Type 0} (whole d : PlainDefinitions) (r : Result (Option PlainCnf) E) → list_any (has_too_many problem) aims ≡ false → Reaches whole d → whole ≡ with_constraints (record { next = length problem.packages + 1; clauses = clauses_of (cnf problem) }) [] (constraints problem counts aims)
+      → IfOk r (IsMade d) → IfOk r (IsEncoded problem counts aims)
+  made_ok whole d (Ok made) few reached is h = made_is whole d made few reached is h
+  made_ok whole d (Err e) few reached is h = h
+
+pub where_some : {E P : Type 0} (r : Result (Option PlainCnf) E) → P → IfOk r (λ made. IfSome made (λ cnf. P))
+where_some (Ok (Some cnf)) p = p
+where_some (Ok None) p = tt
+where_some (Err e) p = tt
+
+pub fits : (n : ℕ) → n ≤ 18446744073709551615 → nat_lt 18446744073709551615 n ≡ false
+fits n le = grind (arith, nat_tests)
 
 -- ---- constraints
 
@@ -92,11 +109,11 @@ made_most problem aim count made bound is sign same size kind =
 pub constraint_more : (problem : PlainProblem) (counts : Criteria) (aims : List Aim) (aim : Aim) (made : List Constraint) (next : Constraint) → AreConstraints problem counts aims made → IsConstraint problem aim (count_of counts aim.count) next
     → AreConstraints problem counts (aims ++ aim ∷ []) (made ++ next ∷ [])
 constraint_more problem counts aims aim made next so_far one =
-    let P : Constraint → Type 0 = λ b. b.bound < 2 ^ 32 in (
-      All-append P made (next ∷ []) so_far.0 (All-cons P next [] one.0 (All-nil P)),
-      map-append (λ (b : Constraint). at_most b.bound b.formulas) made (next ∷ []) ∙ (λ i. so_far.1 i ++ one.1 i ∷ [])
-          ∙ sym (map-append (λ (a : Aim). constraint_by problem a.sign a.count (count_of counts a.count)) aims (aim ∷ [])),
-    )
+    record {
+      are = map-append (λ (b : Constraint). at_most b.bound b.formulas) made (next ∷ []) ∙ (λ i. so_far.are i ++ one.is i ∷ [])
+          ∙ sym (map-append (λ (a : Aim). constraint_by problem a.sign a.count (count_of counts a.count)) aims (aim ∷ []));
+      few = list_any-append (has_too_many problem) aims (aim ∷ []) ∙ (λ i. so_far.few i || (one.few i || false));
+    }
 
 -- the next aim's, by an index
 pub constraint_next : (problem : PlainProblem) (counts : Criteria) (aims : List Aim) (i : ℕ) (aim : Aim) (made now : List Constraint) (next : Constraint) (count : ℕ) → i < length aims → AreConstraints problem counts (take i aims) made → IsConstraint problem aim count next
@@ -105,8 +122,3 @@ constraint_next problem counts aims i aim made now next count lt so_far one coun
     subst (λ (now : List Constraint). AreConstraints problem counts (take (i + 1) aims) now) (sym pushed)
     (subst (λ (first : List Aim). AreConstraints problem counts first (made ++ next ∷ [])) (sym (take_more aims i aim lt ∙ ap (λ (a : Aim). take i aims ++ a ∷ []) (sym here)))
     (constraint_more problem counts (take i aims) aim made next so_far (subst (λ (n : ℕ). IsConstraint problem aim n next) counted one)))
-
-pub constraint_put : {E : Type 0} (problem : PlainProblem) (aim : Aim) (count : ℕ) (r : Result Constraint E) (bound : ℕ) (formulas : List Dnf) → IfOk r (λ m. m.bound < 2 ^ 32) → IfOk r (λ m. at_most m.bound m.formulas ≡ at_most bound formulas)
-    → at_most bound formulas ≡ constraint_by problem aim.sign aim.count count → IfOk r (IsConstraint problem aim count)
-constraint_put problem aim count (Ok m) bound formulas small is same = (small, is ∙ same)
-constraint_put problem aim count (Err e) bound formulas small is same = small

@@ -1,11 +1,11 @@
 -- A solution that compares better than an answer satisfies the clauses.
 use Rattle.std.proofs.Common.{◌≡◌, ℕ, suc, ◌+◌, ◌-◌, ◌<◌, ◌≤◌, ◌==◌, ◌⊎◌, inl, inr, ⊎_elim, get_or, Bool, true, false, not, ◌&&◌, ◌||◌, cond, List, [], ◌∷◌, length, map, filter, refl, sym, subst, ap, ◌∙◌, arith}
 use Rattle.std.specs.Prelude.{All, IsTrue, Some, find, nat_lt, nat_le}
-use Rattle.std.specs.List.{count_by, enumerate_from, flat_map, list_all}
+use Rattle.std.specs.List.{count_by, enumerate_from, flat_map, list_all, list_any}
 use Rattle.std.specs.Ordering.{nat_cmp}
 use Rattle.std.specs.Option.{option_map_or}
 use Rattle.std.specs.declared.cmp.Ordering.TheVariants.{Less, Equal, Greater}
-use Rattle.std.proofs.lemmas.Bool.{eqb-true, ltb-true}
+use Rattle.std.proofs.lemmas.Bool.{eqb-true, ltb-false, ltb-true}
 use Rattle.std.proofs.lemmas.Bool.Decides.{nat_tests}
 use Rattle.std.proofs.lemmas.List.Elements.{All-append, All-cons, All-filter, All-head, All-map, All-nil, All-tail, All-weaker}
 use Rattle.std.proofs.lemmas.List.Sums.{AllPass-from_list_all, count_by-le-length}
@@ -34,6 +34,8 @@ use Rattle.cudf_cnf.specs.Laws.{proposed}
 use Rattle.cudf_cnf.proofs.LawLemmas.{solution_satisfies}
 use Rattle.cudf_better.specs.Better.{Item, all_packages, better_clauses, constraint_by, constraints, had_package, changed_item, changes, counts_true, false_dnf, has_item, true_dnf, item, items, missed_items, names, outdated_item}
 use Rattle.cudf_better.specs.Cardinality.{AtMost, lexicographic_clauses}
+use Rattle.cudf_better.specs.Encodings.{has_too_many, variables}
+use Rattle.cudf_better.proofs.NamesLemmas.{or_parts}
 use Rattle.cudf_better.specs.Laws.{BetterSatisfies, RefutedIsBest, are_less, count, holds}
 use Rattle.cudf_better.proofs.CardinalityLemmas.{less_satisfies}
 use Rattle.cudf_better.proofs.BetterLemmas.{changed_count, count_both, count_map, count_same, false_is, true_is, item_holds, missed_count, new_count, outdated_count, removed_count, touched_count}
@@ -142,16 +144,16 @@ module _ (problem : PlainProblem) (is : Assignment) (distinct : are_distinct (ma
       let all = count_both (counted is c) (items problem c) in
       kept (count is (constraint_by problem Most c n)) (length (items problem c) - n) rest (⊎_elim (λ lt. inl (omega arith)) (λ eq. let e = eq.0 in inr (omega arith, eq.1)) h)
 
-  less_from : (aims : List Aim) (d : Criteria) → All (λ (aim : Aim). length (items problem aim.count) ≤ 18446744073709551615) aims → compare aims (criteria new) d ≡ Less
+  less_from : (aims : List Aim) (d : Criteria) → list_any (has_too_many problem) aims ≡ false → compare aims (criteria new) d ≡ Less
       → are_less is (map (λ aim. constraint_by problem aim.sign aim.count (count_of d aim.count)) aims) ≡ true
   less_from [] d few h = absurd (cc h)
   less_from (aim ∷ aims) d few h =
-      let P : Aim → Type 0 = λ aim. length (items problem aim.count) ≤ 18446744073709551615 in
+      let both = or_parts (has_too_many problem aim) (list_any (has_too_many problem) aims) few in
       let m = count_of (criteria new) aim.count in
       let n = count_of d aim.count in
       let rest = are_less is (map (λ aim. constraint_by problem aim.sign aim.count (count_of d aim.count)) aims) in
-      one_bound aim.sign aim.count n rest (All-head P aim aims few)
-      (by (m == n) refl h (λ less. less_from aims d (All-tail P aim aims few) less))
+      one_bound aim.sign aim.count n rest (ltb-false 18446744073709551615 (length (items problem aim.count)) both.0)
+      (by (m == n) refl h (λ less. less_from aims d both.1 less))
     where
       by : (b : Bool) → (count_of (criteria new) aim.count == count_of d aim.count) ≡ b
           → option_map_or (aim_cmp (criteria new) d) (cond (not b) (Some aim) (find (differ_in (criteria new) d) aims)) Equal ≡ Less
@@ -266,10 +268,12 @@ and_last false b h = cc
 
 pub better_satisfies : BetterSatisfies
 unfolding better_clauses
-better_satisfies problem counts aims ok is unknown solution better =
+better_satisfies problem counts aims distinct small is unknown solution better =
     let next = length problem.packages + 1 in
     let low : All (λ (q : Placed). q.0 < next) (all_packages problem) = subst (λ (m : ℕ). All (λ (q : Placed). q.0 < m) (enumerate_from 1 problem.packages)) (omega arith) (low_places 1 problem.packages) in
-    let fewer = less_from problem is ok.distinct aims counts ok.few (same_criteria ∙ better) in
+    let few = (or_parts (nat_lt 4294967295 (length (better_clauses problem counts aims))) (list_any (has_too_many problem) aims)
+    (or_parts (nat_lt 2147483647 (variables problem counts aims)) (nat_lt 4294967295 (length (better_clauses problem counts aims)) || list_any (has_too_many problem) aims) small).1).1 in
+    let fewer = less_from problem is distinct aims counts few (same_criteria ∙ better) in
     let P : AtMost → Type 0 = λ b. All (All (All (λ (l : Literal). l.variable < next))) b.formulas in
     let f = less_satisfies next is (constraints problem counts aims) (All-map P (λ (aim : Aim). constraint_by problem aim.sign aim.count (count_of counts aim.count)) aims (λ k d lt. low_bound next problem low (get_or aims k d).sign (get_or aims k d).count (count_of counts (get_or aims k d).count))) fewer in
     let same = members_same f.extended is 1 problem.packages (λ place lt. f.same place (omega arith)) in
@@ -286,9 +290,9 @@ better_satisfies problem counts aims ok is unknown solution better =
     same_criteria = ap (λ c. compare aims c counts) (criteria_same problem is unknown)
 
 pub refuted_is_best : RefutedIsBest
-refuted_is_best problem counts aims ok core refuted is unknown solution better =
+refuted_is_best problem counts aims distinct small core refuted is unknown solution better =
     let clauses = better_clauses problem counts aims in
-    let f = better_satisfies problem counts aims ok is unknown solution better in
+    let f = better_satisfies problem counts aims distinct small is unknown solution better in
     refuted.1 f.extended
     (All-map (λ clause. IsTrue (is_satisfied_by f.extended clause)) (clause_at clauses) core
     (λ k d lt. let inside = refuted.0 k d lt in f.all (get_or core k d - 1) [] (omega arith)))

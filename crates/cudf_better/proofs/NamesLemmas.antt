@@ -23,7 +23,7 @@ Name = List ℕ
 
 -- ---- tests of lists
 
-or_parts : (a b : Bool) → (a || b) ≡ false → (a ≡ false) × (b ≡ false)
+pub or_parts : (a b : Bool) → (a || b) ≡ false → (a ≡ false) × (b ≡ false)
 or_parts true b h = cc
 or_parts false b h = (refl, h)
 

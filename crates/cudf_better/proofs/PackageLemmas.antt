@@ -1,5 +1,5 @@
 -- The items of packages, and of what they recommend, package by package.
-use Rattle.std.proofs.Common.{◌≡◌, ℕ, zero, suc, ◌+◌, ◌<◌, ◌≤◌, ◌==◌, Bool, true, false, not, ◌&&◌, ◌||◌, cond, List, [], ◌∷◌, ◌++◌, length, get_or, map, filter, take, refl, sym, ap, ◌∙◌, arith}
+use Rattle.std.proofs.Common.{◌≡◌, ℕ, zero, suc, ◌+◌, ◌<◌, ◌≤◌, ◌==◌, Bool, true, false, not, ◌&&◌, cond, List, [], ◌∷◌, ◌++◌, length, get_or, map, filter, take, refl, sym, ap, ◌∙◌, arith}
 use Rattle.std.specs.Prelude.{Option, unwrap_or}
 use Rattle.std.specs.List.{enumerate_from, flat_map, list_any}
 use Rattle.std.specs.Option.{option_or, option_and_then}
@@ -19,6 +19,7 @@ use Rattle.cudf_cnf.proofs.PlaceLemmas.{one_of-where}
 use Rattle.cudf_cnf.proofs.ProblemLemmas.{package_at_index}
 use Rattle.cudf_better.specs.Better.{Item, all_packages, changes, item, missed_items}
 use Rattle.cudf_better.specs.Working.Sources.{change_at, missed_by}
+use Rattle.cudf_better.proofs.BetterLemmas.{and_swap, any_same, or_false}
 use Rattle.cudf_better.proofs.SourceLemmas.{change_is, place_at}
 
 module _ (problem : PlainProblem) where
@@ -66,24 +67,10 @@ module _ (problem : PlainProblem) where
   passes test i d lt =
       let all = all_packages problem in
       list_any-filter (λ (q : Placed). q.0 == i + 1) test all
-      ∙ any_swap test (λ (q : Placed). q.0 == i + 1) all
+      ∙ any_same (λ (q : Placed). test q && q.0 == i + 1) (λ q. q.0 == i + 1 && test q) (λ q. and_swap (test q) (q.0 == i + 1)) all
       ∙ sym (list_any-filter test (λ (q : Placed). q.0 == i + 1) all)
       ∙ ap (list_any test) (package_at_index ps i d lt)
       ∙ or_false (test (i + 1, get_or ps i d))
-    where
-      or_false : (b : Bool) → (b || false) ≡ b
-      or_false true = refl
-      or_false false = refl
-
-      and_swap : (a b : Bool) → (a && b) ≡ (b && a)
-      and_swap true true = refl
-      and_swap true false = refl
-      and_swap false true = refl
-      and_swap false false = refl
-
-      any_swap : (p q : Placed → Bool) (xs : List Placed) → list_any (λ x. p x && q x) xs ≡ list_any (λ x. q x && p x) xs
-      any_swap p q [] = refl
-      any_swap p q (x ∷ xs) = λ j. and_swap (p x) (q x) j || any_swap p q xs j
 
   pub missed_met : (place : ℕ) (clause : List PlainAtom) (is : Bool) (every : List Placed) (old : List Item) → every ≡ all_packages problem → is ≡ true → is ≡ holds_place (filter (meets_clause_alone clause) every) place
       → old ≡ old ++ missed_by problem place clause

@@ -44,11 +44,13 @@ both_of g h = flat_map (λ term. map (λ more. term ++ more) h) g
 abbrev pub sum_definition : List ℕ → List ℕ → ℕ → Dnf
 sum_definition xs ys n = flat_map (λ i. both_of (at_least i xs) (at_least (n - i) ys)) (range_with_len 0 (n + 1))
 
--- two sorted lists merged by their sums: an output for each sum, up to `most`
+-- two sorted lists merged by their sums: an output for each sum, up to so many
+abbrev pub sums : ℕ → List ℕ → List ℕ → ℕ → Network
+sums next xs ys n = record { definitions = map (sum_definition xs ys) (range_with_len 1 n); outputs = range_with_len next n }
+
+-- up to `most`
 unfoldable pub added : ℕ → ℕ → List ℕ → List ℕ → Network
-added most next xs ys =
-    let n = min most (length xs + length ys) in
-    record { definitions = map (sum_definition xs ys) (range_with_len 1 n); outputs = range_with_len next n }
+added most next xs ys = sums next xs ys (min most (length xs + length ys))
 
 -- comparators: for the two variables of each index one that is true where one of them is, and one where both are
 unfoldable pub compared : ℕ → List ℕ → List ℕ → Network
@@ -102,9 +104,13 @@ pub record AtMost : Type 0 where
   pub formulas : List Dnf
   pub bound : ℕ
 
--- the formulas sorted, with one output more than may be true
+-- so many outputs: one more than may be true, at most one for each formula
+abbrev pub output_count : AtMost → ℕ
+output_count constraint = min (constraint.bound + 1) (length constraint.formulas)
+
+-- the formulas sorted
 abbrev pub counter : ℕ → AtMost → Network
-counter next constraint = sorted (constraint.bound + 1) 32 next constraint.formulas
+counter next constraint = sorted (output_count constraint) 32 next constraint.formulas
 
 -- the literals of which one is true where fewer are than the bound allows, by the outputs: none where it is 0; `None` where there
 -- are fewer formulas than that

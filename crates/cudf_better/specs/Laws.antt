@@ -1,5 +1,5 @@
 -- What the clauses of a better answer say: own.
-use Rattle.std.specs.Prelude.{◌≡◌, ◌+◌, ◌<◌, ◌≤◌, ℕ, Bool, true, false, ◌&&◌, ◌||◌, nat_lt, nat_le, List, [], ◌∷◌, length, map, All}
+use Rattle.std.specs.Prelude.{◌≡◌, ◌+◌, ◌<◌, ℕ, Bool, true, false, ◌&&◌, ◌||◌, nat_lt, nat_le, List, [], ◌∷◌, length, map, All}
 use Rattle.std.specs.List.{list_any, list_all, count_by}
 use Rattle.std.specs.declared.cmp.Ordering.TheVariants.{Less}
 use Rattle.cudf_problem.specs.Promises.Packages.{are_distinct}
@@ -13,7 +13,8 @@ use Rattle.cudf_lrat.specs.Literals.{Assignment, IsCore, SatisfiesAll, is_true_i
 use Rattle.cudf_referee.specs.Criteria.{criteria}
 use Rattle.cudf_referee.specs.Solutions.{is_solution}
 use Rattle.cudf_cnf.specs.Laws.{proposed}
-use Rattle.cudf_better.specs.Better.{better_clauses, items}
+use Rattle.cudf_better.specs.Better.{better_clauses}
+use Rattle.cudf_better.specs.Encodings.{is_too_large}
 use Rattle.cudf_better.specs.Cardinality.{AtMost, Dnf, lexicographic_clauses}
 
 -- ---- cardinality constraints
@@ -47,22 +48,17 @@ LessSatisfies = (next : ℕ) (true_at : Assignment) (constraints : List AtMost) 
 
 -- ---- better solutions
 
--- no pair of the problem occurs twice, and the counts of these aims fit their type
-pub record IsCountable (problem : PlainProblem) (aims : List Aim) : Type 0 where
-  pub distinct : are_distinct (map package_id problem.packages) ≡ true
-  pub few : All (λ (aim : Aim). length (items problem aim.count) ≤ 18446744073709551615) aims
-
 -- a solution that compares better than these counts by the aims satisfies the clauses, with some truth of the variables behind the
 -- packages
 abbrev pub BetterSatisfies : Type 0
-BetterSatisfies = (problem : PlainProblem) (counts : Criteria) (aims : List Aim) → IsCountable problem aims
+BetterSatisfies = (problem : PlainProblem) (counts : Criteria) (aims : List Aim) → are_distinct (map package_id problem.packages) ≡ true → is_too_large problem counts aims ≡ false
     → (is_installed : Assignment) (unknown : List PlainUnknown) → is_solution (proposed problem is_installed unknown) ≡ true
     → compare aims (criteria (proposed problem is_installed unknown)) counts ≡ Less
     → Satisfied (length problem.packages + 1) is_installed (better_clauses problem counts aims)
 
 -- so where some of them are refuted, no solution compares better
 abbrev pub RefutedIsBest : Type 0
-RefutedIsBest = (problem : PlainProblem) (counts : Criteria) (aims : List Aim) → IsCountable problem aims
+RefutedIsBest = (problem : PlainProblem) (counts : Criteria) (aims : List Aim) → are_distinct (map package_id problem.packages) ≡ true → is_too_large problem counts aims ≡ false
     → (core : List ℕ) → IsCore (better_clauses problem counts aims) core
     → (is_installed : Assignment) (unknown : List PlainUnknown) → is_solution (proposed problem is_installed unknown) ≡ true
     → ¬ (compare aims (criteria (proposed problem is_installed unknown)) counts ≡ Less)

@@ -1,16 +1,16 @@
 //! Cardinality constraints.
-ghost use Rattle.std.specs.Prelude.{◌≡◌, ◌^◌, ◌<◌, ◌++◌, ◌∷◌, [], All, IfOk, OnOk, map};
+ghost use Rattle.std.specs.Prelude.{◌≡◌, ◌++◌, ◌∷◌, [], IfOk, OnOk, drop, map};
 ghost use Rattle.cudf_cnf.specs.Cnf.{is_out};
-ghost use Rattle.cudf_better.specs.Cardinality.{counter, lexicographic_clauses, next_variable, strict_of};
-ghost use Rattle.cudf_better.specs.Working.Definitions.{IsStrict, at_most, with_constraint, with_clauses};
+ghost use Rattle.cudf_better.specs.Cardinality.{strict_of};
+ghost use Rattle.cudf_better.specs.Working.Definitions.{IsBounded, IsStrict, Reaches, at_most, with_clauses, with_constraints};
 ghost use Rattle.cudf_better.specs.Working.Constraints.{constraints_of};
 
 use crate::definitions::Definitions;
 use crate::formulas::Formulas;
-use crate::sorted::put_sorted;
+use crate::sorted::put_counter;
 use cudf_cnf::is_out;
 use cudf_lrat::Literal;
-use std::alloc::{AllocError, Global};
+use std::alloc::AllocError;
 
 /// Puts that each variable is false, or one of the literals is true.
 fn put_kept(
@@ -26,30 +26,17 @@ fn put_kept(
     Ok(())
 }
 
-/// Puts a counter of the formulas, and that at most so many are true unless one of the literals is. Adds the literal that
-/// fewer are. `false`: fewer are in any case.
-pub(crate) fn put_constraint(
-    alloc: Global,
+/// Puts that at most so many of the sorted variables are true unless one of the literals is. Adds the literal that fewer are.
+/// `false`: fewer are in any case.
+fn put_bound(
     definitions: &mut Definitions,
-    formulas: &Formulas,
+    outputs: &[u32],
     most: usize,
     strict: &mut Vec<Literal>,
 ) -> Result<bool, AllocError>
-    requires { most < 2 ^ 32 }
-    ensures definitions { IfOk result (λ more. definitions.new ≡ with_constraint definitions.old strict.old.items (at_most most formulas.now)) }
-    ensures strict { IfOk result (λ more. IsStrict more (strict_of most (counter definitions.old.next (at_most most formulas.now)).outputs) strict.old.items strict.new.items) }
+    ensures definitions { IfOk result (λ more. definitions.new ≡ with_clauses definitions.old (map (λ variable. strict.old.items ++ is_out variable ∷ []) (drop most outputs.now))) }
+    ensures strict { IfOk result (λ more. IsStrict more (strict_of most outputs.now) strict.old.items strict.new.items) }
 {
-    let count = formulas.len();
-    let outputs = put_sorted(
-        alloc,
-        definitions,
-        formulas,
-        most + 1,
-        32,
-        4294967296,
-        0,
-        count,
-    )?;
     let first = most.min(outputs.len());
     let over = &outputs[first..];
     put_kept(definitions, strict, over)?;
@@ -64,6 +51,21 @@ pub(crate) fn put_constraint(
     Ok(true)
 }
 
+/// Puts a counter of the formulas, and that at most so many are true unless one of the literals is. Adds the literal that
+/// fewer are. `false`: fewer are in any case.
+pub(crate) fn put_constraint(
+    definitions: &mut Definitions,
+    formulas: &Formulas,
+    most: usize,
+    strict: &mut Vec<Literal>,
+) -> Result<bool, AllocError>
+    ensures { IfOk result (λ more. IsBounded more (at_most most formulas.now) definitions.old strict.old.items definitions.new strict.new.items) }
+{
+    let outputs = put_counter(definitions, formulas, most)?;
+    let more = put_bound(definitions, &outputs, most, strict)?;
+    Ok(more)
+}
+
 /// At most so many of the formulas are to be true.
 #[derive(Drop)]
 pub(crate) struct Constraint {
@@ -73,23 +75,15 @@ pub(crate) struct Constraint {
 
 /// Puts that some constraint is strict, and that all before it are satisfied.
 pub(crate) fn put_constraints(
-    alloc: Global,
     definitions: &mut Definitions,
     constraints: &[Constraint],
 ) -> Result<(), AllocError>
-    requires { All (λ b. b.bound < 2 ^ 32) constraints.now }
-    ensures clauses { OnOk result (definitions.new.clauses ≡ definitions.old.clauses ++ lexicographic_clauses definitions.old.next [] (constraints_of constraints.now)) }
-    ensures next { OnOk result (definitions.new.next ≡ next_variable definitions.old.next (constraints_of constraints.now)) }
+    ensures { OnOk result (Reaches (with_constraints definitions.old [] (constraints_of constraints.now)) definitions.new) }
 {
-    let mut strict = Vec::new(alloc);
+    let mut strict = Vec::new(definitions.alloc());
     for constraint in constraints {
-        if !put_constraint(
-            alloc,
-            definitions,
-            &constraint.formulas,
-            constraint.bound,
-            &mut strict,
-        )? {
+        let formulas = &constraint.formulas;
+        if !put_constraint(definitions, formulas, constraint.bound, &mut strict)? {
             return Ok(());
         }
     }

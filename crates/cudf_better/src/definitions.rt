@@ -13,6 +13,7 @@ pub(crate) const MOST_VARIABLES: u32 = 2_147_483_647;
 /// Clauses, and the number of the next auxiliary variable.
 #[derive(Drop)]
 pub(crate) struct Definitions {
+    alloc: Global,
     clauses: Lists<Literal>,
     next: u32,
     scratch: Vec<Literal>,
@@ -39,17 +40,23 @@ pub(crate) fn add_negated(literals: &mut Vec<Literal>, others: &[Literal]) -> Re
 
 impl Definitions {
     ghost use Rattle.std.specs.Prelude.{◌≡◌, ◌+◌, ◌++◌, ◌∷◌, [], OnOk, IfOk};
-    ghost use Rattle.cudf_better.specs.Working.Definitions.{IsMade, with_clauses, with_terms};
+    ghost use Rattle.cudf_better.specs.Working.Definitions.{IsMade, ended, with_clauses, with_terms};
 
     /// Without clauses; the first variable that is defined is `next`. Takes no memory.
     pub(crate) fn new(alloc: Global, next: u32) -> Self
         ensures { result ≡ record { next = next; clauses = [] } }
     {
         Definitions {
+            alloc,
             clauses: Lists::new(alloc),
             next,
             scratch: Vec::new(alloc),
         }
+    }
+
+    /// Where its memory comes from.
+    pub(crate) fn alloc(&self) -> Global {
+        self.alloc
     }
 
     /// Puts a clause of the next variable's definition: it is true where all of these literals are.
@@ -89,21 +96,14 @@ impl Definitions {
         Ok(())
     }
 
-    /// Ends the next variable's definition: the variable.
-    ///
-    /// # Errors
-    ///
-    /// `AllocError` where there are too many variables for a `u32`.
-    pub(crate) fn end(&mut self) -> Result<u32, AllocError>
-        ensures variable { IfOk result (λ variable. variable ≡ self.old.next) }
-        ensures next { OnOk result (self.new ≡ record self.old { next = self.old.next + 1 }) }
+    /// Ends the next variable's definition: the variable. 4294967295 is given again and again; `into_cnf` then gives `None`.
+    pub(crate) fn end(&mut self) -> u32
+        ensures variable { result ≡ self.old.next }
+        ensures next { self.new ≡ ended self.old }
     {
         let variable = self.next;
-        if variable == u32::MAX {
-            return Err(AllocError);
-        }
-        self.next = variable + 1;
-        Ok(variable)
+        self.next = variable.saturating_add(1);
+        variable
     }
 
     /// The clauses, over the variables before the next one. `None` where there are more than 2147483647 variables or 4294967295

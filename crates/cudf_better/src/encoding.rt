@@ -1,5 +1,7 @@
 //! The clauses that a status compares better than some counts.
-ghost use Rattle.std.specs.Prelude.{◌≡◌, ◌<◌, ◌≤◌, ◌^◌, ◌++◌, IfOk, OnOk, length};
+ghost use Rattle.std.specs.Prelude.{◌≡◌, ◌≤◌, ◌++◌, IfOk, IfSome, OnOk, length, map, true};
+ghost use Rattle.cudf_problem.specs.Promises.Packages.{are_distinct};
+ghost use Rattle.cudf_problem.specs.Universe.{package_id};
 ghost use Rattle.cudf_cnf.specs.Cnf.{clauses_of, cnf};
 ghost use Rattle.cudf_better.specs.Better.{counts_true, items};
 ghost use Rattle.cudf_better.specs.Encodings.{IsEncoded};
@@ -57,28 +59,16 @@ fn counts_true(count: Count) -> bool
 }
 
 /// That at most so many items are true, or at most so many aren't.
-///
-/// # Errors
-///
-/// `AllocError` where the bound is 4294967296 or more, so that there are too many items.
-fn constraint(items: Items, is_true: bool, bound: usize) -> Result<Constraint, AllocError>
-    ensures small { IfOk result (λ made. made.bound < 2 ^ 32) }
-    ensures constraint { IfOk result (λ made. at_most made.bound made.formulas ≡ at_most bound (formulas_of is_true items)) }
+fn constraint(items: Items, is_true: bool, bound: usize) -> Constraint
+    ensures { at_most result.bound result.formulas ≡ at_most bound (formulas_of is_true items) }
 {
-    if bound > u32::MAX as usize {
-        return Err(AllocError);
-    }
-    Ok(Constraint {
+    Constraint {
         formulas: Formulas::of(items, is_true),
         bound,
-    })
+    }
 }
 
 /// That the count of an aim is no worse than this.
-///
-/// # Errors
-///
-/// `AllocError` where memory is refused, or 4294967296 items or more could be counted.
 fn constraint_of(
     alloc: Global,
     source: &Source<'_, '_>,
@@ -89,11 +79,12 @@ fn constraint_of(
 {
     let items = items_of(alloc, source, aim.count)?;
     let is_true = counts_true(aim.count);
+    let total = items.len();
     match aim.sign {
-        Sign::Least => constraint(items, is_true, count as usize),
+        Sign::Least => Ok(constraint(items, is_true, count as usize)),
         Sign::Most => {
-            let bound = items.len().saturating_sub(count as usize);
-            constraint(items, !is_true, bound)
+            let bound = total.saturating_sub(count as usize);
+            Ok(constraint(items, !is_true, bound))
         }
     }
 }
@@ -132,14 +123,14 @@ fn better_of(
     let next = problem.packages().len() as u32 + 1;
     let mut definitions = Definitions::new(alloc, next);
     definitions.put_all(rules)?;
-    put_constraints(alloc, &mut definitions, &constraints)?;
+    put_constraints(&mut definitions, &constraints)?;
     definitions.into_cnf()
 }
 
 /// The clauses of a problem, as [`cudf_cnf::encoded`] gives them, and behind them those that a status compares better than some
 /// counts by the aims: the first variables are the packages, the others are auxiliary. Where some solution compares better
-/// they can be satisfied together (the law `better`); without aims none does. `None` where there would be more than 2147483647 variables or
-/// 4294967295 clauses (own).
+/// they can be satisfied together (the law `better`, whose premises hold where there are clauses); without aims none does. `None` where there would be more
+/// than 2147483647 variables or 4294967295 clauses (own).
 ///
 /// # Errors
 ///
@@ -150,7 +141,8 @@ pub fn encoded(
     counts: &Criteria,
     aims: &[Aim],
 ) -> Result<Option<Cnf>, AllocError>
-    ensures { IfOk result (IsEncoded problem.now counts.now aims.now) }
+    ensures encoded { IfOk result (IsEncoded problem.now counts.now aims.now) }
+    ensures distinct { IfOk result (λ made. IfSome made (λ cnf. are_distinct (map package_id problem.now.packages) ≡ true)) }
 {
     let Some(rules) = cudf_cnf::encoded(alloc, problem)? else {
         return Ok(None);

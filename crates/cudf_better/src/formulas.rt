@@ -6,12 +6,11 @@ ghost use Rattle.cudf_better.specs.Working.Definitions.{with_terms};
 use crate::definitions::{Definitions, add_negated};
 use crate::items::Items;
 use cudf_lrat::Literal;
-use std::alloc::{AllocError, Global};
+use std::alloc::AllocError;
 use std::marker::Model;
 
 /// Puts the next variable's definition: it is true where the item is.
 fn put_true(
-    alloc: Global,
     definitions: &mut Definitions,
     some: &[Literal],
     none: &[Literal],
@@ -19,7 +18,7 @@ fn put_true(
     ensures { OnOk result (definitions.new ≡ with_terms definitions.old (true_dnf (item some.now none.now))) }
 {
     for literal in some {
-        let mut term = Vec::new(alloc);
+        let mut term = Vec::new(definitions.alloc());
         term.push(*literal)?;
         add_negated(&mut term, none)?;
         definitions.put(&term)?;
@@ -39,14 +38,13 @@ fn put_each(definitions: &mut Definitions, literals: &[Literal]) -> Result<(), A
 
 /// Puts the next variable's definition: it is true where the item isn't.
 fn put_false(
-    alloc: Global,
     definitions: &mut Definitions,
     some: &[Literal],
     none: &[Literal],
 ) -> Result<(), AllocError>
     ensures { OnOk result (definitions.new ≡ with_terms definitions.old (false_dnf (item some.now none.now))) }
 {
-    let mut term = Vec::new(alloc);
+    let mut term = Vec::new(definitions.alloc());
     add_negated(&mut term, some)?;
     definitions.put(&term)?;
     put_each(definitions, none)
@@ -88,22 +86,17 @@ impl Formulas {
     }
 
     /// Puts the next variable's definition: it is true where a formula is, by its index from 0.
-    pub(crate) fn put(
-        &self,
-        alloc: Global,
-        definitions: &mut Definitions,
-        index: usize,
-    ) -> Result<(), AllocError>
+    pub(crate) fn put(&self, definitions: &mut Definitions, index: usize) -> Result<(), AllocError>
         requires { index < length self.now }
         ensures { OnOk result (definitions.new ≡ with_terms definitions.old (slice_index_or self.now index [])) }
     {
         let some = self.items.some(index);
         let none = self.items.none(index);
         if self.is_true {
-            put_true(alloc, definitions, some, none)?;
+            put_true(definitions, some, none)?;
             return Ok(());
         }
-        put_false(alloc, definitions, some, none)?;
+        put_false(definitions, some, none)?;
         Ok(())
     }
 }

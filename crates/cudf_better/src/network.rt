@@ -1,7 +1,7 @@
 //! Merging of two sorted lists of variables.
-ghost use Rattle.std.specs.Prelude.{◌≡◌, ◌++◌, OnOk, IfOk, ◌≤◌, drop, length, map, min};
+ghost use Rattle.std.specs.Prelude.{◌≡◌, ◌≤◌, [], OnOk, IfOk, drop, length, take};
 ghost use Rattle.cudf_better.specs.Cardinality.{added, at_least, both_of, compared, evens, merged, sum_definition};
-ghost use Rattle.cudf_better.specs.Working.Definitions.{is_direct, with_terms, with_definitions};
+ghost use Rattle.cudf_better.specs.Working.Definitions.{Puts, is_direct, with_terms};
 
 use crate::definitions::Definitions;
 use cudf_cnf::is_in;
@@ -50,24 +50,23 @@ fn put_sum(
     Ok(())
 }
 
-/// Merges two sorted lists by their sums up to `most`, and adds the outputs.
+/// Merges two sorted lists by their sums up to `most`: the outputs.
 fn put_added(
     definitions: &mut Definitions,
     most: usize,
     xs: &[u32],
     ys: &[u32],
-    outputs: &mut Vec<u32>,
-) -> Result<(), AllocError>
-    ensures definitions { OnOk result (definitions.new ≡ with_definitions definitions.old (added most definitions.old.next xs.now ys.now).definitions) }
-    ensures outputs { OnOk result (outputs.new.items ≡ outputs.old.items ++ (added most definitions.old.next xs.now ys.now).outputs) }
+) -> Result<Vec<u32>, AllocError>
+    ensures { IfOk result (λ outputs. Puts (added most definitions.old.next xs.now ys.now) definitions.old [] definitions.new outputs.items) }
 {
+    let mut outputs = Vec::new(definitions.alloc());
     let n = most.min(xs.len() + ys.len());
     for total in 0..n {
         put_sum(definitions, xs, ys, total + 1)?;
-        let variable = definitions.end()?;
+        let variable = definitions.end();
         outputs.push(variable)?;
     }
-    Ok(())
+    Ok(outputs)
 }
 
 /// Puts a comparator for the two variables of each index, and adds the outputs; those without another as they are.
@@ -77,8 +76,7 @@ fn put_compared(
     ys: &[u32],
     outputs: &mut Vec<u32>,
 ) -> Result<(), AllocError>
-    ensures definitions { OnOk result (definitions.new ≡ with_definitions definitions.old (compared definitions.old.next xs.now ys.now).definitions) }
-    ensures outputs { OnOk result (outputs.new.items ≡ outputs.old.items ++ (compared definitions.old.next xs.now ys.now).outputs) }
+    ensures { OnOk result (Puts (compared definitions.old.next xs.now ys.now) definitions.old outputs.old.items definitions.new outputs.new.items) }
 {
     let n = xs.len().min(ys.len());
     for i in 0..n {
@@ -86,10 +84,10 @@ fn put_compared(
         let y = is_in(ys[i] as u64);
         definitions.put(&[x])?;
         definitions.put(&[y])?;
-        let one = definitions.end()?;
+        let one = definitions.end();
         outputs.push(one)?;
         definitions.put(&[x, y])?;
-        let both = definitions.end()?;
+        let both = definitions.end();
         outputs.push(both)?;
     }
     let more = &xs[n..];
@@ -123,59 +121,56 @@ fn is_direct(depth: u32, xs: &[u32], ys: &[u32]) -> bool
     depth == 0 || (xs.len() <= SHORT && ys.len() <= SHORT)
 }
 
-/// Merges two sorted lists, and adds the outputs.
+/// The same variables.
+fn copied(alloc: Global, variables: &[u32]) -> Result<Vec<u32>, AllocError>
+    ensures { IfOk result (λ copy. copy.items ≡ variables.now) }
+{
+    let mut copy = Vec::new(alloc);
+    copy.extend_from_slice(variables)?;
+    Ok(copy)
+}
+
+/// Puts the last step of a merge, where the elements of even index and those of odd index were merged: the outputs.
+fn put_last(
+    definitions: &mut Definitions,
+    even: &[u32],
+    odd: &[u32],
+) -> Result<Vec<u32>, AllocError>
+    ensures { IfOk result (λ outputs. Puts (compared definitions.old.next odd.now (drop 1 even.now)) definitions.old (take 1 even.now) definitions.new outputs.items) }
+{
+    let first = even.len().min(1);
+    let front = &even[..first];
+    let mut outputs = copied(definitions.alloc(), front)?;
+    let rest = &even[first..];
+    put_compared(definitions, odd, rest, &mut outputs)?;
+    Ok(outputs)
+}
+
+/// Merges two sorted lists: the outputs.
 pub(crate) fn put_merged(
     definitions: &mut Definitions,
     most: usize,
     depth: u32,
     xs: &[u32],
     ys: &[u32],
-    alloc: Global,
-    outputs: &mut Vec<u32>,
-) -> Result<(), AllocError>
-    ensures definitions { OnOk result (definitions.new ≡ with_definitions definitions.old (merged most depth definitions.old.next xs.now ys.now).definitions) }
-    ensures outputs { OnOk result (outputs.new.items ≡ outputs.old.items ++ (merged most depth definitions.old.next xs.now ys.now).outputs) }
+) -> Result<Vec<u32>, AllocError>
+    ensures { IfOk result (λ outputs. Puts (merged most depth definitions.old.next xs.now ys.now) definitions.old [] definitions.new outputs.items) }
 {
+    let alloc = definitions.alloc();
     if xs.len() == 0 {
-        outputs.extend_from_slice(ys)?;
-        return Ok(());
+        return copied(alloc, ys);
     }
     if ys.len() == 0 {
-        outputs.extend_from_slice(xs)?;
-        return Ok(());
+        return copied(alloc, xs);
     }
     if is_direct(depth, xs, ys) {
-        put_added(definitions, most, xs, ys, outputs)?;
-        return Ok(());
+        return put_added(definitions, most, xs, ys);
     }
     let even_xs = every_second(alloc, xs, 0)?;
     let even_ys = every_second(alloc, ys, 0)?;
-    let mut even = Vec::new(alloc);
-    put_merged(
-        definitions,
-        most,
-        depth - 1,
-        &even_xs,
-        &even_ys,
-        alloc,
-        &mut even,
-    )?;
+    let even = put_merged(definitions, most, depth - 1, &even_xs, &even_ys)?;
     let odd_xs = every_second(alloc, xs, 1)?;
     let odd_ys = every_second(alloc, ys, 1)?;
-    let mut odd = Vec::new(alloc);
-    put_merged(
-        definitions,
-        most,
-        depth - 1,
-        &odd_xs,
-        &odd_ys,
-        alloc,
-        &mut odd,
-    )?;
-    let first = even.len().min(1);
-    let front = &even[..first];
-    outputs.extend_from_slice(front)?;
-    let rest = &even[first..];
-    put_compared(definitions, &odd, rest, outputs)?;
-    Ok(())
+    let odd = put_merged(definitions, most, depth - 1, &odd_xs, &odd_ys)?;
+    put_last(definitions, &even, &odd)
 }

@@ -1,89 +1,49 @@
-use Rattle.std.proofs.Common.{◌≡◌, ◌+◌, ◌-◌, ◌++◌, ap, arith, drop, length, min, sym, take, ◌∙◌}
+use Rattle.std.proofs.Common.{ℕ, ◌-◌, [], ap, arith, drop, subst, sym, take, ◌∙◌}
+use Rattle.std.proofs.lemmas.Result.{IfOk-weaker}
+use Rattle.std.specs.Prelude.{IfOk}
 use Rattle.cudf_better.specs.Cardinality.{Network, compared, evens, merged}
-use Rattle.cudf_better.specs.Working.Definitions.{PlainDefinitions, with_definitions}
-use Rattle.cudf_better.proofs.PutLemmas.{drop_first, joined_definitions, joined_outputs, merged_direct, merged_joined, merged_left, merged_right, rest_of, take_first, with_none}
+use Rattle.cudf_better.specs.Working.Definitions.{Puts}
+use Rattle.cudf_better.proofs.PutLemmas.{compared_same, merged_direct, merged_joined, merged_left, merged_right, put_in_turn, put_nothing}
 use Rattle.cudf_better.proofs.network.+put_merged.Goals as goal
 
-pub returns-then-xs-eq0-clause-definitions : goal.returns-then-xs-eq0-clause-definitions
-returns-then-xs-eq0-clause-definitions t c =
-    sym (with_none c.args.definitions.now) ∙ ap (λ (s : Network). with_definitions c.args.definitions.now s.definitions) (sym (merged_left c.args.most c.args.depth c.args.definitions.now.next c.args.xs.now c.args.ys.now (omega arith)))
+pub returns-then-xs-eq0 : goal.returns-then-xs-eq0
+returns-then-xs-eq0 t c =
+    let g = c.args.definitions.now in
+    IfOk-weaker c.copied.result _ _ (λ copy is. put_nothing (merged c.args.most c.args.depth g.next c.args.xs.now c.args.ys.now) g copy.items c.args.ys.now (merged_left c.args.most c.args.depth g.next c.args.xs.now c.args.ys.now (omega arith)) is) c.copied.ensures
 
-pub returns-then-xs-eq0-clause-outputs : goal.returns-then-xs-eq0-clause-outputs
-returns-then-xs-eq0-clause-outputs t c =
-    c.in_ok-extend_from_slice.ensures.items ∙ ap (λ (s : Network). c.args.outputs.now.items ++ s.outputs) (sym (merged_left c.args.most c.args.depth c.args.definitions.now.next c.args.xs.now c.args.ys.now (omega arith)))
+pub returns-then-ys-eq0 : goal.returns-then-ys-eq0
+returns-then-ys-eq0 t c =
+    let g = c.args.definitions.now in
+    IfOk-weaker c.copied-then-ys-eq0.result _ _ (λ copy is. put_nothing (merged c.args.most c.args.depth g.next c.args.xs.now c.args.ys.now) g copy.items c.args.xs.now (merged_right c.args.most c.args.depth g.next c.args.xs.now c.args.ys.now (omega arith) (omega arith)) is) c.copied-then-ys-eq0.ensures
 
-pub returns-then-ys-eq0-clause-definitions : goal.returns-then-ys-eq0-clause-definitions
-returns-then-ys-eq0-clause-definitions t c =
-    sym (with_none c.args.definitions.now) ∙ ap (λ (s : Network). with_definitions c.args.definitions.now s.definitions) (sym (merged_right c.args.most c.args.depth c.args.definitions.now.next c.args.xs.now c.args.ys.now (omega arith) (omega arith)))
+pub returns-then-is_direct : goal.returns-then-is_direct
+returns-then-is_direct t c =
+    let g = c.args.definitions.now in
+    subst (λ (s : Network). IfOk c.put_added.result (λ outputs. Puts s g [] c.put_added.new.definitions outputs.items))
+    (sym (merged_direct c.args.most c.args.depth g.next c.args.xs.now c.args.ys.now (omega arith) (omega arith) (sym c.is_direct.ensures ∙ c.if-is_direct.true))) c.put_added.ensures
 
-pub returns-then-ys-eq0-clause-outputs : goal.returns-then-ys-eq0-clause-outputs
-returns-then-ys-eq0-clause-outputs t c =
-    c.in_ok-extend_from_slice-2.ensures.items ∙ ap (λ (s : Network). c.args.outputs.now.items ++ s.outputs) (sym (merged_right c.args.most c.args.depth c.args.definitions.now.next c.args.xs.now c.args.ys.now (omega arith) (omega arith)))
-
-pub returns-then-is_direct-clause-definitions : goal.returns-then-is_direct-clause-definitions
-returns-then-is_direct-clause-definitions t c =
-    c.in_ok-put_added.ensures.definitions ∙ ap (λ (s : Network). with_definitions c.args.definitions.now s.definitions) (sym (merged_direct c.args.most c.args.depth c.args.definitions.now.next c.args.xs.now c.args.ys.now (omega arith) (omega arith) (sym c.is_direct.ensures ∙ c.if-is_direct.true)))
-
-pub returns-then-is_direct-clause-outputs : goal.returns-then-is_direct-clause-outputs
-returns-then-is_direct-clause-outputs t c =
-    c.in_ok-put_added.ensures.outputs ∙ ap (λ (s : Network). c.args.outputs.now.items ++ s.outputs) (sym (merged_direct c.args.most c.args.depth c.args.definitions.now.next c.args.xs.now c.args.ys.now (omega arith) (omega arith) (sym c.is_direct.ensures ∙ c.if-is_direct.true)))
-
-pub returns-clause-definitions : goal.returns-clause-definitions
-returns-clause-definitions t c =
+pub returns : goal.returns
+returns t c =
     let g0 = c.args.definitions.now in
     let g1 = c.put_merged.new.definitions in
     let g2 = c.put_merged-2.new.definitions in
+    let g3 = c.put_last.new.definitions in
     let most = c.args.most in
     let depth = c.args.depth - 1 in
-    let xs = c.args.xs.now in
-    let ys = c.args.ys.now in
-    let front = c.put_merged.new.outputs.items in
-    let back = c.put_merged-2.new.outputs.items in
-    let even = merged most depth g0.next (evens xs) (evens ys) in
-    let odd = merged most depth (g0.next + length even.definitions) (evens (drop 1 xs)) (evens (drop 1 ys)) in
+    let front = c.in_ok-even.even.items in
+    let back = c.in_ok-odd.odd.items in
     let even_xs = c.deref.ensures.value ∙ c.in_ok-even_xs.ensures in
     let even_ys = c.deref-2.ensures.value ∙ c.in_ok-even_ys.ensures in
     let odd_xs = c.deref-3.ensures.value ∙ c.in_ok-odd_xs.ensures in
     let odd_ys = c.deref-4.ensures.value ∙ c.in_ok-odd_ys.ensures in
-    let one : g1 ≡ with_definitions g0 even.definitions = c.in_ok-put_merged.ensures.definitions ∙ (λ i. with_definitions g0 (merged most depth g0.next (even_xs i) (even_ys i)).definitions) in
-    let fronts : front ≡ even.outputs = c.in_ok-put_merged.ensures.outputs ∙ (λ i. c.new-even.ensures.items i ++ (merged most depth g0.next (even_xs i) (even_ys i)).outputs) in
-    let next = ap (λ (g : PlainDefinitions). g.next) one in
-    let two : g2 ≡ with_definitions g1 odd.definitions = c.in_ok-put_merged-2.ensures.definitions ∙ (λ i. with_definitions g1 (merged most depth (next i) (odd_xs i) (odd_ys i)).definitions) in
-    let backs : back ≡ odd.outputs = c.in_ok-put_merged-2.ensures.outputs ∙ (λ i. c.new-odd.ensures.items i ++ (merged most depth (next i) (odd_xs i) (odd_ys i)).outputs) in
-    let n = c.min-first.result in
-    let first : n ≡ min (length front) 1 = omega (arith, c.min-first.ensures, c.len.ensures) in
-    let rest = (λ i. take (length (c.deref-6.ensures.value i) - n) (drop n (c.deref-6.ensures.value i))) ∙ rest_of front n ∙ drop_first front n first in
-    let three = c.in_ok-put_compared.ensures.definitions ∙ (λ i. with_definitions g2 (compared g2.next (c.deref-7.ensures.value i) (rest i)).definitions) in
-    joined_definitions g0 g1 g2 c.put_compared.new.definitions front back even odd one fronts two backs three
-    ∙ ap (λ (s : Network). with_definitions g0 s.definitions) (sym (merged_joined most c.args.depth g0.next xs ys (omega arith) (omega arith) (sym c.is_direct.ensures ∙ c.if-is_direct.false)))
-
-pub returns-clause-outputs : goal.returns-clause-outputs
-returns-clause-outputs t c =
-    let g0 = c.args.definitions.now in
-    let g1 = c.put_merged.new.definitions in
-    let g2 = c.put_merged-2.new.definitions in
-    let most = c.args.most in
-    let depth = c.args.depth - 1 in
-    let xs = c.args.xs.now in
-    let ys = c.args.ys.now in
-    let out = c.args.outputs.now.items in
-    let front = c.put_merged.new.outputs.items in
-    let back = c.put_merged-2.new.outputs.items in
-    let even = merged most depth g0.next (evens xs) (evens ys) in
-    let odd = merged most depth (g0.next + length even.definitions) (evens (drop 1 xs)) (evens (drop 1 ys)) in
-    let even_xs = c.deref.ensures.value ∙ c.in_ok-even_xs.ensures in
-    let even_ys = c.deref-2.ensures.value ∙ c.in_ok-even_ys.ensures in
-    let odd_xs = c.deref-3.ensures.value ∙ c.in_ok-odd_xs.ensures in
-    let odd_ys = c.deref-4.ensures.value ∙ c.in_ok-odd_ys.ensures in
-    let one : g1 ≡ with_definitions g0 even.definitions = c.in_ok-put_merged.ensures.definitions ∙ (λ i. with_definitions g0 (merged most depth g0.next (even_xs i) (even_ys i)).definitions) in
-    let fronts : front ≡ even.outputs = c.in_ok-put_merged.ensures.outputs ∙ (λ i. c.new-even.ensures.items i ++ (merged most depth g0.next (even_xs i) (even_ys i)).outputs) in
-    let next = ap (λ (g : PlainDefinitions). g.next) one in
-    let two : g2 ≡ with_definitions g1 odd.definitions = c.in_ok-put_merged-2.ensures.definitions ∙ (λ i. with_definitions g1 (merged most depth (next i) (odd_xs i) (odd_ys i)).definitions) in
-    let backs : back ≡ odd.outputs = c.in_ok-put_merged-2.ensures.outputs ∙ (λ i. c.new-odd.ensures.items i ++ (merged most depth (next i) (odd_xs i) (odd_ys i)).outputs) in
-    let n = c.min-first.result in
-    let first : n ≡ min (length front) 1 = omega (arith, c.min-first.ensures, c.len.ensures) in
-    let rest = (λ i. take (length (c.deref-6.ensures.value i) - n) (drop n (c.deref-6.ensures.value i))) ∙ rest_of front n ∙ drop_first front n first in
-    let lead = c.in_ok-extend_from_slice-3.ensures.items ∙ (λ i. out ++ take n (c.deref-5.ensures.value i)) ∙ ap (λ ps. out ++ ps) (take_first front n first) in
-    c.in_ok-put_compared.ensures.outputs ∙ (λ i. lead i ++ (compared g2.next (c.deref-7.ensures.value i) (rest i)).outputs)
-    ∙ joined_outputs g0 g1 g2 front back out even odd one fronts two backs
-    ∙ ap (λ (s : Network). out ++ s.outputs) (sym (merged_joined most c.args.depth g0.next xs ys (omega arith) (omega arith) (sym c.is_direct.ensures ∙ c.if-is_direct.false)))
+    let one = subst (λ (s : Network). Puts s g0 [] g1 front) (λ i. merged most depth g0.next (even_xs i) (even_ys i)) c.in_ok-even.ensures in
+    let two = subst (λ (s : Network). Puts s g1 [] g2 back) (λ i. merged most depth g1.next (odd_xs i) (odd_ys i)) c.in_ok-odd.ensures in
+    let whole = merged_joined most c.args.depth g0.next c.args.xs.now c.args.ys.now (omega arith) (omega arith) (sym c.is_direct.ensures ∙ c.if-is_direct.false) in
+    let even = merged most depth g0.next (evens c.args.xs.now) (evens c.args.ys.now) in
+    let odd = λ (n : ℕ). merged most depth n (evens (drop 1 c.args.xs.now)) (evens (drop 1 c.args.ys.now)) in
+    IfOk-weaker c.put_last.result _ _
+    (λ outputs last.
+    subst (λ (s : Network). Puts s g0 [] g3 outputs.items) (sym whole)
+    (put_in_turn g0 g1 g2 g3 front back outputs.items even odd (λ n evens odds. compared n odds (drop 1 evens)) (take 1) one two
+    (compared_same g2 g3 c.deref-6.result.now back (drop 1 c.deref-5.result.now) (drop 1 front) (take 1 c.deref-5.result.now) (take 1 front) outputs.items c.deref-6.ensures.value (ap (drop 1) c.deref-5.ensures.value) (ap (take 1) c.deref-5.ensures.value) last)))
+    c.put_last.ensures

@@ -1,92 +1,60 @@
-use Rattle.std.proofs.Common.{◌≡◌, ℕ, suc, ◌+◌, ◌-◌, ◌/◌, ◌^◌, ◌<◌, [], ◌∷◌, ◌++◌, ap, arith, drop, get_or, min, sym, take, ◌∙◌}
-use Rattle.cudf_better.specs.Cardinality.{Network, merged, sorted}
-use Rattle.cudf_better.specs.Working.Definitions.{PlainDefinitions, with_definitions}
-use Rattle.cudf_better.proofs.PutLemmas.{back_of, front_of, half_pow, halves, halves_put, one_put, part_head, part_none, sorted_at, sorted_nothing, sorted_one, with_none}
+use Rattle.std.proofs.Common.{◌≡◌, ◌-◌, ◌^◌, [], ap, arith, drop, subst, sym, take, ◌∙◌, List, ℕ}
+use Rattle.std.specs.Prelude.{IfOk}
+use Rattle.std.proofs.lemmas.List.{drop_all, drop-drop, length-drop, length-take}
+use Rattle.std.proofs.lemmas.Result.{IfOk-weaker}
+use Rattle.cudf_better.specs.Cardinality.{Dnf, Network, merged, sorted}
+use Rattle.cudf_better.specs.Working.Definitions.{Puts}
+use Rattle.cudf_better.proofs.PutLemmas.{in_turn, power_twice, put_cut, put_in_turn, put_nothing, sorted_nothing, sorted_one, sorted_part}
 use Rattle.cudf_better.proofs.sorted.+put_sorted.Goals as goal
 
-pub returns-then-low-high-clause-definitions : goal.returns-then-low-high-clause-definitions
-returns-then-low-high-clause-definitions t c =
-    let xs = c.args.formulas.now in
-    let part = take (c.args.high - c.args.low) (drop c.args.low xs) in
-    sym (with_none c.args.definitions.now) ∙ ap (λ (s : Network). with_definitions c.args.definitions.now s.definitions) (sym (sorted_nothing c.args.most c.args.depth c.args.definitions.now.next part (part_none xs c.args.low c.args.high c.if-low-high.true)))
+pub returns-then-index-len-clause-sorted : goal.returns-then-index-len-clause-sorted
+returns-then-index-len-clause-sorted t c =
+    let g = c.args.definitions.now in
+    let fs = c.args.formulas.now in
+    let part = take (2 ^ c.args.depth) (drop c.args.at.now fs) in
+    put_nothing (sorted c.args.most c.args.depth g.next part) g c.new.result.items []
+    (sorted_nothing c.args.most c.args.depth g.next part (omega (arith, length-take (2 ^ c.args.depth) (drop c.args.at.now fs), length-drop c.args.at.now fs))) c.new.ensures.items
 
-pub returns-then-low-high-clause-outputs : goal.returns-then-low-high-clause-outputs
-returns-then-low-high-clause-outputs t c =
-    let xs = c.args.formulas.now in
-    let part = take (c.args.high - c.args.low) (drop c.args.low xs) in
-    c.new.ensures.items ∙ ap (λ (s : Network). s.outputs) (sym (sorted_nothing c.args.most c.args.depth c.args.definitions.now.next part (part_none xs c.args.low c.args.high c.if-low-high.true)))
+pub returns-then-index-len-clause-at : goal.returns-then-index-len-clause-at
+returns-then-index-len-clause-at t c =
+    let fs = c.args.formulas.now in
+    drop_all c.args.at.now fs (omega arith) ∙ sym (drop_all (2 ^ c.args.depth) (drop c.args.at.now fs) (omega (arith, length-drop c.args.at.now fs)))
 
-pub returns-then-depth-eq0-clause-definitions : goal.returns-then-depth-eq0-clause-definitions
-returns-then-depth-eq0-clause-definitions t c =
-    let xs = c.args.formulas.now in
+pub returns-then-depth-eq0-clause-sorted : goal.returns-then-depth-eq0-clause-sorted
+returns-then-depth-eq0-clause-sorted t c =
+    let g = c.args.definitions.now in
+    subst (λ (s : Network). IfOk c.put_one.result (λ outputs. Puts s g [] c.put_one.new.definitions outputs.items))
+    (sym (sorted_one c.args.most c.args.depth g.next c.args.at.now c.args.formulas.now (omega arith) (omega arith))) c.put_one.ensures
+
+pub returns-then-depth-eq0-clause-at : goal.returns-then-depth-eq0-clause-at
+returns-then-depth-eq0-clause-at t c =
+    let fs = c.args.formulas.now in
+    let none : 0 ≡ c.args.depth = omega arith in
+    IfOk-weaker c.put_one.result _ _ (λ outputs put. sym (drop-drop 1 c.args.at.now fs) ∙ ap (λ (d : ℕ). drop (2 ^ d) (drop c.args.at.now fs)) none) c.put_one.ensures
+
+pub returns-clause-sorted : goal.returns-clause-sorted
+returns-clause-sorted t c =
     let g0 = c.args.definitions.now in
-    let definition = get_or xs c.args.low [] in
-    let lt : c.args.low < c.args.high = omega arith in
-    let rest = take (c.args.high - c.args.low - 1) (drop (suc c.args.low) xs) in
-    let leaf : sorted c.args.most c.args.depth g0.next (take (c.args.high - c.args.low) (drop c.args.low xs)) ≡ sorted c.args.most 0 g0.next (definition ∷ rest) = (λ i. sorted c.args.most (c.if-depth-eq0.true i) g0.next (part_head xs c.args.low c.args.high lt c.requires.within i)) in
-    one_put g0 c.end.new.self definition (c.in_ok-variable.ensures.next ∙ ap (λ (g : PlainDefinitions). record g { next = g.next + 1 }) c.in_ok-put.ensures)
-    ∙ ap (λ (s : Network). with_definitions g0 s.definitions) (sym (leaf ∙ sorted_one c.args.most g0.next definition rest))
-
-pub returns-then-depth-eq0-clause-outputs : goal.returns-then-depth-eq0-clause-outputs
-returns-then-depth-eq0-clause-outputs t c =
-    let xs = c.args.formulas.now in
-    let g0 = c.args.definitions.now in
-    let definition = get_or xs c.args.low [] in
-    let lt : c.args.low < c.args.high = omega arith in
-    let rest = take (c.args.high - c.args.low - 1) (drop (suc c.args.low) xs) in
-    let leaf : sorted c.args.most c.args.depth g0.next (take (c.args.high - c.args.low) (drop c.args.low xs)) ≡ sorted c.args.most 0 g0.next (definition ∷ rest) = (λ i. sorted c.args.most (c.if-depth-eq0.true i) g0.next (part_head xs c.args.low c.args.high lt c.requires.within i)) in
-    c.in_ok-push.ensures.items
-    ∙ (λ i. c.new-outputs.ensures.items i ++ (c.in_ok-variable.ensures.variable ∙ ap (λ (g : PlainDefinitions). g.next) c.in_ok-put.ensures) i ∷ [])
-    ∙ ap (λ (s : Network). s.outputs) (sym (leaf ∙ sorted_one c.args.most g0.next definition rest))
-
-pub put_sorted-requires : goal.put_sorted-requires
-put_sorted-requires t c = (omega arith, (half_pow c.args.size c.args.depth c.requires.size (omega arith), (omega arith, omega arith)))
-
-pub put_sorted-requires-2 : goal.put_sorted-requires-2
-put_sorted-requires-2 t c = (omega arith, (half_pow c.args.size c.args.depth c.requires.size (omega arith), (omega arith, omega arith)))
-
-pub returns-clause-definitions : goal.returns-clause-definitions
-returns-clause-definitions t c =
-    let xs = c.args.formulas.now in
-    let g0 = c.args.definitions.now in
+    let g1 = c.put_sorted.new.definitions in
+    let g2 = c.put_sorted-2.new.definitions in
+    let g3 = c.put_merged.new.definitions in
     let most = c.args.most in
-    let low = c.args.low in
-    let high = c.args.high in
     let d = c.args.depth - 1 in
-    let half = c.args.size / 2 in
-    let m = c.min.result in
-    let front = take (low + m - low) (drop low xs) in
-    let back = take (high - (low + m)) (drop (low + m) xs) in
-    let power : 2 ^ d ≡ half = sym (half_pow c.args.size c.args.depth c.requires.size (omega arith)) in
-    let least : min half (high - low) ≡ m = sym c.min.ensures in
-    let part = take (high - low) (drop low xs) in
-    let fronts : take (2 ^ d) part ≡ front = ap (λ (n : ℕ). take n part) power ∙ front_of xs half low high c.requires.order c.requires.within ∙ ap (λ (k : ℕ). take (low + k - low) (drop low xs)) least in
-    let backs : drop (2 ^ d) part ≡ back = ap (λ (n : ℕ). drop n part) power ∙ back_of xs half low high c.requires.order c.requires.within ∙ ap (λ (k : ℕ). take (high - (low + k)) (drop (low + k) xs)) least in
-    let whole : sorted most c.args.depth g0.next part ≡ halves most d g0.next front back = sorted_at most c.args.depth g0.next part (omega arith) ∙ (λ i. halves most d g0.next (fronts i) (backs i)) in
-    let both = halves_put most d g0 c.put_sorted.new.definitions c.put_sorted-2.new.definitions c.put_merged.new.definitions c.deref.result.now c.deref-2.result.now c.put_merged.new.outputs.items front back
-    c.in_ok-left.ensures.definitions (c.deref.ensures.value ∙ c.in_ok-left.ensures.outputs) c.in_ok-right.ensures.definitions (c.deref-2.ensures.value ∙ c.in_ok-right.ensures.outputs) c.in_ok-put_merged.ensures.definitions
-    (c.in_ok-put_merged.ensures.outputs ∙ ap (λ ps. ps ++ (merged most d c.put_sorted-2.new.definitions.next c.deref.result.now c.deref-2.result.now).outputs) c.new-outputs-2.ensures.items) in
-    both.0 ∙ ap (λ (s : Network). with_definitions g0 s.definitions) (sym whole)
+    let p = 2 ^ d in
+    let rest = drop c.args.at.now c.args.formulas.now in
+    let left = c.in_ok-left.left.items in
+    let right = c.in_ok-right.right.items in
+    let two = subst (λ (fs : List Dnf). Puts (sorted most d g1.next (take p fs)) g1 [] g2 right) c.in_ok-left.ensures.at c.in_ok-right.ensures.sorted in
+    let three = subst (λ (xs : List ℕ). Puts (merged most d g2.next xs right) g2 [] g3 c.in_ok-outputs.outputs.items) c.deref.ensures.value
+    (subst (λ (ys : List ℕ). Puts (merged most d g2.next c.deref.result.now ys) g2 [] g3 c.in_ok-outputs.outputs.items) c.deref-2.ensures.value c.in_ok-outputs.ensures) in
+    let whole = sorted_part most c.args.depth g0.next rest (omega arith) in
+    let both = put_in_turn g0 g1 g2 g3 left right c.in_ok-outputs.outputs.items (sorted most d g0.next (take p rest)) (λ n. sorted most d n (take p (drop p rest))) (merged most d) (λ ps. []) c.in_ok-left.ensures.sorted two three in
+    subst (λ (ps : List ℕ). Puts (sorted most c.args.depth g0.next (take (2 ^ c.args.depth) rest)) g0 [] g3 ps) (sym c.truncate.ensures.items)
+    (subst (λ (s : Network). Puts s g0 [] g3 (take most c.in_ok-outputs.outputs.items)) (sym whole)
+    (put_cut most (in_turn g0.next (sorted most d g0.next (take p rest)) (λ n. sorted most d n (take p (drop p rest))) (merged most d) (λ ps. [])) g0 g3 c.in_ok-outputs.outputs.items both))
 
-pub returns-clause-outputs : goal.returns-clause-outputs
-returns-clause-outputs t c =
-    let xs = c.args.formulas.now in
-    let g0 = c.args.definitions.now in
-    let most = c.args.most in
-    let low = c.args.low in
-    let high = c.args.high in
-    let d = c.args.depth - 1 in
-    let half = c.args.size / 2 in
-    let m = c.min.result in
-    let front = take (low + m - low) (drop low xs) in
-    let back = take (high - (low + m)) (drop (low + m) xs) in
-    let power : 2 ^ d ≡ half = sym (half_pow c.args.size c.args.depth c.requires.size (omega arith)) in
-    let least : min half (high - low) ≡ m = sym c.min.ensures in
-    let part = take (high - low) (drop low xs) in
-    let fronts : take (2 ^ d) part ≡ front = ap (λ (n : ℕ). take n part) power ∙ front_of xs half low high c.requires.order c.requires.within ∙ ap (λ (k : ℕ). take (low + k - low) (drop low xs)) least in
-    let backs : drop (2 ^ d) part ≡ back = ap (λ (n : ℕ). drop n part) power ∙ back_of xs half low high c.requires.order c.requires.within ∙ ap (λ (k : ℕ). take (high - (low + k)) (drop (low + k) xs)) least in
-    let whole : sorted most c.args.depth g0.next part ≡ halves most d g0.next front back = sorted_at most c.args.depth g0.next part (omega arith) ∙ (λ i. halves most d g0.next (fronts i) (backs i)) in
-    let both = halves_put most d g0 c.put_sorted.new.definitions c.put_sorted-2.new.definitions c.put_merged.new.definitions c.deref.result.now c.deref-2.result.now c.put_merged.new.outputs.items front back
-    c.in_ok-left.ensures.definitions (c.deref.ensures.value ∙ c.in_ok-left.ensures.outputs) c.in_ok-right.ensures.definitions (c.deref-2.ensures.value ∙ c.in_ok-right.ensures.outputs) c.in_ok-put_merged.ensures.definitions
-    (c.in_ok-put_merged.ensures.outputs ∙ ap (λ ps. ps ++ (merged most d c.put_sorted-2.new.definitions.next c.deref.result.now c.deref-2.result.now).outputs) c.new-outputs-2.ensures.items) in
-    c.truncate.ensures.items ∙ both.1 ∙ ap (λ (s : Network). s.outputs) (sym whole)
+pub returns-clause-at : goal.returns-clause-at
+returns-clause-at t c =
+    let p = 2 ^ (c.args.depth - 1) in
+    let rest = drop c.args.at.now c.args.formulas.now in
+    c.in_ok-right.ensures.at ∙ ap (drop p) c.in_ok-left.ensures.at ∙ drop-drop p p rest ∙ ap (λ (n : ℕ). drop n rest) (sym (power_twice c.args.depth (omega arith)))
